@@ -1,0 +1,9 @@
+pub mod Error
+pub mod Instant
+pub mod Read
+pub mod Encoded
+pub mod Entries
+pub mod Parse
+pub mod DataCode
+pub mod Calls
+pub mod HashAlgorithm

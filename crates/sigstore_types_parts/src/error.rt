@@ -1,0 +1,109 @@
+// Why a text isn't read.
+ghost use Rattle.std.specs.Prelude.{◌≡◌};
+ghost use Rattle.sigstore_types_parts.specs.declared.error.TypesError.TheVariants.{NoMemory as Want};
+ghost use Rattle.sigstore_types_parts.specs.Error.{types_of, types_of_fault, number_of};
+
+use crate::form::Form;
+use crate::member::TypesMember;
+use crate::misread::{Misread, Refusal};
+use crate::parse::JsonFault;
+use foundation::NoMemory;
+use thiserror::Error;
+
+/// The rule of checkpoints (C2SP tlog-checkpoint) that a text breaks.
+#[derive(Clone, Copy, Debug, PartialEq, Eq, Drop)]
+pub enum CheckpointRule {
+    Origin,
+    Size,
+    Root,
+    Extension,
+    Signature,
+}
+
+/// Why a bundle, a trust file, a statement or a part of one isn't read.
+#[derive(Clone, Copy, Debug, PartialEq, Eq, Drop, Error)]
+pub enum TypesError {
+    #[error("Json")]
+    Json,
+    #[error("Float")]
+    Float,
+    #[error("Field")]
+    Field { member: TypesMember },
+    #[error("Base64")]
+    Base64,
+    #[error("Hex")]
+    Hex,
+    #[error("Length")]
+    Length { expected: u64, actual: u64 },
+    #[error("MediaType")]
+    MediaType,
+    #[error("Kind")]
+    Kind,
+    #[error("Checkpoint")]
+    Checkpoint(CheckpointRule),
+    #[error("NoEntry")]
+    NoEntry,
+    #[error("NoProof")]
+    NoProof,
+    #[error("NoMemory")]
+    NoMemory,
+    #[error("Unbuilt")]
+    Unbuilt(Form),
+}
+
+impl TypesError {
+    /// The number of this refusal.
+    pub fn number(&self) -> u8
+        ensures { result ≡ number_of self.now }
+    {
+        match self {
+            TypesError::Json => 1,
+            TypesError::Float => 2,
+            TypesError::Field { .. } => 3,
+            TypesError::Base64 => 4,
+            TypesError::Hex => 5,
+            TypesError::Length { .. } => 6,
+            TypesError::MediaType => 7,
+            TypesError::Kind => 8,
+            TypesError::Checkpoint(_) => 9,
+            TypesError::NoEntry => 10,
+            TypesError::NoProof => 11,
+            TypesError::NoMemory => 12,
+            TypesError::Unbuilt(_) => 90,
+        }
+    }
+}
+
+impl From<NoMemory> for TypesError {
+    ghost from_gives = { λ _ e. e ≡ Want };
+
+    fn from(_: NoMemory) -> TypesError {
+        TypesError::NoMemory
+    }
+}
+
+impl Refusal for TypesError {
+    ghost of = { types_of };
+
+    fn of_misread(misread: Misread) -> TypesError {
+        match misread {
+            Misread::Shape => TypesError::Json,
+            Misread::Base64 => TypesError::Base64,
+            Misread::Hex => TypesError::Hex,
+            Misread::Length { expected, actual } => TypesError::Length { expected, actual },
+            Misread::NoMemory => TypesError::NoMemory,
+        }
+    }
+}
+
+impl From<JsonFault> for TypesError {
+    ghost from_gives = { λ fault e. e ≡ types_of_fault fault };
+
+    fn from(fault: JsonFault) -> TypesError {
+        match fault {
+            JsonFault::NotJson => TypesError::Json,
+            JsonFault::Float => TypesError::Float,
+            JsonFault::NoMemory => TypesError::NoMemory,
+        }
+    }
+}

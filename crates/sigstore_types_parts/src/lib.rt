@@ -1,0 +1,45 @@
+//! Texts, byte strings, hashes and maps, readers of JSON values, and the words that the crates
+//! above share: what an armoured text holds, which calls fail, which forms aren't built.
+#![tactic(auto)]
+
+mod armor;
+mod byte_string;
+mod bytes;
+mod calls;
+mod error;
+mod float;
+mod form;
+mod hash;
+mod hash_algorithm;
+mod json_value;
+mod leaves;
+mod member;
+mod misread;
+mod parse;
+mod read;
+#[cfg(test)]
+mod tests;
+mod text;
+mod text_map;
+
+pub use armor::Armor;
+pub use byte_string::{
+    ByteString, CanonicalBody, CanonicalizedBody, Certificate, DerCertificate, DerPublicKey,
+    Digest, DigestBytes, EntryPromise, LogKey, LogKeyId, Payload, PayloadBytes, Pem, PemContent,
+    PublicKey, Signature, SignatureBytes, SignedTimestamp, TimestampToken, Token,
+};
+pub use bytes::Bytes;
+pub use calls::{Calls, FailList};
+pub use error::{CheckpointRule, TypesError};
+pub use float::contains_float;
+pub use form::Form;
+pub use hash::{Hash, KeyHint, Sha256Hash, Sha384Hash, Sha512Hash};
+pub use hash_algorithm::{ArtifactDigest, HashAlgorithm};
+pub use json_value::Json;
+pub use leaves::instant;
+pub use member::TypesMember;
+pub use misread::{Misread, Refusal};
+pub use parse::{JsonFault, parse_json};
+pub use read::{FromValue, Member, defaulted, optional, required};
+pub use text::Text;
+pub use text_map::TextMap;
