@@ -1,0 +1,4 @@
+pub mod Error
+pub mod Scheme
+pub mod Key
+pub mod Good

@@ -1,0 +1,89 @@
+// Why a key, a signature or a digest is refused.
+ghost use Rattle.std.specs.Prelude.{◌≡◌};
+ghost use Rattle.sigstore_crypto.specs.declared.error.Error.TheVariants.{NoMemory as Want};
+ghost use Rattle.sigstore_crypto.specs.Error.{number_of};
+
+use foundation::NoMemory;
+use sigstore_types_parts::Form;
+use thiserror::Error as ThisError;
+
+/// Why a signature isn't good: the provider refuses it, the raw key fails its test, the digest has
+/// another length than its scheme's, or no key is known.
+#[derive(Clone, Copy, Debug, PartialEq, Eq, Drop)]
+pub enum VerificationFault {
+    Refused,
+    RawKey,
+    DigestLength,
+    NoKey,
+}
+
+/// Why a checkpoint's signatures show nothing: none has the key's hint, or all with it are refused.
+#[derive(Clone, Copy, Debug, PartialEq, Eq, Drop)]
+pub enum CheckpointFault {
+    NoHint,
+    Refused,
+}
+
+/// The part of a certificate that isn't read.
+#[derive(Clone, Copy, Debug, PartialEq, Eq, Drop)]
+pub enum CertificateFault {
+    Der,
+    San,
+    Issuer,
+}
+
+/// The rule of keys that a key breaks.
+#[derive(Clone, Copy, Debug, PartialEq, Eq, Drop)]
+pub enum KeyRule {
+    RawKey,
+}
+
+/// Why a key, a signature or a digest is refused.
+#[derive(Clone, Copy, Debug, PartialEq, Eq, Drop, ThisError)]
+pub enum Error {
+    #[error("Signing")]
+    Signing,
+    #[error("Verification")]
+    Verification(VerificationFault),
+    #[error("InvalidKeyFormat")]
+    InvalidKeyFormat,
+    #[error("UnsupportedAlgorithm")]
+    UnsupportedAlgorithm,
+    #[error("Checkpoint")]
+    Checkpoint(CheckpointFault),
+    #[error("InvalidCertificate")]
+    InvalidCertificate(CertificateFault),
+    #[error("InvalidKey")]
+    InvalidKey(KeyRule),
+    #[error("NoMemory")]
+    NoMemory,
+    #[error("Unbuilt")]
+    Unbuilt(Form),
+}
+
+impl Error {
+    /// The number of this refusal.
+    pub fn number(&self) -> u8
+        ensures { result ≡ number_of self.now }
+    {
+        match self {
+            Error::Signing => 1,
+            Error::Verification(_) => 2,
+            Error::InvalidKeyFormat => 3,
+            Error::UnsupportedAlgorithm => 4,
+            Error::Checkpoint(_) => 5,
+            Error::InvalidCertificate(_) => 6,
+            Error::InvalidKey(_) => 7,
+            Error::NoMemory => 8,
+            Error::Unbuilt(_) => 90,
+        }
+    }
+}
+
+impl From<NoMemory> for Error {
+    ghost from_gives = { λ _ e. e ≡ Want };
+
+    fn from(_: NoMemory) -> Error {
+        Error::NoMemory
+    }
+}
