@@ -1,0 +1,3 @@
+pub mod Words
+pub mod Bundle
+pub mod TrustedRoot

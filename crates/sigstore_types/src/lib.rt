@@ -1,2 +1,24 @@
-//! To be built.
+//! The bundle and the trust file of Sigstore, read from JSON, and the names of
+//! `sigstore_types_parts`.
 #![tactic(auto)]
+
+mod bundle;
+mod content;
+mod material;
+#[cfg(test)]
+mod tests;
+mod trusted_root;
+mod words;
+
+pub use bundle::{Bundle, validate_structure};
+pub use content::{MessageDigest, MessageSignature, SignatureContent};
+pub use material::{VerificationMaterial, VerificationMaterialContent};
+pub use sigstore_types_parts::{
+    Armor, ArtifactDigest, ByteString, Bytes, Calls, CanonicalBody, CanonicalizedBody, Certificate,
+    CheckpointRule, DerCertificate, DerPublicKey, Digest, DigestBytes, EntryPromise, FailList,
+    Form, FromValue, Hash, HashAlgorithm, Json, JsonFault, KeyHint, LogKey, LogKeyId, Member,
+    Misread, Payload, PayloadBytes, Pem, PemContent, PublicKey, Refusal, Sha256Hash, Sha384Hash,
+    Sha512Hash, Signature, SignatureBytes, SignedTimestamp, Text, TextMap, TimestampToken, Token,
+    TypesError, TypesMember, contains_float, defaulted, instant, optional, parse_json, required,
+};
+pub use trusted_root::TrustedRoot;

@@ -1,0 +1,113 @@
+-- A Sigstore bundle as JSON (Sigstore protobuf specs, sigstore_bundle.proto), as far as it is built.
+use Rattle.std.specs.Prelude.{ℕ, List, Bool, true, false, ◌||◌, bytes_eq, codes, Option, Some, None, Result, Ok, Err, ⊤, if◌then◌else◌}
+use Rattle.serde_json.specs.Data.{Data}
+use Rattle.foundation.specs.Steps.{◌>>=◌}
+use Rattle.sigstore_types_parts.specs.HashAlgorithm.{algorithm_named}
+use Rattle.sigstore_types_parts.specs.declared.hash_algorithm.HashAlgorithm.{HashAlgorithm}
+use Rattle.sigstore_types_parts.specs.declared.hash_algorithm.HashAlgorithm.TheVariants.{Sha2256}
+use Rattle.sigstore_types_parts.specs.declared.form.Form.TheVariants as form
+use Rattle.sigstore_types_parts.specs.declared.member.TypesMember.TheVariants as m
+use Rattle.sigstore_types_parts.specs.declared.error.TypesError.{TypesError}
+use Rattle.sigstore_types_parts.specs.declared.error.TypesError.TheVariants as e
+use Rattle.sigstore_types.specs.declared.bundle.Bundle.{Bundle}
+use Rattle.sigstore_types.specs.declared.content.SignatureContent.{SignatureContent}
+use Rattle.sigstore_types.specs.declared.content.SignatureContent.TheVariants as content
+use Rattle.sigstore_types.specs.declared.content.MessageSignature.{MessageSignature}
+use Rattle.sigstore_types.specs.declared.content.MessageDigest.{MessageDigest}
+use Rattle.sigstore_types.specs.declared.material.VerificationMaterial.{VerificationMaterial}
+use Rattle.sigstore_types.specs.declared.material.VerificationMaterialContent.{VerificationMaterialContent}
+use Rattle.sigstore_types.specs.declared.material.VerificationMaterialContent.TheVariants as material
+use Rattle.sigstore_types.specs.declared.material.Hint.{Hint}
+use Rattle.sigstore_types.specs.declared.material.Tokens.{Tokens}
+use Rattle.sigstore_types.specs.Words.{required, optional, text, bytes, absent, without_items, json}
+
+abbrev pub is_media_type : List ℕ → Bool
+is_media_type name =
+    bytes_eq name (codes "application/vnd.dev.sigstore.bundle+json;version=0.1")
+    || (bytes_eq name (codes "application/vnd.dev.sigstore.bundle+json;version=0.2")
+    || (bytes_eq name (codes "application/vnd.dev.sigstore.bundle+json;version=0.3")
+    || bytes_eq name (codes "application/vnd.dev.sigstore.bundle.v0.3+json")))
+
+unfoldable pub media_type_of : Data → Result (List ℕ) TypesError
+media_type_of d = do
+  name ← required text m.MediaType d
+  if is_media_type name then Ok name else Err e.MediaType
+
+-- the public key of a material: at most a hint to it
+unfoldable pub hint_of : Data → Result Hint TypesError
+hint_of d = do
+  hint ← optional text m.Hint d
+  Ok (record { hint = hint })
+
+-- exactly one of a certificate, a chain and a public key; none is a misreading of the whole material
+abbrev pub key_content_of : Option Hint → Result VerificationMaterialContent TypesError
+key_content_of (Some key) = Ok (material.PublicKey key.hint)
+key_content_of None = Err e.Json
+
+unfoldable pub material_content_of : Data → Result VerificationMaterialContent TypesError
+material_content_of d = do
+  _ ← absent form.Certificate m.Certificate d
+  _ ← absent form.Certificate m.X509CertificateChain d
+  key ← optional hint_of m.PublicKey d
+  key_content_of key
+
+unfoldable pub tokens_of : Data → Result Tokens TypesError
+tokens_of d = do
+  _ ← without_items form.Tokens m.Rfc3161Timestamps d
+  Ok (record {})
+
+unfoldable pub material_of : Data → Result VerificationMaterial TypesError
+material_of d = do
+  content ← material_content_of d
+  _ ← without_items form.Entries m.TlogEntries d
+  _ ← optional tokens_of m.TimestampVerificationData d
+  Ok (record { content = content })
+
+-- a known algorithm; SHA2_256 alone is built
+abbrev pub known_algorithm_of : List ℕ → Option HashAlgorithm → Result HashAlgorithm TypesError
+known_algorithm_of name (Some algorithm) = if bytes_eq name (codes "SHA2_256") then Ok algorithm else Err (e.Unbuilt form.Digest)
+known_algorithm_of name None = Err (e.Field m.Algorithm)
+
+unfoldable pub algorithm_of : Data → Result HashAlgorithm TypesError
+algorithm_of d = do
+  name ← required text m.Algorithm d
+  known_algorithm_of name (algorithm_named name)
+
+-- a digest of any length
+unfoldable pub message_digest_of : Data → Result MessageDigest TypesError
+message_digest_of d = do
+  algorithm ← algorithm_of d
+  digest ← required bytes m.Digest d
+  Ok (record { algorithm = algorithm; digest = digest })
+
+unfoldable pub message_signature_of : Data → Result MessageSignature TypesError
+message_signature_of d = do
+  message_digest ← optional message_digest_of m.MessageDigest d
+  signature ← required bytes m.Signature d
+  Ok (record { message_digest = message_digest; signature = signature })
+
+-- exactly one of a message signature and an envelope; none is a misreading of the whole bundle
+abbrev pub message_content_of : Option MessageSignature → Result SignatureContent TypesError
+message_content_of (Some message) = Ok (content.MessageSignature message)
+message_content_of None = Err e.Json
+
+unfoldable pub content_of : Data → Result SignatureContent TypesError
+content_of d = do
+  message ← optional message_signature_of m.MessageSignature d
+  _ ← absent form.Envelope m.DsseEnvelope d
+  message_content_of message
+
+unfoldable pub bundle_of : Data → Result Bundle TypesError
+bundle_of d = do
+  media_type ← media_type_of d
+  verification_material ← required material_of m.VerificationMaterial d
+  content ← content_of d
+  Ok (record { media_type = media_type; content = content; verification_material = verification_material })
+
+unfoldable pub bundle_of_bytes : List ℕ → Result Bundle TypesError
+bundle_of_bytes bytes = json bytes >>= bundle_of
+
+-- where the log is to be verified, a bundle has an entry and each entry a proof; no entry is built
+abbrev pub structure_of : Bundle → Bool → Result ⊤ TypesError
+structure_of bundle true = Err e.NoEntry
+structure_of bundle false = Ok tt

@@ -1,0 +1,55 @@
+-- The readers of this crate: a member that is absent or of another JSON type is Field of that member.
+use Rattle.std.specs.Prelude.{ℕ, List, Option, Result, Ok, Err, ⊤, ok_or, if◌then◌else◌}
+use Rattle.serde_json.specs.Data.{Data, Items, no_items, item}
+use Rattle.serde_json.specs.Find.{as_array}
+use Rattle.foundation.specs.Steps.{◌>>=◌}
+use Rattle.sigstore_types_parts.specs.Read as read
+use Rattle.sigstore_types_parts.specs.Encoded as encoded
+use Rattle.sigstore_types_parts.specs.Parse.{parsed_of}
+use Rattle.sigstore_types_parts.specs.Error.{types_of, types_of_fault, placed_at, name_of}
+use Rattle.sigstore_types_parts.specs.declared.form.Form.{Form}
+use Rattle.sigstore_types_parts.specs.declared.member.TypesMember.{TypesMember}
+use Rattle.sigstore_types_parts.specs.declared.parse.JsonFault.{JsonFault}
+use Rattle.sigstore_types_parts.specs.declared.error.TypesError.{TypesError}
+use Rattle.sigstore_types_parts.specs.declared.error.TypesError.TheVariants.{Json, Unbuilt}
+
+abbrev pub required : {T : Type 0} → (Data → Result T TypesError) → TypesMember → Data → Result T TypesError
+required reads m = read.required_of types_of (placed_at m) reads (name_of m)
+
+abbrev pub optional : {T : Type 0} → (Data → Result T TypesError) → TypesMember → Data → Result (Option T) TypesError
+optional reads m = read.optional_of types_of (placed_at m) reads (name_of m)
+
+abbrev pub text : Data → Result (List ℕ) TypesError
+text = read.text_of types_of
+
+abbrev pub bytes : Data → Result (List ℕ) TypesError
+bytes = encoded.bytes_of types_of
+
+-- a form that isn't built
+abbrev pub unbuilt : Form → Data → Result ⊤ TypesError
+unbuilt form d = Err (Unbuilt form)
+
+-- a list without items; any other list is a form that isn't built
+abbrev pub no_items_of : Form → Items → Result ⊤ TypesError
+no_items_of form no_items = Ok tt
+no_items_of form (item d ds) = Err (Unbuilt form)
+
+abbrev pub empty : Form → Data → Result ⊤ TypesError
+empty form d = ok_or (as_array d) Json >>= no_items_of form
+
+-- a member that is absent or null, as no other form of it is built
+abbrev pub absent : Form → TypesMember → Data → Result ⊤ TypesError
+absent form m d = optional (unbuilt form) m d >>= λ _. Ok tt
+
+-- a member that is absent, null or an empty list, as no other form of it is built
+abbrev pub without_items : Form → TypesMember → Data → Result ⊤ TypesError
+without_items form m d = optional (empty form) m d >>= λ _. Ok tt
+
+-- a fault of the JSON text as a refusal
+abbrev pub faulted : Result Data JsonFault → Result Data TypesError
+faulted (Ok d) = Ok d
+faulted (Err fault) = Err (types_of_fault fault)
+
+-- the JSON value of bytes: Json, then Float
+abbrev pub json : List ℕ → Result Data TypesError
+json bytes = faulted (parsed_of bytes)

@@ -1,0 +1,82 @@
+// A bundle.
+ghost use Rattle.std.specs.Prelude.{◌≡◌, ◌≢◌, Ok, Err, IfOk, IfErr};
+ghost use Rattle.serde_json.specs.View.{view};
+ghost use Rattle.sigstore_types_parts.specs.declared.error.TypesError.TheVariants.{NoMemory};
+ghost use Rattle.sigstore_types.specs.Bundle.{is_media_type, media_type_of, bundle_of, bundle_of_bytes, structure_of};
+
+use crate::content::{SignatureContent, read_content};
+use crate::material::VerificationMaterial;
+use crate::words::json;
+use serde_json::Value;
+use sigstore_types_parts::{FromValue, Text, TypesError, TypesMember, required};
+use std::alloc::Global;
+
+/// A signature over an artifact with what it is verified with.
+#[derive(Debug, PartialEq, Drop)]
+pub struct Bundle {
+    pub media_type: Text,
+    pub content: SignatureContent,
+    pub verification_material: VerificationMaterial,
+}
+
+fn is_media_type(name: &str) -> bool
+    ensures { result ≡ is_media_type name.now }
+{
+    name == "application/vnd.dev.sigstore.bundle+json;version=0.1"
+        || name == "application/vnd.dev.sigstore.bundle+json;version=0.2"
+        || name == "application/vnd.dev.sigstore.bundle+json;version=0.3"
+        || name == "application/vnd.dev.sigstore.bundle.v0.3+json"
+}
+
+#[tactic(auto, unfolding(crate::specs::Bundle::media_type_of))]
+fn read_media_type(alloc: Global, value: &Value) -> Result<Text, TypesError>
+    ensures ok { IfOk result (λ v. media_type_of (view value.now) ≡ Ok v) }
+    ensures err { IfErr result (λ e. e ≢ NoMemory → media_type_of (view value.now) ≡ Err e) }
+{
+    let name: Text = required(alloc, value, TypesMember::MediaType)?;
+    if is_media_type(name.as_str()) {
+        Ok(name)
+    } else {
+        Err(TypesError::MediaType)
+    }
+}
+
+impl FromValue<TypesError> for Bundle {
+    ghost reads = { bundle_of };
+
+    #[tactic(auto, unfolding(crate::specs::Bundle::bundle_of))]
+    fn from_value(alloc: Global, value: &Value) -> Result<Bundle, TypesError> {
+        let media_type = read_media_type(alloc, value)?;
+        let verification_material = required(alloc, value, TypesMember::VerificationMaterial)?;
+        let content = read_content(alloc, value)?;
+        Ok(Bundle {
+            media_type,
+            content,
+            verification_material,
+        })
+    }
+}
+
+impl Bundle {
+    /// The bundle that a JSON text is. Errors: `Json`, `Float`, then the first wrong member's in the
+    /// order of the members; `Unbuilt` at a member whose form isn't built.
+    #[tactic(auto, unfolding(crate::specs::Bundle::bundle_of_bytes))]
+    pub fn from_json(alloc: Global, bytes: &[u8]) -> Result<Bundle, TypesError>
+        ensures ok { IfOk result (λ v. bundle_of_bytes bytes.now ≡ Ok v) }
+        ensures err { IfErr result (λ e. e ≢ NoMemory → bundle_of_bytes bytes.now ≡ Err e) }
+    {
+        let value = json(alloc, bytes)?;
+        Ok(Bundle::from_value(alloc, &value)?)
+    }
+}
+
+/// Whether a bundle has what its policy needs of the log. Errors: `NoEntry` where the log is to be
+/// verified, as no entry is built.
+pub fn validate_structure(_bundle: &Bundle, verify_tlog: bool) -> Result<(), TypesError>
+    ensures { result ≡ structure_of _bundle.now verify_tlog }
+{
+    if verify_tlog {
+        return Err(TypesError::NoEntry);
+    }
+    Ok(())
+}

@@ -1,0 +1,89 @@
+// What a bundle signs: a message by its digest.
+ghost use Rattle.std.specs.Prelude.{◌≡◌, ◌≢◌, Ok, Err, IfOk, IfErr};
+ghost use Rattle.serde_json.specs.View.{view};
+ghost use Rattle.sigstore_types_parts.specs.declared.error.TypesError.TheVariants.{NoMemory};
+ghost use Rattle.sigstore_types.specs.Bundle.{algorithm_of, message_digest_of, message_signature_of, content_of};
+
+use crate::words::absent;
+use serde_json::Value;
+use sigstore_types_parts::{
+    DigestBytes, Form, FromValue, HashAlgorithm, SignatureBytes, Text, TypesError, TypesMember,
+    optional, required,
+};
+use std::alloc::Global;
+
+/// What a bundle signs.
+#[derive(Debug, PartialEq, Drop)]
+pub enum SignatureContent {
+    MessageSignature(MessageSignature),
+}
+
+/// A signature over a message, with the message's digest where the bundle tells it.
+#[derive(Debug, PartialEq, Drop)]
+pub struct MessageSignature {
+    pub message_digest: Option<MessageDigest>,
+    pub signature: SignatureBytes,
+}
+
+/// The digest that a bundle tells of its message; it may have any length.
+#[derive(Debug, PartialEq, Drop)]
+pub struct MessageDigest {
+    pub algorithm: HashAlgorithm,
+    pub digest: DigestBytes,
+}
+
+#[tactic(auto, unfolding(crate::specs::Bundle::algorithm_of))]
+fn read_algorithm(alloc: Global, value: &Value) -> Result<HashAlgorithm, TypesError>
+    ensures ok { IfOk result (λ v. algorithm_of (view value.now) ≡ Ok v) }
+    ensures err { IfErr result (λ e. e ≢ NoMemory → algorithm_of (view value.now) ≡ Err e) }
+{
+    let name: Text = required(alloc, value, TypesMember::Algorithm)?;
+    match HashAlgorithm::from_name(name.as_str()) {
+        None => Err(TypesError::Field {
+            member: TypesMember::Algorithm,
+        }),
+        Some(algorithm) => if name.as_str() == "SHA2_256" {
+            Ok(algorithm)
+        } else {
+            Err(TypesError::Unbuilt(Form::Digest))
+        },
+    }
+}
+
+impl FromValue<TypesError> for MessageDigest {
+    ghost reads = { message_digest_of };
+
+    #[tactic(auto, unfolding(crate::specs::Bundle::message_digest_of))]
+    fn from_value(alloc: Global, value: &Value) -> Result<MessageDigest, TypesError> {
+        Ok(MessageDigest {
+            algorithm: read_algorithm(alloc, value)?,
+            digest: required(alloc, value, TypesMember::Digest)?,
+        })
+    }
+}
+
+impl FromValue<TypesError> for MessageSignature {
+    ghost reads = { message_signature_of };
+
+    #[tactic(auto, unfolding(crate::specs::Bundle::message_signature_of))]
+    fn from_value(alloc: Global, value: &Value) -> Result<MessageSignature, TypesError> {
+        Ok(MessageSignature {
+            message_digest: optional(alloc, value, TypesMember::MessageDigest)?,
+            signature: required(alloc, value, TypesMember::Signature)?,
+        })
+    }
+}
+
+// Exactly one of a message signature and an envelope.
+#[tactic(auto, unfolding(crate::specs::Bundle::content_of))]
+pub(crate) fn read_content(alloc: Global, value: &Value) -> Result<SignatureContent, TypesError>
+    ensures ok { IfOk result (λ v. content_of (view value.now) ≡ Ok v) }
+    ensures err { IfErr result (λ e. e ≢ NoMemory → content_of (view value.now) ≡ Err e) }
+{
+    let message = optional(alloc, value, TypesMember::MessageSignature)?;
+    absent(value, TypesMember::DsseEnvelope, Form::Envelope)?;
+    match message {
+        Some(message) => Ok(SignatureContent::MessageSignature(message)),
+        None => Err(TypesError::Json),
+    }
+}
