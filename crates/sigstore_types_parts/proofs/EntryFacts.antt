@@ -1,5 +1,5 @@
 -- A `BTreeMap` from `String`s beside the entries that it stands for.
-use Rattle.std.proofs.Common.{◌≡◌, ℕ, List, [], ◌∷◌, Option, Some, String, string_bytes, string_cmp, Ordering, Less, Equal, Greater, refl, ap, ◌∙◌, sym, ◌++◌, append_assoc}
+use Rattle.std.proofs.Common.{◌≡◌, ℕ, List, [], ◌∷◌, String, string_bytes, string_cmp, Ordering, Less, Equal, Greater, refl, ◌∙◌, sym, ◌++◌, append_assoc}
 use Rattle.std.specs.Ordering.{nat_cmp, match_ordering}
 use Rattle.std.specs.Cmp.Lexicographic.{slice_cmp}
 use Rattle.std.specs.BTreeMap.{is_at, insert_entry}

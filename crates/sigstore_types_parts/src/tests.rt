@@ -1,5 +1,6 @@
 // Display texts, and the encodings on outside values.
 use super::*;
+use foundation::{Duplicate, Sequence};
 use std::test::Fail;
 
 #[test]
@@ -52,5 +53,84 @@ fn algorithms_have_their_names(rt: HostRuntime) -> Result<(), Fail> {
         assert_eq!(rt; HashAlgorithm::from_name(rekor), Some(algorithm));
     }
     assert_eq!(rt; HashAlgorithm::from_name("md5"), None);
+    Ok(())
+}
+
+// RFC 4648, section 10, and the first SHA-256 bytes of `hello`.
+#[test]
+fn encodings_agree(rt: HostRuntime) -> Result<(), Fail> {
+    let alloc = rt.alloc();
+    for (text, bytes) in [
+        ("", ""),
+        ("Zg==", "f"),
+        ("Zm9v", "foo"),
+        ("Zm9vYmE=", "fooba"),
+    ] {
+        let read = SignatureBytes::from_base64(alloc, text)?;
+        assert_eq!(rt; read.as_bytes(), bytes.as_bytes());
+        assert_eq!(rt; read.to_base64(alloc)?.as_str(), text);
+        assert!(rt; read.duplicate(alloc)? == read);
+    }
+    assert_eq!(rt;
+        SignatureBytes::from_base64(alloc, "Zg").err(),
+        Some(TypesError::Base64)
+    );
+    let hint = KeyHint::from_slice(&[0x2c, 0xf2, 0x4d, 0xba])?;
+    assert_eq!(rt; hint.to_hex(alloc)?.as_str(), "2cf24dba");
+    assert_eq!(rt; hint.as_array().len(), 4);
+    let short = KeyHint::from_slice(&[0]).err();
+    assert_eq!(rt;
+        short,
+        Some(TypesError::Length {
+            expected: 4,
+            actual: 1
+        })
+    );
+    Ok(())
+}
+
+#[test]
+fn json_is_read(rt: HostRuntime) -> Result<(), Fail> {
+    let alloc = rt.alloc();
+    let faults = [("{", JsonFault::NotJson), ("[1.5]", JsonFault::Float)];
+    for (text, fault) in faults {
+        assert_eq!(rt;
+            parse_json(alloc, text.as_bytes()).err(),
+            Some(fault),
+            "{text}"
+        );
+    }
+    let value = parse_json(alloc, b"{\"hint\":\"k\",\"version\":7,\"sig\":\"AQ==\"}")?;
+    let hint: Text = required(alloc, &value, TypesMember::Hint)?;
+    let version: u64 = required(alloc, &value, TypesMember::Version)?;
+    let sig: Option<SignatureBytes> = optional(alloc, &value, TypesMember::Sig)?;
+    let start: Option<jiff::Timestamp> = optional(alloc, &value, TypesMember::Start)?;
+    let end: bool = defaulted(alloc, &value, TypesMember::End, true)?;
+    assert_eq!(rt; hint.as_str(), "k");
+    assert_eq!(rt; version, 7);
+    assert!(rt; sig.is_some() && start.is_none() && end);
+    let absent: Result<Sequence<Text>, TypesError> = required(alloc, &value, TypesMember::Subject);
+    let field = TypesError::Field {
+        member: TypesMember::Subject,
+    };
+    assert_eq!(rt; absent.err(), Some(field));
+    let all: TextMap<Json> = FromValue::<TypesError>::from_value(alloc, &value)?;
+    let copy = all.duplicate(alloc)?;
+    assert!(rt; copy.get("sig").is_some() && copy.get("start").is_none());
+    Ok(())
+}
+
+#[test]
+fn listed_calls_fail(rt: HostRuntime) -> Result<(), Fail> {
+    let alloc = rt.alloc();
+    let mut calls = Calls::new(FailList::new(vec![in alloc; 2u64, 3]?).ok_or("a list")?);
+    for fails in [false, true, true, false] {
+        assert_eq!(rt; calls.next_fails(), fails);
+    }
+    assert_eq!(rt; calls.faults, 2);
+    for numbers in [[0u64, 1], [1, 1], [2, 1]] {
+        let list = numbers.to_vec(alloc)?;
+        assert!(rt; FailList::new(list).is_none());
+    }
     Ok(())
 }

@@ -1,6 +1,5 @@
 use Rattle.std.proofs.Common.{Some, option_map, sym, ap, ◌∙◌}
 use Rattle.std.specs.Result.{result_ok}
-use Rattle.jiff_fmt.specs.Temporal.{parse_timestamp}
 use Rattle.sigstore_types_parts.specs.Instant.{at_nanosecond, instant_of}
 use Rattle.sigstore_types_parts.proofs.Instants.{at_nanosecond-nanosecond}
 use Rattle.sigstore_types_parts.proofs.leaves.instant.Goals as goal

@@ -1,4 +1,4 @@
-use Rattle.std.proofs.Common.{◌∙◌, sym, ap}
+use Rattle.std.proofs.Common.{◌∙◌, ap}
 use Rattle.sigstore_types_parts.specs.Entries.{at_name}
 use Rattle.sigstore_types_parts.proofs.EntryFacts.{lookup-named}
 use Rattle.sigstore_types_parts.proofs.text_map.TextMap.get.Goals as goal

@@ -1,7 +1,7 @@
-use Rattle.std.proofs.Common.{◌∙◌, ap, subst}
+use Rattle.std.proofs.Common.{subst}
 use Rattle.std.specs.List.Sorted.{IsStrictlySortedBy}
 use Rattle.std.specs.Map.{keys_of}
-use Rattle.sigstore_types_parts.specs.Entries.{text_cmp, named}
+use Rattle.sigstore_types_parts.specs.Entries.{text_cmp}
 use Rattle.sigstore_types_parts.proofs.EntryFacts.{named-ascend}
 use Rattle.sigstore_types_parts.proofs.text_map.TextMap.iter.Goals as goal
 
