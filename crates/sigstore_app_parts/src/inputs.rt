@@ -1,0 +1,50 @@
+// Where the program's inputs come from.
+ghost use Rattle.std.specs.Prelude.{◌≡◌};
+ghost use Rattle.foundation.specs.Watched.{Watched};
+ghost use Rattle.sigstore_app_parts.specs.Inputs.{Held, Gives};
+ghost use Rattle.sigstore_app_parts.specs.declared.inputs.InputFault.TheVariants.{NoMemory as Want};
+
+use foundation::NoMemory;
+use sigstore_types_parts::Bytes;
+use std::alloc::Global;
+use thiserror::Error;
+
+/// The inputs of the program.
+#[derive(Clone, Copy, Debug, PartialEq, Eq, Drop)]
+pub enum Which {
+    Root,
+    Bundle,
+    Policy,
+    Provider,
+}
+
+/// Why an input wasn't given.
+#[derive(Clone, Copy, Debug, PartialEq, Eq, Drop, Error)]
+pub enum InputFault {
+    #[error("Failed")]
+    Failed,
+    #[error("Absent")]
+    Absent,
+    #[error("TooLong")]
+    TooLong { seen: u64 },
+    #[error("NoMemory")]
+    NoMemory,
+}
+
+impl From<NoMemory> for InputFault {
+    ghost from_gives = { λ _ e. e ≡ Want };
+
+    fn from(_: NoMemory) -> InputFault {
+        InputFault::NoMemory
+    }
+}
+
+/// Gives the program's inputs.
+pub trait Inputs {
+    /// The inputs, where they are told, and how often a reading failed.
+    ghost seen: { Self → Watched Held };
+
+    /// An input of at most `max` bytes. Errors: `Failed`, `Absent`, `TooLong` above `max`, `NoMemory`.
+    fn read(&mut self, alloc: Global, which: Which, max: u64) -> Result<Bytes, InputFault>
+        ensures { Gives which (seen self.old) (seen self.new) max result };
+}

@@ -1,0 +1,33 @@
+// Standard output.
+ghost use Rattle.foundation.specs.Watched.{untold};
+
+use crate::sink::{Sink, SinkFault};
+use std::io::Print;
+
+/// Standard output; it tells nothing.
+#[derive(Drop)]
+pub struct StdoutSink<'r, X: Print> {
+    rt: &'r X,
+    faults: u64,
+}
+
+impl<'r, X: Print> StdoutSink<'r, X> {
+    /// Standard output of a runtime.
+    pub fn new(rt: &'r X) -> StdoutSink<'r, X> {
+        StdoutSink { rt, faults: 0 }
+    }
+}
+
+impl<X: Print> Sink for StdoutSink<'_, X> {
+    ghost seen = { λ s. untold s.faults };
+
+    fn write(&mut self, bytes: &[u8]) -> Result<usize, SinkFault> {
+        match self.rt.write_some(bytes) {
+            Ok(count) if count > 0 || bytes.is_empty() => Ok(count),
+            _ => {
+                self.faults = self.faults.saturating_add(1);
+                Err(SinkFault::Failed)
+            }
+        }
+    }
+}
