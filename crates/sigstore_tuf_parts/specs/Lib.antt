@@ -1,0 +1,14 @@
+pub mod Error
+pub mod Words
+pub mod Others
+pub mod Canon
+pub mod Canonical
+pub mod Exact
+pub mod Header
+pub mod Head
+pub mod Document
+pub mod Keys
+pub mod Root
+pub mod Timestamp
+pub mod Snapshot
+pub mod Targets

@@ -1,2 +1,30 @@
-//! To be built.
+//! TUF documents: their readers, the canonical text that is signed, keys, thresholds, pins and names.
 #![tactic(auto)]
+
+mod canonical;
+mod document;
+mod error;
+mod extra;
+mod head;
+mod header;
+mod keys;
+mod member;
+mod role;
+mod root;
+mod snapshot;
+mod targets;
+#[cfg(test)]
+mod tests;
+mod timestamp;
+
+pub use canonical::to_canonical_bytes;
+pub use document::{Metadata, Signature};
+pub use error::{Error, Mismatch, Rule, TransportFault};
+pub use extra::others;
+pub use keys::{Key, KeyVal, RoleKeys};
+pub use member::DocumentMember;
+pub use role::Role;
+pub use root::Root;
+pub use snapshot::Snapshot;
+pub use targets::{DelegatedRole, Delegations, TargetFile, Targets};
+pub use timestamp::{MetaFile, Timestamp};

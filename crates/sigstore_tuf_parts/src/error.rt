@@ -1,0 +1,221 @@
+// Why a document is refused.
+ghost use Rattle.std.specs.Prelude.{◌≡◌};
+ghost use Rattle.sigstore_tuf_parts.specs.declared.error.Error.TheVariants.{NoMemory as Want};
+ghost use Rattle.sigstore_tuf_parts.specs.Error.{error_of, error_of_fault, number_of, name_of};
+
+use foundation::NoMemory;
+use sigstore_types_parts::{Form, JsonFault, Misread, Refusal, Text};
+use std::alloc::{AllocError, AllocFailed};
+
+/// The rule that a document breaks: its frame, its kind, the version of the specification, a
+/// threshold of 0, a pattern, or what has to be in force before it.
+#[derive(Clone, Copy, Debug, PartialEq, Eq, Drop)]
+pub enum Rule {
+    Frame,
+    Kind,
+    SpecVersion,
+    Threshold,
+    Pattern,
+    NoTimestamp,
+    NoSnapshot,
+    Unpinned,
+    TopLevel,
+    NoDelegations,
+}
+
+/// How a file differs from its pin: in its length, a digest, without a supported digest, in its
+/// version, by a pin that vanished, or by a listed length over the limit.
+#[derive(Clone, Copy, Debug, PartialEq, Eq, Drop)]
+pub enum Mismatch {
+    Length,
+    Digest,
+    NoDigest,
+    Version,
+    Vanished,
+    TooLong,
+}
+
+/// How a repository failed: the call failed, the file is absent, it is longer than the limit, or
+/// there are more roots than the limit.
+#[derive(Clone, Copy, Debug, PartialEq, Eq, Drop)]
+pub enum TransportFault {
+    Failed,
+    Absent,
+    TooLong { max: u64, seen: u64 },
+    Rotations { max: u32 },
+}
+
+/// Why a document, a key or a chain of documents is refused.
+#[derive(Debug, Drop, thiserror::Error)]
+pub enum Error {
+    #[error("Json")]
+    Json,
+    #[error("Malformed")]
+    Malformed(Rule),
+    #[error("NonIntegerNumber")]
+    NonIntegerNumber,
+    #[error("UnusableKey")]
+    UnusableKey {
+        key_id: Text,
+    },
+    #[error("UnsupportedScheme")]
+    UnsupportedScheme {
+        keytype: Text,
+        scheme: Text,
+    },
+    #[error("UnknownRole")]
+    UnknownRole {
+        name: Text,
+    },
+    #[error("DuplicateSignature")]
+    DuplicateSignature {
+        role: Text,
+        key_id: Text,
+    },
+    #[error("ThresholdNotMet")]
+    ThresholdNotMet {
+        role: Text,
+        found: u64,
+        threshold: u64,
+    },
+    #[error("Rollback")]
+    Rollback {
+        role: Text,
+        trusted: u64,
+        new: u64,
+    },
+    #[error("EqualVersion")]
+    EqualVersion {
+        role: Text,
+        version: u64,
+    },
+    #[error("BadRootVersion")]
+    BadRootVersion {
+        trusted: u64,
+        new: u64,
+    },
+    #[error("Expired")]
+    Expired {
+        role: Text,
+        expires: jiff::Timestamp,
+    },
+    #[error("IntegrityMismatch")]
+    IntegrityMismatch(Mismatch),
+    #[error("Crypto")]
+    Crypto,
+    #[error("NotRefreshed")]
+    NotRefreshed,
+    #[error("TargetNotFound")]
+    TargetNotFound {
+        path: Text,
+    },
+    #[error("Transport")]
+    Transport(TransportFault),
+    #[error("NoMemory")]
+    NoMemory,
+    #[error("Unbuilt")]
+    Unbuilt(Form),
+}
+
+impl Error {
+    /// The number of this refusal.
+    pub fn number(&self) -> u8
+        ensures { result ≡ number_of self.now }
+    {
+        match self {
+            Error::Json => 1,
+            Error::Malformed(_) => 2,
+            Error::NonIntegerNumber => 3,
+            Error::UnusableKey { .. } => 4,
+            Error::UnsupportedScheme { .. } => 5,
+            Error::UnknownRole { .. } => 6,
+            Error::DuplicateSignature { .. } => 7,
+            Error::ThresholdNotMet { .. } => 8,
+            Error::Rollback { .. } => 9,
+            Error::EqualVersion { .. } => 10,
+            Error::BadRootVersion { .. } => 11,
+            Error::Expired { .. } => 12,
+            Error::IntegrityMismatch(_) => 13,
+            Error::Crypto => 14,
+            Error::NotRefreshed => 15,
+            Error::TargetNotFound { .. } => 16,
+            Error::Transport(_) => 18,
+            Error::NoMemory => 19,
+            Error::Unbuilt(_) => 90,
+        }
+    }
+
+    /// The name of this refusal, which is its Display text too.
+    pub fn name(&self) -> &'static str
+        ensures { result.now ≡ name_of self.now }
+    {
+        match self {
+            Error::Json => "Json",
+            Error::Malformed(_) => "Malformed",
+            Error::NonIntegerNumber => "NonIntegerNumber",
+            Error::UnusableKey { .. } => "UnusableKey",
+            Error::UnsupportedScheme { .. } => "UnsupportedScheme",
+            Error::UnknownRole { .. } => "UnknownRole",
+            Error::DuplicateSignature { .. } => "DuplicateSignature",
+            Error::ThresholdNotMet { .. } => "ThresholdNotMet",
+            Error::Rollback { .. } => "Rollback",
+            Error::EqualVersion { .. } => "EqualVersion",
+            Error::BadRootVersion { .. } => "BadRootVersion",
+            Error::Expired { .. } => "Expired",
+            Error::IntegrityMismatch(_) => "IntegrityMismatch",
+            Error::Crypto => "Crypto",
+            Error::NotRefreshed => "NotRefreshed",
+            Error::TargetNotFound { .. } => "TargetNotFound",
+            Error::Transport(_) => "Transport",
+            Error::NoMemory => "NoMemory",
+            Error::Unbuilt(_) => "Unbuilt",
+        }
+    }
+}
+
+impl From<NoMemory> for Error {
+    ghost from_gives = { λ _ e. e ≡ Want };
+
+    fn from(_: NoMemory) -> Error {
+        Error::NoMemory
+    }
+}
+
+impl From<AllocError> for Error {
+    ghost from_gives = { λ _ e. e ≡ Want };
+
+    fn from(_: AllocError) -> Error {
+        Error::NoMemory
+    }
+}
+
+impl<T: Drop> From<AllocFailed<T>> for Error {
+    ghost from_gives = { λ _ e. e ≡ Want };
+
+    fn from(_: AllocFailed<T>) -> Error {
+        Error::NoMemory
+    }
+}
+
+impl Refusal for Error {
+    ghost of = { error_of };
+
+    fn of_misread(misread: Misread) -> Error {
+        match misread {
+            Misread::NoMemory => Error::NoMemory,
+            _ => Error::Json,
+        }
+    }
+}
+
+impl From<JsonFault> for Error {
+    ghost from_gives = { λ fault e. e ≡ error_of_fault fault };
+
+    fn from(fault: JsonFault) -> Error {
+        match fault {
+            JsonFault::NotJson => Error::Json,
+            JsonFault::Float => Error::NonIntegerNumber,
+            JsonFault::NoMemory => Error::NoMemory,
+        }
+    }
+}

@@ -1,0 +1,77 @@
+// The snapshot document.
+ghost use Rattle.sigstore_tuf_parts.specs.Snapshot.{snapshot_of};
+
+use crate::error::Error;
+use crate::extra::others;
+use crate::head::Head;
+use crate::member::DocumentMember;
+use crate::role::Role;
+use crate::timestamp::MetaFile;
+use serde_json::Value;
+use sigstore_types_parts::{FromValue, Json, Text, TextMap, required};
+use std::alloc::Global;
+
+/// The content of a snapshot document: the pins of the targets documents.
+#[derive(Drop)]
+pub struct Snapshot {
+    pub type_: Text,
+    pub spec_version: Text,
+    pub version: u64,
+    pub expires: jiff::Timestamp,
+    pub meta: TextMap<MetaFile>,
+    pub extra: TextMap<Json>,
+}
+
+impl FromValue<Error> for Snapshot {
+    ghost reads = { snapshot_of };
+
+    #[tactic(auto, unfolding(crate::specs::Snapshot::snapshot_of))]
+    fn from_value(alloc: Global, value: &Value) -> Result<Snapshot, Error> {
+        let Head {
+            type_,
+            spec_version,
+            version,
+            expires,
+        } = Head::from_value(alloc, value)?;
+        Ok(Snapshot {
+            type_,
+            spec_version,
+            version,
+            expires,
+            meta: required(alloc, value, DocumentMember::Meta)?,
+            extra: others(
+                alloc,
+                value,
+                &[
+                    DocumentMember::Type,
+                    DocumentMember::SpecVersion,
+                    DocumentMember::Version,
+                    DocumentMember::Expires,
+                    DocumentMember::Meta,
+                ],
+            )?,
+        })
+    }
+}
+
+impl Role for Snapshot {
+    ghost use Rattle.std.specs.Prelude.{codes};
+
+    ghost kind = { codes "snapshot" };
+
+    ghost version_in = { λ d. d.version };
+
+    ghost expires_in = { λ d. d.expires };
+
+    fn kind() -> &'static str {
+        "snapshot"
+    }
+
+    fn version(&self) -> u64 {
+        self.version
+    }
+
+    fn expires(&self) -> jiff::Timestamp {
+        self.expires
+    }
+}

@@ -1,0 +1,131 @@
+// The timestamp document, and pins.
+ghost use Rattle.std.specs.Prelude.{◌≡◌, codes};
+ghost use Rattle.std.specs.Option.{option_copied};
+ghost use Rattle.sigstore_types_parts.specs.Entries.{at_name};
+ghost use Rattle.sigstore_tuf_parts.specs.Timestamp.{timestamp_of, meta_file_of};
+
+use crate::error::Error;
+use crate::extra::others;
+use crate::head::Head;
+use crate::member::DocumentMember;
+use crate::role::Role;
+use foundation::{Duplicate, NoMemory};
+use serde_json::Value;
+use sigstore_types_parts::{FromValue, Json, Text, TextMap, optional, required};
+use std::alloc::Global;
+
+/// The pin of a document: its version, and its length and digests where they are given.
+#[derive(Drop)]
+pub struct MetaFile {
+    pub version: u64,
+    pub length: Option<u64>,
+    pub hashes: Option<TextMap<Text>>,
+    pub extra: TextMap<Json>,
+}
+
+/// The content of a timestamp document: the pin of the snapshot.
+#[derive(Drop)]
+pub struct Timestamp {
+    pub type_: Text,
+    pub spec_version: Text,
+    pub version: u64,
+    pub expires: jiff::Timestamp,
+    pub meta: TextMap<MetaFile>,
+    pub extra: TextMap<Json>,
+}
+
+impl FromValue<Error> for MetaFile {
+    ghost reads = { meta_file_of };
+
+    #[tactic(auto, unfolding(crate::specs::Timestamp::meta_file_of))]
+    fn from_value(alloc: Global, value: &Value) -> Result<MetaFile, Error> {
+        Ok(MetaFile {
+            version: required(alloc, value, DocumentMember::Version)?,
+            length: optional(alloc, value, DocumentMember::Length)?,
+            hashes: optional(alloc, value, DocumentMember::Hashes)?,
+            extra: others(
+                alloc,
+                value,
+                &[
+                    DocumentMember::Version,
+                    DocumentMember::Length,
+                    DocumentMember::Hashes,
+                ],
+            )?,
+        })
+    }
+}
+
+impl Duplicate for MetaFile {
+    fn duplicate(&self, alloc: Global) -> Result<MetaFile, NoMemory> {
+        Ok(MetaFile {
+            version: self.version,
+            length: self.length.duplicate(alloc)?,
+            hashes: self.hashes.duplicate(alloc)?,
+            extra: self.extra.duplicate(alloc)?,
+        })
+    }
+}
+
+impl FromValue<Error> for Timestamp {
+    ghost reads = { timestamp_of };
+
+    #[tactic(auto, unfolding(crate::specs::Timestamp::timestamp_of))]
+    fn from_value(alloc: Global, value: &Value) -> Result<Timestamp, Error> {
+        let Head {
+            type_,
+            spec_version,
+            version,
+            expires,
+        } = Head::from_value(alloc, value)?;
+        Ok(Timestamp {
+            type_,
+            spec_version,
+            version,
+            expires,
+            meta: required(alloc, value, DocumentMember::Meta)?,
+            extra: others(
+                alloc,
+                value,
+                &[
+                    DocumentMember::Type,
+                    DocumentMember::SpecVersion,
+                    DocumentMember::Version,
+                    DocumentMember::Expires,
+                    DocumentMember::Meta,
+                ],
+            )?,
+        })
+    }
+}
+
+impl Timestamp {
+    /// The pin of the snapshot.
+    pub fn snapshot_meta(&self) -> Option<&MetaFile>
+        ensures { option_copied result ≡ at_name (codes "snapshot.json") self.now.meta }
+    {
+        self.meta.get("snapshot.json")
+    }
+}
+
+impl Role for Timestamp {
+    ghost use Rattle.std.specs.Prelude.{codes};
+
+    ghost kind = { codes "timestamp" };
+
+    ghost version_in = { λ d. d.version };
+
+    ghost expires_in = { λ d. d.expires };
+
+    fn kind() -> &'static str {
+        "timestamp"
+    }
+
+    fn version(&self) -> u64 {
+        self.version
+    }
+
+    fn expires(&self) -> jiff::Timestamp {
+        self.expires
+    }
+}
