@@ -12,3 +12,5 @@ pub mod Root
 pub mod Timestamp
 pub mod Snapshot
 pub mod Targets
+pub mod Integrity
+pub mod Names
