@@ -1,2 +1,5 @@
 pub mod Inputs
 pub mod Sink
+pub mod Lines
+pub mod Fields
+pub mod Policy
