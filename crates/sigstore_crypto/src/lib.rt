@@ -3,12 +3,22 @@
 
 mod digest;
 mod error;
+mod file_source;
 mod key;
+mod memory_source;
 mod provider;
+mod reader;
 mod scheme;
+mod source;
+#[cfg(test)]
+mod tests;
 
 pub use digest::{sha256, sha384, sha512};
 pub use error::{CertificateFault, CheckpointFault, Error, KeyRule, VerificationFault};
+pub use file_source::FileSource;
 pub use key::{VerificationKey, validate_raw_public_key};
+pub use memory_source::MemorySource;
 pub use provider::{CryptoProvider, answers_alike};
+pub use reader::{ReadError, sha256_reader};
 pub use scheme::{KeyAlgorithm, SigningScheme};
+pub use source::{ArtifactSource, ReadFault};
