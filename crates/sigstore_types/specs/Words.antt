@@ -1,5 +1,5 @@
 -- The readers of this crate: a member that is absent or of another JSON type is Field of that member.
-use Rattle.std.specs.Prelude.{ℕ, List, Option, Result, Ok, Err, ⊤, ok_or, if◌then◌else◌}
+use Rattle.std.specs.Prelude.{ℕ, List, Option, Result, Ok, Err, ⊤, ok_or}
 use Rattle.serde_json.specs.Data.{Data, Items, no_items, item}
 use Rattle.serde_json.specs.Find.{as_array}
 use Rattle.foundation.specs.Steps.{◌>>=◌}

@@ -1,10 +1,11 @@
 // What a bundle signs: a message by its digest.
 ghost use Rattle.std.specs.Prelude.{◌≡◌, ◌≢◌, Ok, Err, IfOk, IfErr};
 ghost use Rattle.serde_json.specs.View.{view};
-ghost use Rattle.sigstore_types_parts.specs.declared.error.TypesError.TheVariants.{NoMemory};
+ghost use Rattle.sigstore_types_parts.specs.declared.error.TypesError.TheVariants.{NoMemory as Want};
 ghost use Rattle.sigstore_types.specs.Bundle.{algorithm_of, message_digest_of, message_signature_of, content_of};
 
 use crate::words::absent;
+use foundation::{Duplicate, NoMemory};
 use serde_json::Value;
 use sigstore_types_parts::{
     DigestBytes, Form, FromValue, HashAlgorithm, SignatureBytes, Text, TypesError, TypesMember,
@@ -32,10 +33,38 @@ pub struct MessageDigest {
     pub digest: DigestBytes,
 }
 
+impl Duplicate for SignatureContent {
+    fn duplicate(&self, alloc: Global) -> Result<SignatureContent, NoMemory> {
+        match self {
+            SignatureContent::MessageSignature(message) => {
+                Ok(SignatureContent::MessageSignature(message.duplicate(alloc)?))
+            }
+        }
+    }
+}
+
+impl Duplicate for MessageSignature {
+    fn duplicate(&self, alloc: Global) -> Result<MessageSignature, NoMemory> {
+        Ok(MessageSignature {
+            message_digest: self.message_digest.duplicate(alloc)?,
+            signature: self.signature.duplicate(alloc)?,
+        })
+    }
+}
+
+impl Duplicate for MessageDigest {
+    fn duplicate(&self, alloc: Global) -> Result<MessageDigest, NoMemory> {
+        Ok(MessageDigest {
+            algorithm: self.algorithm,
+            digest: self.digest.duplicate(alloc)?,
+        })
+    }
+}
+
 #[tactic(auto, unfolding(crate::specs::Bundle::algorithm_of))]
 fn read_algorithm(alloc: Global, value: &Value) -> Result<HashAlgorithm, TypesError>
     ensures ok { IfOk result (λ v. algorithm_of (view value.now) ≡ Ok v) }
-    ensures err { IfErr result (λ e. e ≢ NoMemory → algorithm_of (view value.now) ≡ Err e) }
+    ensures err { IfErr result (λ e. e ≢ Want → algorithm_of (view value.now) ≡ Err e) }
 {
     let name: Text = required(alloc, value, TypesMember::Algorithm)?;
     match HashAlgorithm::from_name(name.as_str()) {
@@ -78,7 +107,7 @@ impl FromValue<TypesError> for MessageSignature {
 #[tactic(auto, unfolding(crate::specs::Bundle::content_of))]
 pub(crate) fn read_content(alloc: Global, value: &Value) -> Result<SignatureContent, TypesError>
     ensures ok { IfOk result (λ v. content_of (view value.now) ≡ Ok v) }
-    ensures err { IfErr result (λ e. e ≢ NoMemory → content_of (view value.now) ≡ Err e) }
+    ensures err { IfErr result (λ e. e ≢ Want → content_of (view value.now) ≡ Err e) }
 {
     let message = optional(alloc, value, TypesMember::MessageSignature)?;
     absent(value, TypesMember::DsseEnvelope, Form::Envelope)?;

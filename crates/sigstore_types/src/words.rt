@@ -54,10 +54,10 @@ pub(crate) fn without_items(
     }
     match value.get(member.name()) {
         None => Ok(()),
-        Some(there) => if there.is_null() {
+        Some(list) => if list.is_null() {
             Ok(())
         } else {
-            match empty(there, form) {
+            match empty(list, form) {
                 Ok(()) => Ok(()),
                 Err(e) => Err(member.place(e)),
             }
