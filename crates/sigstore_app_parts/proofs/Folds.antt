@@ -2,8 +2,8 @@
 use Rattle.std.proofs.Common.{◌≡◌, ◌≢◌, ℕ, ◌<◌, List, [], ◌∷◌, length, Bool, true, false, cond, ◌==◌, Option, Some, None, option_map, Result, Ok, Err, ok_or, refl, sym, ap, ◌∙◌, arith}
 use Rattle.foundation.specs.Steps.{◌>>=◌}
 use Rattle.sigstore_app_parts.specs.Lines.{cut_of, begun, lines_of, counted, folded_of, text_folded_of}
-use Rattle.sigstore_app_parts.specs.declared.lines.FileFault.{FileFault}
-use Rattle.sigstore_app_parts.specs.declared.lines.FileFault.TheVariants.{Usage, NoMemory}
+use Rattle.sigstore_app_parts.specs.declared.usage_fault.UsageFault.{UsageFault}
+use Rattle.sigstore_app_parts.specs.declared.usage_fault.UsageFault.TheVariants.{Usage, NoMemory}
 
 abbrev Parts : Type 0
 Parts = List ℕ × List ℕ
@@ -85,32 +85,32 @@ lines_uncut (b ∷ bs) e h =
       | false ↦ λ e. uncut b bs (cut_of 10 bs) (λ o h. lines_uncut bs o h) e (λ o. ap lines_of o)
     ] in go e
 
-folded_first : {S : Type 0} (takes : S → List ℕ → Result S FileFault) (a b : S) (line : List ℕ) (rest : Lines)
+folded_first : {S : Type 0} (takes : S → List ℕ → Result S UsageFault) (a b : S) (line : List ℕ) (rest : Lines)
     → counted takes a line ≡ Ok b → (ok_or (first_then line rest) Usage >>= folded_of takes a) ≡ (ok_or rest Usage >>= folded_of takes b)
 folded_first takes a b line None e = refl
 folded_first takes a b line (Some lines) e = ap (λ r. r >>= λ next. folded_of takes next lines) e
 
-refused_first : {S : Type 0} (takes : S → List ℕ → Result S FileFault) (a : S) (line : List ℕ) (rest : Lines)
+refused_first : {S : Type 0} (takes : S → List ℕ → Result S UsageFault) (a : S) (line : List ℕ) (rest : Lines)
     → counted takes a line ≡ Err Usage → (ok_or (first_then line rest) Usage >>= folded_of takes a) ≡ Err Usage
 refused_first takes a line None e = refl
 refused_first takes a line (Some lines) e = ap (λ r. r >>= λ next. folded_of takes next lines) e
 
 -- a line was taken
-pub folded_more : {S : Type 0} (takes : S → List ℕ → Result S FileFault) (a b : S) (s line next : List ℕ)
+pub folded_more : {S : Type 0} (takes : S → List ℕ → Result S UsageFault) (a b : S) (s line next : List ℕ)
     → cut_of 10 s ≡ Some (line, next) → counted takes a line ≡ Ok b → text_folded_of takes a s ≡ text_folded_of takes b next
 folded_more takes a b s line next e h = ap (λ ls. ok_or ls Usage >>= folded_of takes a) (lines_cut s line next e) ∙ folded_first takes a b line (lines_of next) h
 
 -- a line was refused
-pub folded_refused : {S : Type 0} (takes : S → List ℕ → Result S FileFault) (a : S) (s line next : List ℕ) (e : FileFault)
+pub folded_refused : {S : Type 0} (takes : S → List ℕ → Result S UsageFault) (a : S) (s line next : List ℕ) (e : UsageFault)
     → cut_of 10 s ≡ Some (line, next) → (e ≢ NoMemory → counted takes a line ≡ Err e) → e ≢ NoMemory → text_folded_of takes a s ≡ Err e
 folded_refused takes a s line next Usage c h n = ap (λ ls. ok_or ls Usage >>= folded_of takes a) (lines_cut s line next c) ∙ refused_first takes a line (lines_of next) (h n)
 folded_refused takes a s line next NoMemory c h n = absurd (n refl)
 
 -- what is left has no line feed
-pub folded_uncut : {S : Type 0} (takes : S → List ℕ → Result S FileFault) (a : S) (s : List ℕ)
+pub folded_uncut : {S : Type 0} (takes : S → List ℕ → Result S UsageFault) (a : S) (s : List ℕ)
     → cut_of 10 s ≡ None → 0 < length s → text_folded_of takes a s ≡ Err Usage
 folded_uncut takes a s c h = ap (λ ls. ok_or ls Usage >>= folded_of takes a) (lines_uncut s c h)
 
-pub folded_empty : {S : Type 0} (takes : S → List ℕ → Result S FileFault) (a : S) (s : List ℕ) → length s ≡ 0 → text_folded_of takes a s ≡ Ok a
+pub folded_empty : {S : Type 0} (takes : S → List ℕ → Result S UsageFault) (a : S) (s : List ℕ) → length s ≡ 0 → text_folded_of takes a s ≡ Ok a
 folded_empty takes a [] h = refl
 folded_empty takes a (x ∷ xs) h = absurd (omega arith)

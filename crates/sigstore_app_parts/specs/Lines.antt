@@ -2,8 +2,8 @@
 use Rattle.std.specs.Prelude.{ℕ, List, [], ◌∷◌, length, Bool, true, if◌then◌else◌, ◌==◌, Option, Some, None, option_map, Result, Ok, Err, ok_or}
 use Rattle.std.specs.Str.Lossy.{utf8_valid_len}
 use Rattle.foundation.specs.Steps.{◌>>=◌}
-use Rattle.sigstore_app_parts.specs.declared.lines.FileFault.{FileFault}
-use Rattle.sigstore_app_parts.specs.declared.lines.FileFault.TheVariants.{Usage}
+use Rattle.sigstore_app_parts.specs.declared.usage_fault.UsageFault.{UsageFault}
+use Rattle.sigstore_app_parts.specs.declared.usage_fault.UsageFault.TheVariants.{Usage}
 
 -- the text before the first such byte and the text behind it; none where there is no such byte
 abbrev pub cut_of : ℕ → List ℕ → Option (List ℕ × List ℕ)
@@ -27,18 +27,18 @@ is_passed_over [] = true
 is_passed_over (byte ∷ bytes) = byte == 35
 
 -- what a line makes of what was read before it
-abbrev pub counted : {S : Type 0} → (S → List ℕ → Result S FileFault) → S → List ℕ → Result S FileFault
+abbrev pub counted : {S : Type 0} → (S → List ℕ → Result S UsageFault) → S → List ℕ → Result S UsageFault
 counted takes state line = if is_passed_over line then Ok state else takes state line
 
 -- what the lines in turn make of what was read before them, or the first refusal
-abbrev pub folded_of : {S : Type 0} → (S → List ℕ → Result S FileFault) → S → List (List ℕ) → Result S FileFault
+abbrev pub folded_of : {S : Type 0} → (S → List ℕ → Result S UsageFault) → S → List (List ℕ) → Result S UsageFault
 folded_of takes state [] = Ok state
 folded_of takes state (line ∷ lines) = counted takes state line >>= λ next. folded_of takes next lines
 
 -- the same of a text
-abbrev pub text_folded_of : {S : Type 0} → (S → List ℕ → Result S FileFault) → S → List ℕ → Result S FileFault
+abbrev pub text_folded_of : {S : Type 0} → (S → List ℕ → Result S UsageFault) → S → List ℕ → Result S UsageFault
 text_folded_of takes state text = ok_or (lines_of text) Usage >>= folded_of takes state
 
 -- the same of a file, which is UTF-8
-abbrev pub file_folded_of : {S : Type 0} → (S → List ℕ → Result S FileFault) → S → List ℕ → Result S FileFault
+abbrev pub file_folded_of : {S : Type 0} → (S → List ℕ → Result S UsageFault) → S → List ℕ → Result S UsageFault
 file_folded_of takes state bytes = if utf8_valid_len bytes == length bytes then text_folded_of takes state bytes else Err Usage

@@ -1,30 +1,12 @@
 // Texts cut at a character, and files of lines.
 ghost use Rattle.std.specs.Prelude.{◌≡◌, ◌≢◌, ◌<◌, List, ℕ, Result, Ok, Err, Some, None, MatchOption, OnOk, IfErr};
 ghost use Rattle.sigstore_app_parts.specs.Lines.{cut_of, is_passed_over, counted, text_folded_of, file_folded_of};
-ghost use Rattle.sigstore_app_parts.specs.declared.lines.FileFault.{FileFault};
-ghost use Rattle.sigstore_app_parts.specs.declared.lines.FileFault.TheVariants.{NoMemory as Want};
+ghost use Rattle.sigstore_app_parts.specs.declared.usage_fault.UsageFault.{UsageFault};
+ghost use Rattle.sigstore_app_parts.specs.declared.usage_fault.UsageFault.TheVariants.{NoMemory as Want};
 
-use foundation::NoMemory;
+use crate::usage_fault::UsageFault;
 use std::alloc::Global;
 use std::str;
-use thiserror::Error;
-
-/// Why a policy or provider file isn't read: it is outside its grammar, or memory was wanting.
-#[derive(Clone, Copy, Debug, PartialEq, Eq, Drop, Error)]
-pub enum FileFault {
-    #[error("Usage")]
-    Usage,
-    #[error("NoMemory")]
-    NoMemory,
-}
-
-impl From<NoMemory> for FileFault {
-    ghost from_gives = { λ _ e. e ≡ Want };
-
-    fn from(_: NoMemory) -> FileFault {
-        FileFault::NoMemory
-    }
-}
 
 // The text before the first such character and the text behind it.
 pub(crate) fn cut(text: &str, at: char) -> Option<(&str, &str)>
@@ -36,10 +18,10 @@ pub(crate) fn cut(text: &str, at: char) -> Option<(&str, &str)>
 
 /// What is read of a file line by line.
 pub trait ByLine {
-    ghost takes: { Self → List ℕ → Result Self FileFault };
+    ghost takes: { Self → List ℕ → Result Self UsageFault };
 
     /// Takes a line that is neither empty nor a comment. Errors: `Usage` for a line outside the grammar; `NoMemory`.
-    fn take(&mut self, alloc: Global, line: &str) -> Result<(), FileFault>
+    fn take(&mut self, alloc: Global, line: &str) -> Result<(), UsageFault>
         ensures ok { OnOk result (takes self.old line.now ≡ Ok self.new) }
         ensures err { IfErr result (λ e. e ≢ Want → takes self.old line.now ≡ Err e) };
 }
@@ -50,7 +32,7 @@ fn is_passed_over(line: &str) -> bool
     matches!(line.as_bytes(), [] | [b'#', ..])
 }
 
-fn take_line<S: ByLine>(alloc: Global, state: &mut S, line: &str) -> Result<(), FileFault>
+fn take_line<S: ByLine>(alloc: Global, state: &mut S, line: &str) -> Result<(), UsageFault>
     ensures ok { OnOk result (counted S.takes state.old line.now ≡ Ok state.new) }
     ensures err { IfErr result (λ e. e ≢ Want → counted S.takes state.old line.now ≡ Err e) }
 {
@@ -63,7 +45,7 @@ fn take_line<S: ByLine>(alloc: Global, state: &mut S, line: &str) -> Result<(), 
     }
 }
 
-fn take_text<S: ByLine>(alloc: Global, state: &mut S, text: &str) -> Result<(), FileFault>
+fn take_text<S: ByLine>(alloc: Global, state: &mut S, text: &str) -> Result<(), UsageFault>
     ensures ok { OnOk result (text_folded_of S.takes state.old text.now ≡ Ok state.new) }
     ensures err { IfErr result (λ e. e ≢ Want → text_folded_of S.takes state.old text.now ≡ Err e) }
 {
@@ -77,12 +59,12 @@ fn take_text<S: ByLine>(alloc: Global, state: &mut S, text: &str) -> Result<(), 
     if rest.is_empty() {
         Ok(())
     } else {
-        Err(FileFault::Usage)
+        Err(UsageFault::Usage)
     }
 }
 
 /// Takes the lines of a file in turn. Errors: `Usage` for bytes that aren't UTF-8, a last line without its line feed, and a line that is refused; `NoMemory`.
-pub fn take_file<S: ByLine>(alloc: Global, state: &mut S, bytes: &[u8]) -> Result<(), FileFault>
+pub fn take_file<S: ByLine>(alloc: Global, state: &mut S, bytes: &[u8]) -> Result<(), UsageFault>
     ensures ok { OnOk result (file_folded_of S.takes state.old bytes.now ≡ Ok state.new) }
     ensures err { IfErr result (λ e. e ≢ Want → file_folded_of S.takes state.old bytes.now ≡ Err e) }
 {
@@ -91,6 +73,6 @@ pub fn take_file<S: ByLine>(alloc: Global, state: &mut S, bytes: &[u8]) -> Resul
             Ok(()) => Ok(()),
             Err(e) => Err(e),
         },
-        Err(_) => Err(FileFault::Usage),
+        Err(_) => Err(UsageFault::Usage),
     }
 }

@@ -1,10 +1,11 @@
 // The policy file.
 ghost use Rattle.std.specs.Prelude.{◌≡◌, ◌≢◌, Ok, Err, IfOk, IfErr, OnOk, None};
 ghost use Rattle.sigstore_app_parts.specs.Policy.{key_line_of, waiver_line_of, policy_line_of, policy_of};
-ghost use Rattle.sigstore_app_parts.specs.declared.lines.FileFault.TheVariants.{NoMemory as Want};
+ghost use Rattle.sigstore_app_parts.specs.declared.usage_fault.UsageFault.TheVariants.{NoMemory as Want};
 
 use crate::fields::spelled;
-use crate::lines::{ByLine, FileFault, cut, take_file};
+use crate::lines::{ByLine, cut, take_file};
+use crate::usage_fault::UsageFault;
 use sigstore_types_parts::{ByteString, DerPublicKey};
 use std::alloc::Global;
 
@@ -15,7 +16,7 @@ pub struct PolicyFile {
     pub skip_tlog: bool,
 }
 
-fn key_line(alloc: Global, line: &str) -> Result<PolicyFile, FileFault>
+fn key_line(alloc: Global, line: &str) -> Result<PolicyFile, UsageFault>
     ensures ok { IfOk result (λ p. key_line_of line.now ≡ Ok p) }
     ensures err { IfErr result (λ e. e ≢ Want → key_line_of line.now ≡ Err e) }
 {
@@ -27,16 +28,16 @@ fn key_line(alloc: Global, line: &str) -> Result<PolicyFile, FileFault>
             }),
             Err(e) => Err(e),
         },
-        _ => Err(FileFault::Usage),
+        _ => Err(UsageFault::Usage),
     }
 }
 
-fn waiver_line(policy: &mut PolicyFile, line: &str) -> Result<(), FileFault>
+fn waiver_line(policy: &mut PolicyFile, line: &str) -> Result<(), UsageFault>
     ensures ok { OnOk result (waiver_line_of policy.old line.now ≡ Ok policy.new) }
     ensures err { IfErr result (λ e. waiver_line_of policy.old line.now ≡ Err e) }
 {
     if policy.skip_tlog || line != "skip tlog" {
-        return Err(FileFault::Usage);
+        return Err(UsageFault::Usage);
     }
     policy.skip_tlog = true;
     Ok(())
@@ -45,7 +46,7 @@ fn waiver_line(policy: &mut PolicyFile, line: &str) -> Result<(), FileFault>
 impl ByLine for Option<PolicyFile> {
     ghost takes = { policy_line_of };
 
-    fn take(&mut self, alloc: Global, line: &str) -> Result<(), FileFault> {
+    fn take(&mut self, alloc: Global, line: &str) -> Result<(), UsageFault> {
         match self {
             Some(policy) => match waiver_line(policy, line) {
                 Ok(()) => Ok(()),
@@ -63,7 +64,7 @@ impl ByLine for Option<PolicyFile> {
 }
 
 /// The policy of a file: `key BASE64`, then at most once `skip tlog`. Errors: `Usage` for every other file; `NoMemory`.
-pub fn read_policy(alloc: Global, bytes: &[u8]) -> Result<PolicyFile, FileFault>
+pub fn read_policy(alloc: Global, bytes: &[u8]) -> Result<PolicyFile, UsageFault>
     ensures ok { IfOk result (λ p. policy_of bytes.now ≡ Ok p) }
     ensures err { IfErr result (λ e. e ≢ Want → policy_of bytes.now ≡ Err e) }
 {
@@ -71,7 +72,7 @@ pub fn read_policy(alloc: Global, bytes: &[u8]) -> Result<PolicyFile, FileFault>
     match take_file(alloc, &mut found, bytes) {
         Ok(()) => match found {
             Some(policy) => Ok(policy),
-            None => Err(FileFault::Usage),
+            None => Err(UsageFault::Usage),
         },
         Err(e) => Err(e),
     }

@@ -1,0 +1,56 @@
+-- The provider file, and what its tables answer.
+use Rattle.std.specs.Prelude.{ℕ, List, [], ◌∷◌, ◌++◌, drop, bytes_eq, codes, is_some, Bool, ◌||◌, if◌then◌else◌, Option, Some, None, Result, Ok, Err}
+use Rattle.std.specs.Result.{result_ok}
+use Rattle.base64.specs.Engines.{standard}
+use Rattle.base64.specs.GeneralPurpose.{decode_of}
+use Rattle.foundation.specs.Steps.{◌>>=◌}
+use Rattle.sigstore_app_parts.specs.Lines.{file_folded_of}
+use Rattle.sigstore_app_parts.specs.Rows.{parted_of, accept_row_of, is_der, armor_row_of, held_of}
+use Rattle.sigstore_app_parts.specs.declared.usage_fault.UsageFault.{UsageFault}
+use Rattle.sigstore_app_parts.specs.declared.usage_fault.UsageFault.TheVariants.{Usage}
+use Rattle.sigstore_app_parts.specs.declared.rows.AcceptRow.{AcceptRow}
+use Rattle.sigstore_app_parts.specs.declared.rows.ArmorRow.{ArmorRow}
+use Rattle.sigstore_app_parts.specs.declared.tables.TableArmor.{TableArmor}
+use Rattle.sigstore_app_parts.specs.declared.tables.TableProvider.{TableProvider}
+use Rattle.sigstore_app_parts.specs.declared.tables.Tables.{Tables}
+
+-- no text stands twice for one sort
+abbrev pub with_armor_row : List ArmorRow → ArmorRow → Result (List ArmorRow) UsageFault
+with_armor_row rows row = if is_some (held_of rows row.text) then Err Usage else Ok (rows ++ row ∷ [])
+
+-- `key TEXT DER` or `certificate TEXT DER`
+abbrev pub armor_line_of : TableArmor → List ℕ → Result TableArmor UsageFault
+armor_line_of armor text = do
+  parts ← parted_of text
+  row ← armor_row_of parts.1
+  if bytes_eq parts.0 (codes "key") then (with_armor_row armor.keys row >>= λ keys. Ok (record { keys = keys; certificates = armor.certificates })) else
+      if bytes_eq parts.0 (codes "certificate") then (with_armor_row armor.certificates row >>= λ certificates. Ok (record { keys = armor.keys; certificates = certificates })) else
+      Err Usage
+
+abbrev pub accept_line_of : TableProvider → List ℕ → Result TableProvider UsageFault
+accept_line_of provider text = do
+  row ← accept_row_of text
+  Ok (record { rows = provider.rows ++ row ∷ [] })
+
+-- a line that begins with `accept` or `armor`
+abbrev pub table_line_of : Tables → List ℕ → Result Tables UsageFault
+table_line_of tables line = do
+  parts ← parted_of line
+  if bytes_eq parts.0 (codes "accept") then (accept_line_of tables.provider parts.1 >>= λ provider. Ok (record { provider = provider; armor = tables.armor })) else
+      if bytes_eq parts.0 (codes "armor") then (armor_line_of tables.armor parts.1 >>= λ armor. Ok (record { provider = tables.provider; armor = armor })) else
+      Err Usage
+
+abbrev pub no_rows : Tables
+no_rows = record { provider = record { rows = [] }; armor = record { keys = []; certificates = [] } }
+
+-- the tables of a file
+abbrev pub tables_of : List ℕ → Result Tables UsageFault
+tables_of bytes = file_folded_of table_line_of no_rows bytes
+
+-- a text is armoured that begins with `der:` or is a row's
+abbrev pub is_armored_by : TableArmor → List ℕ → Bool
+is_armored_by armor text = is_der text || is_some (held_of armor.keys text) || is_some (held_of armor.certificates text)
+
+-- what a text holds: the bytes that stand in base64 behind `der:`, or what its row says
+abbrev pub armor_content : List ArmorRow → List ℕ → Option (List ℕ)
+armor_content rows text = if is_der text then result_ok (decode_of standard (drop 4 text)) else held_of rows text

@@ -1,0 +1,116 @@
+// What the tables of a provider file answer.
+ghost use Rattle.std.specs.Prelude.{◌≡◌};
+ghost use Rattle.sigstore_app_parts.specs.Rows.{accepts_of};
+ghost use Rattle.sigstore_app_parts.specs.Tables.{is_armored_by, armor_content};
+ghost use Rattle.std.specs.Result.{result_ok};
+ghost use Rattle.base64.specs.Engines.{standard};
+ghost use Rattle.base64.specs.GeneralPurpose.{decode_of};
+ghost use Rattle.std.specs.Prelude.{IfOk};
+
+use crate::rows::{ArmorRow, held, is_der};
+use crate::tables::{TableArmor, TableProvider};
+use base64::DecodeAllocError;
+use base64::engine::general_purpose::STANDARD;
+use foundation::{Duplicate, NoMemory};
+use sigstore_crypto::{CryptoProvider, SigningScheme, sha256, sha384, sha512};
+use sigstore_types_parts::{Armor, Bytes, HashAlgorithm};
+use std::alloc::Global;
+
+impl TableProvider {
+    // Some row is that of these.
+    fn accepts(&self, scheme: SigningScheme, key: &[u8], subject: &[u8], signature: &[u8]) -> bool
+        ensures { result ≡ accepts_of self.now.rows scheme key.now subject.now signature.now }
+    {
+        self.rows
+            .as_slice()
+            .iter()
+            .any(|row| row.is_of(scheme, key, subject, signature))
+    }
+}
+
+impl CryptoProvider for TableProvider {
+    ghost accepts = { λ p. accepts_of p.rows };
+
+    fn verify_raw(
+        &self,
+        scheme: SigningScheme,
+        key: &[u8],
+        message: &[u8],
+        signature: &[u8],
+    ) -> bool {
+        match scheme.hash_algorithm() {
+            Some(HashAlgorithm::Sha2256) => {
+                self.accepts(scheme, key, sha256(message).as_bytes(), signature)
+            }
+            Some(HashAlgorithm::Sha2384) => {
+                self.accepts(scheme, key, sha384(message).as_bytes(), signature)
+            }
+            Some(_) => self.accepts(scheme, key, sha512(message).as_bytes(), signature),
+            None => self.accepts(scheme, key, message, signature),
+        }
+    }
+
+    fn verify_prehashed(
+        &self,
+        scheme: SigningScheme,
+        key: &[u8],
+        digest: &[u8],
+        signature: &[u8],
+    ) -> bool {
+        self.accepts(scheme, key, digest, signature)
+    }
+}
+
+// The bytes that a base64 text spells, or none.
+fn decoded(alloc: Global, text: &[u8]) -> Result<Option<Bytes>, NoMemory>
+    ensures { IfOk result (λ b. b ≡ result_ok (decode_of standard text.now)) }
+{
+    match STANDARD.decode(alloc, text) {
+        Ok(bytes) => Ok(Some(Bytes::from_vec(bytes))),
+        Err(DecodeAllocError::OutOfMemory) => Err(NoMemory),
+        Err(_) => Ok(None),
+    }
+}
+
+// What a text holds by these rows.
+fn content(alloc: Global, rows: &[ArmorRow], text: &[u8]) -> Result<Option<Bytes>, NoMemory>
+    ensures { IfOk result (λ b. b ≡ armor_content rows.now text.now) }
+{
+    if is_der(text) {
+        let (_, rest) = text.split_at(4);
+        return decoded(alloc, rest);
+    }
+    match held(rows, text) {
+        Some(der) => Ok(Some(der.duplicate(alloc)?)),
+        None => Ok(None),
+    }
+}
+
+impl Armor for TableArmor {
+    ghost armored = { is_armored_by };
+
+    ghost key_in = { λ a. armor_content a.keys };
+
+    ghost certificate_in = { λ a. armor_content a.certificates };
+
+    fn is_armored(&self, text: &[u8]) -> bool {
+        is_der(text)
+            || held(self.keys.as_slice(), text).is_some()
+            || held(self.certificates.as_slice(), text).is_some()
+    }
+
+    fn read_key(&self, alloc: Global, text: &[u8]) -> Result<Option<Bytes>, NoMemory> {
+        content(alloc, self.keys.as_slice(), text)
+    }
+
+    fn read_certificate(&self, alloc: Global, text: &[u8]) -> Result<Option<Bytes>, NoMemory> {
+        content(alloc, self.certificates.as_slice(), text)
+    }
+
+    fn write_certificate(&self, alloc: Global, der: &[u8]) -> Result<Bytes, NoMemory> {
+        let encoded = STANDARD.encode(alloc, der)?;
+        let mut text = String::from_str(alloc, "der:")?;
+        text.push_str(encoded.as_str())?;
+        Ok(Bytes::from_vec(text.into_bytes()))
+    }
+}

@@ -1,0 +1,148 @@
+// The rows of the provider file.
+ghost use Rattle.std.specs.Prelude.{◌≡◌, ◌≢◌, Ok, Err, Some, IfOk, IfErr, MatchResult, option_map};
+ghost use Rattle.sigstore_app_parts.specs.Rows.{parted_of, scheme_named, is_subject, accepted_row_of, accept_row_of, is_der, armor_row_of, is_row, held_of};
+ghost use Rattle.sigstore_app_parts.specs.declared.usage_fault.UsageFault.TheVariants.{NoMemory as Want};
+ghost use Rattle.std.specs.Option.{option_copied};
+
+use crate::fields::field;
+use crate::lines::cut;
+use crate::usage_fault::UsageFault;
+use sigstore_crypto::SigningScheme;
+use sigstore_types_parts::Bytes;
+use std::alloc::Global;
+
+/// A signature that is accepted: its scheme, raw key, subject and bytes.
+#[derive(Debug, PartialEq, Drop)]
+pub struct AcceptRow {
+    pub scheme: SigningScheme,
+    pub key: Bytes,
+    pub subject: Bytes,
+    pub signature: Bytes,
+}
+
+/// An armoured text and what it holds.
+#[derive(Debug, PartialEq, Drop)]
+pub struct ArmorRow {
+    pub text: Bytes,
+    pub der: Bytes,
+}
+
+impl AcceptRow {
+    /// Whether the row is that of a scheme, a raw key, a subject and a signature.
+    pub fn is_of(&self, scheme: SigningScheme, key: &[u8], subject: &[u8], signature: &[u8]) -> bool
+        ensures { result ≡ is_row scheme key.now subject.now signature.now self.now }
+    {
+        self.scheme.name() == scheme.name()
+            && self.key.as_bytes() == key
+            && self.subject.as_bytes() == subject
+            && self.signature.as_bytes() == signature
+    }
+}
+
+// The field before the first blank and what stands behind it.
+pub(crate) fn parted(text: &str) -> Result<(&str, &str), UsageFault>
+    ensures { MatchResult result (λ parts. parted_of text.now ≡ Ok (parts.0.now, parts.1.now)) (λ e. parted_of text.now ≡ Err e) }
+{
+    match cut(text, ' ') {
+        Some((front, back)) => Ok((front, back)),
+        None => Err(UsageFault::Usage),
+    }
+}
+
+fn scheme_named(name: &str) -> Option<SigningScheme>
+    ensures { result ≡ scheme_named name.now }
+{
+    match name {
+        "ECDSA_P256_SHA256" => Some(SigningScheme::EcdsaP256Sha256),
+        "ECDSA_P256_SHA384" => Some(SigningScheme::EcdsaP256Sha384),
+        "ECDSA_P384_SHA256" => Some(SigningScheme::EcdsaP384Sha256),
+        "ECDSA_P384_SHA384" => Some(SigningScheme::EcdsaP384Sha384),
+        "ED25519" => Some(SigningScheme::Ed25519),
+        "RSA_PSS_SHA256" => Some(SigningScheme::RsaPssSha256),
+        "RSA_PSS_SHA384" => Some(SigningScheme::RsaPssSha384),
+        "RSA_PSS_SHA512" => Some(SigningScheme::RsaPssSha512),
+        "RSA_PKCS1_SHA256" => Some(SigningScheme::RsaPkcs1Sha256),
+        "RSA_PKCS1_SHA384" => Some(SigningScheme::RsaPkcs1Sha384),
+        "RSA_PKCS1_SHA512" => Some(SigningScheme::RsaPkcs1Sha512),
+        "ML_DSA_44" => Some(SigningScheme::MlDsa44),
+        "ML_DSA_65" => Some(SigningScheme::MlDsa65),
+        "ML_DSA_87" => Some(SigningScheme::MlDsa87),
+        _ => None,
+    }
+}
+
+// The length of the digest of a scheme, where it has one.
+fn is_subject(scheme: SigningScheme, subject: &[u8]) -> bool
+    ensures { result ≡ is_subject scheme subject.now }
+{
+    match scheme.hash_algorithm() {
+        Some(algorithm) => subject.len() == algorithm.digest_len(),
+        None => true,
+    }
+}
+
+fn accepted_row(alloc: Global, scheme: SigningScheme, text: &str) -> Result<AcceptRow, UsageFault>
+    ensures ok { IfOk result (λ row. accepted_row_of scheme text.now ≡ Ok row) }
+    ensures err { IfErr result (λ e. e ≢ Want → accepted_row_of scheme text.now ≡ Err e) }
+{
+    let (key, rest) = parted(text)?;
+    let (subject, signature) = parted(rest)?;
+    let key = field(alloc, key)?;
+    let subject = field(alloc, subject)?;
+    let signature = field(alloc, signature)?;
+    if !is_subject(scheme, subject.as_bytes()) {
+        return Err(UsageFault::Usage);
+    }
+    Ok(AcceptRow {
+        scheme,
+        key,
+        subject,
+        signature,
+    })
+}
+
+// `SCHEME KEY SUBJECT SIGNATURE`.
+pub(crate) fn accept_row(alloc: Global, text: &str) -> Result<AcceptRow, UsageFault>
+    ensures ok { IfOk result (λ row. accept_row_of text.now ≡ Ok row) }
+    ensures err { IfErr result (λ e. e ≢ Want → accept_row_of text.now ≡ Err e) }
+{
+    let (name, rest) = parted(text)?;
+    match scheme_named(name) {
+        Some(scheme) => match accepted_row(alloc, scheme, rest) {
+            Ok(row) => Ok(row),
+            Err(e) => Err(e),
+        },
+        None => Err(UsageFault::Usage),
+    }
+}
+
+// Whether the text begins with `der:`.
+pub(crate) fn is_der(text: &[u8]) -> bool
+    ensures { result ≡ is_der text.now }
+{
+    text.starts_with(b"der:")
+}
+
+// `TEXT DER`.
+pub(crate) fn armor_row(alloc: Global, fields: &str) -> Result<ArmorRow, UsageFault>
+    ensures ok { IfOk result (λ row. armor_row_of fields.now ≡ Ok row) }
+    ensures err { IfErr result (λ e. e ≢ Want → armor_row_of fields.now ≡ Err e) }
+{
+    let (text, der) = parted(fields)?;
+    let text = field(alloc, text)?;
+    let der = field(alloc, der)?;
+    if is_der(text.as_bytes()) {
+        return Err(UsageFault::Usage);
+    }
+    Ok(ArmorRow { text, der })
+}
+
+// What the row of that text holds.
+pub(crate) fn held<'a>(rows: &'a [ArmorRow], text: &[u8]) -> Option<&'a Bytes>
+    ensures { option_copied result ≡ held_of rows.now text.now }
+{
+    match rows.iter().find(|row| row.text.as_bytes() == text) {
+        Some(row) => Some(&row.der),
+        None => None,
+    }
+}
