@@ -1,3 +1,4 @@
 mod Cuts
 mod Folds
 mod Pieces
+mod Printing

@@ -6,3 +6,4 @@ pub mod Policy
 pub mod Rows
 pub mod Tables
 pub mod Layout
+pub mod Printed

@@ -10,6 +10,7 @@ mod lines;
 mod memory_inputs;
 mod memory_sink;
 mod policy;
+mod printed;
 mod provider;
 mod rows;
 mod sink;
@@ -25,6 +26,10 @@ pub use lines::{ByLine, take_file};
 pub use memory_inputs::MemoryInputs;
 pub use memory_sink::MemorySink;
 pub use policy::{PolicyFile, read_policy};
+pub use printed::{
+    push_answer_line, push_decimal, push_hex_line, push_line, push_named_line, push_number_line,
+    push_pair_line, push_printed, push_refused_line, push_text_line,
+};
 pub use rows::{AcceptRow, ArmorRow};
 pub use sink::{Sink, SinkFault};
 pub use stdout_sink::StdoutSink;
