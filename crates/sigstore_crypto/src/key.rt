@@ -13,7 +13,7 @@ use sigstore_types_parts::{Bytes, DerPublicKey, Form, SignatureBytes};
 use std::alloc::Global;
 
 /// A scheme and a raw key of its sort.
-#[derive(Drop)]
+#[derive(Debug, PartialEq, Eq, Drop)]
 pub struct VerificationKey {
     pub scheme: SigningScheme,
     pub key: Bytes,
