@@ -14,3 +14,4 @@ pub mod Snapshot
 pub mod Targets
 pub mod Integrity
 pub mod Names
+pub mod Crypto

@@ -18,6 +18,7 @@ mod targets;
 #[cfg(test)]
 mod tests;
 mod timestamp;
+mod verification;
 
 pub use canonical::to_canonical_bytes;
 pub use document::{Metadata, Signature};
@@ -32,3 +33,4 @@ pub use root::Root;
 pub use snapshot::Snapshot;
 pub use targets::{DelegatedRole, Delegations, TargetFile, Targets};
 pub use timestamp::{MetaFile, Timestamp};
+pub use verification::KeyFault;

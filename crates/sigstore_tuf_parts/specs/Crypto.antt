@@ -1,0 +1,95 @@
+-- What a declared key gives, and what signatures are judged by (TUF specification, section 4.2).
+use Rattle.std.specs.Prelude.{ℕ, List, ◌∷◌, ◌++◌, length, nat_eq, bytes_eq, Bool, true, false, ◌&&◌, if◌then◌else◌, Option, Some, None, ok_or, Result, Ok, Err, codes}
+use Rattle.std.specs.List.{list_all}
+use Rattle.std.specs.Char.{is_ascii_hexdigit}
+use Rattle.std.specs.Str.{trim}
+use Rattle.sha2.specs.Sha512.{sha512}
+use Rattle.foundation.specs.Steps.{◌>>=◌}
+use Rattle.sigstore_types_parts.specs.declared.form.Form.{Form}
+use Rattle.sigstore_types_parts.specs.declared.form.Form.TheVariants as form
+use Rattle.sigstore_crypto.specs.declared.scheme.SigningScheme.{SigningScheme}
+use Rattle.sigstore_crypto.specs.declared.scheme.SigningScheme.TheVariants.{EcdsaP256Sha256, EcdsaP384Sha384, Ed25519, RsaPssSha256, RsaPssSha384, RsaPssSha512, MlDsa44, MlDsa65, MlDsa87}
+use Rattle.sigstore_crypto.specs.declared.key.VerificationKey.{VerificationKey}
+use Rattle.sigstore_crypto.specs.declared.error.Error.TheVariants as crypto
+use Rattle.sigstore_crypto.specs.declared.error.Error as crypto_error
+use Rattle.sigstore_crypto.specs.Key.{spki_key_of}
+use Rattle.sigstore_crypto.specs.Good.{Judge}
+use Rattle.sigstore_tuf_parts.specs.declared.keys.Key.{Key}
+use Rattle.sigstore_tuf_parts.specs.declared.verification.KeyFault.{KeyFault}
+use Rattle.sigstore_tuf_parts.specs.declared.verification.KeyFault.TheVariants.{Unusable, Unsupported, Refused, Unbuilt, NoMemory}
+
+-- the scheme of that name
+abbrev pub scheme_named : List ℕ → Option SigningScheme
+scheme_named name =
+    if bytes_eq name (codes "ecdsa-sha2-nistp256") then Some EcdsaP256Sha256 else
+    if bytes_eq name (codes "ecdsa-sha2-nistp384") then Some EcdsaP384Sha384 else
+    if bytes_eq name (codes "ed25519") then Some Ed25519 else
+    if bytes_eq name (codes "rsassa-pss-sha256") then Some RsaPssSha256 else
+    if bytes_eq name (codes "rsassa-pss-sha384") then Some RsaPssSha384 else
+    if bytes_eq name (codes "rsassa-pss-sha512") then Some RsaPssSha512 else
+    if bytes_eq name (codes "ml-dsa-44/1") then Some MlDsa44 else
+    if bytes_eq name (codes "ml-dsa-65/1") then Some MlDsa65 else
+    if bytes_eq name (codes "ml-dsa-87/1") then Some MlDsa87 else
+    None
+
+-- what the maker of keys refuses
+abbrev pub spki_fault : crypto_error.Error → KeyFault
+spki_fault (crypto.Unbuilt f) = Unbuilt f
+spki_fault crypto.NoMemory = NoMemory
+spki_fault crypto.Signing = Refused
+spki_fault (crypto.Verification fault) = Refused
+spki_fault crypto.InvalidKeyFormat = Refused
+spki_fault crypto.UnsupportedAlgorithm = Refused
+spki_fault (crypto.Checkpoint fault) = Refused
+spki_fault (crypto.InvalidCertificate fault) = Refused
+spki_fault (crypto.InvalidKey rule) = Refused
+
+abbrev pub or_spki_fault : Result VerificationKey crypto_error.Error → Result VerificationKey KeyFault
+or_spki_fault (Ok key) = Ok key
+or_spki_fault (Err e) = Err (spki_fault e)
+
+-- the key of a SubjectPublicKeyInfo under a scheme; no other scheme is built yet
+abbrev pub der_key_of : SigningScheme → List ℕ → Result VerificationKey KeyFault
+der_key_of EcdsaP256Sha256 der = or_spki_fault (spki_key_of der)
+der_key_of scheme der = Err (Unbuilt form.Key)
+
+abbrev pub is_ed25519 : SigningScheme → Bool
+is_ed25519 Ed25519 = true
+is_ed25519 scheme = false
+
+-- 64 hexadecimal digits
+abbrev pub is_bare_key : List ℕ → Bool
+is_bare_key text = nat_eq (length text) 64 && list_all is_ascii_hexdigit text
+
+-- a text that isn't armoured: for Ed25519 (RFC 8032) its 64 hexadecimal digits, which aren't built yet
+abbrev pub bare_key_of : SigningScheme → List ℕ → Result VerificationKey KeyFault
+bare_key_of scheme text = if is_ed25519 scheme && is_bare_key text then Err (Unbuilt form.Key) else Err Unusable
+
+-- the key that a public text holds, under a scheme
+abbrev pub text_key_of : (List ℕ → Bool) → (List ℕ → Option (List ℕ)) → SigningScheme → List ℕ → Result VerificationKey KeyFault
+text_key_of armored key_in scheme text = if armored text then (ok_or (key_in text) Unusable >>= der_key_of scheme) else bare_key_of scheme text
+
+-- What a declared key gives: its scheme is one of the nine, and its trimmed public text holds a key.
+unfoldable pub key_of : (List ℕ → Bool) → (List ℕ → Option (List ℕ)) → Key → Result VerificationKey KeyFault
+key_of armored key_in key = do
+  scheme ← ok_or (scheme_named key.scheme) Unsupported
+  text_key_of armored key_in scheme (trim key.keyval.public)
+
+-- what signatures are judged by: the provider, and the key that a declared key gives
+pub record Crypto : Type 0 where
+  pub accepts : Judge
+  pub key_of : Key → Result VerificationKey KeyFault
+
+-- a provider and an armour
+abbrev pub crypto_of : Judge → (List ℕ → Bool) → (List ℕ → Option (List ℕ)) → Crypto
+crypto_of accepts armored key_in = record { accepts = accepts; key_of = key_of armored key_in }
+
+abbrev pub is_ml_dsa : SigningScheme → Bool
+is_ml_dsa MlDsa44 = true
+is_ml_dsa MlDsa65 = true
+is_ml_dsa MlDsa87 = true
+is_ml_dsa scheme = false
+
+-- the message that a document's signature is over: its canonical text, and for ML-DSA `tuf`, 01 and the text's SHA-512
+abbrev pub signed_text : SigningScheme → List ℕ → List ℕ
+signed_text scheme text = if is_ml_dsa scheme then codes "tuf" ++ 1 ∷ sha512 text else text
