@@ -15,3 +15,4 @@ pub mod Targets
 pub mod Integrity
 pub mod Names
 pub mod Crypto
+pub mod Threshold

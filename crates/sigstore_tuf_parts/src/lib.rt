@@ -1,7 +1,9 @@
 //! TUF documents: their readers, the canonical text that is signed, keys, thresholds, pins and names.
 #![tactic(auto)]
 
+mod accepted;
 mod canonical;
+mod counted;
 mod document;
 mod error;
 mod extra;
@@ -17,6 +19,7 @@ mod snapshot;
 mod targets;
 #[cfg(test)]
 mod tests;
+mod threshold;
 mod timestamp;
 mod verification;
 

@@ -1,0 +1,118 @@
+-- When a document meets a role (TUF specification, sections 4.2 and 5: thresholds).
+use Rattle.std.specs.Prelude.{◌≡◌, ℕ, ◌≤◌, List, [], ◌∷◌, length, map, filter, count_by, Bool, true, false, not, ◌&&◌, ◌==◌, nat_le, if◌then◌else◌, bytes_eq, Option, Some, None, is_some, Result, Ok, Err, ⊤}
+use Rattle.std.specs.List.{list_any}
+use Rattle.std.specs.Result.{result_ok}
+use Rattle.hex.specs.Hex.{decode_of}
+use Rattle.foundation.specs.Steps.{◌>>=◌}
+use Rattle.sigstore_types_parts.specs.Entries.{at_name}
+use Rattle.sigstore_crypto.specs.declared.key.VerificationKey.{VerificationKey}
+use Rattle.sigstore_crypto.specs.Good.{Judge, is_good}
+use Rattle.sigstore_tuf_parts.specs.declared.document.Signature.{Signature}
+use Rattle.sigstore_tuf_parts.specs.declared.error.Error.{Error}
+use Rattle.sigstore_tuf_parts.specs.declared.error.Error.TheVariants as tuf
+use Rattle.sigstore_tuf_parts.specs.declared.error.Rule.TheVariants.{Threshold}
+use Rattle.sigstore_tuf_parts.specs.declared.keys.Key.{Key}
+use Rattle.sigstore_tuf_parts.specs.declared.keys.RoleKeys.{RoleKeys}
+use Rattle.sigstore_tuf_parts.specs.declared.verification.KeyFault.{KeyFault}
+use Rattle.sigstore_tuf_parts.specs.declared.verification.KeyFault.TheVariants as fault
+use Rattle.sigstore_tuf_parts.specs.Document.{Document, signatures_in, text_in}
+use Rattle.sigstore_tuf_parts.specs.Crypto.{Crypto, signed_text}
+
+-- the keys of a document, by their declared ids
+abbrev pub Keys : Type 0
+Keys = List (List ℕ × Key)
+
+-- what a declared key gives
+abbrev pub KeyOf : Type 0
+KeyOf = Key → Result VerificationKey KeyFault
+
+-- the text is one of these
+abbrev pub is_among : List (List ℕ) → List ℕ → Bool
+is_among known name = list_any (λ k. bytes_eq k name) known
+
+-- the signature is of an id that the role names, and not empty
+abbrev pub is_counted : RoleKeys → Signature → Bool
+is_counted role s = is_among role.keyids s.keyid && not (length s.sig == 0)
+
+-- the signatures that count; those of other ids and empty ones are passed over
+abbrev pub counted_of : RoleKeys → List Signature → List Signature
+counted_of role signatures = filter (is_counted role) signatures
+
+abbrev pub ids_of : List Signature → List (List ℕ)
+ids_of signatures = map (λ s. s.keyid) signatures
+
+-- the first id that stands there a second time, after these were seen
+abbrev pub second_after : List (List ℕ) → List (List ℕ) → Option (List ℕ)
+second_after seen [] = None
+second_after seen (id ∷ ids) = if is_among seen id then Some id else second_after (id ∷ seen) ids
+
+-- ---- keys that aren't built
+
+abbrev pub unbuilt_in : Result VerificationKey KeyFault → Result ⊤ Error
+unbuilt_in (Ok key) = Ok tt
+unbuilt_in (Err fault.Unusable) = Ok tt
+unbuilt_in (Err fault.Unsupported) = Ok tt
+unbuilt_in (Err fault.Refused) = Ok tt
+unbuilt_in (Err (fault.Unbuilt form)) = Err (tuf.Unbuilt form)
+unbuilt_in (Err fault.NoMemory) = Ok tt
+
+abbrev pub built_by : KeyOf → Option Key → Result ⊤ Error
+built_by key_of None = Ok tt
+built_by key_of (Some key) = unbuilt_in (key_of key)
+
+-- where the signature is hexadecimal and its key is there, that key isn't an unbuilt one
+abbrev pub built_of : KeyOf → Keys → Signature → Result ⊤ Error
+built_of key_of keys s = if is_some (result_ok (decode_of s.sig)) then built_by key_of (at_name s.keyid keys) else Ok tt
+
+-- the same of a signature that counts
+abbrev pub counted_built : KeyOf → Keys → RoleKeys → Signature → Result ⊤ Error
+counted_built key_of keys role s = if is_counted role s then built_of key_of keys s else Ok tt
+
+-- each of them, in order
+abbrev pub all_built : KeyOf → Keys → List Signature → Result ⊤ Error
+all_built key_of keys [] = Ok tt
+all_built key_of keys (s ∷ signatures) = built_of key_of keys s >>= λ _. all_built key_of keys signatures
+
+-- ---- accepted signatures
+
+-- the bytes are a good signature of the text under the key
+abbrev pub is_accepted_raw : Judge → List ℕ → VerificationKey → Option (List ℕ) → Bool
+is_accepted_raw accepts text key None = false
+is_accepted_raw accepts text key (Some raw) = is_good accepts key (signed_text key.scheme text) raw
+
+abbrev pub is_accepted_under : Judge → List ℕ → List ℕ → Result VerificationKey KeyFault → Bool
+is_accepted_under accepts text sig (Err fault) = false
+is_accepted_under accepts text sig (Ok key) = is_accepted_raw accepts text key (result_ok (decode_of sig))
+
+abbrev pub is_accepted_by : Crypto → List ℕ → List ℕ → Option Key → Bool
+is_accepted_by crypto text sig None = false
+is_accepted_by crypto text sig (Some key) = is_accepted_under crypto.accepts text sig (crypto.key_of key)
+
+-- the signature is hexadecimal, and good under the key that has its id
+abbrev pub is_accepted : Crypto → Keys → List ℕ → Signature → Bool
+is_accepted crypto keys text s = is_accepted_by crypto text s.sig (at_name s.keyid keys)
+
+-- how many signatures are accepted
+abbrev pub found_of : Crypto → Keys → RoleKeys → List Signature → List ℕ → ℕ
+found_of crypto keys role signatures text = count_by (is_accepted crypto keys text) (counted_of role signatures)
+
+-- ---- the first check that fails
+
+abbrev pub threshold_of : ℕ → Result ⊤ Error
+threshold_of threshold = if threshold == 0 then Err (tuf.Malformed Threshold) else Ok tt
+
+abbrev pub no_second : List ℕ → Option (List ℕ) → Result ⊤ Error
+no_second name None = Ok tt
+no_second name (Some id) = Err (tuf.DuplicateSignature name id)
+
+abbrev pub enough_of : List ℕ → ℕ → ℕ → Result ⊤ Error
+enough_of name found threshold = if nat_le threshold found then Ok tt else Err (tuf.ThresholdNotMet name found threshold)
+
+-- The document meets the role: its threshold isn't 0; no id that it names signed twice; no key of one that signed isn't
+-- built yet; and at least threshold ids signed.
+unfoldable pub meets_of : {T : Type 0} → Crypto → Keys → RoleKeys → List ℕ → Document T → Result ⊤ Error
+meets_of crypto keys role name doc = do
+  _ ← threshold_of role.threshold
+  _ ← no_second name (second_after [] (ids_of (counted_of role (signatures_in doc))))
+  _ ← all_built crypto.key_of keys (counted_of role (signatures_in doc))
+  enough_of name (found_of crypto keys role (signatures_in doc) (text_in doc)) role.threshold
