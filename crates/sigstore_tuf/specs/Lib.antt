@@ -1,0 +1,3 @@
+pub mod Repository
+pub mod Store
+pub mod Memory

@@ -1,0 +1,89 @@
+// A repository in a folder.
+ghost use Rattle.foundation.specs.Watched.{untold};
+ghost use Rattle.sigstore_tuf.specs.Repository.{WithinLimit};
+
+use crate::file::read_file;
+use crate::name::is_bad_name;
+use crate::repository::{FetchFault, Repository};
+use sigstore_types_parts::{Bytes, Text};
+use std::alloc::Global;
+use std::rt::Files;
+
+/// A folder with documents, and with targets under `targets/`; it tells nothing. Under an absolute name
+/// and under one with a component `..` there is nothing.
+#[derive(Drop)]
+pub struct FileRepository<'r, X: Files + AllocGlobal> {
+    rt: &'r X,
+    dir: Text,
+    faults: u64,
+}
+
+impl<'r, X: Files + AllocGlobal> FileRepository<'r, X> {
+    /// The repository in a folder.
+    pub fn new(rt: &'r X, dir: Text) -> FileRepository<'r, X> {
+        FileRepository { rt, dir, faults: 0 }
+    }
+}
+
+fn fetch<X: Files + AllocGlobal>(
+    rt: &X,
+    alloc: Global,
+    folder: &str,
+    name: &str,
+    max: u64,
+) -> Result<Option<Bytes>, FetchFault>
+    ensures { WithinLimit max result }
+{
+    if is_bad_name(name) {
+        return Ok(None);
+    }
+    match format!(in alloc; "{folder}/{name}") {
+        Ok(path) => read_file(rt, alloc, path.as_str(), max),
+        Err(_) => Err(FetchFault::NoMemory),
+    }
+}
+
+fn fetch_below<X: Files + AllocGlobal>(
+    rt: &X,
+    alloc: Global,
+    dir: &str,
+    path: &str,
+    max: u64,
+) -> Result<Option<Bytes>, FetchFault>
+    ensures { WithinLimit max result }
+{
+    match format!(in alloc; "{dir}/targets") {
+        Ok(folder) => fetch(rt, alloc, folder.as_str(), path, max),
+        Err(_) => Err(FetchFault::NoMemory),
+    }
+}
+
+impl<X: Files + AllocGlobal> Repository for FileRepository<'_, X> {
+    ghost seen = { λ r. untold r.faults };
+
+    fn fetch_metadata(
+        &mut self,
+        alloc: Global,
+        name: &str,
+        max: u64,
+    ) -> Result<Option<Bytes>, FetchFault> {
+        let answer = fetch(self.rt, alloc, self.dir.as_str(), name, max);
+        if answer.is_err() {
+            self.faults = self.faults.saturating_add(1);
+        }
+        answer
+    }
+
+    fn fetch_target(
+        &mut self,
+        alloc: Global,
+        path: &str,
+        max: u64,
+    ) -> Result<Option<Bytes>, FetchFault> {
+        let answer = fetch_below(self.rt, alloc, self.dir.as_str(), path, max);
+        if answer.is_err() {
+            self.faults = self.faults.saturating_add(1);
+        }
+        answer
+    }
+}

@@ -1,0 +1,48 @@
+// Where documents and targets are kept between runs.
+ghost use Rattle.std.specs.Prelude.{◌≡◌};
+ghost use Rattle.foundation.specs.Watched.{Watched, IfTold};
+ghost use Rattle.sigstore_tuf.specs.Repository.{Files};
+ghost use Rattle.sigstore_tuf.specs.Store.{Loads, Stores, HoldsNoBadName};
+ghost use Rattle.sigstore_tuf.specs.declared.store.StoreFault.TheVariants.{NoMemory as Want};
+
+use foundation::NoMemory;
+use sigstore_types_parts::Bytes;
+use std::alloc::Global;
+use thiserror::Error;
+
+/// Why nothing is loaded or stored: the call failed, the name is absolute or has a component `..`, or
+/// memory is wanting.
+#[derive(Clone, Copy, Debug, PartialEq, Eq, Drop, Error)]
+pub enum StoreFault {
+    #[error("Failed")]
+    Failed,
+    #[error("BadName")]
+    BadName,
+    #[error("NoMemory")]
+    NoMemory,
+}
+
+impl From<NoMemory> for StoreFault {
+    ghost from_gives = { λ _ e. e ≡ Want };
+
+    fn from(_: NoMemory) -> StoreFault {
+        StoreFault::NoMemory
+    }
+}
+
+/// Where documents and targets are kept between runs.
+pub trait MetadataStore {
+    /// The files, where they are told, and how often a call failed.
+    ghost seen: { Self → Watched Files };
+
+    /// The bytes under that name; None where there are none. Errors: `BadName`, `Failed`.
+    fn load(&mut self, alloc: Global, name: &str) -> Result<Option<Bytes>, StoreFault>
+        ensures { Loads (seen self.old) (seen self.new) name.now result };
+
+    /// Puts bytes under that name, in place of those there. Errors: `BadName`, `Failed`.
+    fn store(&mut self, alloc: Global, name: &str, bytes: &[u8]) -> Result<(), StoreFault>
+        ensures { Stores (seen self.old) (seen self.new) name.now bytes.now result };
+
+    /// Nothing is held under a bad name.
+    ghost tame: { (s : Self) → IfTold (seen s).told HoldsNoBadName };
+}
