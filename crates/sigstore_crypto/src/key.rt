@@ -1,7 +1,7 @@
 // Keys that verify.
-ghost use Rattle.std.specs.Prelude.{◌≡◌, ◌≢◌, ◌↔◌, Ok, Err, IsTrue, IsOk, IfOk, IfErr, MatchOption, true, false, drop};
+ghost use Rattle.std.specs.Prelude.{◌≡◌, ◌≢◌, ◌↔◌, Ok, Err, IsTrue, IsOk, IfOk, IfErr, MatchOption, true, false, drop, length};
 ghost use Rattle.sigstore_crypto.specs.declared.error.Error.TheVariants.{NoMemory as Want};
-ghost use Rattle.sigstore_crypto.specs.Scheme.{key_algorithm_of, digest_size_of};
+ghost use Rattle.sigstore_crypto.specs.Scheme.{has_digest, key_algorithm_of, digest_size_of};
 ghost use Rattle.sigstore_crypto.specs.Key.{is_p256_spki, spki_key_of};
 ghost use Rattle.sigstore_crypto.specs.Good.{is_uncompressed, raw_key_by, raw_key_of, verified_of, prehashed_of, is_good, is_good_over};
 
@@ -139,6 +139,7 @@ impl VerificationKey {
         signature: &SignatureBytes,
     ) -> Result<(), Error>
         ensures exact { result ≡ prehashed_of (C.accepts provider.now) self.now digest.now signature.now }
+        ensures good { length digest.now ≡ digest_size_of self.now.scheme → IsTrue (has_digest self.now.scheme) → IsOk result ↔ IsTrue (is_good_over (C.accepts provider.now) self.now digest.now signature.now) }
     {
         let Some(algorithm) = self.scheme.hash_algorithm() else {
             return Err(Error::UnsupportedAlgorithm);

@@ -1,0 +1,5 @@
+pub mod Error
+pub mod Policy
+pub mod Trust
+pub mod Judged
+pub mod Promise

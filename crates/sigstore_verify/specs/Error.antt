@@ -1,0 +1,129 @@
+-- The refusals: their numbers and names, and what a lower crate's refusal is here.
+use Rattle.std.specs.Prelude.{ℕ, List, codes}
+use Rattle.sigstore_types_parts.specs.declared.error.TypesError.{TypesError}
+use Rattle.sigstore_types_parts.specs.declared.error.TypesError.TheVariants as types
+use Rattle.sigstore_crypto.specs.declared.error.Error.{Error as CryptoError}
+use Rattle.sigstore_crypto.specs.declared.error.Error.TheVariants as crypto
+use Rattle.sigstore_verify.specs.declared.error.CertificateError.{CertificateError}
+use Rattle.sigstore_verify.specs.declared.error.CertificateError.TheVariants.{Malformed, ChainInvalid, NoValidAuthority, NotYetValid, Expired, Sct}
+use Rattle.sigstore_verify.specs.declared.error.TransparencyLogError.{TransparencyLogError}
+use Rattle.sigstore_verify.specs.declared.error.TransparencyLogError.TheVariants as log
+use Rattle.sigstore_verify.specs.declared.error.TimestampError.{TimestampError}
+use Rattle.sigstore_verify.specs.declared.error.TimestampError.TheVariants as stamp
+use Rattle.sigstore_verify.specs.declared.error.Error.{Error}
+use Rattle.sigstore_verify.specs.declared.error.Error.TheVariants.{IdentityMismatch, IssuerMismatch, SignatureInvalid, ArtifactMismatch, UnsupportedArtifact, Certificate, TransparencyLog, Timestamp, InvalidBundle, UnsupportedBundle, InvalidTrustRoot, Types, Crypto, Bundle, TrustRoot, TrustedCertificate, ArtifactRead, NoMemory, Unbuilt}
+
+abbrev pub certificate_number_of : CertificateError → ℕ
+certificate_number_of Malformed = 6
+certificate_number_of ChainInvalid = 7
+certificate_number_of (NoValidAuthority time) = 8
+certificate_number_of (NotYetValid time not_before) = 9
+certificate_number_of (Expired time not_after) = 10
+certificate_number_of Sct = 11
+
+abbrev pub certificate_name_of : CertificateError → List ℕ
+certificate_name_of Malformed = codes "CertificateMalformed"
+certificate_name_of ChainInvalid = codes "ChainInvalid"
+certificate_name_of (NoValidAuthority time) = codes "NoValidAuthority"
+certificate_name_of (NotYetValid time not_before) = codes "NotYetValid"
+certificate_name_of (Expired time not_after) = codes "CertificateExpired"
+certificate_name_of Sct = codes "Sct"
+
+abbrev pub log_number_of : TransparencyLogError → ℕ
+log_number_of (log.UnknownLog log_id) = 12
+log_number_of log.InclusionProof = 13
+log_number_of log.Checkpoint = 14
+log_number_of log.InclusionPromise = 15
+log_number_of log.EntryMismatch = 16
+log_number_of log.IntegratedTime = 17
+log_number_of log.MalformedEntry = 18
+
+abbrev pub log_name_of : TransparencyLogError → List ℕ
+log_name_of (log.UnknownLog log_id) = codes "UnknownLog"
+log_name_of log.InclusionProof = codes "InclusionProof"
+log_name_of log.Checkpoint = codes "Checkpoint"
+log_name_of log.InclusionPromise = codes "InclusionPromise"
+log_name_of log.EntryMismatch = codes "EntryMismatch"
+log_name_of log.IntegratedTime = codes "IntegratedTime"
+log_name_of log.MalformedEntry = codes "MalformedEntry"
+
+abbrev pub timestamp_number_of : TimestampError → ℕ
+timestamp_number_of stamp.Invalid = 19
+timestamp_number_of (stamp.OutsideAuthorityValidity time) = 20
+timestamp_number_of stamp.NoVerifiedTimestamp = 21
+
+abbrev pub timestamp_name_of : TimestampError → List ℕ
+timestamp_name_of stamp.Invalid = codes "TimestampInvalid"
+timestamp_name_of (stamp.OutsideAuthorityValidity time) = codes "OutsideAuthorityValidity"
+timestamp_name_of stamp.NoVerifiedTimestamp = codes "NoVerifiedTimestamp"
+
+abbrev pub number_of : Error → ℕ
+number_of (IdentityMismatch expected actual) = 1
+number_of (IssuerMismatch expected actual) = 2
+number_of SignatureInvalid = 3
+number_of ArtifactMismatch = 4
+number_of UnsupportedArtifact = 5
+number_of (Certificate fault) = certificate_number_of fault
+number_of (TransparencyLog fault) = log_number_of fault
+number_of (Timestamp fault) = timestamp_number_of fault
+number_of InvalidBundle = 22
+number_of UnsupportedBundle = 23
+number_of InvalidTrustRoot = 24
+number_of Types = 25
+number_of Crypto = 26
+number_of Bundle = 27
+number_of TrustRoot = 28
+number_of TrustedCertificate = 29
+number_of (ArtifactRead fault) = 30
+number_of NoMemory = 31
+number_of (Unbuilt form) = 90
+
+-- the name as it is printed
+abbrev pub name_of : Error → List ℕ
+name_of (IdentityMismatch expected actual) = codes "IdentityMismatch"
+name_of (IssuerMismatch expected actual) = codes "IssuerMismatch"
+name_of SignatureInvalid = codes "SignatureInvalid"
+name_of ArtifactMismatch = codes "ArtifactMismatch"
+name_of UnsupportedArtifact = codes "UnsupportedArtifact"
+name_of (Certificate fault) = certificate_name_of fault
+name_of (TransparencyLog fault) = log_name_of fault
+name_of (Timestamp fault) = timestamp_name_of fault
+name_of InvalidBundle = codes "InvalidBundle"
+name_of UnsupportedBundle = codes "UnsupportedBundle"
+name_of InvalidTrustRoot = codes "InvalidTrustRoot"
+name_of Types = codes "Types"
+name_of Crypto = codes "Crypto"
+name_of Bundle = codes "Bundle"
+name_of TrustRoot = codes "TrustRoot"
+name_of TrustedCertificate = codes "TrustedCertificate"
+name_of (ArtifactRead fault) = codes "ArtifactRead"
+name_of NoMemory = codes "NoMemory"
+name_of (Unbuilt form) = codes "Unbuilt"
+
+-- an unusable key, or a key and a digest that have no scheme
+abbrev pub error_of_crypto : CryptoError → Error
+error_of_crypto crypto.Signing = Crypto
+error_of_crypto (crypto.Verification fault) = Crypto
+error_of_crypto crypto.InvalidKeyFormat = Crypto
+error_of_crypto crypto.UnsupportedAlgorithm = Crypto
+error_of_crypto (crypto.Checkpoint fault) = Crypto
+error_of_crypto (crypto.InvalidCertificate fault) = Crypto
+error_of_crypto (crypto.InvalidKey rule) = Crypto
+error_of_crypto crypto.NoMemory = NoMemory
+error_of_crypto (crypto.Unbuilt form) = Unbuilt form
+
+-- a bundle that hasn't the structure that its policy needs
+abbrev pub error_of_types : TypesError → Error
+error_of_types types.Json = Bundle
+error_of_types types.Float = Bundle
+error_of_types (types.Field member) = Bundle
+error_of_types types.Base64 = Bundle
+error_of_types types.Hex = Bundle
+error_of_types (types.Length expected actual) = Bundle
+error_of_types types.MediaType = Bundle
+error_of_types types.Kind = Bundle
+error_of_types (types.Checkpoint rule) = Bundle
+error_of_types types.NoEntry = Bundle
+error_of_types types.NoProof = Bundle
+error_of_types types.NoMemory = NoMemory
+error_of_types (types.Unbuilt form) = Unbuilt form

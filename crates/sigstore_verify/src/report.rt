@@ -1,0 +1,80 @@
+// What an accepted bundle shows.
+ghost use Rattle.std.specs.Prelude.{◌≡◌};
+ghost use Rattle.std.specs.Option.{option_copied};
+
+use foundation::Sequence;
+use jiff::Timestamp;
+use sigstore_types_parts::{ArtifactDigest, Text};
+
+/// What an accepted bundle shows, and which checks were made.
+#[derive(PartialEq, Drop)]
+pub struct VerificationResult {
+    pub integrated_time: Option<Timestamp>,
+    pub issuer: Option<Text>,
+    pub certificate_verified: bool,
+    pub sct_verified: bool,
+    pub tlog_verified: bool,
+    pub identity_policy_checked: bool,
+    pub verified_timestamps: Sequence<Timestamp>,
+}
+
+impl VerificationResult {
+    /// The earliest time at which a verified log says that it took an entry.
+    pub fn integrated_time(&self) -> Option<Timestamp>
+        ensures { result ≡ self.now.integrated_time }
+    {
+        self.integrated_time
+    }
+
+    /// The issuer that the certificate names.
+    pub fn issuer(&self) -> Option<&str>
+        ensures { option_copied result ≡ self.now.issuer }
+    {
+        match &self.issuer {
+            Some(issuer) => Some(issuer.as_str()),
+            None => None,
+        }
+    }
+
+    /// Whether the certificate's chain was verified.
+    pub fn certificate_verified(&self) -> bool
+        ensures { result ≡ self.now.certificate_verified }
+    {
+        self.certificate_verified
+    }
+
+    /// Whether the certificate's SCT was verified.
+    pub fn sct_verified(&self) -> bool
+        ensures { result ≡ self.now.sct_verified }
+    {
+        self.sct_verified
+    }
+
+    /// Whether the log was verified.
+    pub fn tlog_verified(&self) -> bool
+        ensures { result ≡ self.now.tlog_verified }
+    {
+        self.tlog_verified
+    }
+
+    /// Whether an identity or an issuer was asked for.
+    pub fn identity_policy_checked(&self) -> bool
+        ensures { result ≡ self.now.identity_policy_checked }
+    {
+        self.identity_policy_checked
+    }
+
+    /// The times at which the signature was verified to exist.
+    pub fn verified_timestamps(&self) -> &[Timestamp]
+        ensures { result.now ≡ self.now.verified_timestamps }
+    {
+        self.verified_timestamps.as_slice()
+    }
+}
+
+/// What an accepted bundle shows, with the digests of the artifact that were taken.
+#[derive(Drop)]
+pub struct Kept {
+    pub result: VerificationResult,
+    pub digests: Sequence<ArtifactDigest>,
+}
