@@ -3,9 +3,8 @@ use Rattle.std.proofs.Common.{◌≡◌, ℕ, List, [], ◌∷◌, Bool, true, f
 use Rattle.std.proofs.Math.Path.{fun_ext}
 use Rattle.std.proofs.lemmas.Slice.Eq.{bytes_eq-Decides}
 use Rattle.std.proofs.lemmas.Map.Text.{is_eq-slice_cmp}
-use Rattle.std.specs.Ordering.{nat_cmp, is_eq, match_ordering}
-use Rattle.std.specs.BTreeMap.{is_at, insert_entry}
-use Rattle.std.specs.Map.{lookup}
+use Rattle.std.specs.Ordering.{is_eq, match_ordering}
+use Rattle.std.specs.BTreeMap.{insert_entry}
 use Rattle.sigstore_types_parts.specs.Entries.{text_cmp, at_name}
 use Rattle.sigstore_tuf.specs.Store.{with_file, is_bad_name, HoldsNoBadName}
 use Rattle.sigstore_tuf.specs.Memory.{files_of}

@@ -35,7 +35,7 @@ HoldsNoBadName files = (name : List ℕ) → is_bad_name name ≡ true → files
 abbrev pub with_file : List ℕ → List ℕ → Files → Files
 with_file name bytes files = λ q. if bytes_eq q name then Some bytes else files q
 
--- Failed only where P, and BadName exactly for a bad name, want of memory aside
+-- Failed only where P, and BadName exactly for a bad name
 abbrev pub HasStoreCause : {T : Type 0} → Type 0 → List ℕ → Result T StoreFault → Type 0
 HasStoreCause P name (Ok x) = is_bad_name name ≡ false
 HasStoreCause P name (Err Failed) = (is_bad_name name ≡ false) × P

@@ -4,10 +4,12 @@ ghost use Rattle.std.specs.Io.{ReadsAtMost};
 ghost use Rattle.sigstore_tuf.specs.Repository.{WithinLimit};
 
 use crate::repository::FetchFault;
+use foundation::NoMemory;
 use sigstore_types_parts::Bytes;
 use std::alloc::Global;
 use std::fs;
 use std::io::{ErrorKind, Read};
+use std::path::PathBuf;
 use std::rt::Files;
 
 const PIECE: usize = 65536;
@@ -58,6 +60,19 @@ fn read_within<F: Read>(alloc: Global, file: &mut F, max: u64) -> Result<Option<
         }
         left -= count as u64;
     }
+}
+
+// The path of a name in a folder of a folder; an empty folder is the one above.
+pub(crate) fn path_of(
+    alloc: Global,
+    dir: &str,
+    folder: &str,
+    name: &str,
+) -> Result<PathBuf, NoMemory> {
+    let mut path = PathBuf::from_str(alloc, dir)?;
+    path.push(folder)?;
+    path.push(name)?;
+    Ok(path)
 }
 
 // The file at a path; None where there is none.

@@ -2,9 +2,10 @@
 ghost use Rattle.foundation.specs.Watched.{untold};
 ghost use Rattle.sigstore_tuf.specs.Repository.{WithinLimit};
 
-use crate::file::read_file;
+use crate::file::{path_of, read_file};
 use crate::name::is_bad_name;
 use crate::repository::{FetchFault, Repository};
+use foundation::NoMemory;
 use sigstore_types_parts::{Bytes, Text};
 use std::alloc::Global;
 use std::rt::Files;
@@ -28,6 +29,7 @@ impl<'r, X: Files + AllocGlobal> FileRepository<'r, X> {
 fn fetch<X: Files + AllocGlobal>(
     rt: &X,
     alloc: Global,
+    dir: &str,
     folder: &str,
     name: &str,
     max: u64,
@@ -37,24 +39,9 @@ fn fetch<X: Files + AllocGlobal>(
     if is_bad_name(name) {
         return Ok(None);
     }
-    match format!(in alloc; "{folder}/{name}") {
+    match path_of(alloc, dir, folder, name) {
         Ok(path) => read_file(rt, alloc, path.as_str(), max),
-        Err(_) => Err(FetchFault::NoMemory),
-    }
-}
-
-fn fetch_below<X: Files + AllocGlobal>(
-    rt: &X,
-    alloc: Global,
-    dir: &str,
-    path: &str,
-    max: u64,
-) -> Result<Option<Bytes>, FetchFault>
-    ensures { WithinLimit max result }
-{
-    match format!(in alloc; "{dir}/targets") {
-        Ok(folder) => fetch(rt, alloc, folder.as_str(), path, max),
-        Err(_) => Err(FetchFault::NoMemory),
+        Err(NoMemory) => Err(FetchFault::NoMemory),
     }
 }
 
@@ -67,7 +54,7 @@ impl<X: Files + AllocGlobal> Repository for FileRepository<'_, X> {
         name: &str,
         max: u64,
     ) -> Result<Option<Bytes>, FetchFault> {
-        let answer = fetch(self.rt, alloc, self.dir.as_str(), name, max);
+        let answer = fetch(self.rt, alloc, self.dir.as_str(), "", name, max);
         if answer.is_err() {
             self.faults = self.faults.saturating_add(1);
         }
@@ -80,7 +67,7 @@ impl<X: Files + AllocGlobal> Repository for FileRepository<'_, X> {
         path: &str,
         max: u64,
     ) -> Result<Option<Bytes>, FetchFault> {
-        let answer = fetch_below(self.rt, alloc, self.dir.as_str(), path, max);
+        let answer = fetch(self.rt, alloc, self.dir.as_str(), "targets", path, max);
         if answer.is_err() {
             self.faults = self.faults.saturating_add(1);
         }

@@ -3,7 +3,7 @@ ghost use Rattle.std.specs.Prelude.{⊤};
 ghost use Rattle.foundation.specs.Watched.{untold};
 ghost use Rattle.sigstore_tuf.specs.Store.{HasStoreCause};
 
-use crate::file::read_file;
+use crate::file::{path_of, read_file};
 use crate::name::is_bad_name;
 use crate::repository::FetchFault;
 use crate::store::{MetadataStore, StoreFault};
@@ -41,7 +41,7 @@ fn load<X: Files + AllocGlobal>(
     if is_bad_name(name) {
         return Err(StoreFault::BadName);
     }
-    let Ok(path) = format!(in alloc; "{dir}/{name}") else {
+    let Ok(path) = path_of(alloc, dir, "", name) else {
         return Err(StoreFault::NoMemory);
     };
     match read_file(rt, alloc, path.as_str(), u64::MAX) {
@@ -65,6 +65,17 @@ fn make_folders<X: Files + AllocGlobal>(rt: &X, path: &str) -> io::Result<()> {
     }
 }
 
+fn write_and_rename<X: Files + AllocGlobal>(
+    rt: &X,
+    path: &str,
+    beside: &str,
+    bytes: &[u8],
+) -> io::Result<()> {
+    write_whole(rt, beside, bytes)?;
+    fs::rename(rt, beside, path)
+}
+
+// Writes a file beside and renames it; what a failure leaves beside is removed where that can be done.
 fn write_beside<X: Files + AllocGlobal>(
     rt: &X,
     path: &str,
@@ -72,8 +83,11 @@ fn write_beside<X: Files + AllocGlobal>(
     bytes: &[u8],
 ) -> io::Result<()> {
     make_folders(rt, path)?;
-    write_whole(rt, beside, bytes)?;
-    fs::rename(rt, beside, path)
+    let written = write_and_rename(rt, path, beside, bytes);
+    if written.is_err() {
+        let _removed = fs::remove_file(rt, beside);
+    }
+    written
 }
 
 fn store<X: Files + AllocGlobal>(
@@ -88,10 +102,10 @@ fn store<X: Files + AllocGlobal>(
     if is_bad_name(name) {
         return Err(StoreFault::BadName);
     }
-    let Ok(path) = format!(in alloc; "{dir}/{name}") else {
+    let Ok(path) = path_of(alloc, dir, "", name) else {
         return Err(StoreFault::NoMemory);
     };
-    let Ok(beside) = format!(in alloc; "{dir}/{name}.new~") else {
+    let Ok(beside) = format!(in alloc; "{}.new~", path.as_str()) else {
         return Err(StoreFault::NoMemory);
     };
     match write_beside(rt, path.as_str(), beside.as_str(), bytes) {
