@@ -58,6 +58,6 @@ abbrev pub nothing_found : Found
 nothing_found = record { root = None; repository = None; store = None; bundle = None; artifact = None; policy = None; provider = None; now = None }
 
 -- the layout of the words after the first, which is `verify`
-abbrev pub layout_of : List (List ℕ) → Result Layout UsageFault
+unfoldable pub layout_of : List (List ℕ) → Result Layout UsageFault
 layout_of [] = Err Usage
 layout_of (word ∷ words) = if bytes_eq word (codes "verify") then (options_of nothing_found words >>= complete_of) else Err Usage

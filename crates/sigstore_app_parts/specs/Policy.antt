@@ -22,5 +22,5 @@ policy_line_of None line = key_line_of line >>= λ policy. Ok (Some policy)
 policy_line_of (Some policy) line = waiver_line_of policy line >>= λ next. Ok (Some next)
 
 -- the policy of a file
-abbrev pub policy_of : List ℕ → Result PolicyFile UsageFault
+unfoldable pub policy_of : List ℕ → Result PolicyFile UsageFault
 policy_of bytes = file_folded_of policy_line_of None bytes >>= λ found. ok_or found Usage

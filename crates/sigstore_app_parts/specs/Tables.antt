@@ -44,7 +44,7 @@ abbrev pub no_rows : Tables
 no_rows = record { provider = record { rows = [] }; armor = record { keys = []; certificates = [] } }
 
 -- the tables of a file
-abbrev pub tables_of : List ℕ → Result Tables UsageFault
+unfoldable pub tables_of : List ℕ → Result Tables UsageFault
 tables_of bytes = file_folded_of table_line_of no_rows bytes
 
 -- a text is armoured that begins with `der:` or is a row's

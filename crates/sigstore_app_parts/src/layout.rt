@@ -159,6 +159,7 @@ fn complete(found: Found) -> Result<Layout, UsageFault>
     })
 }
 
+#[tactic(auto, unfolding(crate::specs::Layout::layout_of))]
 fn read_words(alloc: Global, words: &[Text]) -> Result<Layout, UsageFault>
     ensures ok { IfOk result (λ l. layout_of words.now ≡ Ok l) }
     ensures err { IfErr result (λ e. e ≢ Want → layout_of words.now ≡ Err e) }

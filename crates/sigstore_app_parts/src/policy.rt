@@ -64,6 +64,7 @@ impl ByLine for Option<PolicyFile> {
 }
 
 /// The policy of a file: `key BASE64`, then at most once `skip tlog`. Errors: `Usage` for every other file; `NoMemory`.
+#[tactic(auto, unfolding(crate::specs::Policy::policy_of))]
 pub fn read_policy(alloc: Global, bytes: &[u8]) -> Result<PolicyFile, UsageFault>
     ensures ok { IfOk result (λ p. policy_of bytes.now ≡ Ok p) }
     ensures err { IfErr result (λ e. e ≢ Want → policy_of bytes.now ≡ Err e) }

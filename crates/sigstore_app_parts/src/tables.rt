@@ -93,6 +93,7 @@ impl ByLine for Tables {
 }
 
 /// The tables of a provider file. Errors: `Usage` for a file outside the grammar; `NoMemory`.
+#[tactic(auto, unfolding(crate::specs::Tables::tables_of))]
 pub fn read_provider(alloc: Global, bytes: &[u8]) -> Result<Tables, UsageFault>
     ensures ok { IfOk result (λ t. tables_of bytes.now ≡ Ok t) }
     ensures err { IfErr result (λ e. e ≢ Want → tables_of bytes.now ≡ Err e) }
