@@ -1,3 +1,4 @@
 pub mod Floats
 pub mod OtherFacts
 pub mod CountFacts
+pub mod MeetsLaw

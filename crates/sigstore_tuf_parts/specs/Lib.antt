@@ -16,3 +16,6 @@ pub mod Integrity
 pub mod Names
 pub mod Crypto
 pub mod Threshold
+pub mod Meets
+pub mod RootRoles
+pub mod Laws

@@ -1,0 +1,40 @@
+// Whether a document meets a role of a root.
+ghost use Rattle.std.specs.Prelude.{◌≡◌, ◌≢◌, Ok, Err, IfOk, IfErr};
+ghost use Rattle.sigstore_tuf_parts.specs.declared.error.Error.TheVariants.{NoMemory as Want};
+ghost use Rattle.sigstore_tuf_parts.specs.Crypto.{crypto_of};
+ghost use Rattle.sigstore_tuf_parts.specs.RootRoles.{meets_role_of};
+
+use crate::document::Metadata;
+use crate::error::Error;
+use crate::root::Root;
+use sigstore_crypto::CryptoProvider;
+use sigstore_types_parts::{Armor, Text};
+use std::alloc::Global;
+
+impl<T> Metadata<T> {
+    /// Whether enough keys of the role of that name in a root signed this document. Errors:
+    /// `UnknownRole` where the root has no such role, else as `verify_threshold`.
+    #[tactic(auto, unfolding(crate::specs::RootRoles::meets_role_of))]
+    pub fn verify_role<C: CryptoProvider, M: Armor>(
+        &self,
+        alloc: Global,
+        provider: &C,
+        armor: &M,
+        root: &Root,
+        name: &str,
+    ) -> Result<(), Error>
+        ensures ok { IfOk result (λ v.
+            meets_role_of (crypto_of (C.accepts provider.now) (M.armored armor.now) (M.key_in armor.now))
+            root.now name.now self.now ≡ Ok v) }
+        ensures err { IfErr result (λ e. e ≢ Want →
+            meets_role_of (crypto_of (C.accepts provider.now) (M.armored armor.now) (M.key_in armor.now))
+            root.now name.now self.now ≡ Err e) }
+    {
+        match root.role(name) {
+            Some(role) => self.verify_threshold(alloc, provider, armor, &root.keys, role, name),
+            None => Err(Error::UnknownRole {
+                name: Text::new(alloc, name)?,
+            }),
+        }
+    }
+}
