@@ -3,6 +3,4 @@ use Rattle.sigstore_tuf.proofs.Files.{kept_tame}
 use Rattle.sigstore_tuf.proofs.memory_store.MemoryStoreMetadataStore.store.Goals as goal
 
 pub invariant_of-self-2 : goal.invariant_of-self-2
-invariant_of-self-2 c = record {
-  tame = kept_tame c.put.result c.args.self.now.files c.put.new.files c.args.name.now c.args.bytes.now (sym c.is_bad_name.ensures ∙ c.if-is_bad_name.false) c.args.self.now.tame c.put.ensures.ok c.put.ensures.err;
-}
+invariant_of-self-2 c = record { tame = kept_tame c.put.result _ _ _ _ (sym c.is_bad_name.ensures ∙ c.if-is_bad_name.false) c.args.self.now.tame c.put.ensures.ok c.put.ensures.err }
