@@ -1,3 +1,10 @@
 pub mod Repository
 pub mod Store
 pub mod Memory
+pub mod Config
+pub mod Documents
+pub mod Update
+pub mod Client
+pub mod Refresh
+pub mod Target
+pub mod Updater

@@ -1,6 +1,11 @@
-//! Trusted metadata of The Update Framework: where documents and targets are fetched and kept.
+//! Trusted metadata of The Update Framework: where documents and targets are fetched and kept, the
+//! documents in force, and the client that brings them up to date and finds a target.
 #![tactic(auto)]
 
+mod chain;
+mod client;
+mod config;
+mod documents;
 mod file;
 mod file_repository;
 mod file_store;
@@ -11,9 +16,17 @@ mod name;
 mod no_store;
 mod repository;
 mod store;
+mod target;
 #[cfg(test)]
 mod tests;
+mod trusted;
+mod update;
+mod updater;
 
+pub use chain::{RoleDoc, TrustChain};
+pub use client::refresh_parts;
+pub use config::UpdaterConfig;
+pub use documents::{Held, InForce};
 pub use file_repository::FileRepository;
 pub use file_store::FileStore;
 pub use memory_repository::MemoryRepository;
@@ -21,3 +34,6 @@ pub use memory_store::MemoryStore;
 pub use no_store::NoStore;
 pub use repository::{FetchFault, Repository};
 pub use store::{MetadataStore, StoreFault};
+pub use target::get_target_parts;
+pub use trusted::TrustedMetadataSet;
+pub use updater::Updater;

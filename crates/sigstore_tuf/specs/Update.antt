@@ -1,0 +1,131 @@
+-- What each update answers: the document that is adopted, or the first check that fails (TUF specification, section 5).
+use Rattle.std.specs.Prelude.{ℕ, List, [], ◌∷◌, ◌==◌, nat_lt, if◌then◌else◌, Option, Some, None, ok_or, Result, Ok, Err, codes, ⊤}
+use Rattle.std.specs.BTreeMap.{insert_entry}
+use Rattle.jiff_core.specs.declared.timestamp.Timestamp as jiff
+use Rattle.foundation.specs.Steps.{◌>>=◌}
+use Rattle.sigstore_types_parts.specs.Entries.{at_name, text_cmp}
+use Rattle.sigstore_tuf_parts.specs.declared.error.Error.{Error}
+use Rattle.sigstore_tuf_parts.specs.declared.error.Error.TheVariants.{Malformed, Rollback, EqualVersion, IntegrityMismatch}
+use Rattle.sigstore_tuf_parts.specs.declared.error.Mismatch.TheVariants.{Vanished}
+use Rattle.sigstore_tuf_parts.specs.declared.error.Rule.TheVariants as rule
+use Rattle.sigstore_tuf_parts.specs.declared.timestamp.MetaFile.{MetaFile}
+use Rattle.sigstore_tuf_parts.specs.declared.timestamp.Timestamp.{Timestamp}
+use Rattle.sigstore_tuf_parts.specs.declared.snapshot.Snapshot.{Snapshot}
+use Rattle.sigstore_tuf_parts.specs.declared.targets.Targets.{Targets}
+use Rattle.sigstore_tuf_parts.specs.Document.{Document, content_in}
+use Rattle.sigstore_tuf_parts.specs.Crypto.{Crypto}
+use Rattle.sigstore_tuf_parts.specs.Integrity.{integrity_of, version_of, fresh_of}
+use Rattle.sigstore_tuf.specs.declared.documents.Held.{Held}
+use Rattle.sigstore_tuf.specs.declared.documents.InForce.{InForce}
+use Rattle.sigstore_tuf.specs.Documents.{root_document, timestamp_document, snapshot_document, targets_document, content_of, snapshot_pin, targets_pin, meets_role_of}
+
+-- ---- a first root
+
+unfoldable pub first_root_of : Crypto → List ℕ → Result InForce Error
+first_root_of crypto bytes = do
+  root ← root_document bytes
+  _ ← meets_role_of crypto (content_in root) (codes "root") root
+  Ok (record { roots = bytes ∷ []; root = root; timestamp = None; snapshot = None; targets = [] })
+
+-- ---- the timestamp
+
+-- the new number isn't below the trusted one
+abbrev pub not_below_of : List ℕ → ℕ → ℕ → Result ⊤ Error
+not_below_of role trusted new = if nat_lt new trusted then Err (Rollback role trusted new) else Ok tt
+
+-- the new number is another one
+abbrev pub other_of : List ℕ → ℕ → ℕ → Result ⊤ Error
+other_of role trusted new = if new == trusted then Err (EqualVersion role new) else Ok tt
+
+-- where both pin the snapshot
+abbrev pub pins_not_below_of : Option MetaFile → Option MetaFile → Result ⊤ Error
+pins_not_below_of None new = Ok tt
+pins_not_below_of (Some old) None = Ok tt
+pins_not_below_of (Some old) (Some new) = not_below_of (codes "snapshot") old.version new.version
+
+unfoldable pub newer_than_of : Timestamp → Timestamp → Result ⊤ Error
+newer_than_of old new = do
+  _ ← not_below_of (codes "timestamp") old.version new.version
+  _ ← other_of (codes "timestamp") old.version new.version
+  pins_not_below_of (snapshot_pin old) (snapshot_pin new)
+
+abbrev pub newer_of : Option (Held Timestamp) → Timestamp → Result ⊤ Error
+newer_of None new = Ok tt
+newer_of (Some old) new = newer_than_of (content_of old) new
+
+unfoldable pub new_timestamp_of : Crypto → InForce → List ℕ → jiff.Timestamp → Result (Held Timestamp) Error
+new_timestamp_of crypto set bytes now = do
+  new ← timestamp_document bytes
+  _ ← meets_role_of crypto (content_in set.root) (codes "timestamp") new
+  _ ← newer_of set.timestamp (content_in new)
+  _ ← fresh_of (codes "timestamp") (content_in new).expires now
+  Ok (record { bytes = bytes; document = new })
+
+-- ---- the snapshot
+
+-- the pin of the snapshot in the timestamp in force, which isn't expired
+unfoldable pub snapshot_pin_of : InForce → jiff.Timestamp → Result MetaFile Error
+snapshot_pin_of set now = do
+  timestamp ← ok_or set.timestamp (Malformed rule.NoTimestamp)
+  _ ← fresh_of (codes "timestamp") (content_of timestamp).expires now
+  ok_or (snapshot_pin (content_of timestamp)) (Malformed rule.Unpinned)
+
+-- each trusted pin, in ascending order of names, is still there and not lower
+abbrev pub kept_pin_of : List ℕ → MetaFile → Option MetaFile → Result ⊤ Error
+kept_pin_of name old None = Err (IntegrityMismatch Vanished)
+kept_pin_of name old (Some new) = not_below_of name old.version new.version
+
+abbrev pub kept_pins_in : List (List ℕ × MetaFile) → Snapshot → Result ⊤ Error
+kept_pins_in [] new = Ok tt
+kept_pins_in (e ∷ es) new = kept_pin_of e.0 e.1 (at_name e.0 new.meta) >>= λ _. kept_pins_in es new
+
+abbrev pub kept_pins_of : Option (Held Snapshot) → Snapshot → Result ⊤ Error
+kept_pins_of None new = Ok tt
+kept_pins_of (Some old) new = kept_pins_in (content_of old).meta new
+
+-- the checks of a snapshot that was read, for its pin
+unfoldable pub snapshot_checks_of : Crypto → InForce → MetaFile → Document Snapshot → jiff.Timestamp → Result ⊤ Error
+snapshot_checks_of crypto set pin new now = do
+  _ ← meets_role_of crypto (content_in set.root) (codes "snapshot") new
+  _ ← version_of pin (content_in new).version
+  _ ← kept_pins_of set.snapshot (content_in new)
+  fresh_of (codes "snapshot") (content_in new).expires now
+
+unfoldable pub new_snapshot_of : Crypto → InForce → List ℕ → jiff.Timestamp → Result (Held Snapshot) Error
+new_snapshot_of crypto set bytes now = do
+  pin ← snapshot_pin_of set now
+  _ ← integrity_of pin.length pin.hashes bytes
+  new ← snapshot_document bytes
+  _ ← snapshot_checks_of crypto set pin new now
+  Ok (record { bytes = bytes; document = new })
+
+-- ---- the top-level targets document
+
+-- its pin in the snapshot in force, which isn't expired
+unfoldable pub targets_pin_of : InForce → jiff.Timestamp → Result MetaFile Error
+targets_pin_of set now = do
+  snapshot ← ok_or set.snapshot (Malformed rule.NoSnapshot)
+  _ ← fresh_of (codes "snapshot") (content_of snapshot).expires now
+  ok_or (targets_pin (content_of snapshot)) (Malformed rule.Unpinned)
+
+unfoldable pub new_targets_of : Crypto → InForce → List ℕ → jiff.Timestamp → Result (Held Targets) Error
+new_targets_of crypto set bytes now = do
+  pin ← targets_pin_of set now
+  _ ← integrity_of pin.length pin.hashes bytes
+  new ← targets_document bytes
+  _ ← version_of pin (content_in new).version
+  _ ← meets_role_of crypto (content_in set.root) (codes "targets") new
+  _ ← fresh_of (codes "targets") (content_in new).expires now
+  Ok (record { bytes = bytes; document = new })
+
+-- ---- the documents in force after an update
+
+abbrev pub with_timestamp : InForce → Held Timestamp → InForce
+with_timestamp set new = record set { timestamp = Some new }
+
+-- the targets documents are dropped
+abbrev pub with_snapshot : InForce → Held Snapshot → InForce
+with_snapshot set new = record set { snapshot = Some new; targets = [] }
+
+abbrev pub with_targets : InForce → Held Targets → InForce
+with_targets set new = record set { targets = insert_entry text_cmp set.targets (codes "targets") new }

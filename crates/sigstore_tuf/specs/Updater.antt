@@ -1,0 +1,21 @@
+-- What an updater keeps of a target that it gave.
+use Rattle.std.specs.Prelude.{◌≡◌, ◌⊎◌, ℕ, List, Option, Some, Result, Ok, Err}
+use Rattle.jiff_core.specs.declared.timestamp.Timestamp as jiff
+use Rattle.foundation.specs.Watched.{Watched}
+use Rattle.sigstore_tuf_parts.specs.declared.error.Error.{Error}
+use Rattle.sigstore_tuf_parts.specs.declared.error.Error.TheVariants as tuf
+use Rattle.sigstore_tuf.specs.Repository.{Folders}
+use Rattle.sigstore_tuf.specs.declared.config.UpdaterConfig.{UpdaterConfig}
+use Rattle.sigstore_tuf.specs.declared.documents.InForce.{InForce}
+use Rattle.sigstore_tuf.specs.declared.chain.TrustChain.{TrustChain}
+use Rattle.sigstore_tuf.specs.Target.{GetsTarget}
+
+-- a refusal of the search, or want of memory for the copy of the file
+abbrev pub IsRefused : InForce → UpdaterConfig → List ℕ → jiff.Timestamp → Watched Folders → Watched Folders → Error → Type 0
+IsRefused set config path now repo repo' e = (e ≡ tuf.NoMemory) ⊎ GetsTarget set config path now repo repo' (Err e)
+
+-- the file is that of the chain that is kept
+abbrev pub GivesFile : InForce → UpdaterConfig → List ℕ → jiff.Timestamp → Watched Folders → Watched Folders → Option TrustChain → Result (List ℕ) Error → Type 0
+GivesFile set config path now repo repo' kept (Ok file) =
+    (chain : TrustChain) × (kept ≡ Some chain) × (file ≡ chain.file) × GetsTarget set config path now repo repo' (Ok chain)
+GivesFile set config path now repo repo' kept (Err e) = IsRefused set config path now repo repo' e

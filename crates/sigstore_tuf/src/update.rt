@@ -1,0 +1,333 @@
+// Each update of the documents in force: the document that is adopted, or the first check that fails.
+ghost use Rattle.std.specs.Prelude.{◌≡◌, ◌≢◌, Ok, Err, IfOk, IfErr, OnOk, option_copied};
+ghost use Rattle.sigstore_tuf_parts.specs.declared.error.Error.TheVariants.{NoMemory as Want};
+ghost use Rattle.sigstore_tuf_parts.specs.Crypto.{crypto_of};
+ghost use Rattle.sigstore_tuf.specs.Documents.{meets_role_of};
+ghost use Rattle.sigstore_tuf.specs.Update.{first_root_of, not_below_of, other_of, newer_than_of, newer_of, pins_not_below_of, new_timestamp_of, snapshot_pin_of, kept_pin_of, kept_pins_in, kept_pins_of, snapshot_checks_of, new_snapshot_of, targets_pin_of, new_targets_of};
+
+use crate::documents::{Held, InForce};
+use foundation::Sequence;
+use sigstore_crypto::CryptoProvider;
+use sigstore_tuf_parts::{
+    Error, MetaFile, Metadata, Mismatch, Root, Rule, Snapshot, Targets, Timestamp, check_fresh,
+    check_integrity, check_version,
+};
+use sigstore_types_parts::{Armor, Bytes, Text, TextMap};
+use std::alloc::Global;
+
+// The document meets the role of that name in the root.
+#[tactic(auto, unfolding(crate::specs::Documents::meets_role_of))]
+pub(crate) fn check_role<T, C: CryptoProvider, M: Armor>(
+    alloc: Global,
+    provider: &C,
+    armor: &M,
+    root: &Root,
+    name: &str,
+    document: &Metadata<T>,
+) -> Result<(), Error>
+    ensures ok { OnOk result
+        (meets_role_of (crypto_of (C.accepts provider.now) (M.armored armor.now) (M.key_in armor.now)) root.now name.now document.now ≡ Ok tt) }
+    ensures err { IfErr result (λ e. e ≢ Want →
+        meets_role_of (crypto_of (C.accepts provider.now) (M.armored armor.now) (M.key_in armor.now)) root.now name.now document.now ≡ Err e) }
+{
+    match root.roles.get(name) {
+        Some(role) => {
+            document.verify_threshold(alloc, provider, armor, &root.keys, role, name)?;
+            Ok(())
+        }
+        None => Err(Error::UnknownRole {
+            name: Text::new(alloc, name)?,
+        }),
+    }
+}
+
+/// The documents in force with a first root, which meets its own role. Errors: those of a document, then
+/// `UnknownRole`, then those of a threshold.
+#[tactic(auto, unfolding(crate::specs::Update::first_root_of))]
+pub(crate) fn first_root<C: CryptoProvider, M: Armor>(
+    alloc: Global,
+    provider: &C,
+    armor: &M,
+    bytes: &[u8],
+) -> Result<InForce, Error>
+    ensures ok { IfOk result (λ set.
+        first_root_of (crypto_of (C.accepts provider.now) (M.armored armor.now) (M.key_in armor.now)) bytes.now ≡ Ok set) }
+    ensures err { IfErr result (λ e. e ≢ Want →
+        first_root_of (crypto_of (C.accepts provider.now) (M.armored armor.now) (M.key_in armor.now)) bytes.now ≡ Err e) }
+{
+    let root = Metadata::from_slice(alloc, bytes)?;
+    check_role(alloc, provider, armor, root.signed(), "root", &root)?;
+    let mut roots = Sequence::new(alloc);
+    roots.push(Bytes::new(alloc, bytes)?)?;
+    Ok(InForce {
+        roots,
+        root,
+        timestamp: None,
+        snapshot: None,
+        targets: TextMap::new(alloc),
+    })
+}
+
+fn check_not_below(alloc: Global, role: &str, trusted: u64, new: u64) -> Result<(), Error>
+    ensures ok { OnOk result (not_below_of role.now trusted new ≡ Ok tt) }
+    ensures err { IfErr result (λ e. e ≢ Want → not_below_of role.now trusted new ≡ Err e) }
+{
+    if new < trusted {
+        return Err(Error::Rollback {
+            role: Text::new(alloc, role)?,
+            trusted,
+            new,
+        });
+    }
+    Ok(())
+}
+
+fn check_other(alloc: Global, role: &str, trusted: u64, new: u64) -> Result<(), Error>
+    ensures ok { OnOk result (other_of role.now trusted new ≡ Ok tt) }
+    ensures err { IfErr result (λ e. e ≢ Want → other_of role.now trusted new ≡ Err e) }
+{
+    if new == trusted {
+        return Err(Error::EqualVersion {
+            role: Text::new(alloc, role)?,
+            version: new,
+        });
+    }
+    Ok(())
+}
+
+fn check_pins(alloc: Global, old: Option<&MetaFile>, new: Option<&MetaFile>) -> Result<(), Error>
+    ensures ok { OnOk result (pins_not_below_of (option_copied old.entry) (option_copied new.entry) ≡ Ok tt) }
+    ensures err { IfErr result
+        (λ e. e ≢ Want → pins_not_below_of (option_copied old.entry) (option_copied new.entry) ≡ Err e) }
+{
+    match (old, new) {
+        (Some(old), Some(new)) => check_not_below(alloc, "snapshot", old.version, new.version),
+        _ => Ok(()),
+    }
+}
+
+#[tactic(auto, unfolding(crate::specs::Update::newer_than_of))]
+fn check_newer(alloc: Global, old: &Timestamp, new: &Timestamp) -> Result<(), Error>
+    ensures ok { OnOk result (newer_than_of old.now new.now ≡ Ok tt) }
+    ensures err { IfErr result (λ e. e ≢ Want → newer_than_of old.now new.now ≡ Err e) }
+{
+    check_not_below(alloc, "timestamp", old.version, new.version)?;
+    check_other(alloc, "timestamp", old.version, new.version)?;
+    check_pins(alloc, old.snapshot_meta(), new.snapshot_meta())?;
+    Ok(())
+}
+
+fn check_newer_in(
+    alloc: Global,
+    old: &Option<Held<Timestamp>>,
+    new: &Timestamp,
+) -> Result<(), Error>
+    ensures ok { OnOk result (newer_of old.now new.now ≡ Ok tt) }
+    ensures err { IfErr result (λ e. e ≢ Want → newer_of old.now new.now ≡ Err e) }
+{
+    match old {
+        Some(held) => {
+            check_newer(alloc, held.document.signed(), new)?;
+            Ok(())
+        }
+        None => Ok(()),
+    }
+}
+
+/// The timestamp of these bytes, where it may be adopted.
+#[tactic(auto, unfolding(crate::specs::Update::new_timestamp_of))]
+pub(crate) fn new_timestamp<C: CryptoProvider, M: Armor>(
+    alloc: Global,
+    provider: &C,
+    armor: &M,
+    documents: &InForce,
+    bytes: Bytes,
+    now: jiff::Timestamp,
+) -> Result<Held<Timestamp>, Error>
+    ensures ok { IfOk result (λ held.
+        new_timestamp_of (crypto_of (C.accepts provider.now) (M.armored armor.now) (M.key_in armor.now)) documents.now bytes now ≡ Ok held) }
+    ensures err { IfErr result (λ e. e ≢ Want →
+        new_timestamp_of (crypto_of (C.accepts provider.now) (M.armored armor.now) (M.key_in armor.now)) documents.now bytes now ≡ Err e) }
+{
+    let document = Metadata::<Timestamp>::from_slice(alloc, bytes.as_bytes())?;
+    check_role(
+        alloc,
+        provider,
+        armor,
+        documents.root.signed(),
+        "timestamp",
+        &document,
+    )?;
+    check_newer_in(alloc, &documents.timestamp, document.signed())?;
+    check_fresh(alloc, "timestamp", document.signed().expires, now)?;
+    Ok(Held { bytes, document })
+}
+
+// The snapshot's pin in the timestamp in force, which isn't expired.
+#[tactic(auto, unfolding(crate::specs::Update::snapshot_pin_of))]
+pub(crate) fn snapshot_pin<'d>(
+    alloc: Global,
+    documents: &'d InForce,
+    now: jiff::Timestamp,
+) -> Result<&'d MetaFile, Error>
+    ensures ok { IfOk result (λ pin. snapshot_pin_of documents.now now ≡ Ok pin.now) }
+    ensures err { IfErr result (λ e. e ≢ Want → snapshot_pin_of documents.now now ≡ Err e) }
+{
+    let Some(timestamp) = &documents.timestamp else {
+        return Err(Error::Malformed(Rule::NoTimestamp));
+    };
+    let content = timestamp.document.signed();
+    if let Err(e) = check_fresh(alloc, "timestamp", content.expires, now) {
+        return Err(e);
+    }
+    match content.snapshot_meta() {
+        Some(pin) => Ok(pin),
+        None => Err(Error::Malformed(Rule::Unpinned)),
+    }
+}
+
+fn check_kept_pin(
+    alloc: Global,
+    name: &str,
+    old: &MetaFile,
+    new: Option<&MetaFile>,
+) -> Result<(), Error>
+    ensures ok { OnOk result (kept_pin_of name.now old.now (option_copied new.entry) ≡ Ok tt) }
+    ensures err { IfErr result
+        (λ e. e ≢ Want → kept_pin_of name.now old.now (option_copied new.entry) ≡ Err e) }
+{
+    match new {
+        Some(new) => {
+            check_not_below(alloc, name, old.version, new.version)?;
+            Ok(())
+        }
+        None => Err(Error::IntegrityMismatch(Mismatch::Vanished)),
+    }
+}
+
+fn check_kept_pins(alloc: Global, old: &TextMap<MetaFile>, new: &Snapshot) -> Result<(), Error>
+    ensures ok { OnOk result (kept_pins_in old.now new.now ≡ Ok tt) }
+    ensures err { IfErr result (λ e. e ≢ Want → kept_pins_in old.now new.now ≡ Err e) }
+{
+    for (name, pin) in old.iter() {
+        check_kept_pin(alloc, name.as_str(), pin, new.meta.get(name.as_str()))?;
+    }
+    Ok(())
+}
+
+fn check_kept(alloc: Global, old: &Option<Held<Snapshot>>, new: &Snapshot) -> Result<(), Error>
+    ensures ok { OnOk result (kept_pins_of old.now new.now ≡ Ok tt) }
+    ensures err { IfErr result (λ e. e ≢ Want → kept_pins_of old.now new.now ≡ Err e) }
+{
+    match old {
+        Some(held) => {
+            check_kept_pins(alloc, &held.document.signed().meta, new)?;
+            Ok(())
+        }
+        None => Ok(()),
+    }
+}
+
+// The checks of a snapshot that was read, for its pin.
+#[tactic(auto, unfolding(crate::specs::Update::snapshot_checks_of))]
+fn check_snapshot<C: CryptoProvider, M: Armor>(
+    alloc: Global,
+    provider: &C,
+    armor: &M,
+    documents: &InForce,
+    pin: &MetaFile,
+    document: &Metadata<Snapshot>,
+    now: jiff::Timestamp,
+) -> Result<(), Error>
+    ensures ok { OnOk result
+        (snapshot_checks_of (crypto_of (C.accepts provider.now) (M.armored armor.now) (M.key_in armor.now)) documents.now pin.now document.now now ≡ Ok tt) }
+    ensures err { IfErr result (λ e. e ≢ Want →
+        snapshot_checks_of (crypto_of (C.accepts provider.now) (M.armored armor.now) (M.key_in armor.now)) documents.now pin.now document.now now ≡ Err e) }
+{
+    let content = document.signed();
+    check_role(
+        alloc,
+        provider,
+        armor,
+        documents.root.signed(),
+        "snapshot",
+        document,
+    )?;
+    check_version(pin, content.version)?;
+    check_kept(alloc, &documents.snapshot, content)?;
+    check_fresh(alloc, "snapshot", content.expires, now)?;
+    Ok(())
+}
+
+/// The snapshot of these bytes, where it may be adopted.
+#[tactic(auto, unfolding(crate::specs::Update::new_snapshot_of))]
+pub(crate) fn new_snapshot<C: CryptoProvider, M: Armor>(
+    alloc: Global,
+    provider: &C,
+    armor: &M,
+    documents: &InForce,
+    bytes: Bytes,
+    now: jiff::Timestamp,
+) -> Result<Held<Snapshot>, Error>
+    ensures ok { IfOk result (λ held.
+        new_snapshot_of (crypto_of (C.accepts provider.now) (M.armored armor.now) (M.key_in armor.now)) documents.now bytes now ≡ Ok held) }
+    ensures err { IfErr result (λ e. e ≢ Want →
+        new_snapshot_of (crypto_of (C.accepts provider.now) (M.armored armor.now) (M.key_in armor.now)) documents.now bytes now ≡ Err e) }
+{
+    let pin = snapshot_pin(alloc, documents, now)?;
+    check_integrity(pin.length, pin.hashes.as_ref(), bytes.as_bytes())?;
+    let document = Metadata::<Snapshot>::from_slice(alloc, bytes.as_bytes())?;
+    check_snapshot(alloc, provider, armor, documents, pin, &document, now)?;
+    Ok(Held { bytes, document })
+}
+
+// The pin of the top-level targets document in the snapshot in force, which isn't expired.
+#[tactic(auto, unfolding(crate::specs::Update::targets_pin_of))]
+pub(crate) fn targets_pin<'d>(
+    alloc: Global,
+    documents: &'d InForce,
+    now: jiff::Timestamp,
+) -> Result<&'d MetaFile, Error>
+    ensures ok { IfOk result (λ pin. targets_pin_of documents.now now ≡ Ok pin.now) }
+    ensures err { IfErr result (λ e. e ≢ Want → targets_pin_of documents.now now ≡ Err e) }
+{
+    let Some(snapshot) = &documents.snapshot else {
+        return Err(Error::Malformed(Rule::NoSnapshot));
+    };
+    check_fresh(alloc, "snapshot", snapshot.document.signed().expires, now)?;
+    match snapshot.document.signed().meta.get("targets.json") {
+        Some(pin) => Ok(pin),
+        None => Err(Error::Malformed(Rule::Unpinned)),
+    }
+}
+
+/// The top-level targets document of these bytes, where it may be adopted.
+#[tactic(auto, unfolding(crate::specs::Update::new_targets_of))]
+pub(crate) fn new_targets<C: CryptoProvider, M: Armor>(
+    alloc: Global,
+    provider: &C,
+    armor: &M,
+    documents: &InForce,
+    bytes: Bytes,
+    now: jiff::Timestamp,
+) -> Result<Held<Targets>, Error>
+    ensures ok { IfOk result (λ held.
+        new_targets_of (crypto_of (C.accepts provider.now) (M.armored armor.now) (M.key_in armor.now)) documents.now bytes now ≡ Ok held) }
+    ensures err { IfErr result (λ e. e ≢ Want →
+        new_targets_of (crypto_of (C.accepts provider.now) (M.armored armor.now) (M.key_in armor.now)) documents.now bytes now ≡ Err e) }
+{
+    let pin = targets_pin(alloc, documents, now)?;
+    check_integrity(pin.length, pin.hashes.as_ref(), bytes.as_bytes())?;
+    let document = Metadata::<Targets>::from_slice(alloc, bytes.as_bytes())?;
+    check_version(pin, document.signed().version)?;
+    check_role(
+        alloc,
+        provider,
+        armor,
+        documents.root.signed(),
+        "targets",
+        &document,
+    )?;
+    check_fresh(alloc, "targets", document.signed().expires, now)?;
+    Ok(Held { bytes, document })
+}

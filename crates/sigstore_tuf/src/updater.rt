@@ -1,0 +1,147 @@
+// The client over a lent repository.
+ghost use Rattle.std.specs.Prelude.{◌≡◌, ◌≢◌, Some, None, Ok, Err, IfOk, IfErr, OnErr, option_map};
+ghost use Rattle.sigstore_tuf_parts.specs.declared.error.Error.TheVariants.{NoMemory as Want};
+ghost use Rattle.sigstore_tuf_parts.specs.Crypto.{crypto_of};
+ghost use Rattle.sigstore_tuf.specs.Config.{default_config};
+ghost use Rattle.sigstore_tuf.specs.Update.{first_root_of};
+ghost use Rattle.sigstore_tuf.specs.Refresh.{Refreshes};
+ghost use Rattle.sigstore_tuf.specs.Target.{GetsTarget};
+ghost use Rattle.sigstore_tuf.specs.Updater.{GivesFile};
+
+use crate::chain::TrustChain;
+use crate::client::refresh_parts;
+use crate::config::UpdaterConfig;
+use crate::no_store::NoStore;
+use crate::repository::Repository;
+use crate::target::get_target_parts;
+use crate::trusted::TrustedMetadataSet;
+use foundation::{Duplicate, NoMemory};
+use sigstore_crypto::CryptoProvider;
+use sigstore_tuf_parts::Error;
+use sigstore_types_parts::{Armor, Bytes};
+use std::alloc::Global;
+
+/// A client of one repository, from a root that is trusted as it is given (TUF specification, section 5).
+#[derive(Drop)]
+pub struct Updater<'a, C: CryptoProvider, M: Armor, R: Repository> {
+    pub set: TrustedMetadataSet<'a, C, M>,
+    pub repo: &'a mut R,
+    pub config: UpdaterConfig,
+    pub chain: Option<TrustChain>,
+}
+
+impl<'a, C: CryptoProvider, M: Armor, R: Repository> Updater<'a, C, M, R> {
+    /// A client under the default limits. Errors are those of `TrustedMetadataSet::from_root`.
+    pub fn new(
+        alloc: Global,
+        provider: &'a C,
+        armor: &'a M,
+        repo: &'a mut R,
+        root_bytes: &[u8],
+    ) -> Result<Updater<'a, C, M, R>, Error>
+        ensures set { IfOk result (λ u.
+            first_root_of (crypto_of (C.accepts provider.now) (M.armored armor.now) (M.key_in armor.now)) root_bytes.now ≡ Ok u.set.documents) }
+        ensures repo { IfOk result (λ u. u.repo.now ≡ repo.old) }
+        ensures same_repo { IfOk result (λ u. u.repo.ghost_name ≡ repo.entry.ghost_name) }
+        ensures config { IfOk result (λ u. u.config ≡ default_config) }
+        ensures chain { IfOk result (λ u. u.chain ≡ None) }
+        ensures err { IfErr result (λ e. e ≢ Want →
+            first_root_of (crypto_of (C.accepts provider.now) (M.armored armor.now) (M.key_in armor.now)) root_bytes.now ≡ Err e) }
+    {
+        match TrustedMetadataSet::from_root(alloc, provider, armor, root_bytes) {
+            Ok(set) => Ok(Updater {
+                set,
+                repo,
+                config: UpdaterConfig::default(),
+                chain: None,
+            }),
+            Err(e) => Err(e),
+        }
+    }
+
+    /// The same client under these limits.
+    pub fn with_config(self, config: UpdaterConfig) -> Updater<'a, C, M, R>
+        ensures set { result.set ≡ self.entry.set }
+        ensures repo { result.repo ≡ self.entry.repo }
+        ensures config { result.config ≡ config }
+        ensures chain { result.chain ≡ self.entry.chain }
+    {
+        let Updater {
+            set,
+            repo,
+            config: _,
+            chain,
+        } = self;
+        Updater {
+            set,
+            repo,
+            config,
+            chain,
+        }
+    }
+
+    /// The documents in force.
+    pub fn trusted(&self) -> &TrustedMetadataSet<'a, C, M>
+        ensures { result.now ≡ self.now.set }
+    {
+        &self.set
+    }
+
+    /// Brings the documents in force up to date at a moment. Errors are those of the first step that
+    /// refuses; the documents that were adopted before it stay in force.
+    pub fn refresh(&mut self, alloc: Global, now: jiff::Timestamp) -> Result<(), Error>
+        ensures same_repo { self.new.repo.ghost_name ≡ self.old.repo.ghost_name }
+        ensures refreshes { Refreshes
+            (crypto_of (C.accepts self.old.set.provider.now) (M.armored self.old.set.armor.now) (M.key_in self.old.set.armor.now))
+            self.old.config now self.old.set.documents self.new.set.documents (R.seen self.old.repo.now) (R.seen self.new.repo.now) result }
+    {
+        refresh_parts(
+            alloc,
+            self.set.provider,
+            self.set.armor,
+            &mut self.set.documents,
+            self.repo,
+            &mut NoStore,
+            &self.config,
+            now,
+        )
+    }
+
+    /// The file of a target, which `chain` then explains. Errors, in this order: `Expired`,
+    /// `NotRefreshed`, `IntegrityMismatch`, `TargetNotFound`, then those of the fetch and of the file.
+    pub fn get_target(
+        &mut self,
+        alloc: Global,
+        path: &str,
+        now: jiff::Timestamp,
+    ) -> Result<Bytes, Error>
+        ensures same_repo { self.new.repo.ghost_name ≡ self.old.repo.ghost_name }
+        ensures gives { GivesFile self.old.set.documents self.old.config path.now now (R.seen self.old.repo.now) (R.seen self.new.repo.now) self.new.chain result }
+    {
+        match get_target_parts(
+            alloc,
+            &self.set.documents,
+            self.repo,
+            &mut NoStore,
+            &self.config,
+            path,
+            now,
+        ) {
+            Ok(chain) => match chain.file.duplicate(alloc) {
+                Ok(file) => {
+                    self.chain = Some(chain);
+                    Ok(file)
+                }
+                Err(_) => Err(Error::NoMemory),
+            },
+            Err(e) => Err(e),
+        }
+    }
+
+    /// The chain of the last `get_target` that answered Ok; none where none did.
+    pub fn chain(&self, alloc: Global) -> Result<Option<TrustChain>, NoMemory>
+        ensures { IfOk result (λ chain. chain ≡ self.now.chain) }
+    {
+        self.chain.duplicate(alloc)
+    }
+}
