@@ -14,9 +14,8 @@ use Rattle.sigstore_verify.specs.declared.error.Error.{Error}
 use Rattle.sigstore_verify.specs.declared.error.Error.TheVariants.{NoMemory}
 use Rattle.sigstore_verify.specs.declared.policy.PublicKeyVerificationPolicy.{PublicKeyVerificationPolicy}
 use Rattle.sigstore_verify.specs.declared.report.Kept.{Kept}
-use Rattle.sigstore_verify.specs.declared.report.VerificationResult.{VerificationResult}
 use Rattle.sigstore_verify.specs.Policy.{PublicKey}
-use Rattle.sigstore_verify.specs.Judged.{prepared_of, key_judged_of, content_judged_of, key_report_of, ready_of, judged_of}
+use Rattle.sigstore_verify.specs.Judged.{prepared_of, key_judged_of, content_judged_of, key_report_of, ready_of}
 use Rattle.sigstore_verify.specs.Promise.{ReadWhole, Cause, Keeps, VerifiesKept}
 
 ready : (policy : PublicKeyVerificationPolicy) (bundle : Bundle) (key : VerificationKey) → prepared_of policy bundle ≡ Ok key → ready_of (PublicKey policy) bundle ≡ Ok tt

@@ -8,7 +8,6 @@ use Rattle.sigstore_types_parts.specs.declared.error.TypesError.{TypesError}
 use Rattle.sigstore_types.specs.declared.bundle.Bundle.{Bundle}
 use Rattle.sigstore_types.specs.declared.content.SignatureContent.{SignatureContent}
 use Rattle.sigstore_types.specs.declared.content.SignatureContent.TheVariants.{MessageSignature as OfMessage}
-use Rattle.sigstore_types.specs.declared.content.MessageSignature.{MessageSignature}
 use Rattle.sigstore_types.specs.declared.content.MessageDigest.{MessageDigest}
 use Rattle.sigstore_types.specs.Bundle.{structure_of}
 use Rattle.sigstore_crypto.specs.declared.error.Error.{Error as CryptoError}

@@ -3,3 +3,4 @@ pub mod Policy
 pub mod Trust
 pub mod Judged
 pub mod Promise
+pub mod Accepts

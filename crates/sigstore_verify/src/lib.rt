@@ -3,6 +3,7 @@
 
 mod error;
 mod judge;
+mod laws;
 mod policy;
 mod report;
 #[cfg(test)]
@@ -10,6 +11,7 @@ mod tests;
 mod verifier;
 
 pub use error::{CertificateError, Error, TimestampError, TransparencyLogError};
+pub use laws::accepts_exactly;
 pub use policy::{Policy, PolicyKind, PublicKeyVerificationPolicy};
 pub use report::{Kept, VerificationResult};
 pub use verifier::Verifier;
