@@ -2,3 +2,4 @@ mod Cuts
 mod Folds
 mod Pieces
 mod Printing
+mod Readings

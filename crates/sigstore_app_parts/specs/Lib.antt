@@ -7,3 +7,4 @@ pub mod Rows
 pub mod Tables
 pub mod Layout
 pub mod Printed
+pub mod Gather

@@ -4,6 +4,7 @@
 
 mod fields;
 mod file_inputs;
+mod gather;
 mod inputs;
 mod layout;
 mod lines;
@@ -22,6 +23,7 @@ mod usage_fault;
 mod writing;
 
 pub use file_inputs::FileInputs;
+pub use gather::{Gathered, Stop, gather_inputs};
 pub use inputs::{InputFault, Inputs, Which};
 pub use layout::{Layout, read_layout};
 pub use lines::{ByLine, take_file};

@@ -35,37 +35,57 @@ fn errors_print_their_names(rt: HostRuntime) -> Result<(), Fail> {
     ] {
         assert_eq!(rt; format!(in alloc; "{fault}")?.as_str(), name);
     }
+    for (stop, name) in [
+        (Stop::Words, "Words"),
+        (Stop::Form(Which::Policy), "Form"),
+        (Stop::Input(Which::Root), "Input"),
+        (Stop::Memory, "Memory"),
+    ] {
+        assert_eq!(rt; format!(in alloc; "{stop}")?.as_str(), name);
+    }
     let failed = SinkFault::Failed;
     assert_eq!(rt; format!(in alloc; "{failed}")?.as_str(), "Failed");
     Ok(())
 }
 
+const WHOLE: &str =
+    "verify --root=a --repository=b --store=c --bundle=d --artifact=e --policy=f=g --provider=h";
+
+fn is_layout(alloc: Global, line: &str, more: &str) -> Result<bool, Fail> {
+    let line = format!(in alloc; "{line} {more}")?;
+    let words = words(alloc, line.as_str())?;
+    Ok(read_layout(alloc, &words)?.is_some())
+}
+
+#[test]
+fn words_are_judged(rt: HostRuntime) -> Result<(), Fail> {
+    let alloc = rt.alloc();
+    for (line, more, good) in [
+        (WHOLE, "", true),
+        (WHOLE, "--now=2025-01-01T00:00:00Z", true),
+        (WHOLE, "--now=x", false),
+        (WHOLE, "--root=a", false),
+        (WHOLE, "--now=", false),
+        (WHOLE, "now=2025-01-01T00:00:00Z", false),
+        (WHOLE, "--name=a", false),
+        (WHOLE, "--now", false),
+        ("", "", false),
+        ("verify", "", false),
+        ("verify", "--root=a", false),
+        ("generate", "--root=a", false),
+    ] {
+        assert_eq!(rt; is_layout(alloc, line, more)?, good, "{line} {more}");
+    }
+    Ok(())
+}
+
 #[test]
 fn words_give_a_layout(rt: HostRuntime) -> Result<(), Fail> {
-    let alloc = rt.alloc();
-    let whole =
-        "verify --root=a --repository=b --store=c --bundle=d --artifact=e --policy=f=g --provider=h";
-    let read = read_layout(alloc, &words(alloc, whole)?)?.ok_or("a layout")?;
-    assert!(rt; read.root.as_str() == "a" && read.policy.as_str() == "f=g" && read.now.is_none());
-    for (more, good) in [
-        ("--now=2025-01-01T00:00:00Z", true),
-        ("--now=x", false),
-        ("--root=a", false),
-        ("--now=", false),
-        ("now=2025-01-01T00:00:00Z", false),
-        ("--name=a", false),
-        ("--now", false),
-    ] {
-        let mut all = words(alloc, whole)?;
-        all.push(Text::new(alloc, more)?).ok().ok_or("room")?;
-        assert_eq!(rt; read_layout(alloc, &all)?.is_some(), good, "{more}");
-    }
-    for line in ["", "verify", "generate --root=a", "verify --root=a"] {
-        assert!(rt;
-            read_layout(alloc, &words(alloc, line)?)?.is_none(),
-            "{line}"
-        );
-    }
+    let words = words(rt.alloc(), WHOLE)?;
+    let read = read_layout(rt.alloc(), &words)?.ok_or("a layout")?;
+    assert_eq!(rt; read.root.as_str(), "a");
+    assert_eq!(rt; read.policy.as_str(), "f=g");
+    assert!(rt; read.now.is_none());
     Ok(())
 }
 
@@ -106,23 +126,64 @@ fn policies_are_read(rt: HostRuntime) -> Result<(), Fail> {
 const HELLO: &str =
     "accept ECDSA_P256_SHA256 BAA= LPJNul+wow4m6DsqxbninhsWHlwfp0JecwQzYpOLmCQ= AQ==\n";
 
+const ROWS: &str =
+    "accept ED25519 - aGVsbG8= -\narmor key a2V5 AQI=\narmor certificate Y2VydA== Aw==\n";
+
+fn tables(alloc: Global) -> Result<Tables, Fail> {
+    let text = format!(in alloc; "{HELLO}{ROWS}")?;
+    Ok(read_provider(alloc, text.as_bytes())?)
+}
+
 #[test]
-fn tables_answer(rt: HostRuntime) -> Result<(), Fail> {
-    let alloc = rt.alloc();
-    let rows =
-        "accept ED25519 - aGVsbG8= -\narmor key a2V5 AQI=\narmor certificate Y2VydA== Aw==\n";
-    let text = format!(in alloc; "{HELLO}{rows}")?;
-    let tables = read_provider(alloc, text.as_bytes())?;
-    let p256 = SigningScheme::EcdsaP256Sha256;
-    let provider = &tables.provider;
+fn a_table_accepts_its_rows(rt: HostRuntime) -> Result<(), Fail> {
+    let provider = tables(rt.alloc())?.provider;
+    for (scheme, key, message, signature, good) in [
+        (
+            SigningScheme::EcdsaP256Sha256,
+            "\u{4}\0",
+            "hello",
+            "\u{1}",
+            true,
+        ),
+        (
+            SigningScheme::EcdsaP256Sha256,
+            "\u{4}\0",
+            "jello",
+            "\u{1}",
+            false,
+        ),
+        (
+            SigningScheme::EcdsaP256Sha256,
+            "\u{4}\0",
+            "hello",
+            "\u{2}",
+            false,
+        ),
+        (
+            SigningScheme::RsaPssSha256,
+            "\u{4}\0",
+            "hello",
+            "\u{1}",
+            false,
+        ),
+        (SigningScheme::Ed25519, "", "hello", "", true),
+    ] {
+        let (key, message) = (key.as_bytes(), message.as_bytes());
+        assert_eq!(rt;
+            provider.verify_raw(scheme, key, message, signature.as_bytes()),
+            good
+        );
+    }
     let digest = sha256(b"hello");
-    assert!(rt; provider.verify_raw(p256, b"\x04\0", b"hello", b"\x01"));
-    assert!(rt; provider.verify_prehashed(p256, b"\x04\0", digest.as_bytes(), "\x01".as_bytes()));
-    assert!(rt; !provider.verify_raw(p256, b"\x04\0", b"jello", b"\x01"));
-    assert!(rt; !provider.verify_raw(p256, b"\x04\0", b"hello", b"\x02"));
-    assert!(rt; !provider.verify_raw(SigningScheme::RsaPssSha256, b"\x04\0", b"hello", b"\x01"));
-    assert!(rt; provider.verify_raw(SigningScheme::Ed25519, b"", b"hello", b""));
-    let armor = &tables.armor;
+    let scheme = SigningScheme::EcdsaP256Sha256;
+    assert!(rt; provider.verify_prehashed(scheme, b"\x04\0", digest.as_bytes(), b"\x01"));
+    Ok(())
+}
+
+#[test]
+fn a_table_reads_armour(rt: HostRuntime) -> Result<(), Fail> {
+    let alloc = rt.alloc();
+    let armor = tables(alloc)?.armor;
     for (text, armored, key, certificate) in [
         ("key", true, true, false),
         ("cert", true, false, true),
@@ -135,10 +196,8 @@ fn tables_answer(rt: HostRuntime) -> Result<(), Fail> {
         assert_eq!(rt; armor.read_key(alloc, text)?.is_some(), key);
         assert_eq!(rt; armor.read_certificate(alloc, text)?.is_some(), certificate);
     }
-    assert_eq!(rt;
-        armor.write_certificate(alloc, b"\x01\x02")?.as_bytes(),
-        "der:AQI=".as_bytes()
-    );
+    let written = armor.write_certificate(alloc, b"\x01\x02")?;
+    assert_eq!(rt; written.as_bytes(), "der:AQI=".as_bytes());
     Ok(())
 }
 
@@ -197,6 +256,32 @@ fn inputs_are_read(rt: HostRuntime) -> Result<(), Fail> {
     assert!(rt; inputs.read(alloc, Which::Root, 4).err() == Some(InputFault::TooLong { seen: 5 }));
     assert!(rt; inputs.read(alloc, Which::Policy, 4).err() == Some(InputFault::Absent));
     assert!(rt; inputs.read(alloc, Which::Root, 5).err() == Some(InputFault::Failed));
+    Ok(())
+}
+
+#[test]
+fn inputs_are_gathered(rt: HostRuntime) -> Result<(), Fail> {
+    let alloc = rt.alloc();
+    let mut inputs = MemoryInputs::new(no_failures(alloc).ok_or("a list")?);
+    for (which, text, stop) in [
+        (Which::Bundle, "{}", Some(Stop::Input(Which::Policy))),
+        (Which::Policy, "key AQI=", Some(Stop::Form(Which::Policy))),
+        (
+            Which::Policy,
+            "key AQI=\n",
+            Some(Stop::Input(Which::Provider)),
+        ),
+        (
+            Which::Provider,
+            "refuse\n",
+            Some(Stop::Form(Which::Provider)),
+        ),
+        (Which::Provider, "", Some(Stop::Input(Which::Root))),
+        (Which::Root, "{}", None),
+    ] {
+        inputs.put(which, Bytes::new(alloc, text.as_bytes())?);
+        assert_eq!(rt; gather_inputs(alloc, &mut inputs).err(), stop, "{text}");
+    }
     Ok(())
 }
 

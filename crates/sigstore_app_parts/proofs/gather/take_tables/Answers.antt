@@ -1,0 +1,17 @@
+use Rattle.sigstore_app_parts.proofs.Readings.{first_refused, then_ok, then_err}
+use Rattle.sigstore_app_parts.specs.Gather.{input_of, by_form, tables_in}
+use Rattle.sigstore_app_parts.specs.Tables.{tables_of}
+use Rattle.sigstore_app_parts.specs.declared.inputs.Which.TheVariants.{Provider}
+use Rattle.sigstore_app_parts.proofs.gather.take_tables.Goals as goal
+
+pub returns-in-Ok-formed_tables : goal.returns-in-Ok-formed_tables
+unfolding tables_in
+returns-in-Ok-formed_tables g c = then_ok (input_of Provider) (λ bytes held. by_form Provider (tables_of bytes)) _ _ c.in-Ok.bytes c.in-Ok-formed_tables.tables c.in-Ok.ensures (λ held. c.in-Ok-formed_tables.ensures.ok)
+
+pub returns-in-Err-formed_tables : goal.returns-in-Err-formed_tables
+unfolding tables_in
+returns-in-Err-formed_tables g c = then_err (input_of Provider) (λ bytes held. by_form Provider (tables_of bytes)) _ _ c.in-Ok.bytes c.in-Err-formed_tables.e c.in-Ok.ensures (λ m held. c.in-Err-formed_tables.ensures.err m)
+
+pub returns-in-Err : goal.returns-in-Err
+unfolding tables_in
+returns-in-Err g c = first_refused (input_of Provider) (λ bytes held. by_form Provider (tables_of bytes)) _ _ c.in-Err.e c.in-Err.ensures

@@ -1,0 +1,81 @@
+-- The inputs of a run, read in their order: the policy, the provider's tables, the root, the bundle.
+use Rattle.std.specs.Prelude.{◌≡◌, ◌≢◌, ◌⊎◌, ℕ, ◌≤◌, List, length, codes, nat_lt, if◌then◌else◌, Option, Some, None, Result, Ok, Err, IfOk, IfErr}
+use Rattle.foundation.specs.Steps.{◌>>=◌}
+use Rattle.foundation.specs.Watched.{Watched, Rose, IfTold, Since}
+use Rattle.sigstore_app_parts.specs.Inputs.{Held}
+use Rattle.sigstore_app_parts.specs.Policy.{policy_of}
+use Rattle.sigstore_app_parts.specs.Tables.{tables_of}
+use Rattle.sigstore_app_parts.specs.declared.usage_fault.UsageFault.{UsageFault}
+use Rattle.sigstore_app_parts.specs.declared.usage_fault.UsageFault.TheVariants as usage
+use Rattle.sigstore_app_parts.specs.declared.inputs.Which.{Which}
+use Rattle.sigstore_app_parts.specs.declared.inputs.Which.TheVariants.{Root, Bundle, Policy, Provider}
+use Rattle.sigstore_app_parts.specs.declared.inputs.InputFault.{InputFault}
+use Rattle.sigstore_app_parts.specs.declared.inputs.InputFault.TheVariants as input
+use Rattle.sigstore_app_parts.specs.declared.gather.Stop.{Stop}
+use Rattle.sigstore_app_parts.specs.declared.gather.Stop.TheVariants.{Words, Form, Input, Memory}
+use Rattle.sigstore_app_parts.specs.declared.gather.Gathered.{Gathered}
+use Rattle.sigstore_app_parts.specs.declared.policy.PolicyFile.{PolicyFile}
+use Rattle.sigstore_app_parts.specs.declared.tables.Tables.{Tables}
+
+-- the greatest length of an input in bytes
+abbrev pub limit_of : Which → ℕ
+limit_of Root = 512_000
+limit_of Bundle = 16_777_216
+limit_of Policy = 65_536
+limit_of Provider = 16_777_216
+
+abbrev pub word_of : Which → List ℕ
+word_of Root = codes "root"
+word_of Bundle = codes "bundle"
+word_of Policy = codes "policy"
+word_of Provider = codes "provider"
+
+-- an input that is there and isn't too long
+abbrev pub within_limit : Which → Option (List ℕ) → Result (List ℕ) Stop
+within_limit which None = Err (Input which)
+within_limit which (Some bytes) = if nat_lt (limit_of which) (length bytes) then Err (Input which) else Ok bytes
+
+unfoldable pub input_of : Which → Held → Result (List ℕ) Stop
+input_of which held = within_limit which (held which)
+
+-- what a fault of an input stops the run with
+abbrev pub stop_of : Which → InputFault → Stop
+stop_of which input.Failed = Input which
+stop_of which input.Absent = Input which
+stop_of which (input.TooLong seen) = Input which
+stop_of which input.NoMemory = Memory
+
+-- a file outside its grammar
+abbrev pub by_form : {A : Type 0} → Which → Result A UsageFault → Result A Stop
+by_form which (Ok x) = Ok x
+by_form which (Err usage.Usage) = Err (Form which)
+by_form which (Err usage.NoMemory) = Err Memory
+
+unfoldable pub policy_in : Held → Result PolicyFile Stop
+policy_in held = input_of Policy held >>= λ bytes. by_form Policy (policy_of bytes)
+
+unfoldable pub tables_in : Held → Result Tables Stop
+tables_in held = input_of Provider held >>= λ bytes. by_form Provider (tables_of bytes)
+
+abbrev pub made_of : PolicyFile → Tables → List ℕ → List ℕ → Gathered
+made_of policy tables root bundle = record { policy = policy; tables = tables; root = root; bundle = bundle }
+
+-- the root and the bundle, after the others
+unfoldable pub signed_in : PolicyFile → Tables → Held → Result Gathered Stop
+signed_in policy tables held =
+    input_of Root held >>= λ root.
+    input_of Bundle held >>= λ bundle.
+    Ok (made_of policy tables root bundle)
+
+-- the inputs, or the first refusal
+unfoldable pub gathered_of : Held → Result Gathered Stop
+gathered_of held =
+    policy_in held >>= λ policy.
+    tables_in held >>= λ tables.
+    signed_in policy tables held
+
+-- The promise of a reading: over told inputs the answer is this one, unless a reading failed or memory was wanting
+pub record ReadsAs {A : Type 0} (of : Held → Result A Stop) (old new : Watched Held) (result : Result A Stop) : Type 0 where
+  pub since : Since old new
+  pub ok : IfOk result (λ x. IfTold old.told (λ held. of held ≡ Ok x))
+  pub err : IfErr result (λ e. e ≢ Memory → Rose old.faults new.faults ⊎ IfTold old.told (λ held. of held ≡ Err e))
