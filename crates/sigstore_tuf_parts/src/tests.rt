@@ -315,36 +315,39 @@ const SNAPSHOT: &'static str =
 const TARGETS: &'static str =
     r#"{"signatures":[{"keyid":"k","sig":"01"}],"signed":{"_type":"targets","spec_version":"1.0.0","version":1,"expires":"2031-01-01T00:00:00Z","targets":{"trusted_root.json":{"length":2,"hashes":{"sha256":"44136fa355b3678a1146ad16f7e8649e94fb4fc21fe77e8310c060f61caaff8a"}}}}}"#;
 
-#[test]
-fn a_root_is_read(rt: HostRuntime) -> Result<(), Fail> {
-    let alloc = rt.alloc();
-    let root: Metadata<Root> = Metadata::from_slice(alloc, ROOT.as_bytes())?;
-    let role = root.signed().role("targets").ok_or("a role")?;
-    let key = root.signed().keys.get("k").ok_or("a key")?;
-    assert_eq!(rt; role.duplicate(alloc)?.threshold, 1);
-    assert_eq!(rt; key.duplicate(alloc)?.keyval.public.as_str(), "p");
-    let signature = root.signatures().first().ok_or("a signature")?;
-    assert_eq!(rt; signature.duplicate(alloc)?.sig.as_str(), "01");
-    Ok(())
+fn read<T: Role>(alloc: Global, text: &str) -> Result<Metadata<T>, Fail> {
+    Ok(Metadata::from_slice(alloc, text.as_bytes())?)
+}
+
+fn threshold_in(root: &Root, name: &str) -> u64 {
+    match root.role(name) {
+        Some(role) => role.threshold,
+        None => 0,
+    }
+}
+
+fn first_signature<T>(read: &Metadata<T>) -> &str {
+    match read.signatures() {
+        [first, ..] => first.sig.as_str(),
+        [] => "none",
+    }
+}
+
+fn copied_key(alloc: Global, root: &Root) -> Result<Key, Fail> {
+    match root.keys.get("k") {
+        Some(key) => Ok(key.duplicate(alloc)?),
+        None => Err(Fail::from("no key")),
+    }
 }
 
 #[test]
-fn a_timestamp_is_read(rt: HostRuntime) -> Result<(), Fail> {
+fn a_root_is_read(rt: HostRuntime) -> Result<(), Fail> {
     let alloc = rt.alloc();
-    let read: Metadata<Timestamp> = Metadata::from_slice(alloc, TIMESTAMP.as_bytes())?;
-    assert!(rt;
-        read.signed_canonical()
-            .starts_with(b"{\"_type\":\"timestamp\",\"expires\":")
-    );
-    let timestamp = read.signed();
-    let pin = timestamp.snapshot_meta().ok_or("a pin")?.duplicate(alloc)?;
-    assert_eq!(rt; word_of(&check_version(&pin, timestamp.version())), "Ok");
-    assert_eq!(rt; word_of(&check_version(&pin, 2)), "IntegrityMismatch");
-    assert_eq!(rt; fresh_word(alloc, timestamp, "2030-01-01T00:00:00Z"), "Ok");
-    assert_eq!(rt;
-        fresh_word(alloc, timestamp, "2030-01-01T00:00:01Z"),
-        "Expired"
-    );
+    let read: Metadata<Root> = read(alloc, ROOT)?;
+    assert_eq!(rt; threshold_in(read.signed(), "targets"), 1);
+    assert_eq!(rt; first_signature(&read), "01");
+    let key = copied_key(alloc, read.signed())?;
+    assert_eq!(rt; key.keyval.public.as_str(), "p");
     Ok(())
 }
 
@@ -362,24 +365,49 @@ fn fresh_word(alloc: Global, timestamp: &Timestamp, now: &str) -> &'static str {
     }
 }
 
+fn pin_word(timestamp: &Timestamp, version: u64) -> &'static str {
+    match timestamp.snapshot_meta() {
+        Some(pin) => word_of(&check_version(pin, version)),
+        None => "no pin",
+    }
+}
+
+#[test]
+fn a_timestamp_is_read(rt: HostRuntime) -> Result<(), Fail> {
+    let alloc = rt.alloc();
+    let read: Metadata<Timestamp> = read(alloc, TIMESTAMP)?;
+    assert_eq!(rt; read.signed_canonical().len(), 128);
+    let timestamp = read.signed();
+    assert_eq!(rt; pin_word(timestamp, timestamp.version()), "Ok");
+    assert_eq!(rt; pin_word(timestamp, 2), "IntegrityMismatch");
+    assert_eq!(rt; fresh_word(alloc, timestamp, "2030-01-01T00:00:00Z"), "Ok");
+    assert_eq!(rt;
+        fresh_word(alloc, timestamp, "2030-01-01T00:00:01Z"),
+        "Expired"
+    );
+    Ok(())
+}
+
+fn target_word(targets: &Targets, bytes: &str) -> &'static str {
+    match targets.target("trusted_root.json") {
+        Some(target) => word_of(&check_integrity(
+            Some(target.length),
+            Some(&target.hashes),
+            bytes.as_bytes(),
+        )),
+        None => "no target",
+    }
+}
+
 #[test]
 fn targets_are_read(rt: HostRuntime) -> Result<(), Fail> {
     let alloc = rt.alloc();
+    let read: Metadata<Targets> = read(alloc, TARGETS)?;
+    let targets = read.into_signed();
+    assert_eq!(rt; target_word(&targets, "{}"), "Ok");
+    assert_eq!(rt; target_word(&targets, "{ "), "IntegrityMismatch");
+    assert_eq!(rt; target_word(&targets, "{"), "IntegrityMismatch");
     assert_eq!(rt; read_word::<Snapshot>(alloc, SNAPSHOT), "Ok");
-    let read: Metadata<Targets> = Metadata::from_slice(alloc, TARGETS.as_bytes())?;
-    let content = read.into_signed();
-    let target = content
-        .target("trusted_root.json")
-        .ok_or("a target")?
-        .duplicate(alloc)?;
-    for (bytes, word) in [
-        ("{}", "Ok"),
-        ("{ ", "IntegrityMismatch"),
-        ("{", "IntegrityMismatch"),
-    ] {
-        let answer = check_integrity(Some(target.length), Some(&target.hashes), bytes.as_bytes());
-        assert_eq!(rt; word_of(&answer), word, "at {bytes}");
-    }
     Ok(())
 }
 
@@ -449,12 +477,35 @@ fn judged(
     document: &Metadata<Timestamp>,
     armor: &Two,
 ) -> Result<(), Error> {
+    let answer = document.verify_role(alloc, &One, armor, root, "timestamp");
     match root.role("timestamp") {
         Some(asked) => {
-            document.verify_threshold(alloc, &One, armor, &root.keys, asked, "timestamp")
+            let again = document.verify_threshold(
+                alloc,
+                &One,
+                armor,
+                &root.keys,
+                asked,
+                "timestamp",
+            );
+            if answer.is_ok() == again.is_ok() {
+                answer
+            } else {
+                Err(Error::Crypto)
+            }
         }
-        None => Err(Error::Json),
+        None => answer,
     }
+}
+
+#[test]
+fn unknown_roles_are_refused(rt: HostRuntime) -> Result<(), Fail> {
+    let alloc = rt.alloc();
+    meets_exactly::<Root>();
+    let root = root_asking(alloc, "1", "p")?;
+    let answer = root.verify_role(alloc, &One, &toy_armor(alloc)?, root.signed(), "targets");
+    assert_eq!(rt; word_of(&answer), "UnknownRole");
+    Ok(())
 }
 
 fn threshold_word(
