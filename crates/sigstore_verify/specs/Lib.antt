@@ -4,3 +4,4 @@ pub mod Trust
 pub mod Judged
 pub mod Promise
 pub mod Accepts
+pub mod Root

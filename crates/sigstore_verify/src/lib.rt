@@ -6,6 +6,7 @@ mod judge;
 mod laws;
 mod policy;
 mod report;
+mod root;
 #[cfg(test)]
 mod tests;
 mod verifier;
@@ -14,4 +15,5 @@ pub use error::{CertificateError, Error, TimestampError, TransparencyLogError};
 pub use laws::accepts_exactly;
 pub use policy::{Policy, PolicyKind, PublicKeyVerificationPolicy};
 pub use report::{Kept, VerificationResult};
+pub use root::{RootFault, Rooted, verify_from_root};
 pub use verifier::Verifier;

@@ -1,0 +1,118 @@
+-- The top call: from a pinned root down to one artifact.
+use Rattle.std.specs.Prelude.{◌≡◌, ◌≢◌, ℕ, List, [], ◌∷◌, ⊤, Option, Some, Result, Ok, Err, IfOk, codes}
+use Rattle.sha2.specs.Sha256.{sha256}
+use Rattle.jiff_core.specs.declared.timestamp.Timestamp as jiff
+use Rattle.foundation.specs.Watched.{Watched}
+use Rattle.sigstore_types_parts.specs.declared.hash_algorithm.HashAlgorithm.TheVariants.{Sha2256}
+use Rattle.sigstore_types_parts.specs.declared.error.TypesError.{TypesError}
+use Rattle.sigstore_types_parts.specs.declared.error.TypesError.TheVariants as types
+use Rattle.sigstore_types.specs.declared.bundle.Bundle.{Bundle}
+use Rattle.sigstore_types.specs.declared.trusted_root.TrustedRoot.{TrustedRoot}
+use Rattle.sigstore_types.specs.Bundle.{bundle_of_bytes}
+use Rattle.sigstore_types.specs.TrustedRoot.{trusted_root_of_bytes}
+use Rattle.sigstore_crypto.specs.Good.{Judge}
+use Rattle.sigstore_tuf_parts.specs.declared.error.Error.{Error as TufError}
+use Rattle.sigstore_tuf_parts.specs.declared.error.Error.TheVariants as tuf
+use Rattle.sigstore_tuf_parts.specs.Crypto.{Crypto}
+use Rattle.sigstore_tuf.specs.Repository.{Folders}
+use Rattle.sigstore_tuf.specs.declared.config.UpdaterConfig.{UpdaterConfig}
+use Rattle.sigstore_tuf.specs.declared.documents.InForce.{InForce}
+use Rattle.sigstore_tuf.specs.declared.chain.TrustChain.{TrustChain}
+use Rattle.sigstore_tuf.specs.Update.{first_root_of}
+use Rattle.sigstore_tuf.specs.Refresh.{Refreshes}
+use Rattle.sigstore_tuf.specs.Target.{GetsTarget}
+use Rattle.sigstore_verify.specs.declared.error.Error.{Error}
+use Rattle.sigstore_verify.specs.declared.error.Error.TheVariants as verify
+use Rattle.sigstore_verify.specs.declared.report.VerificationResult.{VerificationResult}
+use Rattle.sigstore_verify.specs.declared.report.Kept.{Kept}
+use Rattle.sigstore_verify.specs.declared.root.Rooted.{Rooted}
+use Rattle.sigstore_verify.specs.declared.root.RootFault.{RootFault}
+use Rattle.sigstore_verify.specs.declared.root.RootFault.TheVariants.{Tuf, Verify, NoMemory}
+use Rattle.sigstore_verify.specs.Policy.{Meaning}
+use Rattle.sigstore_verify.specs.Judged.{judged_of}
+use Rattle.sigstore_verify.specs.Trust.{usable_of}
+use Rattle.sigstore_verify.specs.Promise.{ReadWhole, VerifiesKept}
+
+-- the target that is the trust file
+abbrev pub trust_path : List ℕ
+trust_path = codes "trusted_root.json"
+
+-- ---- the trust file and the bundle, from their bytes
+
+-- a trust file that isn't read
+abbrev pub trust_fault : TypesError → Error
+trust_fault types.NoMemory = verify.NoMemory
+trust_fault (types.Unbuilt form) = verify.Unbuilt form
+trust_fault _ = verify.TrustRoot
+
+-- a bundle that isn't read
+abbrev pub bundle_fault : TypesError → Error
+bundle_fault types.NoMemory = verify.NoMemory
+bundle_fault (types.Unbuilt form) = verify.Unbuilt form
+bundle_fault _ = verify.InvalidBundle
+
+abbrev pub or_fault : {T : Type 0} → (TypesError → Error) → Result T TypesError → Result T Error
+or_fault fault (Ok x) = Ok x
+or_fault fault (Err e) = Err (fault e)
+
+abbrev pub trust_of : List ℕ → Result TrustedRoot Error
+trust_of bytes = or_fault trust_fault (trusted_root_of_bytes bytes)
+
+abbrev pub bundle_of : List ℕ → Result Bundle Error
+bundle_of bytes = or_fault bundle_fault (bundle_of_bytes bytes)
+
+-- ---- the chain of documents
+
+-- The chain is had by a first root, a refresh and a search, in this order; the first that refuses answers.
+pub data GivesChain (crypto : Crypto) (root : List ℕ) (config : UpdaterConfig) (now : jiff.Timestamp) (repo repo' : Watched Folders) (result : Result TrustChain TufError) : Type 0 where
+  root_refused : (e : TufError) → (e ≢ tuf.NoMemory → first_root_of crypto root ≡ Err e) → repo' ≡ repo → result ≡ Err e → GivesChain crypto root config now repo repo' result
+  refresh_refused : (set set' : InForce) (e : TufError) → first_root_of crypto root ≡ Ok set → Refreshes crypto config now set set' repo repo' (Err e) → result ≡ Err e
+      → GivesChain crypto root config now repo repo' result
+  target_refused : (set set' : InForce) (mid : Watched Folders) (e : TufError) → first_root_of crypto root ≡ Ok set → Refreshes crypto config now set set' repo mid (Ok tt)
+      → GetsTarget set' config trust_path now mid repo' (Err e) → result ≡ Err e → GivesChain crypto root config now repo repo' result
+  chain_given : (set set' : InForce) (mid : Watched Folders) (chain : TrustChain) → first_root_of crypto root ≡ Ok set → Refreshes crypto config now set set' repo mid (Ok tt)
+      → GetsTarget set' config trust_path now mid repo' (Ok chain) → result ≡ Ok chain → GivesChain crypto root config now repo repo' result
+
+-- ---- the judgement
+
+-- The bundle is judged under a trust file: the file is read, then the bundle, then the artifact; the first that refuses answers.
+pub data JudgesBundle (accepts : Judge) (policy : Meaning) (file bundle : List ℕ) (source source' : Watched (List ℕ)) (max : ℕ) (result : Result Kept Error) : Type 0 where
+  trust_refused : (e : Error) → (e ≢ verify.NoMemory → trust_of file ≡ Err e) → source' ≡ source → result ≡ Err e → JudgesBundle accepts policy file bundle source source' max result
+  verifier_refused : (trust : TrustedRoot) (e : Error) → trust_of file ≡ Ok trust → (e ≢ verify.NoMemory → usable_of trust ≡ Err e) → source' ≡ source → result ≡ Err e
+      → JudgesBundle accepts policy file bundle source source' max result
+  bundle_refused : (trust : TrustedRoot) (e : Error) → trust_of file ≡ Ok trust → usable_of trust ≡ Ok tt → (e ≢ verify.NoMemory → bundle_of bundle ≡ Err e) → source' ≡ source
+      → result ≡ Err e → JudgesBundle accepts policy file bundle source source' max result
+  judged : (trust : TrustedRoot) (read : Bundle) → trust_of file ≡ Ok trust → usable_of trust ≡ Ok tt → bundle_of bundle ≡ Ok read
+      → VerifiesKept accepts policy read source source' max result → JudgesBundle accepts policy file bundle source source' max result
+
+-- ---- the whole
+
+abbrev pub root_of_tuf : TufError → RootFault
+root_of_tuf tuf.NoMemory = NoMemory
+root_of_tuf e = Tuf e
+
+abbrev pub root_of_verify : Error → TrustChain → RootFault
+root_of_verify verify.NoMemory chain = NoMemory
+root_of_verify e chain = Verify e chain
+
+-- The top call is the chain and then the judgement under the chain's file; the first that refuses answers.
+pub data Runs (crypto : Crypto) (policy : Meaning) (root bundle : List ℕ) (config : UpdaterConfig) (now : jiff.Timestamp) (repo repo' : Watched Folders) (source source' : Watched (List ℕ)) (max : ℕ) (result : Result Rooted RootFault) : Type 0 where
+  chain_refused : (e : TufError) → GivesChain crypto root config now repo repo' (Err e) → source' ≡ source → result ≡ Err (root_of_tuf e)
+      → Runs crypto policy root bundle config now repo repo' source source' max result
+  judgement_refused : (chain : TrustChain) (e : Error) → GivesChain crypto root config now repo repo' (Ok chain) → JudgesBundle crypto.accepts policy chain.file bundle source source' max (Err e)
+      → result ≡ Err (root_of_verify e chain) → Runs crypto policy root bundle config now repo repo' source source' max result
+  accepted : (rooted : Rooted) → GivesChain crypto root config now repo repo' (Ok rooted.chain)
+      → JudgesBundle crypto.accepts policy rooted.chain.file bundle source source' max (Ok (record { result = rooted.result; digests = rooted.digests }))
+      → result ≡ Ok rooted → Runs crypto policy root bundle config now repo repo' source source' max result
+
+-- What an acceptance means: the bundle has a reading; these bytes are exactly those that a telling source gave up to its end;
+-- by their SHA-256 value the bundle is accepted under the policy with this report; and the digests are that value.
+pub record IsAccepted (accepts : Judge) (policy : Meaning) (bundle : List ℕ) (source source' : Watched (List ℕ)) (max : ℕ) (rooted : Rooted) : Type 0 where
+  pub trust : TrustedRoot
+  pub trust_read : trusted_root_of_bytes rooted.chain.file ≡ Ok trust
+  pub reading : Bundle
+  pub read : bundle_of_bytes bundle ≡ Ok reading
+  pub bytes : List ℕ
+  pub whole : ReadWhole source source' max bytes
+  pub judged : judged_of accepts policy reading (sha256 bytes) ≡ Ok rooted.result
+  pub digests : rooted.digests ≡ (Sha2256, sha256 bytes) ∷ []

@@ -1,0 +1,230 @@
+// The top call: from a pinned root down to one artifact.
+ghost use Rattle.std.specs.Prelude.{◌≡◌, ◌≢◌, Ok, Err, IfOk, IfErr};
+ghost use Rattle.sigstore_tuf_parts.specs.Crypto.{crypto_of};
+ghost use Rattle.sigstore_verify.specs.declared.error.Error.TheVariants.{NoMemory as Want};
+ghost use Rattle.sigstore_verify.specs.Root.{trust_fault, bundle_fault, trust_of, bundle_of, GivesChain, JudgesBundle, root_of_tuf, root_of_verify, Runs, IsAccepted};
+
+use crate::error::Error;
+use crate::policy::Policy;
+use crate::report::{Kept, VerificationResult};
+use crate::verifier::Verifier;
+use foundation::Sequence;
+use jiff::Timestamp;
+use sigstore_crypto::{ArtifactSource, CryptoProvider};
+use sigstore_tuf::{
+    MetadataStore, Repository, TrustChain, TrustedMetadataSet, UpdaterConfig, get_target_parts,
+    refresh_parts,
+};
+use sigstore_types::{Bundle, TrustedRoot};
+use sigstore_types_parts::{Armor, ArtifactDigest, TypesError};
+use std::alloc::Global;
+
+// The target that is the trust file.
+const TRUST_PATH: &str = "trusted_root.json";
+
+/// An acceptance: the report, the chain of documents that authorises the trust file, and the digests of
+/// the artifact that were taken.
+#[derive(Drop)]
+pub struct Rooted {
+    pub result: VerificationResult,
+    pub chain: TrustChain,
+    pub digests: Sequence<ArtifactDigest>,
+}
+
+/// A refusal of the top call: of the chain of documents; of the bundle, with the chain whose file it was
+/// judged under; or want of memory.
+#[derive(Drop)]
+pub enum RootFault {
+    Tuf(sigstore_tuf_parts::Error),
+    Verify { fault: Error, chain: TrustChain },
+    NoMemory,
+}
+
+fn tuf_fault(e: sigstore_tuf_parts::Error) -> RootFault
+    ensures { result ≡ root_of_tuf e }
+{
+    match e {
+        sigstore_tuf_parts::Error::NoMemory => RootFault::NoMemory,
+        e => RootFault::Tuf(e),
+    }
+}
+
+fn verify_fault(fault: Error, chain: TrustChain) -> RootFault
+    ensures { result ≡ root_of_verify fault chain }
+{
+    match fault {
+        Error::NoMemory => RootFault::NoMemory,
+        fault => RootFault::Verify { fault, chain },
+    }
+}
+
+fn trust_refusal(e: TypesError) -> Error
+    ensures { result ≡ trust_fault e }
+{
+    match e {
+        TypesError::NoMemory => Error::NoMemory,
+        TypesError::Unbuilt(form) => Error::Unbuilt(form),
+        _ => Error::TrustRoot,
+    }
+}
+
+fn bundle_refusal(e: TypesError) -> Error
+    ensures { result ≡ bundle_fault e }
+{
+    match e {
+        TypesError::NoMemory => Error::NoMemory,
+        TypesError::Unbuilt(form) => Error::Unbuilt(form),
+        _ => Error::InvalidBundle,
+    }
+}
+
+fn read_trust(alloc: Global, bytes: &[u8]) -> Result<TrustedRoot, Error>
+    ensures ok { IfOk result (λ trust. trust_of bytes.now ≡ Ok trust) }
+    ensures err { IfErr result (λ e. e ≢ Want → trust_of bytes.now ≡ Err e) }
+{
+    match TrustedRoot::from_json(alloc, bytes) {
+        Ok(trust) => Ok(trust),
+        Err(e) => Err(trust_refusal(e)),
+    }
+}
+
+fn read_bundle(alloc: Global, bytes: &[u8]) -> Result<Bundle, Error>
+    ensures ok { IfOk result (λ bundle. bundle_of bytes.now ≡ Ok bundle) }
+    ensures err { IfErr result (λ e. e ≢ Want → bundle_of bytes.now ≡ Err e) }
+{
+    match Bundle::from_json(alloc, bytes) {
+        Ok(bundle) => Ok(bundle),
+        Err(e) => Err(bundle_refusal(e)),
+    }
+}
+
+// The chain of documents that authorises the trust file.
+fn trust_chain<C: CryptoProvider, M: Armor, R: Repository, S: MetadataStore>(
+    alloc: Global,
+    provider: &C,
+    armor: &M,
+    root_bytes: &[u8],
+    repo: &mut R,
+    store: &mut S,
+    config: &UpdaterConfig,
+    now: Timestamp,
+) -> Result<TrustChain, sigstore_tuf_parts::Error>
+    ensures gives { GivesChain (crypto_of (C.accepts provider.now) (M.armored armor.now) (M.key_in armor.now))
+        root_bytes.now config.now now (R.seen repo.old) (R.seen repo.new) result }
+    ensures store { S.seen store.new ≡ S.seen store.old }
+{
+    let set = match TrustedMetadataSet::from_root(alloc, provider, armor, root_bytes) {
+        Ok(set) => set,
+        Err(e) => return Err(e),
+    };
+    let TrustedMetadataSet { mut documents, .. } = set;
+    if let Err(e) = refresh_parts(
+        alloc,
+        provider,
+        armor,
+        &mut documents,
+        repo,
+        store,
+        config,
+        now,
+    ) {
+        return Err(e);
+    }
+    match get_target_parts(alloc, &documents, repo, store, config, TRUST_PATH, now) {
+        Ok(chain) => Ok(chain),
+        Err(e) => Err(e),
+    }
+}
+
+// The judgement of a bundle under a trust file.
+fn judge_bundle<C: CryptoProvider, M: Armor, A: ArtifactSource, P: Policy>(
+    alloc: Global,
+    provider: &C,
+    armor: &M,
+    file: &[u8],
+    now: Timestamp,
+    bundle_bytes: &[u8],
+    artifact: &mut A,
+    max_artifact: u64,
+    policy: &P,
+) -> Result<Kept, Error>
+    ensures { JudgesBundle (C.accepts provider.now) (P.meant policy.now) file.now bundle_bytes.now
+        (A.seen artifact.old) (A.seen artifact.new) max_artifact result }
+{
+    let trust = match read_trust(alloc, file) {
+        Ok(trust) => trust,
+        Err(e) => return Err(e),
+    };
+    let verifier = match Verifier::new(alloc, provider, armor, &trust) {
+        Ok(verifier) => verifier,
+        Err(e) => return Err(e),
+    };
+    let bundle = match read_bundle(alloc, bundle_bytes) {
+        Ok(bundle) => bundle,
+        Err(e) => return Err(e),
+    };
+    match verifier.verify_reader_kept(alloc, artifact, max_artifact, &bundle, policy, now) {
+        Ok(kept) => Ok(kept),
+        Err(e) => Err(e),
+    }
+}
+
+/// Verifies a bundle over an artifact from a pinned TUF root: refreshes a client of the repository, gets
+/// the target `trusted_root.json`, reads it as the trust file, reads the bundle and verifies the
+/// artifact as it is read. Errors are those of the first of these that refuses: `Tuf`, or `Verify` with
+/// the chain whose file the bundle was judged under. The store is handed through and not called yet.
+pub fn verify_from_root<
+    R: Repository,
+    S: MetadataStore,
+    A: ArtifactSource,
+    P: Policy,
+    C: CryptoProvider,
+    M: Armor,
+>(
+    alloc: Global,
+    provider: &C,
+    armor: &M,
+    root_bytes: &[u8],
+    repo: &mut R,
+    store: &mut S,
+    config: UpdaterConfig,
+    now: Timestamp,
+    bundle_bytes: &[u8],
+    artifact: &mut A,
+    max_artifact: u64,
+    policy: &P,
+) -> Result<Rooted, RootFault>
+    ensures runs { Runs (crypto_of (C.accepts provider.now) (M.armored armor.now) (M.key_in armor.now)) (P.meant policy.now)
+        root_bytes.now bundle_bytes.now config now (R.seen repo.old) (R.seen repo.new) (A.seen artifact.old) (A.seen artifact.new) max_artifact result }
+    ensures accepted { IfOk result (IsAccepted (C.accepts provider.now) (P.meant policy.now) bundle_bytes.now
+        (A.seen artifact.old) (A.seen artifact.new) max_artifact) }
+    ensures store { S.seen store.new ≡ S.seen store.old }
+{
+    let chain = match trust_chain(
+        alloc, provider, armor, root_bytes, repo, store, &config, now,
+    ) {
+        Ok(chain) => chain,
+        Err(e) => return Err(tuf_fault(e)),
+    };
+    match judge_bundle(
+        alloc,
+        provider,
+        armor,
+        chain.file.as_bytes(),
+        now,
+        bundle_bytes,
+        artifact,
+        max_artifact,
+        policy,
+    ) {
+        Ok(kept) => {
+            let Kept { result, digests } = kept;
+            Ok(Rooted {
+                result,
+                chain,
+                digests,
+            })
+        }
+        Err(fault) => Err(verify_fault(fault, chain)),
+    }
+}
