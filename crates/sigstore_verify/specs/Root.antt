@@ -28,7 +28,8 @@ use Rattle.sigstore_verify.specs.declared.report.Kept.{Kept}
 use Rattle.sigstore_verify.specs.declared.root.Rooted.{Rooted}
 use Rattle.sigstore_verify.specs.declared.root.RootFault.{RootFault}
 use Rattle.sigstore_verify.specs.declared.root.RootFault.TheVariants.{Tuf, Verify, NoMemory}
-use Rattle.sigstore_verify.specs.Policy.{Meaning}
+use Rattle.sigstore_verify.specs.Policy.{Meaning, PublicKey}
+use Rattle.sigstore_verify.specs.Accepts.{AcceptsKey}
 use Rattle.sigstore_verify.specs.Judged.{judged_of}
 use Rattle.sigstore_verify.specs.Trust.{usable_of}
 use Rattle.sigstore_verify.specs.Promise.{ReadWhole, VerifiesKept}
@@ -105,7 +106,11 @@ pub data Runs (crypto : Crypto) (policy : Meaning) (root bundle : List ℕ) (con
       → JudgesBundle crypto.accepts policy rooted.chain.file bundle source source' max (Ok (record { result = rooted.result; digests = rooted.digests }))
       → result ≡ Ok rooted → Runs crypto policy root bundle config now repo repo' source source' max result
 
--- What an acceptance means: the bundle has a reading; these bytes are exactly those that a telling source gave up to its end;
+-- the bundle is accepted under the policy, by the digest of its artifact
+abbrev pub AcceptsUnder : Judge → Meaning → Bundle → List ℕ → Type 0
+AcceptsUnder accepts (PublicKey policy) bundle digest = AcceptsKey accepts policy bundle digest
+
+-- What an acceptance means: the trust file and the bundle have readings; these bytes are exactly those that a telling source gave up to its end;
 -- by their SHA-256 value the bundle is accepted under the policy with this report; and the digests are that value.
 pub record IsAccepted (accepts : Judge) (policy : Meaning) (bundle : List ℕ) (source source' : Watched (List ℕ)) (max : ℕ) (rooted : Rooted) : Type 0 where
   pub trust : TrustedRoot
@@ -115,4 +120,5 @@ pub record IsAccepted (accepts : Judge) (policy : Meaning) (bundle : List ℕ) (
   pub bytes : List ℕ
   pub whole : ReadWhole source source' max bytes
   pub judged : judged_of accepts policy reading (sha256 bytes) ≡ Ok rooted.result
+  pub means : AcceptsUnder accepts policy reading (sha256 bytes)
   pub digests : rooted.digests ≡ (Sha2256, sha256 bytes) ∷ []
