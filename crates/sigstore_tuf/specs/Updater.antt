@@ -1,5 +1,6 @@
 -- What an updater keeps of a target that it gave.
-use Rattle.std.specs.Prelude.{◌≡◌, ◌⊎◌, ℕ, List, Option, Some, Result, Ok, Err}
+use Rattle.std.specs.Prelude.{◌≡◌, ◌⊎◌, ℕ, List, Option, Some, None, Result, Ok, Err, ⊤}
+use Rattle.std.specs.Borrow.{MutBor}
 use Rattle.jiff_core.specs.declared.timestamp.Timestamp as jiff
 use Rattle.foundation.specs.Watched.{Watched}
 use Rattle.sigstore_tuf_parts.specs.declared.error.Error.{Error}
@@ -9,6 +10,13 @@ use Rattle.sigstore_tuf.specs.declared.config.UpdaterConfig.{UpdaterConfig}
 use Rattle.sigstore_tuf.specs.declared.documents.InForce.{InForce}
 use Rattle.sigstore_tuf.specs.declared.chain.TrustChain.{TrustChain}
 use Rattle.sigstore_tuf.specs.Target.{GetsTarget}
+
+-- the same lent store, or none
+abbrev pub SameOption : {S : Type 0} → Option (MutBor S) → Option (MutBor S) → Type 0
+SameOption None None = ⊤
+SameOption None (Some b) = ⊥
+SameOption (Some a) None = ⊥
+SameOption (Some a) (Some b) = b.ghost_name ≡ a.ghost_name
 
 -- a refusal of the search, or want of memory for the copy of the file
 abbrev pub IsRefused : InForce → UpdaterConfig → List ℕ → jiff.Timestamp → Watched Folders → Watched Folders → Error → Type 0

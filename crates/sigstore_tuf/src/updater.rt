@@ -6,13 +6,15 @@ ghost use Rattle.sigstore_tuf.specs.Config.{default_config};
 ghost use Rattle.sigstore_tuf.specs.Update.{first_root_of};
 ghost use Rattle.sigstore_tuf.specs.Refresh.{Refreshes};
 ghost use Rattle.sigstore_tuf.specs.Target.{GetsTarget};
-ghost use Rattle.sigstore_tuf.specs.Updater.{GivesFile};
+ghost use Rattle.sigstore_tuf.specs.Updater.{SameOption, GivesFile};
 
 use crate::chain::TrustChain;
 use crate::client::refresh_parts;
 use crate::config::UpdaterConfig;
+use crate::documents::InForce;
 use crate::no_store::NoStore;
 use crate::repository::Repository;
+use crate::store::MetadataStore;
 use crate::target::get_target_parts;
 use crate::trusted::TrustedMetadataSet;
 use foundation::{Duplicate, NoMemory};
@@ -21,16 +23,69 @@ use sigstore_tuf_parts::Error;
 use sigstore_types_parts::{Armor, Bytes};
 use std::alloc::Global;
 
-/// A client of one repository, from a root that is trusted as it is given (TUF specification, section 5).
+// A refresh over the store that is there, or over none.
+fn refresh_held<C: CryptoProvider, M: Armor, R: Repository, S: MetadataStore>(
+    alloc: Global,
+    provider: &C,
+    armor: &M,
+    documents: &mut InForce,
+    repo: &mut R,
+    store: &mut Option<&mut S>,
+    config: &UpdaterConfig,
+    now: jiff::Timestamp,
+) -> Result<(), Error>
+    ensures same_store { SameOption store.old store.new }
+    ensures refreshes { Refreshes (crypto_of (C.accepts provider.now) (M.armored armor.now) (M.key_in armor.now))
+        config.now now documents.old documents.new (R.seen repo.old) (R.seen repo.new) result }
+{
+    match store {
+        Some(store) => {
+            refresh_parts(alloc, provider, armor, documents, repo, *store, config, now)
+        }
+        None => refresh_parts(
+            alloc,
+            provider,
+            armor,
+            documents,
+            repo,
+            &mut NoStore,
+            config,
+            now,
+        ),
+    }
+}
+
+// A search over the store that is there, or over none.
+fn get_target_held<R: Repository, S: MetadataStore>(
+    alloc: Global,
+    documents: &InForce,
+    repo: &mut R,
+    store: &mut Option<&mut S>,
+    config: &UpdaterConfig,
+    path: &str,
+    now: jiff::Timestamp,
+) -> Result<TrustChain, Error>
+    ensures same_store { SameOption store.old store.new }
+    ensures gets { GetsTarget documents.now config.now path.now now (R.seen repo.old) (R.seen repo.new) result }
+{
+    match store {
+        Some(store) => get_target_parts(alloc, documents, repo, *store, config, path, now),
+        None => get_target_parts(alloc, documents, repo, &mut NoStore, config, path, now),
+    }
+}
+
+/// A client of one repository, from a root that is trusted as it is given (TUF specification,
+/// section 5); it has no store yet, whose type its caller names.
 #[derive(Drop)]
-pub struct Updater<'a, C: CryptoProvider, M: Armor, R: Repository> {
+pub struct Updater<'a, C: CryptoProvider, M: Armor, R: Repository, S: MetadataStore> {
     pub set: TrustedMetadataSet<'a, C, M>,
     pub repo: &'a mut R,
+    pub store: Option<&'a mut S>,
     pub config: UpdaterConfig,
     pub chain: Option<TrustChain>,
 }
 
-impl<'a, C: CryptoProvider, M: Armor, R: Repository> Updater<'a, C, M, R> {
+impl<'a, C: CryptoProvider, M: Armor, R: Repository, S: MetadataStore> Updater<'a, C, M, R, S> {
     /// A client under the default limits. Errors are those of `TrustedMetadataSet::from_root`.
     pub fn new(
         alloc: Global,
@@ -38,11 +93,12 @@ impl<'a, C: CryptoProvider, M: Armor, R: Repository> Updater<'a, C, M, R> {
         armor: &'a M,
         repo: &'a mut R,
         root_bytes: &[u8],
-    ) -> Result<Updater<'a, C, M, R>, Error>
+    ) -> Result<Updater<'a, C, M, R, S>, Error>
         ensures set { IfOk result (λ u.
             first_root_of (crypto_of (C.accepts provider.now) (M.armored armor.now) (M.key_in armor.now)) root_bytes.now ≡ Ok u.set.documents) }
         ensures repo { IfOk result (λ u. u.repo.now ≡ repo.old) }
         ensures same_repo { IfOk result (λ u. u.repo.ghost_name ≡ repo.entry.ghost_name) }
+        ensures store { IfOk result (λ u. u.store ≡ None) }
         ensures config { IfOk result (λ u. u.config ≡ default_config) }
         ensures chain { IfOk result (λ u. u.chain ≡ None) }
         ensures err { IfErr result (λ e. e ≢ Want →
@@ -52,6 +108,7 @@ impl<'a, C: CryptoProvider, M: Armor, R: Repository> Updater<'a, C, M, R> {
             Ok(set) => Ok(Updater {
                 set,
                 repo,
+                store: None,
                 config: UpdaterConfig::default(),
                 chain: None,
             }),
@@ -60,21 +117,24 @@ impl<'a, C: CryptoProvider, M: Armor, R: Repository> Updater<'a, C, M, R> {
     }
 
     /// The same client under these limits.
-    pub fn with_config(self, config: UpdaterConfig) -> Updater<'a, C, M, R>
+    pub fn with_config(self, config: UpdaterConfig) -> Updater<'a, C, M, R, S>
         ensures set { result.set ≡ self.entry.set }
         ensures repo { result.repo ≡ self.entry.repo }
+        ensures store { result.store ≡ self.entry.store }
         ensures config { result.config ≡ config }
         ensures chain { result.chain ≡ self.entry.chain }
     {
         let Updater {
             set,
             repo,
+            store,
             config: _,
             chain,
         } = self;
         Updater {
             set,
             repo,
+            store,
             config,
             chain,
         }
@@ -91,17 +151,18 @@ impl<'a, C: CryptoProvider, M: Armor, R: Repository> Updater<'a, C, M, R> {
     /// refuses; the documents that were adopted before it stay in force.
     pub fn refresh(&mut self, alloc: Global, now: jiff::Timestamp) -> Result<(), Error>
         ensures same_repo { self.new.repo.ghost_name ≡ self.old.repo.ghost_name }
+        ensures same_store { SameOption self.old.store self.new.store }
         ensures refreshes { Refreshes
             (crypto_of (C.accepts self.old.set.provider.now) (M.armored self.old.set.armor.now) (M.key_in self.old.set.armor.now))
             self.old.config now self.old.set.documents self.new.set.documents (R.seen self.old.repo.now) (R.seen self.new.repo.now) result }
     {
-        refresh_parts(
+        refresh_held(
             alloc,
             self.set.provider,
             self.set.armor,
             &mut self.set.documents,
             self.repo,
-            &mut NoStore,
+            &mut self.store,
             &self.config,
             now,
         )
@@ -116,13 +177,14 @@ impl<'a, C: CryptoProvider, M: Armor, R: Repository> Updater<'a, C, M, R> {
         now: jiff::Timestamp,
     ) -> Result<Bytes, Error>
         ensures same_repo { self.new.repo.ghost_name ≡ self.old.repo.ghost_name }
+        ensures same_store { SameOption self.old.store self.new.store }
         ensures gives { GivesFile self.old.set.documents self.old.config path.now now (R.seen self.old.repo.now) (R.seen self.new.repo.now) self.new.chain result }
     {
-        match get_target_parts(
+        match get_target_held(
             alloc,
             &self.set.documents,
             self.repo,
-            &mut NoStore,
+            &mut self.store,
             &self.config,
             path,
             now,
