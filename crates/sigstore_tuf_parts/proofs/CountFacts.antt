@@ -1,5 +1,5 @@
 -- Lemmas on the signatures that count.
-use Rattle.std.proofs.Common.{◌≡◌, ℕ, suc, ◌+◌, ◌<◌, List, [], ◌∷◌, ◌++◌, length, get_or, take, drop, filter, map, count_by, cond, Bool, true, false, ◌&&◌, ◌||◌, if◌then◌else◌, bytes_eq, Option, Some, None, refl, sym, ap, ◌∙◌, add-one}
+use Rattle.std.proofs.Common.{◌≡◌, ℕ, suc, ◌+◌, ◌<◌, List, [], ◌∷◌, ◌++◌, length, get_or, take, drop, filter, count_by, cond, Bool, true, false, ◌&&◌, ◌||◌, bytes_eq, Some, refl, sym, ap, ◌∙◌, add-one}
 use Rattle.std.proofs.Math.Seq.{take-suc, drop-cons}
 use Rattle.std.proofs.lemmas.List.{map-append, append-nil}
 use Rattle.std.proofs.lemmas.List.Elements.{filter-append}

@@ -5,7 +5,6 @@ use Rattle.std.specs.Char.{is_ascii_hexdigit}
 use Rattle.std.specs.Str.{trim}
 use Rattle.sha2.specs.Sha512.{sha512}
 use Rattle.foundation.specs.Steps.{◌>>=◌}
-use Rattle.sigstore_types_parts.specs.declared.form.Form.{Form}
 use Rattle.sigstore_types_parts.specs.declared.form.Form.TheVariants as form
 use Rattle.sigstore_crypto.specs.declared.scheme.SigningScheme.{SigningScheme}
 use Rattle.sigstore_crypto.specs.declared.scheme.SigningScheme.TheVariants.{EcdsaP256Sha256, EcdsaP384Sha384, Ed25519, RsaPssSha256, RsaPssSha384, RsaPssSha512, MlDsa44, MlDsa65, MlDsa87}

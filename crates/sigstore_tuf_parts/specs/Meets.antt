@@ -1,5 +1,5 @@
 -- The relation of a document that meets a role (TUF specification, section 5: thresholds).
-use Rattle.std.specs.Prelude.{◌≡◌, ℕ, ◌≤◌, List, length, Bool, true, false, ◌==◌, bytes_eq, Some, Result, Ok, Contains}
+use Rattle.std.specs.Prelude.{◌≡◌, ℕ, ◌≤◌, List, length, true, false, ◌==◌, bytes_eq, Some, Ok, Contains}
 use Rattle.std.specs.List.{AllByRecursion, IsDistinct}
 use Rattle.hex.specs.Hex.{decode_of}
 use Rattle.sigstore_types_parts.specs.Entries.{at_name}

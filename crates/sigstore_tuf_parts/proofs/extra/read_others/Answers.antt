@@ -1,7 +1,6 @@
-use Rattle.std.proofs.Common.{◌≡◌, List, ℕ, [], ◌∷◌, ◌++◌, false, true, string_bytes, sym, ap, ◌∙◌, subst, append_assoc, refl}
+use Rattle.std.proofs.Common.{◌≡◌, List, [], ◌∷◌, ◌++◌, false, true, string_bytes, sym, ap, ◌∙◌, subst, append_assoc}
 use Rattle.std.specs.List.Sorted.{IsStrictlySortedBy}
 use Rattle.std.specs.Map.{keys_of}
-use Rattle.std.specs.BTreeMap.{insert_entry}
 use Rattle.serde_json.specs.View.{view, members_view}
 use Rattle.sigstore_types_parts.specs.Entries.{text_cmp}
 use Rattle.sigstore_tuf_parts.specs.declared.member.DocumentMember.{DocumentMember}

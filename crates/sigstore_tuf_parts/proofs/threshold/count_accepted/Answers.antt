@@ -1,4 +1,4 @@
-use Rattle.std.proofs.Common.{◌≡◌, ◌∙◌, ◌&&◌, List, take, count_by, sym, ap}
+use Rattle.std.proofs.Common.{◌∙◌, ◌&&◌, count_by, sym, ap}
 use Rattle.std.proofs.lemmas.List.{take_all}
 use Rattle.sigstore_tuf_parts.specs.declared.document.Signature.{Signature}
 use Rattle.sigstore_tuf_parts.specs.Crypto.{crypto_of}
