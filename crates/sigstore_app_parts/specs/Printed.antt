@@ -20,11 +20,11 @@ printed [] = []
 printed (byte ∷ bytes) = printed_byte byte ++ printed bytes
 
 -- a word on a line of its own
-abbrev pub line_of : List ℕ → List ℕ
+unfoldable pub line_of : List ℕ → List ℕ
 line_of word = word ++ 10 ∷ []
 
 -- a word and another one
-abbrev pub pair_line : List ℕ → List ℕ → List ℕ
+unfoldable pub pair_line : List ℕ → List ℕ → List ℕ
 pair_line word other = word ++ 32 ∷ other ++ 10 ∷ []
 
 -- a word and a number in decimal

@@ -51,6 +51,7 @@ pub fn push_decimal(text: &mut String, number: u64) -> Result<(), NoMemory>
 }
 
 /// Adds a word on a line of its own.
+#[tactic(auto, unfolding(crate::specs::Printed::line_of))]
 pub fn push_line(text: &mut String, word: &str) -> Result<(), NoMemory>
     ensures { OnOk result (string_bytes text.new ≡ string_bytes text.old ++ line_of word.now) }
 {
@@ -60,6 +61,7 @@ pub fn push_line(text: &mut String, word: &str) -> Result<(), NoMemory>
 }
 
 /// Adds a line of a word and another one.
+#[tactic(auto, unfolding(crate::specs::Printed::pair_line))]
 pub fn push_pair_line(text: &mut String, word: &str, other: &str) -> Result<(), NoMemory>
     ensures { OnOk result (string_bytes text.new ≡ string_bytes text.old ++ pair_line word.now other.now) }
 {
@@ -71,6 +73,7 @@ pub fn push_pair_line(text: &mut String, word: &str, other: &str) -> Result<(), 
 }
 
 /// Adds a line of a word and a number.
+#[tactic(auto, unfolding(crate::specs::Printed::pair_line))]
 pub fn push_number_line(text: &mut String, word: &str, number: u64) -> Result<(), NoMemory>
     ensures { OnOk result (string_bytes text.new ≡ string_bytes text.old ++ number_line word.now number) }
 {
@@ -82,6 +85,7 @@ pub fn push_number_line(text: &mut String, word: &str, number: u64) -> Result<()
 }
 
 /// Adds a line of a word and a text.
+#[tactic(auto, unfolding(crate::specs::Printed::pair_line))]
 pub fn push_text_line(text: &mut String, word: &str, bytes: &[u8]) -> Result<(), NoMemory>
     ensures { OnOk result (string_bytes text.new ≡ string_bytes text.old ++ text_line word.now bytes.now) }
 {
@@ -93,6 +97,7 @@ pub fn push_text_line(text: &mut String, word: &str, bytes: &[u8]) -> Result<(),
 }
 
 /// Adds a line of a word, a text and a number.
+#[tactic(auto, unfolding(crate::specs::Printed::pair_line))]
 pub fn push_named_line(
     text: &mut String,
     word: &str,
@@ -111,6 +116,7 @@ pub fn push_named_line(
 }
 
 /// Adds a line of a word, another one and bytes in hexadecimal.
+#[tactic(auto, unfolding(crate::specs::Printed::line_of, crate::specs::Printed::pair_line))]
 pub fn push_hex_line(
     alloc: Global,
     text: &mut String,
@@ -140,6 +146,7 @@ pub fn push_answer_line(text: &mut String, word: &str, answer: bool) -> Result<(
 }
 
 /// Adds the line of a refusal: its layer, its number and its name.
+#[tactic(auto, unfolding(crate::specs::Printed::line_of, crate::specs::Printed::pair_line))]
 pub fn push_refused_line(
     text: &mut String,
     layer: &str,
