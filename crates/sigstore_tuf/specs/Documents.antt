@@ -1,25 +1,16 @@
--- The four kinds of document, and a role of a root (TUF specification, sections 4.3 to 4.6).
-use Rattle.std.specs.Prelude.{ℕ, List, Result, ok_or, codes, ⊤, Option}
-use Rattle.foundation.specs.Steps.{◌>>=◌}
+-- The kinds of document below the root (TUF specification, sections 4.4 to 4.6).
+use Rattle.std.specs.Prelude.{ℕ, List, Result, codes, Option}
 use Rattle.sigstore_types_parts.specs.Entries.{at_name}
 use Rattle.sigstore_tuf_parts.specs.declared.error.Error.{Error}
-use Rattle.sigstore_tuf_parts.specs.declared.error.Error.TheVariants.{UnknownRole}
-use Rattle.sigstore_tuf_parts.specs.declared.root.Root.{Root}
 use Rattle.sigstore_tuf_parts.specs.declared.timestamp.MetaFile.{MetaFile}
 use Rattle.sigstore_tuf_parts.specs.declared.timestamp.Timestamp.{Timestamp}
 use Rattle.sigstore_tuf_parts.specs.declared.snapshot.Snapshot.{Snapshot}
 use Rattle.sigstore_tuf_parts.specs.declared.targets.Targets.{Targets}
 use Rattle.sigstore_tuf_parts.specs.Document.{Document, content_in, document_of}
-use Rattle.sigstore_tuf_parts.specs.Root.{root_of}
 use Rattle.sigstore_tuf_parts.specs.Timestamp.{timestamp_of}
 use Rattle.sigstore_tuf_parts.specs.Snapshot.{snapshot_of}
 use Rattle.sigstore_tuf_parts.specs.Targets.{targets_of}
-use Rattle.sigstore_tuf_parts.specs.Crypto.{Crypto}
-use Rattle.sigstore_tuf_parts.specs.Threshold.{meets_of}
 use Rattle.sigstore_tuf.specs.declared.documents.Held.{Held}
-
-abbrev pub root_document : List ℕ → Result (Document Root) Error
-root_document bytes = document_of (codes "root") root_of bytes
 
 abbrev pub timestamp_document : List ℕ → Result (Document Timestamp) Error
 timestamp_document bytes = document_of (codes "timestamp") timestamp_of bytes
@@ -41,9 +32,3 @@ snapshot_pin t = at_name (codes "snapshot.json") t.meta
 -- what a snapshot pins the top-level targets document by
 abbrev pub targets_pin : Snapshot → Option MetaFile
 targets_pin s = at_name (codes "targets.json") s.meta
-
--- the document meets the role of that name in the root
-unfoldable pub meets_role_of : {T : Type 0} → Crypto → Root → List ℕ → Document T → Result ⊤ Error
-meets_role_of crypto root name doc = do
-  role ← ok_or (at_name name root.roles) (UnknownRole name)
-  meets_of crypto root.keys role name doc

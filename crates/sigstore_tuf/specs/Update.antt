@@ -17,7 +17,8 @@ use Rattle.sigstore_tuf_parts.specs.Crypto.{Crypto}
 use Rattle.sigstore_tuf_parts.specs.Integrity.{integrity_of, version_of, fresh_of}
 use Rattle.sigstore_tuf.specs.declared.documents.Held.{Held}
 use Rattle.sigstore_tuf.specs.declared.documents.InForce.{InForce}
-use Rattle.sigstore_tuf.specs.Documents.{root_document, timestamp_document, snapshot_document, targets_document, content_of, snapshot_pin, targets_pin, meets_role_of}
+use Rattle.sigstore_tuf_parts.specs.RootRoles.{root_document, meets_role_of}
+use Rattle.sigstore_tuf.specs.Documents.{timestamp_document, snapshot_document, targets_document, content_of, snapshot_pin, targets_pin}
 
 -- ---- a first root
 

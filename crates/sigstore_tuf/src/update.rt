@@ -2,7 +2,7 @@
 ghost use Rattle.std.specs.Prelude.{◌≡◌, ◌≢◌, Ok, Err, IfOk, IfErr, OnOk, option_copied};
 ghost use Rattle.sigstore_tuf_parts.specs.declared.error.Error.TheVariants.{NoMemory as Want};
 ghost use Rattle.sigstore_tuf_parts.specs.Crypto.{crypto_of};
-ghost use Rattle.sigstore_tuf.specs.Documents.{meets_role_of};
+ghost use Rattle.sigstore_tuf_parts.specs.RootRoles.{meets_role_of};
 ghost use Rattle.sigstore_tuf.specs.Update.{first_root_of, not_below_of, other_of, newer_than_of, newer_of, pins_not_below_of, new_timestamp_of, snapshot_pin_of, kept_pin_of, kept_pins_in, kept_pins_of, snapshot_checks_of, new_snapshot_of, targets_pin_of, new_targets_of};
 
 use crate::documents::{Held, InForce};
@@ -16,7 +16,6 @@ use sigstore_types_parts::{Armor, Bytes, Text, TextMap};
 use std::alloc::Global;
 
 // The document meets the role of that name in the root.
-#[tactic(auto, unfolding(crate::specs::Documents::meets_role_of))]
 pub(crate) fn check_role<T, C: CryptoProvider, M: Armor>(
     alloc: Global,
     provider: &C,
@@ -30,15 +29,7 @@ pub(crate) fn check_role<T, C: CryptoProvider, M: Armor>(
     ensures err { IfErr result (λ e. e ≢ Want →
         meets_role_of (crypto_of (C.accepts provider.now) (M.armored armor.now) (M.key_in armor.now)) root.now name.now document.now ≡ Err e) }
 {
-    match root.roles.get(name) {
-        Some(role) => {
-            document.verify_threshold(alloc, provider, armor, &root.keys, role, name)?;
-            Ok(())
-        }
-        None => Err(Error::UnknownRole {
-            name: Text::new(alloc, name)?,
-        }),
-    }
+    document.verify_role(alloc, provider, armor, root, name)
 }
 
 /// The documents in force with a first root, which meets its own role. Errors: those of a document, then

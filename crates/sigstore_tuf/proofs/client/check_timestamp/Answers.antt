@@ -1,4 +1,3 @@
-use Rattle.std.proofs.Common.{refl}
 use Rattle.sigstore_tuf.specs.Client.{timestamp_serves_of}
 use Rattle.sigstore_tuf.proofs.client.check_timestamp.Goals as goal
 

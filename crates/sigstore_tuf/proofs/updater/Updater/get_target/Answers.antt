@@ -1,4 +1,4 @@
-use Rattle.std.proofs.Common.{refl, inl, inr}
+use Rattle.std.proofs.Common.{inr}
 use Rattle.sigstore_tuf.proofs.updater.Updater.get_target.Goals as goal
 
 pub returns-in-Err-clause-gives : goal.returns-in-Err-clause-gives
