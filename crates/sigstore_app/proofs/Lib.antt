@@ -1,0 +1,3 @@
+mod Accepting
+mod Digests
+mod RunFacts

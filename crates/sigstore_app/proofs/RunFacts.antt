@@ -1,0 +1,78 @@
+-- What the parts of a run say of the whole.
+use Rattle.std.proofs.Common.{◌≡◌, ℕ, List, Option, Some, None, Result, Ok, Err, IfOk, refl, sym, ap, ◌∙◌, subst, codes}
+use Rattle.std.specs.Result.{result_ok}
+use Rattle.jiff_core.specs.declared.timestamp.Timestamp as jiff
+use Rattle.foundation.specs.Watched.{Watched}
+use Rattle.foundation.specs.declared.no_memory.NoMemory.{NoMemory}
+use Rattle.sigstore_tuf_parts.specs.declared.error.Error.{Error as TufError}
+use Rattle.sigstore_tuf.specs.Repository.{Folders}
+use Rattle.sigstore_tuf.specs.Config.{default_config}
+use Rattle.sigstore_tuf.specs.declared.config.UpdaterConfig.{UpdaterConfig}
+use Rattle.sigstore_verify.specs.declared.policy.PublicKeyVerificationPolicy.{PublicKeyVerificationPolicy}
+use Rattle.sigstore_verify.specs.Policy.{Meaning, PublicKey}
+use Rattle.sigstore_verify.specs.declared.root.Rooted.{Rooted}
+use Rattle.sigstore_verify.specs.declared.root.RootFault.{RootFault}
+use Rattle.sigstore_verify.specs.declared.root.RootFault.TheVariants as root
+use Rattle.sigstore_verify.specs.Root.{Runs, IsAccepted}
+use Rattle.sigstore_app_parts.specs.Inputs.{Held}
+use Rattle.sigstore_app_parts.specs.Sink.{WritesText}
+use Rattle.sigstore_app_parts.specs.Layout.{layout_of}
+use Rattle.sigstore_app_parts.specs.Gather.{gathered_of, ReadsAs}
+use Rattle.sigstore_app_parts.specs.declared.layout.Layout.{Layout}
+use Rattle.sigstore_app_parts.specs.declared.gather.Gathered.{Gathered}
+use Rattle.sigstore_app_parts.specs.declared.gather.Stop.{Stop}
+use Rattle.sigstore_app_parts.specs.declared.gather.Stop.TheVariants.{Words, Form, Input, Memory}
+use Rattle.sigstore_app_parts.specs.declared.usage_fault.UsageFault.{UsageFault}
+use Rattle.sigstore_app_parts.specs.declared.sink.SinkFault.{SinkFault}
+use Rattle.sigstore_app.specs.declared.answer.Status.{Status}
+use Rattle.sigstore_app.specs.declared.answer.Status.TheVariants as status
+use Rattle.sigstore_app.specs.declared.answer.Answer.{Answer}
+use Rattle.sigstore_app.specs.Report.{report_of}
+use Rattle.sigstore_app.specs.Run as r
+use Rattle.sigstore_app.specs.Run.{answer, stop_answer, tuf_answer, verify_answer, refusal_answer, policy_meant, max_artifact, crypto_in, judge_of, now_of, VerifiesInputs, AcceptsInputs, said_of, Reports, Judges, Proceeds, Decides, RunsTo, Accepts, OnAccepted}
+
+-- the verification was called on the inputs
+pub on_inputs : (g : Gathered) (now : jiff.Timestamp) (repo repo' : Watched Folders) (source source' : Watched (List ℕ)) (result : Result Rooted RootFault)
+    (p : PublicKeyVerificationPolicy) (root bundle : List ℕ) (config : UpdaterConfig) → p ≡ policy_meant g.policy → root ≡ g.root → bundle ≡ g.bundle → config ≡ default_config
+    → Runs (crypto_in g) (PublicKey p) root bundle config now repo repo' source source' max_artifact result → VerifiesInputs g now repo repo' source source' result
+on_inputs g now repo repo' source source' result p root bundle config a b c d h =
+    let h1 = subst (λ x. Runs (crypto_in g) (PublicKey x) root bundle config now repo repo' source source' max_artifact result) a h in
+    let h2 = subst (λ x. Runs (crypto_in g) (PublicKey (policy_meant g.policy)) x bundle config now repo repo' source source' max_artifact result) b h1 in
+    let h3 = subst (λ x. Runs (crypto_in g) (PublicKey (policy_meant g.policy)) g.root x config now repo repo' source source' max_artifact result) c h2 in
+    subst (λ x. Runs (crypto_in g) (PublicKey (policy_meant g.policy)) g.root g.bundle x now repo repo' source source' max_artifact result) d h3
+
+pub accepted_on_inputs : (g : Gathered) (source source' : Watched (List ℕ)) (rooted : Rooted) (p : PublicKeyVerificationPolicy) (bundle : List ℕ) → p ≡ policy_meant g.policy → bundle ≡ g.bundle
+    → IsAccepted (judge_of g) (PublicKey p) bundle source source' max_artifact rooted → AcceptsInputs g source source' rooted
+accepted_on_inputs g source source' rooted p bundle a c h =
+    subst (λ x. IsAccepted (judge_of g) (PublicKey (policy_meant g.policy)) x source source' max_artifact rooted) c (subst (λ x. IsAccepted (judge_of g) (PublicKey x) bundle source source' max_artifact rooted) a h)
+
+pub judged_reported : (g : Gathered) (now : jiff.Timestamp) (repo repo' : Watched Folders) (source source' : Watched (List ℕ)) (rooted : Rooted) (result : Result Answer NoMemory)
+    → VerifiesInputs g now repo repo' source source' (Ok rooted) → AcceptsInputs g source source' rooted → IfOk result (λ said. Reports rooted said) → Judges g now repo repo' source source' result
+judged_reported g now repo repo' source source' rooted (Ok said) v a h = r.reported rooted said v a h refl
+judged_reported g now repo repo' source source' rooted (Err e) v a h = r.want_judging e refl
+
+pub judged_refused : (g : Gathered) (now : jiff.Timestamp) (repo repo' : Watched Folders) (source source' : Watched (List ℕ)) (fault : RootFault) (result : Result Answer NoMemory)
+    → VerifiesInputs g now repo repo' source source' (Err fault) → IfOk result (λ said. refusal_answer fault ≡ Some said) → Judges g now repo repo' source source' result
+judged_refused g now repo repo' source source' fault (Ok said) v h = r.refused fault said v h refl
+judged_refused g now repo repo' source source' fault (Err e) v h = r.want_judging e refl
+
+pub proceeds_stopped : (now : jiff.Timestamp) (inputs inputs' : Watched Held) (repo repo' : Watched Folders) (source source' : Watched (List ℕ)) (stop : Stop) (result : Result Answer NoMemory)
+    → ReadsAs gathered_of inputs inputs' (Err stop) → IfOk result (λ said. stop_answer stop ≡ Some said) → Proceeds now inputs inputs' repo repo' source source' result
+proceeds_stopped now inputs inputs' repo repo' source source' stop (Ok said) p h = r.stopped stop said p h refl
+proceeds_stopped now inputs inputs' repo repo' source source' stop (Err e) p h = r.want_inputs e refl
+
+worded_as : (result : Result Layout UsageFault) (layout : Layout) → Some layout ≡ result_ok result → result ≡ Ok layout
+worded_as (Ok l) layout e = cc
+worded_as (Err f) layout e = cc
+
+pub decided_misworded : (words : List (List ℕ)) (clock : jiff.Timestamp) (inputs inputs' : Watched Held) (repo repo' : Watched Folders) (source source' : Watched (List ℕ)) (found : Option Layout)
+    (result : Result Answer NoMemory) → found ≡ None → found ≡ result_ok (layout_of words) → IfOk result (λ said. stop_answer Words ≡ Some said)
+    → Decides words clock inputs inputs' repo repo' source source' result
+decided_misworded words clock inputs inputs' repo repo' source source' found (Ok said) n e h = r.misworded said (sym e ∙ n) h refl
+decided_misworded words clock inputs inputs' repo repo' source source' found (Err w) n e h = r.want_words w refl
+
+pub decided_worded : (words : List (List ℕ)) (clock : jiff.Timestamp) (inputs inputs' : Watched Held) (repo repo' : Watched Folders) (source source' : Watched (List ℕ)) (found : Option Layout)
+    (layout : Layout) (now : jiff.Timestamp) (result : Result Answer NoMemory) → found ≡ Some layout → found ≡ result_ok (layout_of words) → now ≡ now_of layout clock
+    → Proceeds now inputs inputs' repo repo' source source' result → Decides words clock inputs inputs' repo repo' source source' result
+decided_worded words clock inputs inputs' repo repo' source source' found layout now result s e n p =
+    r.worded layout (worded_as (layout_of words) layout (sym s ∙ e)) (subst (λ t. Proceeds t inputs inputs' repo repo' source source' result) n p)
