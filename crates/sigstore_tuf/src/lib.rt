@@ -4,6 +4,8 @@
 
 mod chain;
 mod client;
+#[cfg(test)]
+mod client_tests;
 mod config;
 mod documents;
 mod file;
