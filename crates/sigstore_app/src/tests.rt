@@ -178,9 +178,8 @@ fn words(alloc: Global, line: &str) -> Result<Vec<Text>, Fail> {
     Ok(words)
 }
 
-// What the sink holds after a run over the changed fixture, which ends with a status.
-fn said(alloc: Global, part: &str, text: &str, status: Status) -> Result<String, Fail> {
-    let change = Change { part, text };
+// How a run over the changed fixture ends, and what a sink of that room holds after it.
+fn ended(alloc: Global, change: Change, room: u32) -> Result<(Status, String), Fail> {
     let root = root(alloc, change)?;
     let trust = change.of("trust", "{}");
     let targets = targets(alloc, change, trust)?;
@@ -188,7 +187,7 @@ fn said(alloc: Global, part: &str, text: &str, status: Status) -> Result<String,
     let mut repo = repository(alloc, change, targets.as_str(), trust)?;
     let mut store = MemoryStore::new(alloc);
     let mut artifact = source(alloc, change.of("artifact", "hello"))?;
-    let mut sink = MemorySink::new(alloc, 1024, no_failures(alloc)?)?;
+    let mut sink = MemorySink::new(alloc, room, no_failures(alloc)?)?;
     let words = words(alloc, change.of("words", WORDS))?;
     let clock = Timestamp::UNIX_EPOCH;
     let ended = run(
@@ -201,10 +200,17 @@ fn said(alloc: Global, part: &str, text: &str, status: Status) -> Result<String,
         &mut artifact,
         &mut sink,
     );
+    let text = String::from_str(alloc, str::from_utf8(sink.bytes())?)?;
+    Ok((ended, text))
+}
+
+// What the sink holds after a run over the changed fixture, which ends with a status.
+fn said(alloc: Global, part: &str, text: &str, status: Status) -> Result<String, Fail> {
+    let (ended, said) = ended(alloc, Change { part, text }, 1024)?;
     if ended != status {
         return Err("another status")?;
     }
-    Ok(String::from_str(alloc, str::from_utf8(sink.bytes())?)?)
+    Ok(said)
 }
 
 #[test]
@@ -218,6 +224,16 @@ fn the_fixture_is_accepted(rt: HostRuntime) -> Result<(), Fail> {
         said(alloc, "words", "", Status::Usage)?.as_str(),
         "usage\n"
     );
+    Ok(())
+}
+
+// A sink that takes only a part of the text.
+#[test]
+fn a_cut_text_is_no_success(rt: HostRuntime) -> Result<(), Fail> {
+    let unchanged = Change { part: "", text: "" };
+    let (status, text) = ended(rt.alloc(), unchanged, 3)?;
+    assert_eq!(rt; status, Status::Output);
+    assert_eq!(rt; text.as_str(), "acc");
     Ok(())
 }
 
