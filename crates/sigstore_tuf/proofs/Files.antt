@@ -9,8 +9,8 @@ use Rattle.sigstore_types_parts.specs.Entries.{text_cmp, at_name}
 use Rattle.sigstore_tuf.specs.Store.{with_file, is_bad_name, HoldsNoBadName}
 use Rattle.sigstore_tuf.specs.Memory.{files_of}
 
-abbrev pub Named : Type 0
-Named = List ℕ × List ℕ
+abbrev pub Named : Type 0 → Type 0
+Named T = List ℕ × T
 
 -- a text that is equal by the order is the same text
 same_text : (a b : List ℕ) → text_cmp a b ≡ Equal → a ≡ b
@@ -32,18 +32,18 @@ apart_names q name k true h at_k at_name =
     sym at_k ∙ ap (λ t. is_eq (text_cmp t k)) same ∙ ap is_eq h
 
 -- the entry in whose place, before which or behind which the new one goes
-insert_by : (o : Ordering) (q name bytes : List ℕ) (e : Named) (es : List Named) → text_cmp name e.0 ≡ o
+insert_by : {T : Type 0} (o : Ordering) (q name : List ℕ) (bytes : T) (e : Named T) (es : List (Named T)) → text_cmp name e.0 ≡ o
     → at_name q (insert_entry text_cmp es name bytes) ≡ cond (is_eq (text_cmp q name)) (Some bytes) (at_name q es)
     → at_name q (match_ordering o ((name, bytes) ∷ e ∷ es) ((e.0, bytes) ∷ es) (e ∷ insert_entry text_cmp es name bytes)) ≡ cond (is_eq (text_cmp q name)) (Some bytes) (at_name q (e ∷ es))
 insert_by Less q name bytes e es h more = refl
 insert_by Equal q name bytes e es h more = rw (same_text name e.0 h) (twice (is_eq (text_cmp q e.0)) (Some bytes) (Some e.1) (at_name q es))
 insert_by Greater q name bytes e es h more = rw more (swapped (is_eq (text_cmp q e.0)) (is_eq (text_cmp q name)) (Some bytes) (Some e.1) (at_name q es) (λ at_e. apart_names q name e.0 (is_eq (text_cmp q name)) h at_e refl))
 
-at_insert : (q name bytes : List ℕ) (es : List Named) → at_name q (insert_entry text_cmp es name bytes) ≡ cond (is_eq (text_cmp q name)) (Some bytes) (at_name q es)
+pub at_insert : {T : Type 0} (q name : List ℕ) (bytes : T) (es : List (Named T)) → at_name q (insert_entry text_cmp es name bytes) ≡ cond (is_eq (text_cmp q name)) (Some bytes) (at_name q es)
 at_insert q name bytes [] = refl
 at_insert q name bytes (e ∷ es) = insert_by (text_cmp name e.0) q name bytes e es refl (at_insert q name bytes es)
 
-pub files_of_insert : (es : List Named) (name bytes : List ℕ) → files_of (insert_entry text_cmp es name bytes) ≡ with_file name bytes (files_of es)
+pub files_of_insert : (es : List (Named (List ℕ))) (name bytes : List ℕ) → files_of (insert_entry text_cmp es name bytes) ≡ with_file name bytes (files_of es)
 files_of_insert es name bytes = fun_ext (λ q. at_insert q name bytes es ∙ ap (λ b. cond b (Some bytes) (at_name q es)) (is_eq-slice_cmp q name))
 
 other_name : (q name bytes : List ℕ) (file : Option (List ℕ)) (b : Bool) → is_bad_name name ≡ false → is_bad_name q ≡ true → file ≡ None → bytes_eq q name ≡ b → cond b (Some bytes) file ≡ None
@@ -52,7 +52,7 @@ other_name q name bytes file true good bad none is =
 other_name q name bytes file false good bad none is = none
 
 -- a file under a good name leaves nothing under a bad one
-pub kept_tame : {T E : Type 0} (r : Result T E) (old new : List Named) (name bytes : List ℕ) → is_bad_name name ≡ false → HoldsNoBadName (files_of old)
+pub kept_tame : {T E : Type 0} (r : Result T E) (old new : List (Named (List ℕ))) (name bytes : List ℕ) → is_bad_name name ≡ false → HoldsNoBadName (files_of old)
     → OnOk r (files_of new ≡ with_file name bytes (files_of old)) → OnErr r (new ≡ old) → HoldsNoBadName (files_of new)
 kept_tame (Ok x) old new name bytes good tame ok err = λ q bad. ap (λ files. files q) ok ∙ other_name q name bytes (files_of old q) (bytes_eq q name) good bad (tame q bad) refl
 kept_tame (Err e) old new name bytes good tame ok err = λ q bad. ap (λ es. files_of es q) err ∙ tame q bad

@@ -1,3 +1,5 @@
 pub mod Files
 pub mod Components
 pub mod StepFacts
+pub mod Authorised
+pub mod Serving

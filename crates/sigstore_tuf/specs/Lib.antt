@@ -8,3 +8,6 @@ pub mod Client
 pub mod Refresh
 pub mod Target
 pub mod Updater
+pub mod Order
+pub mod Trusted
+pub mod Authorised

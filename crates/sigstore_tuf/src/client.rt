@@ -5,6 +5,7 @@ ghost use Rattle.sigstore_tuf_parts.specs.Crypto.{crypto_of};
 ghost use Rattle.sigstore_tuf.specs.Repository.{metadata_files};
 ghost use Rattle.sigstore_tuf.specs.Update.{new_timestamp_of, targets_pin_of, with_snapshot, with_targets};
 ghost use Rattle.sigstore_tuf.specs.Client.{FetchesFile, WalksRoots, transport_of, root_serves_of, adoption_of, after_timestamp, timestamp_serves_of, is_snapshot_kept, is_targets_kept, serves, top_targets, undelegated_of};
+ghost use Rattle.sigstore_tuf.specs.Authorised.{StaysAuthorised, Serve};
 ghost use Rattle.sigstore_tuf.specs.Refresh.{TakesTimestamp, RefreshesTimestamp, FetchesSnapshot, RefreshesSnapshot, TakesTargets, FetchesPinned, FetchesTargets, RefreshesPinned, RefreshesTargets, Refreshes};
 
 use crate::config::UpdaterConfig;
@@ -415,9 +416,31 @@ fn refresh_targets<C: CryptoProvider, M: Armor, R: Repository>(
     }
 }
 
+// The steps of a refresh, by the first that refuses.
+fn run_steps<C: CryptoProvider, M: Armor, R: Repository>(
+    alloc: Global,
+    provider: &C,
+    armor: &M,
+    documents: &mut InForce,
+    repo: &mut R,
+    config: &UpdaterConfig,
+    now: jiff::Timestamp,
+) -> Result<(), Error>
+    ensures refreshes { Refreshes (crypto_of (C.accepts provider.now) (M.armored armor.now) (M.key_in armor.now))
+        config.now now documents.old documents.new (R.seen repo.old) (R.seen repo.new) result }
+{
+    walk_roots(alloc, repo, config, documents.root.signed().version)?;
+    check_root(alloc, documents, now)?;
+    refresh_timestamp(alloc, provider, armor, documents, repo, config, now)?;
+    refresh_snapshot(alloc, provider, armor, documents, repo, config, now)?;
+    refresh_targets(alloc, provider, armor, documents, repo, config, now)?;
+    Ok(())
+}
+
 /// Refreshes the documents in force over parts: the next root, the timestamp, the snapshot, and the
 /// top-level targets document. Errors are those of the first step that refuses; the documents that were
-/// adopted before it stay in force. The store is handed through and not called yet.
+/// adopted before it stay in force. Where they were authorised from a given root they stay so, and after
+/// Ok they serve at that moment. The store is handed through and not called yet.
 pub fn refresh_parts<C: CryptoProvider, M: Armor, R: Repository, S: MetadataStore>(
     alloc: Global,
     provider: &C,
@@ -430,12 +453,9 @@ pub fn refresh_parts<C: CryptoProvider, M: Armor, R: Repository, S: MetadataStor
 ) -> Result<(), Error>
     ensures refreshes { Refreshes (crypto_of (C.accepts provider.now) (M.armored armor.now) (M.key_in armor.now))
         config.now now documents.old documents.new (R.seen repo.old) (R.seen repo.new) result }
+    ensures authorised { StaysAuthorised (crypto_of (C.accepts provider.now) (M.armored armor.now) (M.key_in armor.now)) documents.old documents.new }
+    ensures serves { OnOk result (Serve now documents.new) }
     ensures store { S.seen _store.new ≡ S.seen _store.old }
 {
-    walk_roots(alloc, repo, config, documents.root.signed().version)?;
-    check_root(alloc, documents, now)?;
-    refresh_timestamp(alloc, provider, armor, documents, repo, config, now)?;
-    refresh_snapshot(alloc, provider, armor, documents, repo, config, now)?;
-    refresh_targets(alloc, provider, armor, documents, repo, config, now)?;
-    Ok(())
+    run_steps(alloc, provider, armor, documents, repo, config, now)
 }

@@ -3,6 +3,7 @@ ghost use Rattle.std.specs.Prelude.{◌≡◌, ◌≢◌, [], ◌∷◌, Some, O
 ghost use Rattle.sigstore_tuf_parts.specs.declared.error.Error.TheVariants.{NoMemory as Want};
 ghost use Rattle.sigstore_tuf.specs.Repository.{target_files};
 ghost use Rattle.sigstore_tuf.specs.Client.{FetchesFile};
+ghost use Rattle.sigstore_tuf.specs.Authorised.{TrustsFrom};
 ghost use Rattle.sigstore_tuf.specs.Target.{fresh_timestamp_of, fresh_snapshot_of, unexpired_of, pinned_version_of, pinned_by_of, all_pinned_of, search_serves_of, entry_of, entry_in, listed_in, within_of, target_of, file_of, FetchesTarget, visit_of, chain_in, chain_of, GetsTarget};
 
 use crate::chain::{RoleDoc, TrustChain};
@@ -327,20 +328,16 @@ fn chain(
     }
 }
 
-/// Finds a target over parts, fetches its file, and gives the chain by which it is trusted. Errors, in
-/// this order: `Expired`, `NotRefreshed`, `IntegrityMismatch`, `TargetNotFound`, then those of the fetch
-/// and of the file's length and digests. The store is handed through and not called yet.
-pub fn get_target_parts<R: Repository, S: MetadataStore>(
+// The steps of a search, by the first that refuses.
+fn run_search<R: Repository>(
     alloc: Global,
     documents: &InForce,
     repo: &mut R,
-    _store: &mut S,
     config: &UpdaterConfig,
     path: &str,
     now: jiff::Timestamp,
 ) -> Result<TrustChain, Error>
     ensures gets { GetsTarget documents.now config.now path.now now (R.seen repo.old) (R.seen repo.new) result }
-    ensures store { S.seen _store.new ≡ S.seen _store.old }
 {
     match find_target(alloc, documents, config, path, now) {
         Ok(entry) => match fetch_target(alloc, repo, path, entry) {
@@ -352,4 +349,24 @@ pub fn get_target_parts<R: Repository, S: MetadataStore>(
         },
         Err(e) => Err(e),
     }
+}
+
+/// Finds a target over parts, fetches its file, and gives the chain by which it is trusted. Errors, in
+/// this order: `Expired`, `NotRefreshed`, `IntegrityMismatch`, `TargetNotFound`, then those of the fetch
+/// and of the file's length and digests. Over documents that are authorised from a given root the chain
+/// is trusted from it. The store is handed through and not called yet.
+pub fn get_target_parts<R: Repository, S: MetadataStore>(
+    alloc: Global,
+    documents: &InForce,
+    repo: &mut R,
+    _store: &mut S,
+    config: &UpdaterConfig,
+    path: &str,
+    now: jiff::Timestamp,
+) -> Result<TrustChain, Error>
+    ensures gets { GetsTarget documents.now config.now path.now now (R.seen repo.old) (R.seen repo.new) result }
+    ensures trusted { TrustsFrom documents.now config.now path.now now result }
+    ensures store { S.seen _store.new ≡ S.seen _store.old }
+{
+    run_search(alloc, documents, repo, config, path, now)
 }

@@ -6,6 +6,7 @@ ghost use Rattle.sigstore_tuf_parts.specs.Document.{content_in};
 ghost use Rattle.sigstore_types_parts.specs.Entries.{at_name};
 ghost use Rattle.sigstore_tuf.specs.Documents.{content_of};
 ghost use Rattle.sigstore_tuf.specs.Update.{first_root_of};
+ghost use Rattle.sigstore_tuf.specs.Authorised.{AreAuthorised};
 
 use crate::documents::InForce;
 use crate::update::first_root;
@@ -33,6 +34,8 @@ impl<'p, C: CryptoProvider, M: Armor> TrustedMetadataSet<'p, C, M> {
     ) -> Result<TrustedMetadataSet<'p, C, M>, Error>
         ensures ok { IfOk result (λ set.
             first_root_of (crypto_of (C.accepts provider.now) (M.armored armor.now) (M.key_in armor.now)) bytes.now ≡ Ok set.documents) }
+        ensures authorised { IfOk result (λ set.
+            AreAuthorised (crypto_of (C.accepts provider.now) (M.armored armor.now) (M.key_in armor.now)) bytes.now set.documents) }
         ensures same { IfOk result (λ set. (set.provider.now ≡ provider.now) × (set.armor.now ≡ armor.now)) }
         ensures err { IfErr result (λ e. e ≢ Want →
             first_root_of (crypto_of (C.accepts provider.now) (M.armored armor.now) (M.key_in armor.now)) bytes.now ≡ Err e) }

@@ -2,7 +2,6 @@
 ghost use Rattle.std.specs.Prelude.{◌≡◌, ◌≢◌, Ok, Err, IfOk, IfErr, OnOk, option_copied};
 ghost use Rattle.sigstore_tuf_parts.specs.declared.error.Error.TheVariants.{NoMemory as Want};
 ghost use Rattle.sigstore_tuf_parts.specs.Crypto.{crypto_of};
-ghost use Rattle.sigstore_tuf_parts.specs.RootRoles.{meets_role_of};
 ghost use Rattle.sigstore_tuf.specs.Update.{first_root_of, not_below_of, other_of, newer_than_of, newer_of, pins_not_below_of, new_timestamp_of, snapshot_pin_of, kept_pin_of, kept_pins_in, kept_pins_of, snapshot_checks_of, new_snapshot_of, targets_pin_of, new_targets_of};
 
 use crate::documents::{Held, InForce};
@@ -14,23 +13,6 @@ use sigstore_tuf_parts::{
 };
 use sigstore_types_parts::{Armor, Bytes, Text, TextMap};
 use std::alloc::Global;
-
-// The document meets the role of that name in the root.
-pub(crate) fn check_role<T, C: CryptoProvider, M: Armor>(
-    alloc: Global,
-    provider: &C,
-    armor: &M,
-    root: &Root,
-    name: &str,
-    document: &Metadata<T>,
-) -> Result<(), Error>
-    ensures ok { OnOk result
-        (meets_role_of (crypto_of (C.accepts provider.now) (M.armored armor.now) (M.key_in armor.now)) root.now name.now document.now ≡ Ok tt) }
-    ensures err { IfErr result (λ e. e ≢ Want →
-        meets_role_of (crypto_of (C.accepts provider.now) (M.armored armor.now) (M.key_in armor.now)) root.now name.now document.now ≡ Err e) }
-{
-    document.verify_role(alloc, provider, armor, root, name)
-}
 
 /// The documents in force with a first root, which meets its own role. Errors: those of a document, then
 /// `UnknownRole`, then those of a threshold.
@@ -47,7 +29,7 @@ pub(crate) fn first_root<C: CryptoProvider, M: Armor>(
         first_root_of (crypto_of (C.accepts provider.now) (M.armored armor.now) (M.key_in armor.now)) bytes.now ≡ Err e) }
 {
     let root = Metadata::from_slice(alloc, bytes)?;
-    check_role(alloc, provider, armor, root.signed(), "root", &root)?;
+    root.verify_role(alloc, provider, armor, root.signed(), "root")?;
     let mut roots = Sequence::new(alloc);
     roots.push(Bytes::new(alloc, bytes)?)?;
     Ok(InForce {
@@ -141,14 +123,7 @@ pub(crate) fn new_timestamp<C: CryptoProvider, M: Armor>(
         new_timestamp_of (crypto_of (C.accepts provider.now) (M.armored armor.now) (M.key_in armor.now)) documents.now bytes now ≡ Err e) }
 {
     let document = Metadata::<Timestamp>::from_slice(alloc, bytes.as_bytes())?;
-    check_role(
-        alloc,
-        provider,
-        armor,
-        documents.root.signed(),
-        "timestamp",
-        &document,
-    )?;
+    document.verify_role(alloc, provider, armor, documents.root.signed(), "timestamp")?;
     check_newer_in(alloc, &documents.timestamp, document.signed())?;
     check_fresh(alloc, "timestamp", document.signed().expires, now)?;
     Ok(Held { bytes, document })
@@ -236,14 +211,7 @@ fn check_snapshot<C: CryptoProvider, M: Armor>(
         snapshot_checks_of (crypto_of (C.accepts provider.now) (M.armored armor.now) (M.key_in armor.now)) documents.now pin.now document.now now ≡ Err e) }
 {
     let content = document.signed();
-    check_role(
-        alloc,
-        provider,
-        armor,
-        documents.root.signed(),
-        "snapshot",
-        document,
-    )?;
+    document.verify_role(alloc, provider, armor, documents.root.signed(), "snapshot")?;
     check_version(pin, content.version)?;
     check_kept(alloc, &documents.snapshot, content)?;
     check_fresh(alloc, "snapshot", content.expires, now)?;
@@ -311,14 +279,7 @@ pub(crate) fn new_targets<C: CryptoProvider, M: Armor>(
     check_integrity(pin.length, pin.hashes.as_ref(), bytes.as_bytes())?;
     let document = Metadata::<Targets>::from_slice(alloc, bytes.as_bytes())?;
     check_version(pin, document.signed().version)?;
-    check_role(
-        alloc,
-        provider,
-        armor,
-        documents.root.signed(),
-        "targets",
-        &document,
-    )?;
+    document.verify_role(alloc, provider, armor, documents.root.signed(), "targets")?;
     check_fresh(alloc, "targets", document.signed().expires, now)?;
     Ok(Held { bytes, document })
 }

@@ -1,9 +1,10 @@
 // The client over a lent repository.
-ghost use Rattle.std.specs.Prelude.{◌≡◌, ◌≢◌, Some, None, Ok, Err, IfOk, IfErr, OnErr, option_map};
+ghost use Rattle.std.specs.Prelude.{◌≡◌, ◌≢◌, Some, None, Ok, Err, IfOk, IfErr, OnOk, OnErr, option_map};
 ghost use Rattle.sigstore_tuf_parts.specs.declared.error.Error.TheVariants.{NoMemory as Want};
 ghost use Rattle.sigstore_tuf_parts.specs.Crypto.{crypto_of};
 ghost use Rattle.sigstore_tuf.specs.Config.{default_config};
 ghost use Rattle.sigstore_tuf.specs.Update.{first_root_of};
+ghost use Rattle.sigstore_tuf.specs.Authorised.{AreAuthorised, StaysAuthorised, Serve, TrustsFrom, KeepsTrusted};
 ghost use Rattle.sigstore_tuf.specs.Refresh.{Refreshes};
 ghost use Rattle.sigstore_tuf.specs.Target.{GetsTarget};
 ghost use Rattle.sigstore_tuf.specs.Updater.{SameOption, GivesFile};
@@ -37,6 +38,8 @@ fn refresh_held<C: CryptoProvider, M: Armor, R: Repository, S: MetadataStore>(
     ensures same_store { SameOption store.old store.new }
     ensures refreshes { Refreshes (crypto_of (C.accepts provider.now) (M.armored armor.now) (M.key_in armor.now))
         config.now now documents.old documents.new (R.seen repo.old) (R.seen repo.new) result }
+    ensures authorised { StaysAuthorised (crypto_of (C.accepts provider.now) (M.armored armor.now) (M.key_in armor.now)) documents.old documents.new }
+    ensures serves { OnOk result (Serve now documents.new) }
 {
     match store {
         Some(store) => {
@@ -67,6 +70,7 @@ fn get_target_held<R: Repository, S: MetadataStore>(
 ) -> Result<TrustChain, Error>
     ensures same_store { SameOption store.old store.new }
     ensures gets { GetsTarget documents.now config.now path.now now (R.seen repo.old) (R.seen repo.new) result }
+    ensures trusted { TrustsFrom documents.now config.now path.now now result }
 {
     match store {
         Some(store) => get_target_parts(alloc, documents, repo, *store, config, path, now),
@@ -96,6 +100,9 @@ impl<'a, C: CryptoProvider, M: Armor, R: Repository, S: MetadataStore> Updater<'
     ) -> Result<Updater<'a, C, M, R, S>, Error>
         ensures set { IfOk result (λ u.
             first_root_of (crypto_of (C.accepts provider.now) (M.armored armor.now) (M.key_in armor.now)) root_bytes.now ≡ Ok u.set.documents) }
+        ensures authorised { IfOk result (λ u.
+            AreAuthorised (crypto_of (C.accepts provider.now) (M.armored armor.now) (M.key_in armor.now)) root_bytes.now u.set.documents) }
+        ensures same { IfOk result (λ u. (u.set.provider.now ≡ provider.now) × (u.set.armor.now ≡ armor.now)) }
         ensures repo { IfOk result (λ u. u.repo.now ≡ repo.old) }
         ensures same_repo { IfOk result (λ u. u.repo.ghost_name ≡ repo.entry.ghost_name) }
         ensures store { IfOk result (λ u. u.store ≡ None) }
@@ -148,13 +155,20 @@ impl<'a, C: CryptoProvider, M: Armor, R: Repository, S: MetadataStore> Updater<'
     }
 
     /// Brings the documents in force up to date at a moment. Errors are those of the first step that
-    /// refuses; the documents that were adopted before it stay in force.
+    /// refuses; the documents that were adopted before it stay in force. Where they were authorised from a
+    /// given root they stay so, and after Ok they serve at that moment.
     pub fn refresh(&mut self, alloc: Global, now: jiff::Timestamp) -> Result<(), Error>
         ensures same_repo { self.new.repo.ghost_name ≡ self.old.repo.ghost_name }
         ensures same_store { SameOption self.old.store self.new.store }
         ensures refreshes { Refreshes
             (crypto_of (C.accepts self.old.set.provider.now) (M.armored self.old.set.armor.now) (M.key_in self.old.set.armor.now))
             self.old.config now self.old.set.documents self.new.set.documents (R.seen self.old.repo.now) (R.seen self.new.repo.now) result }
+        ensures authorised { StaysAuthorised
+            (crypto_of (C.accepts self.old.set.provider.now) (M.armored self.old.set.armor.now) (M.key_in self.old.set.armor.now))
+            self.old.set.documents self.new.set.documents }
+        ensures serves { OnOk result (Serve now self.new.set.documents) }
+        ensures same { (self.new.set.provider.now ≡ self.old.set.provider.now) × (self.new.set.armor.now ≡ self.old.set.armor.now)
+            × (self.new.config ≡ self.old.config) × (self.new.chain ≡ self.old.chain) }
     {
         refresh_held(
             alloc,
@@ -179,6 +193,9 @@ impl<'a, C: CryptoProvider, M: Armor, R: Repository, S: MetadataStore> Updater<'
         ensures same_repo { self.new.repo.ghost_name ≡ self.old.repo.ghost_name }
         ensures same_store { SameOption self.old.store self.new.store }
         ensures gives { GivesFile self.old.set.documents self.old.config path.now now (R.seen self.old.repo.now) (R.seen self.new.repo.now) self.new.chain result }
+        ensures trusted { OnOk result (KeepsTrusted self.old.set.documents self.old.config path.now now self.new.chain) }
+        ensures kept { OnErr result (self.new.chain ≡ self.old.chain) }
+        ensures same { (self.new.set ≡ self.old.set) × (self.new.config ≡ self.old.config) }
     {
         match get_target_held(
             alloc,

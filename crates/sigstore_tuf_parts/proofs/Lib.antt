@@ -2,3 +2,6 @@ pub mod Floats
 pub mod OtherFacts
 pub mod CountFacts
 pub mod MeetsLaw
+pub mod IntegrityLaws
+pub mod Fits
+pub mod Unique

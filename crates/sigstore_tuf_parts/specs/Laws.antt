@@ -1,11 +1,33 @@
 -- Laws of the definitions.
-use Rattle.std.specs.Prelude.{◌≡◌, ◌↔◌, ℕ, List, Ok}
+use Rattle.std.specs.Prelude.{◌≡◌, ◌↔◌, ℕ, List, true, Option, Ok}
+use Rattle.serde_json.specs.Data.{Data}
+use Rattle.jiff_core.specs.declared.timestamp.Timestamp.{Timestamp}
 use Rattle.sigstore_tuf_parts.specs.declared.keys.RoleKeys.{RoleKeys}
 use Rattle.sigstore_tuf_parts.specs.Document.{Document}
+use Rattle.sigstore_tuf_parts.specs.Canon.{canon}
+use Rattle.sigstore_tuf_parts.specs.Exact.{IsExact}
 use Rattle.sigstore_tuf_parts.specs.Crypto.{Crypto}
 use Rattle.sigstore_tuf_parts.specs.Threshold.{Keys, meets_of}
 use Rattle.sigstore_tuf_parts.specs.Meets.{Meets}
+use Rattle.sigstore_tuf_parts.specs.Integrity.{Hashes, integrity_of, fresh_of}
+use Rattle.sigstore_tuf_parts.specs.Pinned.{IsIntact, Fresh}
+use Rattle.sigstore_tuf_parts.specs.Pattern.{Piece, Fits, fits}
 
 -- the first check that fails is none exactly where the document meets the role
 abbrev pub MeetsExactly : Type 0 → Type 0
 MeetsExactly T = (crypto : Crypto) (keys : Keys) (role : RoleKeys) (name : List ℕ) (doc : Document T) → (meets_of crypto keys role name doc ≡ Ok tt) ↔ Meets crypto keys role doc
+
+-- the checks of integrity and of an expiry fail nowhere exactly where the relations hold
+abbrev pub IntactExactly : Type 0
+IntactExactly = (size : Option ℕ) (hashes : Option Hashes) (bytes : List ℕ) → (integrity_of size hashes bytes ≡ Ok tt) ↔ IsIntact size hashes bytes
+
+abbrev pub FreshExactly : Type 0
+FreshExactly = (role : List ℕ) (expires now : Timestamp) → (fresh_of role expires now ≡ Ok tt) ↔ Fresh expires now
+
+-- the test of a pattern's segment is true exactly where the text falls into parts for its pieces
+abbrev pub FitsExactly : Type 0
+FitsExactly = (pieces : List Piece) (text : List ℕ) → (fits pieces text ≡ true) ↔ Fits pieces text
+
+-- values whose numbers are integers of 64 bits, and whose canonical texts are equal, are equal
+abbrev pub TellsValues : Type 0
+TellsValues = (a b : Data) → IsExact a → IsExact b → canon a ≡ canon b → a ≡ b

@@ -13,6 +13,8 @@ pub mod Timestamp
 pub mod Snapshot
 pub mod Targets
 pub mod Integrity
+pub mod Pinned
+pub mod Pattern
 pub mod Names
 pub mod Crypto
 pub mod Threshold

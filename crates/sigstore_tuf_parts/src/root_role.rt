@@ -1,5 +1,5 @@
 // Whether a document meets a role of a root.
-ghost use Rattle.std.specs.Prelude.{◌≡◌, ◌≢◌, Ok, Err, IfOk, IfErr};
+ghost use Rattle.std.specs.Prelude.{◌≡◌, ◌≢◌, Ok, Err, IfErr, OnOk};
 ghost use Rattle.sigstore_tuf_parts.specs.declared.error.Error.TheVariants.{NoMemory as Want};
 ghost use Rattle.sigstore_tuf_parts.specs.Crypto.{crypto_of};
 ghost use Rattle.sigstore_tuf_parts.specs.RootRoles.{meets_role_of};
@@ -23,9 +23,9 @@ impl<T> Metadata<T> {
         root: &Root,
         name: &str,
     ) -> Result<(), Error>
-        ensures ok { IfOk result (λ v.
-            meets_role_of (crypto_of (C.accepts provider.now) (M.armored armor.now) (M.key_in armor.now))
-            root.now name.now self.now ≡ Ok v) }
+        ensures ok { OnOk result
+            (meets_role_of (crypto_of (C.accepts provider.now) (M.armored armor.now) (M.key_in armor.now))
+            root.now name.now self.now ≡ Ok tt) }
         ensures err { IfErr result (λ e. e ≢ Want →
             meets_role_of (crypto_of (C.accepts provider.now) (M.armored armor.now) (M.key_in armor.now))
             root.now name.now self.now ≡ Err e) }

@@ -1,24 +1,10 @@
-use Rattle.std.proofs.Common.{rules, refl}
-use Rattle.sigstore_tuf.specs.Refresh.{walk_refuses, root_refuses, timestamp_refuses, snapshot_refuses, targets_refuses, all_serve}
+use Rattle.std.proofs.Common.{Result, Ok, Err}
+use Rattle.sigstore_tuf.proofs.Authorised.{refresh_authorised}
+use Rattle.sigstore_tuf.proofs.Serving.{on_refresh}
 use Rattle.sigstore_tuf.proofs.client.refresh_parts.Goals as goal
 
-pub returns-in_err-walk_roots-clause-refreshes : goal.returns-in_err-walk_roots-clause-refreshes
-returns-in_err-walk_roots-clause-refreshes g c = walk_refuses _ (rw c.signed.ensures at c.in_err-walk_roots.ensures) refl (search rules)
+pub returns-clause-authorised : goal.returns-clause-authorised
+returns-clause-authorised g c = λ given. refresh_authorised _ given _ _ _ _ _ _ _ c.run_steps.ensures.refreshes
 
-pub returns-in_err-check_root-clause-refreshes : goal.returns-in_err-check_root-clause-refreshes
-returns-in_err-check_root-clause-refreshes g c = root_refuses _ (rw c.signed.ensures at c.in_ok-walk_roots.ensures) c.in_err-check_root.ensures.err refl (search rules)
-
-pub returns-in_err-refresh_timestamp-clause-refreshes : goal.returns-in_err-refresh_timestamp-clause-refreshes
-returns-in_err-refresh_timestamp-clause-refreshes g c = timestamp_refuses _ _ (rw c.signed.ensures at c.in_ok-walk_roots.ensures) c.in_ok-check_root.ensures.ok c.in_err-refresh_timestamp.ensures (search rules)
-
-pub returns-in_err-refresh_snapshot-clause-refreshes : goal.returns-in_err-refresh_snapshot-clause-refreshes
-returns-in_err-refresh_snapshot-clause-refreshes g c =
-    snapshot_refuses _ _ _ _ (rw c.signed.ensures at c.in_ok-walk_roots.ensures) c.in_ok-check_root.ensures.ok c.in_ok-refresh_timestamp.ensures c.in_err-refresh_snapshot.ensures (search rules)
-
-pub returns-in_err-refresh_targets-clause-refreshes : goal.returns-in_err-refresh_targets-clause-refreshes
-returns-in_err-refresh_targets-clause-refreshes g c =
-    targets_refuses _ _ _ _ _ _ (rw c.signed.ensures at c.in_ok-walk_roots.ensures) c.in_ok-check_root.ensures.ok c.in_ok-refresh_timestamp.ensures c.in_ok-refresh_snapshot.ensures c.in_err-refresh_targets.ensures (search rules)
-
-pub returns-clause-refreshes : goal.returns-clause-refreshes
-returns-clause-refreshes g c =
-    all_serve _ _ _ _ _ (rw c.signed.ensures at c.in_ok-walk_roots.ensures) c.in_ok-check_root.ensures.ok c.in_ok-refresh_timestamp.ensures c.in_ok-refresh_snapshot.ensures c.in_ok-refresh_targets.ensures refl
+pub returns-clause-serves : goal.returns-clause-serves
+returns-clause-serves g c = on_refresh _ _ _ _ _ _ _ _ c.run_steps.ensures.refreshes
