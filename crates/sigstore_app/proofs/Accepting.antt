@@ -21,7 +21,7 @@ use Rattle.sigstore_app.specs.declared.answer.Status.{Status}
 use Rattle.sigstore_app.specs.declared.answer.Status.TheVariants as status
 use Rattle.sigstore_app.specs.declared.answer.Answer.{Answer}
 use Rattle.sigstore_app.specs.Report.{report_of}
-use Rattle.sigstore_app.specs.Run.{answer, stop_answer, tuf_answer, verify_answer, refusal_answer, now_of, VerifiesInputs, AcceptsInputs, said_of, Judges, want_judging, refused, reported, Proceeds, want_inputs, stopped, judged, Decides, want_words, misworded, worded, RunsTo, unwritten, cut, written, Accepts, OnAccepted}
+use Rattle.sigstore_app.specs.Run.{answer, stop_answer, tuf_answer, verify_answer, refusal_answer, now_of, VerifiesInputs, AcceptsInputs, Judges, want_judging, refused, reported, Proceeds, want_inputs, stopped, judged, Decides, want_words, misworded, worded, RunsTo, unwritten, cut, written, Accepts, OnAccepted}
 
 some_same : (a b : Answer) → Some a ≡ Some b → a ≡ b
 some_same a b e = cc
@@ -43,39 +43,24 @@ stop_quiet (Form which) said P e = as_said _ said P (some_same _ said e) tt
 stop_quiet (Input which) said P e = as_said _ said P (some_same _ said e) tt
 stop_quiet Memory said P e = cc
 
-tuf_quiet : (e : TufError) (P : Type 0) → OnAccepted (tuf_answer e).status P
-unfolding tuf_answer
-tuf_quiet e P = tt
-
 refusal_quiet : (fault : RootFault) (said : Answer) (P : Type 0) → refusal_answer fault ≡ Some said → OnAccepted said.status P
 unfolding refusal_answer tuf_answer verify_answer
 refusal_quiet (root.Tuf e) said P h = as_said _ said P (some_same _ said h) tt
 refusal_quiet (root.Verify fault chain) said P h = as_said _ said P (some_same _ said h) tt
 refusal_quiet root.NoMemory said P h = cc
 
--- the report was said
-report_said : (result : Result (List ℕ) TufError) (said : Answer) (out out' : Watched (List ℕ)) (P : Type 0)
-    → ((text : List ℕ) → result ≡ Ok text → WritesText {E = SinkFault} out out' text (Ok tt) → P)
-    → said_of result ≡ Some said → WritesText {E = SinkFault} out out' said.text (Ok tt) → OnAccepted said.status P
-report_said (Ok text) said out out' P f h w =
-    subst (λ (x : Answer). WritesText {E = SinkFault} out out' x.text (Ok tt) → OnAccepted x.status P) (some_same (answer status.Accepted text) said h) (λ v. f text refl v) w
-report_said (Err e) said out out' P f h w = as_said (tuf_answer e) said P (some_same _ said h) (tuf_quiet e P)
-
-said_later : (a b : Answer) (out out' : Watched (List ℕ)) → ok a ≡ ok b → WritesText {E = SinkFault} out out' a.text (Ok tt) → WritesText {E = SinkFault} out out' b.text (Ok tt)
-said_later a b out out' e w = subst (λ (x : Answer). WritesText {E = SinkFault} out out' x.text (Ok tt)) (ok_same a b e) w
-
 judged_means : (g : Gathered) (now : jiff.Timestamp) (repo repo' : Watched Folders) (source source' out out' : Watched (List ℕ)) (said : Answer) (P : Type 0)
-    → ((rooted : Rooted) (text : List ℕ) → VerifiesInputs g now repo repo' source source' (Ok rooted) → AcceptsInputs g source source' rooted
+    → ((rooted : Rooted) (text : List ℕ) → VerifiesInputs g now repo repo' source source' (Ok rooted) → AcceptsInputs g now source source' rooted
     → report_of rooted.chain rooted.digests rooted.result ≡ Ok text → WritesText {E = SinkFault} out out' text (Ok tt) → P)
     → Judges g now repo repo' source source' (Ok said) → WritesText {E = SinkFault} out out' said.text (Ok tt) → OnAccepted said.status P
 judged_means g now repo repo' source source' out out' said P f (want_judging e eq) w = cc
 judged_means g now repo repo' source source' out out' said P f (refused fault other v h eq) w = as_said other said P (sym (ok_same said other eq)) (refusal_quiet fault other P h)
 judged_means g now repo repo' source source' out out' said P f (reported rooted other v a h eq) w =
-    as_said other said P (sym (ok_same said other eq))
-    (report_said (report_of rooted.chain rooted.digests rooted.result) other out out' P (λ text t x. f rooted text v a t x) h (said_later said other out out' eq w))
+    let is : said ≡ answer status.Accepted h.text = ok_same said other eq ∙ h.said_is in
+    as_said (answer status.Accepted h.text) said P (sym is) (f rooted h.text v a h.reported (subst (λ (x : Answer). WritesText {E = SinkFault} out out' x.text (Ok tt)) is w))
 
 proceeds_means : (now : jiff.Timestamp) (inputs inputs' : Watched Held) (repo repo' : Watched Folders) (source source' out out' : Watched (List ℕ)) (said : Answer) (P : Type 0)
-    → ((g : Gathered) (rooted : Rooted) (text : List ℕ) → ReadsAs gathered_of inputs inputs' (Ok g) → VerifiesInputs g now repo repo' source source' (Ok rooted) → AcceptsInputs g source source' rooted
+    → ((g : Gathered) (rooted : Rooted) (text : List ℕ) → ReadsAs gathered_of inputs inputs' (Ok g) → VerifiesInputs g now repo repo' source source' (Ok rooted) → AcceptsInputs g now source source' rooted
     → report_of rooted.chain rooted.digests rooted.result ≡ Ok text → WritesText {E = SinkFault} out out' text (Ok tt) → P)
     → Proceeds now inputs inputs' repo repo' source source' (Ok said) → WritesText {E = SinkFault} out out' said.text (Ok tt) → OnAccepted said.status P
 proceeds_means now inputs inputs' repo repo' source source' out out' said P f (want_inputs e eq) w = cc

@@ -1,3 +1,4 @@
 mod Accepting
 mod Digests
+mod ReportThere
 mod RunFacts

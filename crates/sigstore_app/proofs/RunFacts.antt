@@ -13,7 +13,7 @@ use Rattle.sigstore_verify.specs.Policy.{Meaning, PublicKey}
 use Rattle.sigstore_verify.specs.declared.root.Rooted.{Rooted}
 use Rattle.sigstore_verify.specs.declared.root.RootFault.{RootFault}
 use Rattle.sigstore_verify.specs.declared.root.RootFault.TheVariants as root
-use Rattle.sigstore_verify.specs.Root.{Runs, IsAccepted}
+use Rattle.sigstore_verify.specs.Root.{trust_path, Runs, IsAccepted}
 use Rattle.sigstore_app_parts.specs.Inputs.{Held}
 use Rattle.sigstore_app_parts.specs.Sink.{WritesText}
 use Rattle.sigstore_app_parts.specs.Layout.{layout_of}
@@ -28,8 +28,9 @@ use Rattle.sigstore_app.specs.declared.answer.Status.{Status}
 use Rattle.sigstore_app.specs.declared.answer.Status.TheVariants as status
 use Rattle.sigstore_app.specs.declared.answer.Answer.{Answer}
 use Rattle.sigstore_app.specs.Report.{report_of}
+use Rattle.sigstore_app.proofs.ReportThere.{report_there}
 use Rattle.sigstore_app.specs.Run as r
-use Rattle.sigstore_app.specs.Run.{answer, stop_answer, tuf_answer, verify_answer, refusal_answer, policy_meant, max_artifact, crypto_in, judge_of, now_of, VerifiesInputs, AcceptsInputs, said_of, Reports, Judges, Proceeds, Decides, RunsTo, Accepts, OnAccepted}
+use Rattle.sigstore_app.specs.Run.{answer, stop_answer, tuf_answer, verify_answer, refusal_answer, policy_meant, max_artifact, crypto_in, now_of, VerifiesInputs, AcceptsInputs, said_of, Reports, SaysReport, Judges, Proceeds, Decides, RunsTo, Accepts, OnAccepted}
 
 -- the verification was called on the inputs
 pub on_inputs : (g : Gathered) (now : jiff.Timestamp) (repo repo' : Watched Folders) (source source' : Watched (List ℕ)) (result : Result Rooted RootFault)
@@ -41,14 +42,27 @@ on_inputs g now repo repo' source source' result p root bundle config a b c d h 
     let h3 = subst (λ x. Runs (crypto_in g) (PublicKey (policy_meant g.policy)) g.root x config now repo repo' source source' max_artifact result) c h2 in
     subst (λ x. Runs (crypto_in g) (PublicKey (policy_meant g.policy)) g.root g.bundle x now repo repo' source source' max_artifact result) d h3
 
-pub accepted_on_inputs : (g : Gathered) (source source' : Watched (List ℕ)) (rooted : Rooted) (p : PublicKeyVerificationPolicy) (bundle : List ℕ) → p ≡ policy_meant g.policy → bundle ≡ g.bundle
-    → IsAccepted (judge_of g) (PublicKey p) bundle source source' max_artifact rooted → AcceptsInputs g source source' rooted
-accepted_on_inputs g source source' rooted p bundle a c h =
-    subst (λ x. IsAccepted (judge_of g) (PublicKey (policy_meant g.policy)) x source source' max_artifact rooted) c (subst (λ x. IsAccepted (judge_of g) (PublicKey x) bundle source source' max_artifact rooted) a h)
+pub accepted_on_inputs : (g : Gathered) (now : jiff.Timestamp) (source source' : Watched (List ℕ)) (rooted : Rooted) (p : PublicKeyVerificationPolicy) (root bundle : List ℕ) (config : UpdaterConfig)
+    → p ≡ policy_meant g.policy → root ≡ g.root → bundle ≡ g.bundle → config ≡ default_config
+    → IsAccepted (crypto_in g) (PublicKey p) root bundle config now source source' max_artifact rooted → AcceptsInputs g now source source' rooted
+accepted_on_inputs g now source source' rooted p root bundle config a b c d h =
+    let h1 = subst (λ x. IsAccepted (crypto_in g) (PublicKey x) root bundle config now source source' max_artifact rooted) a h in
+    let h2 = subst (λ x. IsAccepted (crypto_in g) (PublicKey (policy_meant g.policy)) x bundle config now source source' max_artifact rooted) b h1 in
+    let h3 = subst (λ x. IsAccepted (crypto_in g) (PublicKey (policy_meant g.policy)) g.root x config now source source' max_artifact rooted) c h2 in
+    subst (λ x. IsAccepted (crypto_in g) (PublicKey (policy_meant g.policy)) g.root g.bundle x now source source' max_artifact rooted) d h3
+
+-- the chain of an acceptance is trusted, so its report is what is said
+report_said : (g : Gathered) (now : jiff.Timestamp) (source source' : Watched (List ℕ)) (rooted : Rooted) (said : Answer) → AcceptsInputs g now source source' rooted → Reports rooted said → SaysReport rooted said
+report_said g now source source' rooted said a h =
+    let t = report_there (crypto_in g) g.root now default_config.max_delegations trust_path rooted.chain rooted.digests rooted.result a.trusted in
+    record { text = t.0; reported = t.1; said_is = same _ _ (sym h ∙ ap said_of t.1) }
+  where
+    same : (x y : Answer) → Some x ≡ Some y → x ≡ y
+    same x y e = cc
 
 pub judged_reported : (g : Gathered) (now : jiff.Timestamp) (repo repo' : Watched Folders) (source source' : Watched (List ℕ)) (rooted : Rooted) (result : Result Answer NoMemory)
-    → VerifiesInputs g now repo repo' source source' (Ok rooted) → AcceptsInputs g source source' rooted → IfOk result (λ said. Reports rooted said) → Judges g now repo repo' source source' result
-judged_reported g now repo repo' source source' rooted (Ok said) v a h = r.reported rooted said v a h refl
+    → VerifiesInputs g now repo repo' source source' (Ok rooted) → AcceptsInputs g now source source' rooted → IfOk result (λ said. Reports rooted said) → Judges g now repo repo' source source' result
+judged_reported g now repo repo' source source' rooted (Ok said) v a h = r.reported rooted said v a (report_said g now source source' rooted said a h) refl
 judged_reported g now repo repo' source source' rooted (Err e) v a h = r.want_judging e refl
 
 pub judged_refused : (g : Gathered) (now : jiff.Timestamp) (repo repo' : Watched Folders) (source source' : Watched (List ℕ)) (fault : RootFault) (result : Result Answer NoMemory)

@@ -90,8 +90,9 @@ VerifiesInputs gathered now repo repo' source source' result =
     Runs (crypto_in gathered) (PublicKey (policy_meant gathered.policy)) gathered.root gathered.bundle default_config now repo repo' source source' max_artifact result
 
 -- what an acceptance means, over the inputs
-abbrev pub AcceptsInputs : Gathered → Watched (List ℕ) → Watched (List ℕ) → Rooted → Type 0
-AcceptsInputs gathered source source' rooted = IsAccepted (judge_of gathered) (PublicKey (policy_meant gathered.policy)) gathered.bundle source source' max_artifact rooted
+abbrev pub AcceptsInputs : Gathered → jiff.Timestamp → Watched (List ℕ) → Watched (List ℕ) → Rooted → Type 0
+AcceptsInputs gathered now source source' rooted =
+    IsAccepted (crypto_in gathered) (PublicKey (policy_meant gathered.policy)) gathered.root gathered.bundle default_config now source source' max_artifact rooted
 
 -- what is said of an acceptance: its report, or the refusal of a document of its chain that isn't read
 abbrev pub said_of : Result (List ℕ) TufError → Option Answer
@@ -101,13 +102,19 @@ said_of (Err e) = Some (tuf_answer e)
 abbrev pub Reports : Rooted → Answer → Type 0
 Reports rooted said = said_of (report_of rooted.chain rooted.digests rooted.result) ≡ Some said
 
+-- the report is said
+pub record SaysReport (rooted : Rooted) (said : Answer) : Type 0 where
+  pub text : List ℕ
+  pub reported : report_of rooted.chain rooted.digests rooted.result ≡ Ok text
+  pub said_is : said ≡ answer status.Accepted text
+
 -- What the verification makes the program say: the report of what was accepted, or the refusal.
 pub data Judges (gathered : Gathered) (now : jiff.Timestamp) (repo repo' : Watched Folders) (source source' : Watched (List ℕ)) (result : Result Answer NoMemory) : Type 0 where
   want_judging : (e : NoMemory) → result ≡ Err e → Judges gathered now repo repo' source source' result
   refused : (fault : RootFault) (said : Answer) → VerifiesInputs gathered now repo repo' source source' (Err fault) → refusal_answer fault ≡ Some said → result ≡ Ok said
       → Judges gathered now repo repo' source source' result
-  reported : (rooted : Rooted) (said : Answer) → VerifiesInputs gathered now repo repo' source source' (Ok rooted) → AcceptsInputs gathered source source' rooted
-      → Reports rooted said → result ≡ Ok said → Judges gathered now repo repo' source source' result
+  reported : (rooted : Rooted) (said : Answer) → VerifiesInputs gathered now repo repo' source source' (Ok rooted) → AcceptsInputs gathered now source source' rooted
+      → SaysReport rooted said → result ≡ Ok said → Judges gathered now repo repo' source source' result
 
 -- What the program says once its words are read: its inputs first, then the verification.
 pub data Proceeds (now : jiff.Timestamp) (inputs inputs' : Watched Held) (repo repo' : Watched Folders) (source source' : Watched (List ℕ)) (result : Result Answer NoMemory) : Type 0 where
@@ -142,7 +149,7 @@ pub record Accepts (words : List (List ℕ)) (clock : jiff.Timestamp) (inputs in
   pub read : ReadsAs gathered_of inputs inputs' (Ok gathered)
   pub rooted : Rooted
   pub verified : VerifiesInputs gathered (now_of layout clock) repo repo' source source' (Ok rooted)
-  pub accepted : AcceptsInputs gathered source source' rooted
+  pub accepted : AcceptsInputs gathered (now_of layout clock) source source' rooted
   pub text : List ℕ
   pub reported : report_of rooted.chain rooted.digests rooted.result ≡ Ok text
   pub written : WritesText {E = SinkFault} out out' text (Ok tt)

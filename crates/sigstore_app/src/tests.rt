@@ -30,6 +30,10 @@ const SNAPSHOT: &str =
 const MESSAGE: &str =
     r#""messageSignature":{"messageDigest":{"algorithm":"SHA2_256","digest":"LPJNul+wow4m6DsqxbninhsWHlwfp0JecwQzYpOLmCQ="},"signature":"AQ=="}"#;
 
+// The same over the empty artifact.
+const EMPTY_MESSAGE: &str =
+    r#""messageSignature":{"messageDigest":{"algorithm":"SHA2_256","digest":"47DEQpj8HBSa+/TImW+5JCeuQeRkm5NMpJWZG3hSuFU="},"signature":"AQ=="}"#;
+
 const WORDS: &str =
     "verify --root=a --repository=b --store=c --bundle=d --artifact=e --policy=f --provider=g --now=2025-01-01T00:00:00Z";
 
@@ -137,13 +141,19 @@ fn provider(alloc: Global, change: Change, root: &str, targets: &str) -> Result<
     push_row(alloc, &mut rows, change, "timestamp", TIMESTAMP)?;
     push_row(alloc, &mut rows, change, "snapshot", SNAPSHOT)?;
     push_row(alloc, &mut rows, change, "targets", targets)?;
-    push_row(alloc, &mut rows, change, "hello", "hello")?;
+    let artifact = change.of("signed artifact", "hello");
+    push_row(alloc, &mut rows, change, "hello", artifact)?;
     Ok(rows)
 }
 
 fn bundle(alloc: Global, change: Change) -> Result<String, Fail> {
     let material = change.of("material", r#""publicKey":{"hint":"k"}"#);
-    let content = change.of("content", MESSAGE);
+    let message = if change.part == "signed artifact" {
+        EMPTY_MESSAGE
+    } else {
+        MESSAGE
+    };
+    let content = change.of("content", message);
     let bundle = format!(in alloc;
         r#"{{"mediaType":"application/vnd.dev.sigstore.bundle.v0.3+json","verificationMaterial":{{{material}}},{content}}}"#
     )?;
@@ -186,7 +196,8 @@ fn ended(alloc: Global, change: Change, room: u32) -> Result<(Status, String), F
     let mut inputs = inputs(alloc, change, root.as_str(), targets.as_str())?;
     let mut repo = repository(alloc, change, targets.as_str(), trust)?;
     let mut store = MemoryStore::new(alloc);
-    let mut artifact = source(alloc, change.of("artifact", "hello"))?;
+    let signed = change.of("signed artifact", "hello");
+    let mut artifact = source(alloc, change.of("artifact", signed))?;
     let mut sink = MemorySink::new(alloc, room, no_failures(alloc)?)?;
     let words = words(alloc, change.of("words", WORDS))?;
     let clock = Timestamp::UNIX_EPOCH;
@@ -213,17 +224,46 @@ fn said(alloc: Global, part: &str, text: &str, status: Status) -> Result<String,
     Ok(said)
 }
 
+// The report over the fixture, or over the empty artifact.
+fn report_of(artifact: &str) -> &'static str {
+    match artifact {
+        "" =>
+            "accepted\nroot 1\ntimestamp 1\nsnapshot 1\nrole targets 1\ntarget 2\nartifact sha256 e3b0c44298fc1c149afbf4c8996fb92427ae41e4649b934ca495991b7852b855\nidentity none\nissuer none\ncertificate no\nsct no\ntlog no\npolicy no\nintegrated none\ntimes 0\n",
+        _ =>
+            "accepted\nroot 1\ntimestamp 1\nsnapshot 1\nrole targets 1\ntarget 2\nartifact sha256 2cf24dba5fb0a30e26e83b2ac5b9e29e1b161e5c1fa7425e73043362938b9824\nidentity none\nissuer none\ncertificate no\nsct no\ntlog no\npolicy no\nintegrated none\ntimes 0\n",
+    }
+}
+
+// The words at another moment.
+fn at(moment: &str) -> &'static str {
+    match moment {
+        "expiry" =>
+            "verify --root=a --repository=b --store=c --bundle=d --artifact=e --policy=f --provider=g --now=2030-01-01T00:00:00Z",
+        "after" =>
+            "verify --root=a --repository=b --store=c --bundle=d --artifact=e --policy=f --provider=g --now=2030-01-01T00:00:01Z",
+        _ => "",
+    }
+}
+
+// The fixture, an empty artifact, the timestamp's expiry and the second after it, and no words.
 #[test]
 fn the_fixture_is_accepted(rt: HostRuntime) -> Result<(), Fail> {
     let alloc = rt.alloc();
-    assert_eq!(rt;
-        said(alloc, "", "", Status::Accepted)?.as_str(),
-        "accepted\nroot 1\ntimestamp 1\nsnapshot 1\nrole targets 1\ntarget 2\nartifact sha256 2cf24dba5fb0a30e26e83b2ac5b9e29e1b161e5c1fa7425e73043362938b9824\nidentity none\nissuer none\ncertificate no\nsct no\ntlog no\npolicy no\nintegrated none\ntimes 0\n"
-    );
-    assert_eq!(rt;
-        said(alloc, "words", "", Status::Usage)?.as_str(),
-        "usage\n"
-    );
+    for (part, text, status, line) in [
+        ("", "", Status::Accepted, report_of("hello")),
+        ("signed artifact", "", Status::Accepted, report_of("")),
+        ("words", at("expiry"), Status::Accepted, report_of("hello")),
+        (
+            "words",
+            at("after"),
+            Status::Refused,
+            "refused tuf 12 Expired\n",
+        ),
+        ("words", at(""), Status::Usage, "usage\n"),
+    ] {
+        let found = said(alloc, part, text, status)?;
+        assert_eq!(rt; found.as_str(), line, "{part} {text}");
+    }
     Ok(())
 }
 

@@ -63,7 +63,7 @@ pub role_met : {T : Type 0} (crypto : Crypto) (root : Root) (name : List ℕ) (d
 unfolding meets_role_of
 role_met crypto root name doc h =
     let a = step_ok (ok_or (at_name name root.roles) (UnknownRole name)) (λ role. meets_of crypto root.keys role name doc) tt h in
-    (a.0, ok_some (at_name name root.roles) (UnknownRole name) a.0 a.1.0, (meets_exactly crypto root.keys a.0 name doc).0 a.1.1)
+    (a.0, ok_some (at_name name root.roles) (UnknownRole name) a.0 a.1, (meets_exactly crypto root.keys a.0 name doc).0 a.2)
 
 pub fresh_from : (role : List ℕ) (expires now : jiff.Timestamp) → fresh_of role expires now ≡ Ok tt → Fresh expires now
 fresh_from role expires now h = (fresh_exactly role expires now).0 h
@@ -74,9 +74,9 @@ pub first_root_authorised : (crypto : Crypto) (bytes : List ℕ) (set : InForce)
 unfolding first_root_of
 first_root_authorised crypto bytes set h =
     let a = step_ok (root_document bytes) _ set h in
-    let b = step_ok (meets_role_of crypto (content_in a.0) (codes "root") a.0) _ set a.1.1 in
-    subst (AreAuthorised crypto bytes) (ok_same _ set b.1.1) (record {
-      roots = record { begins = refl; first = a.0; documents = a.0 ∷ []; read = (a.1.0, tt); next = (refl, role_met crypto (content_in a.0) (codes "root") a.0 b.1.0, tt); last = refl };
+    let b = step_ok (meets_role_of crypto (content_in a.0) (codes "root") a.0) _ set a.2 in
+    subst (AreAuthorised crypto bytes) (ok_same _ set b.2) (record {
+      roots = record { begins = refl; first = a.0; documents = a.0 ∷ []; read = (a.1, tt); next = (refl, role_met crypto (content_in a.0) (codes "root") a.0 b.1, tt); last = refl };
       timestamp = tt;
       snapshot = tt;
       targets = tt;
@@ -92,11 +92,11 @@ module _ (crypto : Crypto) (set : InForce) (bytes : List ℕ) (now : jiff.Timest
   unfolding new_timestamp_of
   timestamp_signed held h =
       let a = step_ok (timestamp_document bytes) _ held h in
-      let b = step_ok (meets_role_of crypto (content_in set.root) (codes "timestamp") a.0) _ held a.1.1 in
-      let c = step_ok (newer_of set.timestamp (content_in a.0)) _ held b.1.1 in
-      let d = step_ok (fresh_of (codes "timestamp") (content_in a.0).expires now) _ held c.1.1 in
-      subst (Signed timestamp_document (codes "timestamp")) (ok_same _ held d.1.1)
-      (record { read = a.1.0; met = role_met crypto (content_in set.root) (codes "timestamp") a.0 b.1.0 })
+      let b = step_ok (meets_role_of crypto (content_in set.root) (codes "timestamp") a.0) _ held a.2 in
+      let c = step_ok (newer_of set.timestamp (content_in a.0)) _ held b.2 in
+      let d = step_ok (fresh_of (codes "timestamp") (content_in a.0).expires now) _ held c.2 in
+      subst (Signed timestamp_document (codes "timestamp")) (ok_same _ held d.2)
+      (record { read = a.1; met = role_met crypto (content_in set.root) (codes "timestamp") a.0 b.1 })
 
   -- the pin of a snapshot that is adopted, and what was checked of it
   pub record Snapshots (held : Held Snapshot) : Type 0 where
@@ -118,24 +118,24 @@ module _ (crypto : Crypto) (set : InForce) (bytes : List ℕ) (now : jiff.Timest
   unfolding snapshot_checks_of
   checked pin new h =
       let a = step_ok (meets_role_of crypto (content_in set.root) (codes "snapshot") new) _ tt h in
-      let b = step_ok (version_of pin (content_in new).version) _ tt a.1.1 in
-      let c = step_ok (kept_pins_of set.snapshot (content_in new)) _ tt b.1.1 in
-      (a.1.0, b.1.0, c.1.1)
+      let b = step_ok (version_of pin (content_in new).version) _ tt a.2 in
+      let c = step_ok (kept_pins_of set.snapshot (content_in new)) _ tt b.2 in
+      (a.1, b.1, c.2)
 
   pub snapshot_adopted : (held : Held Snapshot) → new_snapshot_of crypto set bytes now ≡ Ok held → Snapshots held
   unfolding new_snapshot_of
   snapshot_adopted held h =
       let a = step_ok (snapshot_pin_of set now) _ held h in
-      let b = step_ok (integrity_of a.0.length a.0.hashes bytes) _ held a.1.1 in
-      let c = step_ok (snapshot_document bytes) _ held b.1.1 in
-      let d = step_ok (snapshot_checks_of crypto set a.0 c.0 now) _ held c.1.1 in
-      let is = checked a.0 c.0 d.1.0 in
-      subst Snapshots (ok_same _ held d.1.1) (record {
+      let b = step_ok (integrity_of a.0.length a.0.hashes bytes) _ held a.2 in
+      let c = step_ok (snapshot_document bytes) _ held b.2 in
+      let d = step_ok (snapshot_checks_of crypto set a.0 c.0 now) _ held c.2 in
+      let is = checked a.0 c.0 d.1 in
+      subst Snapshots (ok_same _ held d.2) (record {
         pin = a.0;
-        pin_is = a.1.0;
-        signed = record { read = c.1.0; met = role_met crypto (content_in set.root) (codes "snapshot") c.0 is.0 };
-        version_is = same_version a.0 (content_in c.0).version is.1.0;
-        fresh = fresh_from (codes "snapshot") (content_in c.0).expires now is.1.1;
+        pin_is = a.1;
+        signed = record { read = c.1; met = role_met crypto (content_in set.root) (codes "snapshot") c.0 is.0 };
+        version_is = same_version a.0 (content_in c.0).version is.1;
+        fresh = fresh_from (codes "snapshot") (content_in c.0).expires now is.2;
       })
 
   pub record Adopts (held : Held Targets) : Type 0 where
@@ -147,23 +147,23 @@ module _ (crypto : Crypto) (set : InForce) (bytes : List ℕ) (now : jiff.Timest
   unfolding new_targets_of targets_pin_of
   targets_adopted held h =
       let p = step_ok (targets_pin_of set now) _ held h in
-      let s = step_ok (ok_or set.snapshot (Malformed rule.NoSnapshot)) _ p.0 p.1.0 in
-      let f = step_ok (fresh_of (codes "snapshot") (content_of s.0).expires now) _ p.0 s.1.1 in
-      let b = step_ok (integrity_of p.0.length p.0.hashes bytes) _ held p.1.1 in
-      let c = step_ok (targets_document bytes) _ held b.1.1 in
-      let v = step_ok (version_of p.0 (content_in c.0).version) _ held c.1.1 in
-      let m = step_ok (meets_role_of crypto (content_in set.root) (codes "targets") c.0) _ held v.1.1 in
-      let d = step_ok (fresh_of (codes "targets") (content_in c.0).expires now) _ held m.1.1 in
-      subst Adopts (ok_same _ held d.1.1) (record {
-        signed = record { read = c.1.0; met = role_met crypto (content_in set.root) (codes "targets") c.0 m.1.0 };
+      let s = step_ok (ok_or set.snapshot (Malformed rule.NoSnapshot)) _ p.0 p.1 in
+      let f = step_ok (fresh_of (codes "snapshot") (content_of s.0).expires now) _ p.0 s.2 in
+      let b = step_ok (integrity_of p.0.length p.0.hashes bytes) _ held p.2 in
+      let c = step_ok (targets_document bytes) _ held b.2 in
+      let v = step_ok (version_of p.0 (content_in c.0).version) _ held c.2 in
+      let m = step_ok (meets_role_of crypto (content_in set.root) (codes "targets") c.0) _ held v.2 in
+      let d = step_ok (fresh_of (codes "targets") (content_in c.0).expires now) _ held m.2 in
+      subst Adopts (ok_same _ held d.2) (record {
+        signed = record { read = c.1; met = role_met crypto (content_in set.root) (codes "targets") c.0 m.1 };
         pinned = record {
           held = s.0;
-          there = ok_some set.snapshot (Malformed rule.NoSnapshot) s.0 s.1.0;
+          there = ok_some set.snapshot (Malformed rule.NoSnapshot) s.0 s.1;
           pin = p.0;
-          pin_is = ok_some (targets_pin (content_of s.0)) (Malformed rule.Unpinned) p.0 f.1.1;
-          pinned = record { intact = (integrity_exactly p.0.length p.0.hashes bytes).0 b.1.0; version_is = same_version p.0 (content_in c.0).version v.1.0 };
+          pin_is = ok_some (targets_pin (content_of s.0)) (Malformed rule.Unpinned) p.0 f.2;
+          pinned = record { intact = (integrity_exactly p.0.length p.0.hashes bytes).0 b.1; version_is = same_version p.0 (content_in c.0).version v.1 };
         };
-        fresh = fresh_from (codes "targets") (content_in c.0).expires now d.1.0;
+        fresh = fresh_from (codes "targets") (content_in c.0).expires now d.1;
       })
 
 -- ---- what each step keeps
@@ -198,11 +198,11 @@ module _ (crypto : Crypto) (given : List ℕ) (config : UpdaterConfig) (now : ji
       subst (AreAuthorised crypto given) (sym e) (record { roots = k.roots; timestamp = k.timestamp; snapshot = (snapshot_adopted crypto old bytes now held h).signed; targets = tt })
 
   snapshot_taken : (old new : InForce) (repo : Watched Folders) (result : Result ⊤ Error) → TookSnapshot crypto config now old new repo result → Kept old new
-  snapshot_taken old new repo (Ok x) t k = snapshot_put old new t.bytes t.adopted.0 t.adopted.1.0 t.adopted.1.1 k
+  snapshot_taken old new repo (Ok x) t k = snapshot_put old new t.bytes t.adopted.0 t.adopted.1 t.adopted.2 k
   snapshot_taken old new repo (Err e) t k = unchanged old new t.refused.0 k
 
   snapshot_kept : (old new : InForce) (repo repo' : Watched Folders) (result : Result ⊤ Error) → RefreshesSnapshot crypto config now old new repo repo' result → Kept old new
-  snapshot_kept old new repo repo' result (inl same) k = unchanged old new same.1.0 k
+  snapshot_kept old new repo repo' result (inl same) k = unchanged old new same.1 k
   snapshot_kept old new repo repo' result (inr fetches) k = by_answer fetches.1.answer
     where
       by_answer : IsUnfetched (codes "snapshot.json") config.snapshot_max_length old new repo repo' result ⊎ TookSnapshot crypto config now old new repo result → AreAuthorised crypto given new
@@ -223,7 +223,7 @@ module _ (crypto : Crypto) (given : List ℕ) (config : UpdaterConfig) (now : ji
       })
 
   targets_taken : (old new : InForce) (bytes : List ℕ) (result : Result ⊤ Error) → TakesTargets crypto now old new bytes result → Kept old new
-  targets_taken old new bytes (Ok x) t k = targets_put old new bytes t.adopted.0 t.adopted.1.0 t.adopted.1.1 k
+  targets_taken old new bytes (Ok x) t k = targets_put old new bytes t.adopted.0 t.adopted.1 t.adopted.2 k
   targets_taken old new bytes (Err e) t k = unchanged old new t.refused.0 k
 
   unpinned : (old new : InForce) (repo repo' : Watched Folders) (result : Result ⊤ Error) → IsUnpinned now old new repo repo' result → new ≡ old
@@ -231,9 +231,9 @@ module _ (crypto : Crypto) (given : List ℕ) (config : UpdaterConfig) (now : ji
   unpinned old new repo repo' (Err e) u = u.0
 
   pinned_kept : (old new : InForce) (repo repo' : Watched Folders) (result : Result ⊤ Error) → RefreshesPinned crypto config now old new repo repo' result → Kept old new
-  pinned_kept old new repo repo' result (inl same) k = unchanged old new same.1.0 k
-  pinned_kept old new repo repo' result (inr (no, inl u)) k = unchanged old new (unpinned old new repo repo' result u) k
-  pinned_kept old new repo repo' result (inr (no, inr fetches)) k = by_answer fetches.answer
+  pinned_kept old new repo repo' result (inl same) k = unchanged old new same.1 k
+  pinned_kept old new repo repo' result (inr (fetched, inl u)) k = unchanged old new (unpinned old new repo repo' result u) k
+  pinned_kept old new repo repo' result (inr (fetched, inr fetches)) k = by_answer fetches.answer
     where
       by_answer : IsUnfetched (codes "targets.json") config.targets_max_length old new repo repo' result ⊎ TookTargets crypto config now old new repo result → AreAuthorised crypto given new
       by_answer (inl u) = unchanged old new (unfetched (codes "targets.json") config.targets_max_length old new repo repo' result u) k

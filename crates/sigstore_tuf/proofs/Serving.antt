@@ -74,13 +74,13 @@ timestamp_there : (now : jiff.Timestamp) (set : InForce) → timestamp_serves_of
 unfolding timestamp_serves_of
 timestamp_there now set h =
     let a = step_ok (ok_or set.timestamp (Malformed rule.NoTimestamp)) _ tt h in
-    let b = step_ok (ok_or (snapshot_pin (content_of a.0)) (Malformed rule.Unpinned)) _ tt a.1.1 in
+    let b = step_ok (ok_or (snapshot_pin (content_of a.0)) (Malformed rule.Unpinned)) _ tt a.2 in
     record {
       held = a.0;
-      there = ok_some set.timestamp (Malformed rule.NoTimestamp) a.0 a.1.0;
-      fresh = fresh_from (codes "timestamp") (content_of a.0).expires now b.1.1;
+      there = ok_some set.timestamp (Malformed rule.NoTimestamp) a.0 a.1;
+      fresh = fresh_from (codes "timestamp") (content_of a.0).expires now b.2;
       pin = b.0;
-      pin_is = ok_some (snapshot_pin (content_of a.0)) (Malformed rule.Unpinned) b.0 b.1.0;
+      pin_is = ok_some (snapshot_pin (content_of a.0)) (Malformed rule.Unpinned) b.0 b.1;
     }
 
 -- ---- the snapshot
@@ -106,14 +106,14 @@ snapshot_kept_there now set t h = by_both set.timestamp set.snapshot refl refl h
     by_both (Some x) None p q h = cc
     by_both (Some x) (Some y) p q h =
         let s = served (snapshot_pin (content_of x)) (content_of y).version (content_of y).expires now h in
-        record { timestamp = t; held = y; there = q; fresh = s.1.1.1; version_is = s.1.1.0 ∙ ap (λ (m : MetaFile). m.version) (one_pin now set t x s.0 p s.1.0) }
+        record { timestamp = t; held = y; there = q; fresh = s.3; version_is = s.2 ∙ ap (λ (m : MetaFile). m.version) (one_pin now set t x s.0 p s.1) }
 
 pin_there : (now : jiff.Timestamp) (set : InForce) (t : HasTimestamp now set) (pin : MetaFile) → snapshot_pin_of set now ≡ Ok pin → pin ≡ t.pin
 unfolding snapshot_pin_of
 pin_there now set t pin h =
     let a = step_ok (ok_or set.timestamp (Malformed rule.NoTimestamp)) _ pin h in
-    let b = step_ok (fresh_of (codes "timestamp") (content_of a.0).expires now) _ pin a.1.1 in
-    one_pin now set t a.0 pin (ok_some set.timestamp (Malformed rule.NoTimestamp) a.0 a.1.0) (ok_some (snapshot_pin (content_of a.0)) (Malformed rule.Unpinned) pin b.1.1)
+    let b = step_ok (fresh_of (codes "timestamp") (content_of a.0).expires now) _ pin a.2 in
+    one_pin now set t a.0 pin (ok_some set.timestamp (Malformed rule.NoTimestamp) a.0 a.1) (ok_some (snapshot_pin (content_of a.0)) (Malformed rule.Unpinned) pin b.2)
 
 module _ (crypto : Crypto) (config : UpdaterConfig) (now : jiff.Timestamp) where
   snapshot_put_there : (set : InForce) (bytes : List ℕ) (held : Held Snapshot) → HasTimestamp now set → new_snapshot_of crypto set bytes now ≡ Ok held → HasSnapshot now (with_snapshot set held)
@@ -135,21 +135,21 @@ module _ (crypto : Crypto) (config : UpdaterConfig) (now : jiff.Timestamp) where
       root_same (Ok held) = refl
       root_same (Err e) = refl
       by_answer : ⊥ ⊎ TookTimestamp crypto config now old new repo (Ok tt) → HasTimestamp now new × (new.root ≡ old.root)
-      by_answer (inl no) = absurd no
+      by_answer (inl nothing) = absurd nothing
       by_answer (inr t) =
           let a = step_ok (adoption_of (new_timestamp_of crypto old t.bytes now)) _ tt t.takes.serves.0 in
           (
-            subst (HasTimestamp now) (sym t.takes.serves.1) (timestamp_there now (after_timestamp old (new_timestamp_of crypto old t.bytes now)) a.1.1),
+            subst (HasTimestamp now) (sym t.takes.serves.1) (timestamp_there now (after_timestamp old (new_timestamp_of crypto old t.bytes now)) a.2),
             ap (λ (s : InForce). s.root) t.takes.serves.1 ∙ root_same (new_timestamp_of crypto old t.bytes now),
           )
 
   snapshot_step : (old new : InForce) (repo repo' : Watched Folders) → HasTimestamp now old → RefreshesSnapshot crypto config now old new repo repo' (Ok tt) → HasSnapshot now new × (new.root ≡ old.root)
-  snapshot_step old new repo repo' t (inl same) = (subst (HasSnapshot now) (sym same.1.0) (snapshot_kept_there now old t same.0), ap (λ (s : InForce). s.root) same.1.0)
+  snapshot_step old new repo repo' t (inl same) = (subst (HasSnapshot now) (sym same.1) (snapshot_kept_there now old t same.0), ap (λ (s : InForce). s.root) same.1)
   snapshot_step old new repo repo' t (inr fetches) = by_answer fetches.1.answer
     where
       by_answer : ⊥ ⊎ TookSnapshot crypto config now old new repo (Ok tt) → HasSnapshot now new × (new.root ≡ old.root)
-      by_answer (inl no) = absurd no
-      by_answer (inr k) = (subst (HasSnapshot now) (sym k.adopted.1.1) (snapshot_put_there old k.bytes k.adopted.0 t k.adopted.1.0), ap (λ (s : InForce). s.root) k.adopted.1.1)
+      by_answer (inl nothing) = absurd nothing
+      by_answer (inr k) = (subst (HasSnapshot now) (sym k.adopted.2) (snapshot_put_there old k.bytes k.adopted.0 t k.adopted.1), ap (λ (s : InForce). s.root) k.adopted.2)
 
   -- ---- the targets document
 
@@ -166,7 +166,7 @@ module _ (crypto : Crypto) (config : UpdaterConfig) (now : jiff.Timestamp) where
       by_both (Some x) None q h = cc
       by_both (Some x) (Some y) q h =
           let s = served (targets_pin (content_of x)) (content_of y).version (content_of y).expires now h in
-          record { held = y; there = q; fresh = s.1.1.1 }
+          record { held = y; there = q; fresh = s.3 }
 
   -- what the targets document's step leaves as it was
   record SameBelow (old new : InForce) : Type 0 where
@@ -185,24 +185,24 @@ module _ (crypto : Crypto) (config : UpdaterConfig) (now : jiff.Timestamp) where
       record { held = held; there = ap top_targets e ∙ top_inserted crypto [] config now old held; fresh = (targets_adopted crypto old bytes now held h).fresh }
 
   pinned_step : (old new : InForce) (repo repo' : Watched Folders) → RefreshesPinned crypto config now old new repo repo' (Ok tt) → HasTargets new × SameBelow old new
-  pinned_step old new repo repo' (inl same) = (subst HasTargets (sym same.1.0) (targets_kept_there old same.0), same_below old new same.1.0)
-  pinned_step old new repo repo' (inr (no, inl none)) = absurd none
-  pinned_step old new repo repo' (inr (no, inr fetches)) = by_answer fetches.answer
+  pinned_step old new repo repo' (inl same) = (subst HasTargets (sym same.1) (targets_kept_there old same.0), same_below old new same.1)
+  pinned_step old new repo repo' (inr (fetched, inl nothing)) = absurd nothing
+  pinned_step old new repo repo' (inr (fetched, inr fetches)) = by_answer fetches.answer
     where
       by_answer : ⊥ ⊎ TookTargets crypto config now old new repo (Ok tt) → HasTargets new × SameBelow old new
-      by_answer (inl none) = absurd none
+      by_answer (inl nothing) = absurd nothing
       by_answer (inr k) =
-          (targets_put_there old new k.bytes k.takes.adopted.0 k.takes.adopted.1.0 k.takes.adopted.1.1, put_below old new k.takes.adopted.0 k.takes.adopted.1.1)
+          (targets_put_there old new k.bytes k.takes.adopted.0 k.takes.adopted.1 k.takes.adopted.2, put_below old new k.takes.adopted.0 k.takes.adopted.2)
 
   targets_step : (old new : InForce) (repo repo' : Watched Folders) → RefreshesTargets crypto config now old new repo repo' (Ok tt) → HasTargets new × SameBelow old new
-  targets_step old new repo repo' (inl no) = absurd no
+  targets_step old new repo repo' (inl nothing) = absurd nothing
   targets_step old new repo repo' (inr r) = pinned_step old new repo repo' r.pinned
 
   root_there : (set : InForce) → root_serves_of set now ≡ Ok tt → Fresh (content_in set.root).expires now
   unfolding root_serves_of
   root_there set h =
       let a = step_ok (fresh_of (codes "root") (content_in set.root).expires now) _ tt h in
-      fresh_from (codes "root") (content_in set.root).expires now a.1.0
+      fresh_from (codes "root") (content_in set.root).expires now a.1
 
   serve_from : (old s1 s2 new : InForce) → Fresh (content_in old.root).expires now → s1.root ≡ old.root → HasSnapshot now s2 × (s2.root ≡ s1.root) → HasTargets new × SameBelow s2 new → Serve now new
   serve_from old s1 s2 new fresh e s g =
@@ -254,8 +254,8 @@ module _ (set : InForce) (now : jiff.Timestamp) where
   all_there f (Some t) (Some s) None et es eg ft fs h = cc
   all_there f (Some t) (Some s) (Some g) et es eg ft fs h =
       let a = step_ok (fresh_of (codes "targets") (content_of g).expires now) _ tt h in
-      let b = step_ok (pinned_version_of (snapshot_pin (content_of t)) (content_of s).version) _ tt a.1.1 in
-      let v = version_there (snapshot_pin (content_of t)) (content_of s).version b.1.0 in
+      let b = step_ok (pinned_version_of (snapshot_pin (content_of t)) (content_of s).version) _ tt a.2 in
+      let v = version_there (snapshot_pin (content_of t)) (content_of s).version b.1 in
       record {
         root_fresh = f;
         timestamp = t;
@@ -265,43 +265,53 @@ module _ (set : InForce) (now : jiff.Timestamp) where
         snapshot_is = es;
         snapshot_fresh = fresh_from (codes "snapshot") (content_of s).expires now fs;
         pin = v.0;
-        pin_is = v.1.0;
-        snapshot_version = v.1.1;
+        pin_is = v.1;
+        snapshot_version = v.2;
         targets = g;
         targets_is = eg;
-        targets_fresh = fresh_from (codes "targets") (content_of g).expires now a.1.0;
+        targets_fresh = fresh_from (codes "targets") (content_of g).expires now a.1;
       }
 
   pub search_serves : search_serves_of set now ≡ Ok tt → Serve now set
   unfolding search_serves_of unexpired_of
   search_serves h =
       let a = step_ok (unexpired_of set now) _ tt h in
-      let r = step_ok (fresh_of (codes "root") (content_in set.root).expires now) _ tt a.1.0 in
-      let t = step_ok (fresh_timestamp_of set.timestamp now) _ tt r.1.1 in
-      all_there (fresh_from (codes "root") (content_in set.root).expires now r.1.0) set.timestamp set.snapshot (top_targets set) refl refl refl t.1.0 t.1.1 a.1.1
+      let r = step_ok (fresh_of (codes "root") (content_in set.root).expires now) _ tt a.1 in
+      let t = step_ok (fresh_timestamp_of set.timestamp now) _ tt r.2 in
+      all_there (fresh_from (codes "root") (content_in set.root).expires now r.1) set.timestamp set.snapshot (top_targets set) refl refl refl t.1 t.2 a.2
 
 -- ---- the chain
+
+not_zero : (n : ℕ) → (suc n == 0) ≡ false
+not_zero n = grind (arith, nat_tests)
+
+positive : (n : ℕ) → (n == 0) ≡ false → (m : ℕ) × (n ≡ suc m)
+positive zero e = cc
+positive (suc m) e = (m, refl)
 
 -- the first visit is the only one, where its document lists the path
 one_visit : (documents : List ℕ → Option Targets) (snapshot : Snapshot) (path : List ℕ) (max : ℕ) (doc : Targets) → documents (codes "targets") ≡ Some doc → is_pinned snapshot (codes "targets") ≡ true → lists doc path ≡ true
     → order documents snapshot path (suc max) ≡ Some (first_visit ∷ [])
 unfolding search_of walk_of
-one_visit documents snapshot path max doc d p l = rw (p, d, l)
+one_visit documents snapshot path max doc d p l = rw (not_zero max, p, d, l)
 
 entry_listed : (path : List ℕ) (targets : Held Targets) (o : Option TargetFile) (entry : TargetFile) → entry_in path (Some targets) o ≡ Ok entry → o ≡ Some entry
 entry_listed path targets (Some x) entry h = ap Some (ok_same x entry h)
 entry_listed path targets None entry h = let a = step_ok (undelegated_of (Some targets)) _ entry h in cc
 
 more_than_none : (max : ℕ) (path : List ℕ) (r : Result TargetFile Error) (entry : TargetFile) → (if max == 0 then Err (TargetNotFound path) else r) ≡ Ok entry → ((m : ℕ) × (max ≡ suc m)) × (r ≡ Ok entry)
-more_than_none zero path r entry h = cc
-more_than_none (suc m) path r entry h = ((m, refl), h)
+more_than_none max path r entry h = by_test (max == 0) refl h
+  where
+    by_test : (b : Bool) → (max == 0) ≡ b → (if b then Err (TargetNotFound path) else r) ≡ Ok entry → ((m : ℕ) × (max ≡ suc m)) × (r ≡ Ok entry)
+    by_test true e h = cc
+    by_test false e h = (positive max e, h)
 
 -- a file that was fetched is the entry's
 file_there : (entry : TargetFile) (path : List ℕ) (repo repo' : Watched Folders) (file : List ℕ) → FetchesTarget entry path repo repo' (Ok file) → file_of entry file ≡ Ok tt
 file_there entry path repo repo' file f = by_answer f.answer
   where
     by_answer : ⊥ ⊎ TookFile entry path repo (Ok file) → file_of entry file ≡ Ok tt
-    by_answer (inl no) = absurd no
+    by_answer (inl nothing) = absurd nothing
     by_answer (inr t) = subst (λ bytes. file_of entry bytes ≡ Ok tt) (sym t.given.0) t.given.1
 
 -- the documents of the one role
@@ -337,8 +347,8 @@ module _ (crypto : Crypto) (given path : List ℕ) (config : UpdaterConfig) (now
         pin_is = ap (λ h. targets_pin (content_of h)) (sym held) ∙ t.1.pin_is;
         pinned = t.1.pinned;
         fresh = serve.targets_fresh;
-        authority_is = ap (λ o. option_map (λ role. record { keys = (content_in set.root).keys; role = role }) o) t.0.met.1.0;
-        met = t.0.met.1.1;
+        authority_is = ap (λ o. option_map (λ role. record { keys = (content_in set.root).keys; role = role }) o) t.0.met.1;
+        met = t.0.met.2;
       }
 
   made_trusted : (serve : Serve now set) (entry : TargetFile) (file : List ℕ) → AreAuthorised crypto given set → (m : ℕ) → config.max_delegations ≡ suc m
@@ -347,7 +357,7 @@ module _ (crypto : Crypto) (given path : List ℕ) (config : UpdaterConfig) (now
       let time = where_some set.timestamp _ serve.timestamp serve.timestamp_is k.timestamp in
       let snap = where_some set.snapshot _ serve.snapshot serve.snapshot_is k.snapshot in
       let role = role_trusted serve k in
-      let docs : documents_in (visit_of serve.targets ∷ []) (codes "targets") ≡ Some (content_of serve.targets) = documents_one serve.targets role.read in
+      let docs : documents_in (visit_of serve.targets ∷ []) (codes "targets") ≡ Some (content_of serve.targets) = documents_one serve.targets (where_some (top_targets set) _ serve.targets serve.targets_is k.targets).0.read in
       (record { root = set.root; timestamp = serve.timestamp.document; snapshot = serve.snapshot.document; pin = serve.pin }, record {
         roots = k.roots;
         root_fresh = serve.root_fresh;
@@ -371,10 +381,10 @@ module _ (crypto : Crypto) (given path : List ℕ) (config : UpdaterConfig) (now
   unfolding target_of
   found_trusted repo repo' entry file chain k t f c =
       let a = step_ok (search_serves_of set now) _ entry t in
-      let b = step_ok (entry_of set config path) _ entry a.1.1 in
-      let w = step_ok (within_of config b.0) _ entry b.1.1 in
-      let serve = search_serves set now a.1.0 in
-      let e = entry_there serve entry (b.1.0 ∙ w.1.1) in
+      let b = step_ok (entry_of set config path) _ entry a.2 in
+      let w = step_ok (within_of config b.0) _ entry b.2 in
+      let serve = search_serves set now a.1 in
+      let e = entry_there serve entry (b.1 ∙ w.2) in
       subst Trusts (ok_same (made serve entry file) chain (sym (chain_made serve entry file) ∙ c))
       (made_trusted serve entry file k e.0.0 e.0.1 e.1 (file_there entry path repo repo' file f))
 

@@ -426,7 +426,7 @@ fn run_steps<C: CryptoProvider, M: Armor, R: Repository>(
     config: &UpdaterConfig,
     now: jiff::Timestamp,
 ) -> Result<(), Error>
-    ensures refreshes { Refreshes (crypto_of (C.accepts provider.now) (M.armored armor.now) (M.key_in armor.now))
+    ensures { Refreshes (crypto_of (C.accepts provider.now) (M.armored armor.now) (M.key_in armor.now))
         config.now now documents.old documents.new (R.seen repo.old) (R.seen repo.new) result }
 {
     walk_roots(alloc, repo, config, documents.root.signed().version)?;

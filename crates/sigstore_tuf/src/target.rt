@@ -337,7 +337,7 @@ fn run_search<R: Repository>(
     path: &str,
     now: jiff::Timestamp,
 ) -> Result<TrustChain, Error>
-    ensures gets { GetsTarget documents.now config.now path.now now (R.seen repo.old) (R.seen repo.new) result }
+    ensures { GetsTarget documents.now config.now path.now now (R.seen repo.old) (R.seen repo.new) result }
 {
     match find_target(alloc, documents, config, path, now) {
         Ok(entry) => match fetch_target(alloc, repo, path, entry) {

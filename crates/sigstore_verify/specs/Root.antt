@@ -21,6 +21,7 @@ use Rattle.sigstore_tuf.specs.declared.chain.TrustChain.{TrustChain}
 use Rattle.sigstore_tuf.specs.Update.{first_root_of}
 use Rattle.sigstore_tuf.specs.Refresh.{Refreshes}
 use Rattle.sigstore_tuf.specs.Target.{GetsTarget}
+use Rattle.sigstore_tuf.specs.Trusted.{Trusted}
 use Rattle.sigstore_verify.specs.declared.error.Error.{Error}
 use Rattle.sigstore_verify.specs.declared.error.Error.TheVariants as verify
 use Rattle.sigstore_verify.specs.declared.report.VerificationResult.{VerificationResult}
@@ -74,6 +75,10 @@ pub data GivesChain (crypto : Crypto) (root : List ℕ) (config : UpdaterConfig)
   chain_given : (set set' : InForce) (mid : Watched Folders) (chain : TrustChain) → first_root_of crypto root ≡ Ok set → Refreshes crypto config now set set' repo mid (Ok tt)
       → GetsTarget set' config trust_path now mid repo' (Ok chain) → result ≡ Ok chain → GivesChain crypto root config now repo repo' result
 
+-- the chain is trusted from the given root at the moment, for the trust file
+abbrev pub TrustsChain : Crypto → List ℕ → UpdaterConfig → jiff.Timestamp → TrustChain → Type 0
+TrustsChain crypto root config now chain = Trusted crypto root now config.max_delegations trust_path chain
+
 -- ---- the judgement
 
 -- The bundle is judged under a trust file: the file is read, then the bundle, then the artifact; the first that refuses answers.
@@ -110,15 +115,17 @@ pub data Runs (crypto : Crypto) (policy : Meaning) (root bundle : List ℕ) (con
 abbrev pub AcceptsUnder : Judge → Meaning → Bundle → List ℕ → Type 0
 AcceptsUnder accepts (PublicKey policy) bundle digest = AcceptsKey accepts policy bundle digest
 
--- What an acceptance means: the trust file and the bundle have readings; these bytes are exactly those that a telling source gave up to its end;
--- by their SHA-256 value the bundle is accepted under the policy with this report; and the digests are that value.
-pub record IsAccepted (accepts : Judge) (policy : Meaning) (bundle : List ℕ) (source source' : Watched (List ℕ)) (max : ℕ) (rooted : Rooted) : Type 0 where
+-- What an acceptance means: the chain that is handed back is trusted from the given root; its file has a reading as the trust file, and the bundle
+-- has a reading; these bytes are exactly those that a telling source gave up to its end; by their SHA-256 value the bundle is accepted under the
+-- policy with this report; and the digests are that value.
+pub record IsAccepted (crypto : Crypto) (policy : Meaning) (root bundle : List ℕ) (config : UpdaterConfig) (now : jiff.Timestamp) (source source' : Watched (List ℕ)) (max : ℕ) (rooted : Rooted) : Type 0 where
+  pub trusted : TrustsChain crypto root config now rooted.chain
   pub trust : TrustedRoot
   pub trust_read : trusted_root_of_bytes rooted.chain.file ≡ Ok trust
   pub reading : Bundle
   pub read : bundle_of_bytes bundle ≡ Ok reading
   pub bytes : List ℕ
   pub whole : ReadWhole source source' max bytes
-  pub judged : judged_of accepts policy reading (sha256 bytes) ≡ Ok rooted.result
-  pub means : AcceptsUnder accepts policy reading (sha256 bytes)
+  pub judged : judged_of crypto.accepts policy reading (sha256 bytes) ≡ Ok rooted.result
+  pub means : AcceptsUnder crypto.accepts policy reading (sha256 bytes)
   pub digests : rooted.digests ≡ (Sha2256, sha256 bytes) ∷ []

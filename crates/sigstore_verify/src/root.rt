@@ -196,8 +196,8 @@ pub fn verify_from_root<
 ) -> Result<Rooted, RootFault>
     ensures runs { Runs (crypto_of (C.accepts provider.now) (M.armored armor.now) (M.key_in armor.now)) (P.meant policy.now)
         root_bytes.now bundle_bytes.now config now (R.seen repo.old) (R.seen repo.new) (A.seen artifact.old) (A.seen artifact.new) max_artifact result }
-    ensures accepted { IfOk result (IsAccepted (C.accepts provider.now) (P.meant policy.now) bundle_bytes.now
-        (A.seen artifact.old) (A.seen artifact.new) max_artifact) }
+    ensures accepted { IfOk result (IsAccepted (crypto_of (C.accepts provider.now) (M.armored armor.now) (M.key_in armor.now)) (P.meant policy.now)
+        root_bytes.now bundle_bytes.now config now (A.seen artifact.old) (A.seen artifact.new) max_artifact) }
     ensures store { S.seen store.new ≡ S.seen store.old }
 {
     let chain = match trust_chain(

@@ -5,7 +5,7 @@ pub returns-in-Ok : goal.returns-in-Ok
 returns-in-Ok g c =
     judged_reported c.args.gathered c.args.now _ _ _ _ c.in-Ok.rooted c.reported.result
     (on_inputs c.args.gathered c.args.now _ _ _ _ _ c.policy_meant-policy.result _ _ c.default.result c.policy_meant-policy.ensures c.as_bytes.ensures c.as_bytes-2.ensures c.default.ensures c.in-Ok.ensures.runs)
-    (accepted_on_inputs c.args.gathered _ _ c.in-Ok.rooted c.policy_meant-policy.result _ c.policy_meant-policy.ensures c.as_bytes-2.ensures c.in-Ok.ensures.accepted) c.reported.ensures
+    (accepted_on_inputs c.args.gathered c.args.now _ _ c.in-Ok.rooted c.policy_meant-policy.result _ _ c.default.result c.policy_meant-policy.ensures c.as_bytes.ensures c.as_bytes-2.ensures c.default.ensures c.in-Ok.ensures.accepted) c.reported.ensures
 
 pub returns : goal.returns
 returns g c =

@@ -1,6 +1,6 @@
 use Rattle.std.proofs.Common.{refl, ap, Err}
 use Rattle.sigstore_verify.specs.Root.{chain_refused, judgement_refused, accepted}
-use Rattle.sigstore_verify.proofs.RootFacts.{is_accepted}
+use Rattle.sigstore_verify.proofs.RootFacts.{chain_trusts, is_accepted}
 use Rattle.sigstore_verify.proofs.root.verify_from_root.Goals as goal
 
 pub returns-in-Err-clause-runs : goal.returns-in-Err-clause-runs
@@ -14,4 +14,5 @@ pub returns-in-Ok-judge_bundle-clause-runs : goal.returns-in-Ok-judge_bundle-cla
 returns-in-Ok-judge_bundle-clause-runs g c = accepted _ c.in-Ok.ensures.gives (rw c.as_bytes.ensures at c.in-Ok-judge_bundle.ensures) refl
 
 pub returns-in-Ok-judge_bundle-clause-accepted : goal.returns-in-Ok-judge_bundle-clause-accepted
-returns-in-Ok-judge_bundle-clause-accepted g c = is_accepted _ _ _ _ _ _ _ (rw c.as_bytes.ensures at c.in-Ok-judge_bundle.ensures)
+returns-in-Ok-judge_bundle-clause-accepted g c = 
+    is_accepted _ _ _ _ _ _ _ _ _ _ (chain_trusts _ _ _ _ _ _ _ c.in-Ok.ensures.gives) (rw c.as_bytes.ensures at c.in-Ok-judge_bundle.ensures)
