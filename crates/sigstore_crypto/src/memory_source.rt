@@ -1,7 +1,9 @@
 // An artifact in memory.
-ghost use Rattle.std.specs.Prelude.{◌≡◌, ◌≤◌, [], length, drop, Some};
+ghost use Rattle.std.specs.Prelude.{◌≡◌, ◌≤◌, ◌+◌, ◌-◌, ◌^◌, min, true, [], length, drop, Some, Err};
 ghost use Rattle.foundation.specs.Watched.{Rose};
+ghost use Rattle.sigstore_types_parts.specs.Calls.{fails_next};
 ghost use Rattle.sigstore_crypto.specs.Source.{Reads};
+ghost use Rattle.sigstore_crypto.specs.declared.source.ReadFault.TheVariants.{Failed};
 
 use crate::source::{ArtifactSource, ReadFault};
 use sigstore_types_parts::{Bytes, Calls, FailList};
@@ -24,6 +26,7 @@ impl MemorySource {
         ensures at { result.at ≡ 0 }
         ensures faults { result.calls.faults ≡ 0 }
         ensures failures { result.calls.failures ≡ failures }
+        ensures made { result.calls.made ≡ 0 }
     {
         MemorySource {
             bytes,
@@ -40,6 +43,8 @@ impl ArtifactSource for MemorySource {
     fn read(&mut self, buf: &mut [u8]) -> Result<usize, ReadFault>
         ensures reads { Reads (record { told = Some (drop self.old.at self.old.bytes); faults = self.old.calls.faults }) (record { told = Some (drop self.new.at self.new.bytes); faults = self.new.calls.faults }) buf.new result }
         ensures failures { self.new.calls.failures ≡ self.old.calls.failures }
+        ensures made { self.new.calls.made ≡ min (self.old.calls.made + 1) (2 ^ 64 - 1) }
+        ensures listed { fails_next self.old.calls.failures self.old.calls.made ≡ true → (result ≡ Err Failed) × Rose self.old.calls.faults self.new.calls.faults }
         ensures never { self.old.calls.failures ≡ [] → self.new.calls.faults ≡ self.old.calls.faults }
     {
         if self.calls.next_fails() {

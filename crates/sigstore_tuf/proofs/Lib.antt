@@ -3,3 +3,4 @@ pub mod Components
 pub mod StepFacts
 pub mod Authorised
 pub mod Serving
+mod Examples

@@ -1,9 +1,11 @@
 // Files in memory.
-ghost use Rattle.std.specs.Prelude.{◌≡◌, ◌≤◌, [], OnOk, OnErr};
+ghost use Rattle.std.specs.Prelude.{◌≡◌, ◌≤◌, ◌+◌, ◌-◌, ◌^◌, min, true, [], Err, OnOk, OnErr};
 ghost use Rattle.foundation.specs.Watched.{Rose};
 ghost use Rattle.sigstore_tuf.specs.Repository.{FailsOnly, WithinLimit, IsFile};
 ghost use Rattle.sigstore_tuf.specs.Store.{with_file};
 ghost use Rattle.sigstore_tuf.specs.Memory.{files_of};
+ghost use Rattle.sigstore_types_parts.specs.Calls.{fails_next};
+ghost use Rattle.sigstore_tuf.specs.declared.repository.FetchFault.TheVariants.{Failed};
 
 use crate::repository::FetchFault;
 use foundation::{Duplicate, NoMemory};
@@ -37,6 +39,8 @@ pub(crate) fn fetch(
     ensures failed { FailsOnly (Rose calls.old.faults calls.new.faults) result }
     ensures limit { WithinLimit max result }
     ensures file { IsFile (files_of files.now name.now) result }
+    ensures made { calls.new.made ≡ min (calls.old.made + 1) (2 ^ 64 - 1) }
+    ensures listed { fails_next calls.old.failures calls.old.made ≡ true → (result ≡ Err Failed) × Rose calls.old.faults calls.new.faults }
     ensures never { calls.old.failures ≡ [] → calls.new.faults ≡ calls.old.faults }
 {
     if calls.next_fails() {

@@ -1,6 +1,9 @@
 // A repository in memory.
-ghost use Rattle.std.specs.Prelude.{◌≡◌, [], OnOk, OnErr, Some};
+ghost use Rattle.std.specs.Prelude.{◌≡◌, ◌+◌, ◌-◌, ◌^◌, min, true, [], Err, OnOk, OnErr, Some};
+ghost use Rattle.foundation.specs.Watched.{Rose};
+ghost use Rattle.sigstore_types_parts.specs.Calls.{fails_next};
 ghost use Rattle.sigstore_tuf.specs.Repository.{Fetches, metadata_files, target_files};
+ghost use Rattle.sigstore_tuf.specs.declared.repository.FetchFault.TheVariants.{Failed};
 ghost use Rattle.sigstore_tuf.specs.Memory.{no_folders, folders_of, told_folders, with_metadata, with_target};
 
 use crate::folder::{fetch, put};
@@ -22,6 +25,7 @@ impl MemoryRepository {
     pub fn new(alloc: Global, failures: FailList) -> MemoryRepository
         ensures seen { told_folders result.metadata result.targets result.calls.faults ≡ record { told = Some no_folders; faults = 0 } }
         ensures failures { result.calls.failures ≡ failures }
+        ensures made { result.calls.made ≡ 0 }
     {
         MemoryRepository {
             metadata: TextMap::new(alloc),
@@ -60,6 +64,8 @@ impl Repository for MemoryRepository {
     ) -> Result<Option<Bytes>, FetchFault>
         ensures fetches { Fetches metadata_files (told_folders self.old.metadata self.old.targets self.old.calls.faults) (told_folders self.new.metadata self.new.targets self.new.calls.faults) name.now max result }
         ensures failures { self.new.calls.failures ≡ self.old.calls.failures }
+        ensures made { self.new.calls.made ≡ min (self.old.calls.made + 1) (2 ^ 64 - 1) }
+        ensures listed { fails_next self.old.calls.failures self.old.calls.made ≡ true → (result ≡ Err Failed) × Rose self.old.calls.faults self.new.calls.faults }
         ensures never { self.old.calls.failures ≡ [] → self.new.calls.faults ≡ self.old.calls.faults }
     {
         fetch(alloc, &self.metadata, &mut self.calls, name, max)
@@ -73,6 +79,8 @@ impl Repository for MemoryRepository {
     ) -> Result<Option<Bytes>, FetchFault>
         ensures fetches { Fetches target_files (told_folders self.old.metadata self.old.targets self.old.calls.faults) (told_folders self.new.metadata self.new.targets self.new.calls.faults) path.now max result }
         ensures failures { self.new.calls.failures ≡ self.old.calls.failures }
+        ensures made { self.new.calls.made ≡ min (self.old.calls.made + 1) (2 ^ 64 - 1) }
+        ensures listed { fails_next self.old.calls.failures self.old.calls.made ≡ true → (result ≡ Err Failed) × Rose self.old.calls.faults self.new.calls.faults }
         ensures never { self.old.calls.failures ≡ [] → self.new.calls.faults ≡ self.old.calls.faults }
     {
         fetch(alloc, &self.targets, &mut self.calls, path, max)
