@@ -17,6 +17,10 @@ held_of root bundle policy provider Bundle = bundle
 held_of root bundle policy provider Policy = policy
 held_of root bundle policy provider Provider = provider
 
+-- what four inputs in memory tell
+abbrev pub told_inputs : Option (List ℕ) → Option (List ℕ) → Option (List ℕ) → Option (List ℕ) → ℕ → Watched Held
+told_inputs root bundle policy provider faults = record { told = Some (held_of root bundle policy provider); faults = faults }
+
 -- at most max bytes are given, and what was refused as too long was longer
 abbrev pub WithinLimit : ℕ → Result (List ℕ) InputFault → Type 0
 WithinLimit max (Ok bytes) = length bytes ≤ max

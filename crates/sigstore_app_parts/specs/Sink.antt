@@ -1,7 +1,9 @@
 -- What a write promises, and what the writing of a whole text promises.
-use Rattle.std.specs.Prelude.{◌≡◌, ℕ, ◌<◌, ◌≤◌, List, length, take, Option, Result, Ok, Err, IfOk, OnErr}
+use Rattle.std.specs.Prelude.{◌≡◌, ℕ, ◌<◌, ◌≤◌, List, length, take, min, Bool, true, false, ◌&&◌, ◌==◌, nat_lt, if◌then◌else◌, Option, Result, Ok, Err, IfOk, OnErr}
 use Rattle.std.specs.Io.KnownBytes.{append_known}
 use Rattle.foundation.specs.Watched.{Watched, Rose}
+use Rattle.sigstore_app_parts.specs.declared.sink.SinkFault.{SinkFault}
+use Rattle.sigstore_app_parts.specs.declared.sink.SinkFault.TheVariants.{Failed}
 
 -- the told bytes grow by those that were taken
 abbrev pub Takes : {E : Type 0} → Option (List ℕ) → Option (List ℕ) → List ℕ → Result ℕ E → Type 0
@@ -15,6 +17,12 @@ pub record Writes {E : Type 0} (old new : Watched (List ℕ)) (bytes : List ℕ)
   pub bound : IfOk result (λ n. n ≤ length bytes)
   pub progress : IfOk result (λ n. 0 < length bytes → 0 < n)
   pub taken : Takes old.told new.told bytes result
+
+-- what a write to a sink in memory answers: Failed where the call is named, or where a piece has bytes and there is room
+-- for none, else how many of the piece's bytes there is room for
+abbrev pub write_of : Bool → ℕ → List ℕ → Result ℕ SinkFault
+write_of true room bytes = Err Failed
+write_of false room bytes = if room == 0 && nat_lt 0 (length bytes) then Err Failed else Ok (min room (length bytes))
 
 -- the told bytes grew by the text where it was written, and by a part that it begins with where a write failed
 abbrev pub TakesText : {E : Type 0} → Option (List ℕ) → Option (List ℕ) → List ℕ → Result (Unit {0}) E → Type 0

@@ -1,7 +1,10 @@
 // Inputs in memory.
-ghost use Rattle.std.specs.Prelude.{◌≡◌, Some, None};
+ghost use Rattle.std.specs.Prelude.{◌≡◌, ◌≢◌, ◌+◌, ◌-◌, ◌^◌, [], min, true, false, Some, None, Err};
 ghost use Rattle.std.specs.Option.{option_copied};
-ghost use Rattle.sigstore_app_parts.specs.Inputs.{Held, held_of};
+ghost use Rattle.foundation.specs.Watched.{Rose};
+ghost use Rattle.sigstore_types_parts.specs.Calls.{fails_next};
+ghost use Rattle.sigstore_app_parts.specs.declared.inputs.Which.{Which};
+ghost use Rattle.sigstore_app_parts.specs.Inputs.{Held, Gives, held_of, told_inputs};
 
 use crate::inputs::{InputFault, Inputs, Which};
 use foundation::Duplicate;
@@ -22,6 +25,8 @@ impl MemoryInputs {
     /// No input; the calls that the list names fail.
     pub fn new(failures: FailList) -> MemoryInputs
         ensures held { (held_of result.root result.bundle result.policy result.provider) ≡ (λ _. None) }
+        ensures failures { result.calls.failures ≡ failures }
+        ensures made { result.calls.made ≡ 0 }
         ensures faults { result.calls.faults ≡ 0 }
     {
         MemoryInputs {
@@ -33,10 +38,11 @@ impl MemoryInputs {
         }
     }
 
-    /// Sets an input.
+    /// Sets an input; the others stay.
     pub fn put(&mut self, which: Which, bytes: Bytes)
-        ensures faults { self.new.calls.faults ≡ self.old.calls.faults }
+        ensures calls { self.new.calls ≡ self.old.calls }
         ensures put { held_of self.new.root self.new.bundle self.new.policy self.new.provider which ≡ Some bytes }
+        ensures others { (other : Which) → other ≢ which → held_of self.new.root self.new.bundle self.new.policy self.new.provider other ≡ held_of self.old.root self.old.bundle self.old.policy self.old.provider other }
     {
         match which {
             Which::Root => self.root = Some(bytes),
@@ -59,9 +65,16 @@ impl MemoryInputs {
 }
 
 impl Inputs for MemoryInputs {
-    ghost seen = { λ i. record { told = Some (held_of i.root i.bundle i.policy i.provider); faults = i.calls.faults } };
+    ghost seen = { λ i. told_inputs i.root i.bundle i.policy i.provider i.calls.faults };
 
-    fn read(&mut self, alloc: Global, which: Which, max: u64) -> Result<Bytes, InputFault> {
+    fn read(&mut self, alloc: Global, which: Which, max: u64) -> Result<Bytes, InputFault>
+        ensures gives { Gives which (told_inputs self.old.root self.old.bundle self.old.policy self.old.provider self.old.calls.faults) (told_inputs self.new.root self.new.bundle self.new.policy self.new.provider self.new.calls.faults) max result }
+        ensures failures { self.new.calls.failures ≡ self.old.calls.failures }
+        ensures made { self.new.calls.made ≡ min (self.old.calls.made + 1) (2 ^ 64 - 1) }
+        ensures fails { fails_next self.old.calls.failures self.old.calls.made ≡ true → (result ≡ Err InputFault.Failed) × Rose self.old.calls.faults self.new.calls.faults }
+        ensures serves { fails_next self.old.calls.failures self.old.calls.made ≡ false → (result ≢ Err InputFault.Failed) × (self.new.calls.faults ≡ self.old.calls.faults) }
+        ensures never { self.old.calls.failures ≡ [] → (result ≢ Err InputFault.Failed) × (self.new.calls.faults ≡ self.old.calls.faults) }
+    {
         if self.calls.next_fails() {
             return Err(InputFault::Failed);
         }
