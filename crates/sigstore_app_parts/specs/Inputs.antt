@@ -21,6 +21,13 @@ held_of root bundle policy provider Provider = provider
 abbrev pub told_inputs : Option (List ℕ) → Option (List ℕ) → Option (List ℕ) → Option (List ℕ) → ℕ → Watched Held
 told_inputs root bundle policy provider faults = record { told = Some (held_of root bundle policy provider); faults = faults }
 
+-- the path of an input, of four paths
+abbrev pub path_of : List ℕ → List ℕ → List ℕ → List ℕ → Which → List ℕ
+path_of root bundle policy provider Root = root
+path_of root bundle policy provider Bundle = bundle
+path_of root bundle policy provider Policy = policy
+path_of root bundle policy provider Provider = provider
+
 -- at most max bytes are given, and what was refused as too long was longer
 abbrev pub WithinLimit : ℕ → Result (List ℕ) InputFault → Type 0
 WithinLimit max (Ok bytes) = length bytes ≤ max

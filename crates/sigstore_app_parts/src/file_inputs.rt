@@ -1,6 +1,7 @@
 // Inputs in files.
-ghost use Rattle.foundation.specs.Watched.{untold};
-ghost use Rattle.sigstore_app_parts.specs.Inputs.{WithinLimit};
+ghost use Rattle.std.specs.Prelude.{◌≡◌, OnOk, OnErr};
+ghost use Rattle.foundation.specs.Watched.{Rose, untold};
+ghost use Rattle.sigstore_app_parts.specs.Inputs.{Gives, WithinLimit, path_of};
 
 use crate::inputs::{InputFault, Inputs, Which};
 use sigstore_types_parts::{Bytes, Text};
@@ -28,7 +29,13 @@ impl<'r, X: Files> FileInputs<'r, X> {
         bundle: Text,
         policy: Text,
         provider: Text,
-    ) -> FileInputs<'r, X> {
+    ) -> FileInputs<'r, X>
+        ensures root { result.root ≡ root }
+        ensures bundle { result.bundle ≡ bundle }
+        ensures policy { result.policy ≡ policy }
+        ensures provider { result.provider ≡ provider }
+        ensures faults { result.faults ≡ 0 }
+    {
         FileInputs {
             rt,
             root,
@@ -39,7 +46,9 @@ impl<'r, X: Files> FileInputs<'r, X> {
         }
     }
 
-    fn path(&self, which: Which) -> &str {
+    fn path(&self, which: Which) -> &str
+        ensures { result.now ≡ path_of self.now.root self.now.bundle self.now.policy self.now.provider which }
+    {
         match which {
             Which::Root => self.root.as_str(),
             Which::Bundle => self.bundle.as_str(),
@@ -111,7 +120,11 @@ fn read_file<X: Files>(rt: &X, alloc: Global, path: &str, max: u64) -> Result<By
 impl<X: Files> Inputs for FileInputs<'_, X> {
     ghost seen = { λ i. untold i.faults };
 
-    fn read(&mut self, alloc: Global, which: Which, max: u64) -> Result<Bytes, InputFault> {
+    fn read(&mut self, alloc: Global, which: Which, max: u64) -> Result<Bytes, InputFault>
+        ensures gives { Gives which (untold self.old.faults) (untold self.new.faults) max result }
+        ensures fails { OnErr result (Rose self.old.faults self.new.faults) }
+        ensures serves { OnOk result (self.new.faults ≡ self.old.faults) }
+    {
         let answer = read_file(self.rt, alloc, self.path(which), max);
         if answer.is_err() {
             self.faults = self.faults.saturating_add(1);

@@ -1,5 +1,7 @@
 // Standard output.
+ghost use Rattle.std.specs.Prelude.{◌≡◌, OnOk};
 ghost use Rattle.foundation.specs.Watched.{untold};
+ghost use Rattle.sigstore_app_parts.specs.Sink.{Writes};
 
 use crate::sink::{Sink, SinkFault};
 use std::io::Print;
@@ -13,7 +15,9 @@ pub struct StdoutSink<'r, X: Print> {
 
 impl<'r, X: Print> StdoutSink<'r, X> {
     /// Standard output of a runtime.
-    pub fn new(rt: &'r X) -> StdoutSink<'r, X> {
+    pub fn new(rt: &'r X) -> StdoutSink<'r, X>
+        ensures { result.faults ≡ 0 }
+    {
         StdoutSink { rt, faults: 0 }
     }
 }
@@ -21,7 +25,10 @@ impl<'r, X: Print> StdoutSink<'r, X> {
 impl<X: Print> Sink for StdoutSink<'_, X> {
     ghost seen = { λ s. untold s.faults };
 
-    fn write(&mut self, bytes: &[u8]) -> Result<usize, SinkFault> {
+    fn write(&mut self, bytes: &[u8]) -> Result<usize, SinkFault>
+        ensures writes { Writes (untold self.old.faults) (untold self.new.faults) bytes.now result }
+        ensures serves { OnOk result (self.new.faults ≡ self.old.faults) }
+    {
         match self.rt.write_some(bytes) {
             Ok(count) if count > 0 || bytes.is_empty() => Ok(count),
             _ => {
