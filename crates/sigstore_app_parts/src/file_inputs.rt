@@ -1,5 +1,5 @@
 // Inputs in files.
-ghost use Rattle.std.specs.Prelude.{◌≡◌, OnOk, OnErr};
+ghost use Rattle.std.specs.Prelude.{◌≡◌, ◌<◌, ◌≤◌, ◌+◌, ◌-◌, ◌^◌, length, Ok, Err, OnOk, OnErr};
 ghost use Rattle.foundation.specs.Watched.{Rose, untold};
 ghost use Rattle.sigstore_app_parts.specs.Inputs.{Gives, WithinLimit, path_of};
 
@@ -86,7 +86,9 @@ fn read_bounded<F: Read>(alloc: Global, file: &mut F, max: u64) -> Result<Bytes,
 
 // These bytes, where they are within the limit.
 fn within(bytes: Vec<u8>, max: u64) -> Result<Bytes, InputFault>
-    ensures { WithinLimit max result }
+    ensures limit { WithinLimit max result }
+    ensures ok { length bytes.items ≤ max → result ≡ Ok bytes.items }
+    ensures err { max < length bytes.items → result ≡ Err (InputFault.TooLong (length bytes.items)) }
 {
     let seen = bytes.len() as u64;
     if seen > max {
@@ -97,7 +99,8 @@ fn within(bytes: Vec<u8>, max: u64) -> Result<Bytes, InputFault>
 
 // More than the limit was read.
 fn too_long(max: u64) -> InputFault
-    ensures { WithinLimit max (Err result) }
+    ensures limit { WithinLimit max (Err result) }
+    ensures seen { max < 2 ^ 64 - 1 → result ≡ InputFault.TooLong (max + 1) }
 {
     match max.checked_add(1) {
         Some(seen) => InputFault::TooLong { seen },
