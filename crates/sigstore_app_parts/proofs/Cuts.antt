@@ -1,7 +1,7 @@
 -- A text cut at its first such byte, and its lines.
-use Rattle.std.proofs.Common.{◌≡◌, ℕ, ◌+◌, ◌<◌, List, [], ◌∷◌, length, take, drop, Bool, true, false, cond, not, ◌==◌, eqb, Option, Some, None, MatchOption, option_map, Bor, refl, sym, ap, ◌∙◌, arith, add-one, add_comm, subst}
+use Rattle.std.proofs.Common.{◌≡◌, ℕ, ◌+◌, ◌<◌, List, [], ◌∷◌, length, take, drop, true, false, cond, not, ◌==◌, Option, Some, None, MatchOption, option_map, Bor, refl, ap, arith, add-one, add_comm}
 use Rattle.std.specs.List.{position_or_len, before_first, after_first}
-use Rattle.sigstore_app_parts.specs.Lines.{cut_of, begun, lines_of}
+use Rattle.sigstore_app_parts.specs.Lines.{cut_of}
 
 take_one : {A : Type 0} (n : ℕ) (x : A) (xs : List A) → take (1 + n) (x ∷ xs) ≡ x ∷ take n xs
 take_one n x xs = rw (add_comm 1 n, add-one)

@@ -1,5 +1,5 @@
 -- The lines of a text, taken one by one.
-use Rattle.std.proofs.Common.{◌≡◌, ◌≢◌, ℕ, ◌<◌, List, [], ◌∷◌, length, Bool, true, false, cond, ◌==◌, Option, Some, None, option_map, Result, Ok, Err, ok_or, refl, sym, ap, ◌∙◌, arith}
+use Rattle.std.proofs.Common.{◌≡◌, ◌≢◌, ℕ, ◌<◌, List, [], ◌∷◌, length, true, false, cond, ◌==◌, Option, Some, None, option_map, Result, Ok, Err, ok_or, refl, ap, ◌∙◌, arith}
 use Rattle.foundation.specs.Steps.{◌>>=◌}
 use Rattle.sigstore_app_parts.specs.Lines.{cut_of, begun, lines_of, counted, folded_of, text_folded_of}
 use Rattle.sigstore_app_parts.specs.declared.usage_fault.UsageFault.{UsageFault}

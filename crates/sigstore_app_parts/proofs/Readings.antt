@@ -1,15 +1,15 @@
 -- Readings one after the other.
-use Rattle.std.proofs.Common.{◌≡◌, ◌≢◌, ◌⊎◌, inl, inr, ℕ, ◌+◌, ◌-◌, ◌^◌, ◌<◌, ◌≤◌, min, List, length, Bool, true, false, cond, nat_lt, Option, Some, None, Result, Ok, Err, refl, sym, ap, ◌∙◌, subst, arith}
+use Rattle.std.proofs.Common.{◌≡◌, ◌≢◌, inl, inr, ℕ, ◌<◌, ◌≤◌, List, length, Option, Some, None, Result, Ok, Err, refl, sym, ap, ◌∙◌, subst, arith}
 use Rattle.std.proofs.lemmas.Grind.{common_steps}
 use Rattle.foundation.specs.Steps.{◌>>=◌}
-use Rattle.foundation.specs.Watched.{Watched, Rose, IfTold, Since}
-use Rattle.sigstore_app_parts.specs.Inputs.{Held, Gives, WithinLimit, IsInput}
+use Rattle.foundation.specs.Watched.{Watched, Rose, IfTold}
+use Rattle.sigstore_app_parts.specs.Inputs.{Held, Gives}
 use Rattle.sigstore_app_parts.specs.Gather.{limit_of, within_limit, input_of, stop_of, ReadsAs}
 use Rattle.sigstore_app_parts.specs.declared.inputs.Which.{Which}
 use Rattle.sigstore_app_parts.specs.declared.inputs.InputFault.{InputFault}
 use Rattle.sigstore_app_parts.specs.declared.inputs.InputFault.TheVariants as fault
 use Rattle.sigstore_app_parts.specs.declared.gather.Stop.{Stop}
-use Rattle.sigstore_app_parts.specs.declared.gather.Stop.TheVariants.{Words, Form, Input, Memory}
+use Rattle.sigstore_app_parts.specs.declared.gather.Stop.TheVariants.{Input, Memory}
 
 if_told : {A : Type 0} (o : Option A) (P Q : A → Type 0) → IfTold o P → ((a : A) → P a → Q a) → IfTold o Q
 if_told None P Q p f = tt

@@ -1,5 +1,5 @@
 -- The inputs of a run, read in their order: the policy, the provider's tables, the root, the bundle.
-use Rattle.std.specs.Prelude.{◌≡◌, ◌≢◌, ◌⊎◌, ℕ, ◌≤◌, List, length, codes, nat_lt, if◌then◌else◌, Option, Some, None, Result, Ok, Err, IfOk, IfErr}
+use Rattle.std.specs.Prelude.{◌≡◌, ◌≢◌, ◌⊎◌, ℕ, List, length, codes, nat_lt, if◌then◌else◌, Option, Some, None, Result, Ok, Err, IfOk, IfErr}
 use Rattle.foundation.specs.Steps.{◌>>=◌}
 use Rattle.foundation.specs.Watched.{Watched, Rose, IfTold, Since}
 use Rattle.sigstore_app_parts.specs.Inputs.{Held}
@@ -12,7 +12,7 @@ use Rattle.sigstore_app_parts.specs.declared.inputs.Which.TheVariants.{Root, Bun
 use Rattle.sigstore_app_parts.specs.declared.inputs.InputFault.{InputFault}
 use Rattle.sigstore_app_parts.specs.declared.inputs.InputFault.TheVariants as input
 use Rattle.sigstore_app_parts.specs.declared.gather.Stop.{Stop}
-use Rattle.sigstore_app_parts.specs.declared.gather.Stop.TheVariants.{Words, Form, Input, Memory}
+use Rattle.sigstore_app_parts.specs.declared.gather.Stop.TheVariants.{Form, Input, Memory}
 use Rattle.sigstore_app_parts.specs.declared.gather.Gathered.{Gathered}
 use Rattle.sigstore_app_parts.specs.declared.policy.PolicyFile.{PolicyFile}
 use Rattle.sigstore_app_parts.specs.declared.tables.Tables.{Tables}

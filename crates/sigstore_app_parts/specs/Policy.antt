@@ -1,5 +1,5 @@
 -- The policy file.
-use Rattle.std.specs.Prelude.{ℕ, List, bytes_eq, codes, not, Bool, true, false, ◌&&◌, if◌then◌else◌, Option, Some, None, Result, Ok, Err, ok_or}
+use Rattle.std.specs.Prelude.{ℕ, List, bytes_eq, codes, not, true, false, ◌&&◌, if◌then◌else◌, Option, Some, None, Result, Ok, Err, ok_or}
 use Rattle.foundation.specs.Steps.{◌>>=◌}
 use Rattle.sigstore_app_parts.specs.Lines.{cut_of, file_folded_of}
 use Rattle.sigstore_app_parts.specs.Fields.{spelled_of}

@@ -1,5 +1,5 @@
 -- The rows of the provider file.
-use Rattle.std.specs.Prelude.{ℕ, List, [], ◌∷◌, ◌++◌, length, take, drop, bytes_eq, codes, not, nat_eq, Bool, true, false, ◌&&◌, ◌||◌, if◌then◌else◌, Option, Some, None, option_map, Result, Ok, Err, ok_or}
+use Rattle.std.specs.Prelude.{ℕ, List, [], ◌∷◌, length, take, bytes_eq, codes, not, nat_eq, Bool, ◌&&◌, ◌||◌, if◌then◌else◌, Option, Some, None, option_map, Result, Ok, Err, ok_or}
 use Rattle.std.specs.List.{list_any, find}
 use Rattle.foundation.specs.Steps.{◌>>=◌}
 use Rattle.sigstore_crypto.specs.declared.scheme.SigningScheme.{SigningScheme}

@@ -1,5 +1,5 @@
 -- The provider file, and what its tables answer.
-use Rattle.std.specs.Prelude.{ℕ, List, [], ◌∷◌, ◌++◌, drop, bytes_eq, codes, is_some, Bool, ◌||◌, if◌then◌else◌, Option, Some, None, Result, Ok, Err}
+use Rattle.std.specs.Prelude.{ℕ, List, [], ◌∷◌, ◌++◌, drop, bytes_eq, codes, is_some, Bool, ◌||◌, if◌then◌else◌, Option, Result, Ok, Err}
 use Rattle.std.specs.Result.{result_ok}
 use Rattle.base64.specs.Engines.{standard}
 use Rattle.base64.specs.GeneralPurpose.{decode_of}
@@ -8,7 +8,6 @@ use Rattle.sigstore_app_parts.specs.Lines.{file_folded_of}
 use Rattle.sigstore_app_parts.specs.Rows.{parted_of, accept_row_of, is_der, armor_row_of, held_of}
 use Rattle.sigstore_app_parts.specs.declared.usage_fault.UsageFault.{UsageFault}
 use Rattle.sigstore_app_parts.specs.declared.usage_fault.UsageFault.TheVariants.{Usage}
-use Rattle.sigstore_app_parts.specs.declared.rows.AcceptRow.{AcceptRow}
 use Rattle.sigstore_app_parts.specs.declared.rows.ArmorRow.{ArmorRow}
 use Rattle.sigstore_app_parts.specs.declared.tables.TableArmor.{TableArmor}
 use Rattle.sigstore_app_parts.specs.declared.tables.TableProvider.{TableProvider}

@@ -1,4 +1,4 @@
-use Rattle.std.proofs.Common.{ℕ, List, Result, Ok, Err, refl}
+use Rattle.std.proofs.Common.{ℕ, List, Result, Ok, refl}
 use Rattle.foundation.specs.Steps.{◌>>=◌}
 use Rattle.sigstore_app_parts.proofs.Readings.{first_refused, then_reads, then_ok}
 use Rattle.sigstore_app_parts.specs.Inputs.{Held}
