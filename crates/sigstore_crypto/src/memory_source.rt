@@ -1,5 +1,5 @@
 // An artifact in memory.
-ghost use Rattle.std.specs.Prelude.{◌≡◌, ◌≤◌, ◌+◌, ◌-◌, ◌^◌, min, true, [], length, drop, Some, Err};
+ghost use Rattle.std.specs.Prelude.{◌≡◌, ◌≢◌, ◌≤◌, ◌+◌, ◌-◌, ◌^◌, min, true, false, [], length, drop, Some, Err};
 ghost use Rattle.foundation.specs.Watched.{Rose};
 ghost use Rattle.sigstore_types_parts.specs.Calls.{fails_next};
 ghost use Rattle.sigstore_crypto.specs.Source.{Reads};
@@ -44,7 +44,8 @@ impl ArtifactSource for MemorySource {
         ensures reads { Reads (record { told = Some (drop self.old.at self.old.bytes); faults = self.old.calls.faults }) (record { told = Some (drop self.new.at self.new.bytes); faults = self.new.calls.faults }) buf.new result }
         ensures failures { self.new.calls.failures ≡ self.old.calls.failures }
         ensures made { self.new.calls.made ≡ min (self.old.calls.made + 1) (2 ^ 64 - 1) }
-        ensures listed { fails_next self.old.calls.failures self.old.calls.made ≡ true → (result ≡ Err Failed) × Rose self.old.calls.faults self.new.calls.faults }
+        ensures fails { fails_next self.old.calls.failures self.old.calls.made ≡ true → (result ≡ Err Failed) × Rose self.old.calls.faults self.new.calls.faults }
+        ensures serves { fails_next self.old.calls.failures self.old.calls.made ≡ false → (result ≢ Err Failed) × (self.new.calls.faults ≡ self.old.calls.faults) }
         ensures never { self.old.calls.failures ≡ [] → self.new.calls.faults ≡ self.old.calls.faults }
     {
         if self.calls.next_fails() {

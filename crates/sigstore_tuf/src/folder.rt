@@ -1,5 +1,5 @@
 // Files in memory.
-ghost use Rattle.std.specs.Prelude.{◌≡◌, ◌≤◌, ◌+◌, ◌-◌, ◌^◌, min, true, [], Err, OnOk, OnErr};
+ghost use Rattle.std.specs.Prelude.{◌≡◌, ◌≢◌, ◌≤◌, ◌+◌, ◌-◌, ◌^◌, min, true, false, [], Err, OnOk, OnErr};
 ghost use Rattle.foundation.specs.Watched.{Rose};
 ghost use Rattle.sigstore_tuf.specs.Repository.{FailsOnly, WithinLimit, IsFile};
 ghost use Rattle.sigstore_tuf.specs.Store.{with_file};
@@ -40,7 +40,8 @@ pub(crate) fn fetch(
     ensures limit { WithinLimit max result }
     ensures file { IsFile (files_of files.now name.now) result }
     ensures made { calls.new.made ≡ min (calls.old.made + 1) (2 ^ 64 - 1) }
-    ensures listed { fails_next calls.old.failures calls.old.made ≡ true → (result ≡ Err Failed) × Rose calls.old.faults calls.new.faults }
+    ensures fails { fails_next calls.old.failures calls.old.made ≡ true → (result ≡ Err Failed) × Rose calls.old.faults calls.new.faults }
+    ensures serves { fails_next calls.old.failures calls.old.made ≡ false → (result ≢ Err Failed) × (calls.new.faults ≡ calls.old.faults) }
     ensures never { calls.old.failures ≡ [] → calls.new.faults ≡ calls.old.faults }
 {
     if calls.next_fails() {

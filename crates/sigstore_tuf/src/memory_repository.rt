@@ -1,5 +1,5 @@
 // A repository in memory.
-ghost use Rattle.std.specs.Prelude.{◌≡◌, ◌+◌, ◌-◌, ◌^◌, min, true, [], Err, OnOk, OnErr, Some};
+ghost use Rattle.std.specs.Prelude.{◌≡◌, ◌≢◌, ◌+◌, ◌-◌, ◌^◌, min, true, false, [], Err, OnOk, OnErr, Some};
 ghost use Rattle.foundation.specs.Watched.{Rose};
 ghost use Rattle.sigstore_types_parts.specs.Calls.{fails_next};
 ghost use Rattle.sigstore_tuf.specs.Repository.{Fetches, metadata_files, target_files};
@@ -65,7 +65,8 @@ impl Repository for MemoryRepository {
         ensures fetches { Fetches metadata_files (told_folders self.old.metadata self.old.targets self.old.calls.faults) (told_folders self.new.metadata self.new.targets self.new.calls.faults) name.now max result }
         ensures failures { self.new.calls.failures ≡ self.old.calls.failures }
         ensures made { self.new.calls.made ≡ min (self.old.calls.made + 1) (2 ^ 64 - 1) }
-        ensures listed { fails_next self.old.calls.failures self.old.calls.made ≡ true → (result ≡ Err Failed) × Rose self.old.calls.faults self.new.calls.faults }
+        ensures fails { fails_next self.old.calls.failures self.old.calls.made ≡ true → (result ≡ Err Failed) × Rose self.old.calls.faults self.new.calls.faults }
+        ensures serves { fails_next self.old.calls.failures self.old.calls.made ≡ false → (result ≢ Err Failed) × (self.new.calls.faults ≡ self.old.calls.faults) }
         ensures never { self.old.calls.failures ≡ [] → self.new.calls.faults ≡ self.old.calls.faults }
     {
         fetch(alloc, &self.metadata, &mut self.calls, name, max)
@@ -80,7 +81,8 @@ impl Repository for MemoryRepository {
         ensures fetches { Fetches target_files (told_folders self.old.metadata self.old.targets self.old.calls.faults) (told_folders self.new.metadata self.new.targets self.new.calls.faults) path.now max result }
         ensures failures { self.new.calls.failures ≡ self.old.calls.failures }
         ensures made { self.new.calls.made ≡ min (self.old.calls.made + 1) (2 ^ 64 - 1) }
-        ensures listed { fails_next self.old.calls.failures self.old.calls.made ≡ true → (result ≡ Err Failed) × Rose self.old.calls.faults self.new.calls.faults }
+        ensures fails { fails_next self.old.calls.failures self.old.calls.made ≡ true → (result ≡ Err Failed) × Rose self.old.calls.faults self.new.calls.faults }
+        ensures serves { fails_next self.old.calls.failures self.old.calls.made ≡ false → (result ≢ Err Failed) × (self.new.calls.faults ≡ self.old.calls.faults) }
         ensures never { self.old.calls.failures ≡ [] → self.new.calls.faults ≡ self.old.calls.faults }
     {
         fetch(alloc, &self.targets, &mut self.calls, path, max)
