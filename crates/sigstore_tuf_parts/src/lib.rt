@@ -5,6 +5,8 @@ mod accepted;
 mod canonical;
 mod counted;
 mod document;
+#[cfg(test)]
+mod document_tests;
 mod error;
 mod extra;
 mod head;
@@ -22,6 +24,8 @@ mod targets;
 #[cfg(test)]
 mod tests;
 mod threshold;
+#[cfg(test)]
+mod threshold_tests;
 mod timestamp;
 mod verification;
 
