@@ -5,3 +5,4 @@ pub mod MeetsLaw
 pub mod IntegrityLaws
 pub mod Fits
 pub mod Unique
+mod Examples

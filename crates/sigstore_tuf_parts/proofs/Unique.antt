@@ -1,11 +1,11 @@
 -- The canonical text tells a value from every other.
-use Rattle.std.proofs.Common.{◌≡◌, ℕ, suc, ◌+◌, ◌<◌, ◌≤◌, ◌^◌, ◌==◌, ◌||◌, ◌⊎◌, inl, inr, ℤ, pos, negsuc, Bool, true, false, cond, List, [], ◌∷◌, ◌++◌, nat_lt, length, refl, sym, ap, ◌∙◌, subst, arith, rules, append_assoc, decimal, true≢false, eq-eqb, ap₂}
+use Rattle.std.proofs.Common.{◌≡◌, ℕ, suc, ◌<◌, ◌≤◌, ◌^◌, ◌==◌, ◌||◌, ◌⊎◌, inl, inr, pos, negsuc, Bool, true, false, cond, List, [], ◌∷◌, ◌++◌, nat_lt, length, refl, sym, ap, ◌∙◌, arith, append_assoc, decimal, true≢false, eq-eqb, ap₂}
 use Rattle.std.specs.Prelude.{⊤}
 use Rattle.std.specs.List.{flat_map}
 use Rattle.std.proofs.lemmas.Fmt.{decimal_by_steps, decimal_injective, decimal_nonempty}
 use Rattle.std.proofs.lemmas.Bool.Decides.{nat_tests}
-use Rattle.serde_json.specs.Data.{Num, unsigned, negative, float, Data, null, boolean, number, string, array, object, Items, no_items, item, Members, no_members, member}
-use Rattle.sigstore_tuf_parts.specs.Canon.{escaped_byte, quoted, comma_if, canon, canon_items, canon_members}
+use Rattle.serde_json.specs.Data.{unsigned, negative, float, Data, null, boolean, number, string, array, object, Items, no_items, item, Members, no_members, member}
+use Rattle.sigstore_tuf_parts.specs.Canon.{escaped_byte, quoted, canon, canon_items, canon_members}
 use Rattle.sigstore_tuf_parts.specs.Exact.{IsExact, AreExact, HasExact}
 
 -- ---- lists by their first element
