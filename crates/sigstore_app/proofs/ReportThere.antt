@@ -51,19 +51,19 @@ last_root_there (r ∷ roots) (d ∷ documents) root all e =
 module _ (bytes : List ℕ) where
   root_number : (doc : Document Root) → root_document bytes ≡ Ok doc → root_version bytes ≡ Ok (content_in doc).version
   unfolding root_version version_of
-  root_number doc h = ap (λ r. r >>= λ document. Ok ((content_in document).version)) h
+  root_number doc h = ap (λ r. r >>= λ (document : Document Root). Ok ((content_in {T = Root} document).version)) h
 
   timestamp_number : (doc : Document Timestamp) → timestamp_document bytes ≡ Ok doc → timestamp_version bytes ≡ Ok (content_in doc).version
   unfolding timestamp_version version_of
-  timestamp_number doc h = ap (λ r. r >>= λ document. Ok ((content_in document).version)) h
+  timestamp_number doc h = ap (λ r. r >>= λ (document : Document Timestamp). Ok ((content_in {T = Timestamp} document).version)) h
 
   snapshot_number : (doc : Document Snapshot) → snapshot_document bytes ≡ Ok doc → snapshot_version bytes ≡ Ok (content_in doc).version
   unfolding snapshot_version version_of
-  snapshot_number doc h = ap (λ r. r >>= λ document. Ok ((content_in document).version)) h
+  snapshot_number doc h = ap (λ r. r >>= λ (document : Document Snapshot). Ok ((content_in {T = Snapshot} document).version)) h
 
   targets_number : (doc : Document Targets) → targets_document bytes ≡ Ok doc → targets_version bytes ≡ Ok (content_in doc).version
   unfolding targets_version version_of
-  targets_number doc h = ap (λ r. r >>= λ document. Ok ((content_in document).version)) h
+  targets_number doc h = ap (λ r. r >>= λ (document : Document Targets). Ok ((content_in {T = Targets} document).version)) h
 
 module _ (crypto : Crypto) (root : Root) (snapshot : Snapshot) (documents : List ℕ → Option Targets) (now : jiff.Timestamp) where
   role_there : (v : Visit) (text name : List ℕ) (bytes : Option (List ℕ)) → IsTrustedVisit crypto root snapshot documents now v bytes → (t : List ℕ) × (role_added text name bytes ≡ Ok t)
