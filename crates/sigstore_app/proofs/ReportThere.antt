@@ -84,7 +84,9 @@ unfolding versions_of
 versions_there crypto given now max path chain t =
     let is = t.1 in
     let last = last_root_there chain.roots is.roots.documents t.0.root is.roots.read is.roots.last in
-    (_, rw (last.1, root_number last.0 t.0.root last.2, timestamp_number chain.timestamp t.0.timestamp is.timestamp_read, snapshot_number chain.snapshot t.0.snapshot is.snapshot_read))
+    let versions : Versions =
+      record { root = (content_in {T = Root} t.0.root).version; timestamp = (content_in {T = Timestamp} t.0.timestamp).version; snapshot = (content_in {T = Snapshot} t.0.snapshot).version } in
+    (versions, rw (last.1, root_number last.0 t.0.root last.2, timestamp_number chain.timestamp t.0.timestamp is.timestamp_read, snapshot_number chain.snapshot t.0.snapshot is.snapshot_read))
 
 pub report_there : (crypto : Crypto) (given : List ℕ) (now : jiff.Timestamp) (max : ℕ) (path : List ℕ) (chain : TrustChain) (digests : List (HashAlgorithm × List ℕ)) (result : VerificationResult)
     → Trusted crypto given now max path chain → (text : List ℕ) × (report_of chain digests result ≡ Ok text)

@@ -1,17 +1,16 @@
 -- The documents in force are authorised whatever was fetched, those of a refresh that is Ok serve, and a chain of documents
 -- that serve is trusted.
-use Rattle.std.proofs.Common.{◌≡◌, ◌⊎◌, inl, inr, ℕ, zero, suc, List, [], ◌∷◌, Bool, true, false, ◌&&◌, ◌==◌, not, if◌then◌else◌, Option, Some, None, Result, Ok, Err, codes, refl, sym, ap, ◌∙◌, subst, arith}
-use Rattle.std.specs.Prelude.{⊤, ok_or, int_lt, map, IfSome, ◌<◌}
+use Rattle.std.proofs.Common.{◌≡◌, ◌⊎◌, inl, inr, ℕ, List, [], ◌∷◌, Bool, true, false, ◌==◌, if◌then◌else◌, Option, Some, None, Result, Ok, Err, codes, refl, sym, subst, arith}
+use Rattle.std.specs.Prelude.{⊤, ok_or, IfSome}
 use Rattle.std.proofs.lemmas.Bool.Decides.{nat_tests}
 use Rattle.jiff_core.specs.declared.timestamp.Timestamp as jiff
 use Rattle.foundation.specs.Steps.{◌>>=◌}
 use Rattle.foundation.specs.Watched.{Watched}
 use Rattle.sigstore_types_parts.specs.Entries.{at_name}
 use Rattle.sigstore_tuf_parts.specs.declared.error.Error.{Error}
-use Rattle.sigstore_tuf_parts.specs.declared.error.Error.TheVariants.{Malformed, IntegrityMismatch, UnknownRole, NotRefreshed}
+use Rattle.sigstore_tuf_parts.specs.declared.error.Error.TheVariants.{Malformed, IntegrityMismatch, UnknownRole}
 use Rattle.sigstore_tuf_parts.specs.declared.error.Mismatch.TheVariants.{Version}
 use Rattle.sigstore_tuf_parts.specs.declared.error.Rule.TheVariants as rule
-use Rattle.sigstore_tuf_parts.specs.declared.keys.RoleKeys.{RoleKeys}
 use Rattle.sigstore_tuf_parts.specs.declared.root.Root.{Root}
 use Rattle.sigstore_tuf_parts.specs.declared.timestamp.MetaFile.{MetaFile}
 use Rattle.sigstore_tuf_parts.specs.declared.timestamp.Timestamp.{Timestamp}
@@ -21,7 +20,7 @@ use Rattle.sigstore_tuf_parts.specs.Document.{Document, content_in}
 use Rattle.sigstore_tuf_parts.specs.Crypto.{Crypto}
 use Rattle.sigstore_tuf_parts.specs.Threshold.{meets_of}
 use Rattle.sigstore_tuf_parts.specs.Integrity.{integrity_of, version_of, fresh_of}
-use Rattle.sigstore_tuf_parts.specs.Pinned.{IsIntact, Pinned, Fresh}
+use Rattle.sigstore_tuf_parts.specs.Pinned.{Fresh}
 use Rattle.sigstore_tuf_parts.specs.RootRoles.{root_document, meets_role_of, MeetsRole}
 use Rattle.sigstore_tuf_parts.proofs.MeetsLaw.{meets_exactly}
 use Rattle.sigstore_tuf_parts.proofs.IntegrityLaws.{integrity_exactly, fresh_exactly}
@@ -29,12 +28,11 @@ use Rattle.sigstore_tuf.specs.Repository.{Folders}
 use Rattle.sigstore_tuf.specs.declared.config.UpdaterConfig.{UpdaterConfig}
 use Rattle.sigstore_tuf.specs.declared.documents.Held.{Held}
 use Rattle.sigstore_tuf.specs.declared.documents.InForce.{InForce}
-use Rattle.sigstore_tuf.specs.Documents.{timestamp_document, snapshot_document, targets_document, content_of, snapshot_pin, targets_pin}
-use Rattle.sigstore_tuf.specs.Update.{first_root_of, newer_of, new_timestamp_of, snapshot_pin_of, kept_pins_of, snapshot_checks_of, new_snapshot_of, targets_pin_of, new_targets_of, with_timestamp, with_snapshot, with_targets}
-use Rattle.sigstore_tuf.specs.Client.{root_serves_of, consistent_of, after_timestamp, timestamp_serves_of, timestamp_answer_of, adoption_of, serves, snapshot_kept_in, is_snapshot_kept, targets_kept_in, is_targets_kept, top_targets, has_version}
-use Rattle.sigstore_tuf.specs.Refresh.{TakesTimestamp, TookTimestamp, RefreshesTimestamp, IsUnfetched, TookSnapshot, FetchesSnapshot, TakesTargets, TookTargets, RefreshesSnapshot, FetchesPinned, IsUnpinned, FetchesTargets, RefreshesPinned, RefreshesTargets, RefreshesUndelegated, Refreshes, walk_refuses, root_refuses, timestamp_refuses, snapshot_refuses, targets_refuses, all_serve}
-use Rattle.sigstore_tuf.specs.Trusted.{AreRoots}
-use Rattle.sigstore_tuf.specs.Authorised.{IsSigned, IsPinnedBy, AreAuthorised, Serve}
+use Rattle.sigstore_tuf.specs.Documents.{timestamp_document, snapshot_document, targets_document, content_of, targets_pin}
+use Rattle.sigstore_tuf.specs.Update.{first_root_of, newer_of, new_timestamp_of, snapshot_pin_of, kept_pins_of, snapshot_checks_of, new_snapshot_of, targets_pin_of, new_targets_of, with_snapshot, with_targets}
+use Rattle.sigstore_tuf.specs.Client.{after_timestamp, top_targets}
+use Rattle.sigstore_tuf.specs.Refresh.{TookTimestamp, RefreshesTimestamp, IsUnfetched, TookSnapshot, TakesTargets, TookTargets, RefreshesSnapshot, IsUnpinned, RefreshesPinned, RefreshesTargets, Refreshes, walk_refuses, root_refuses, timestamp_refuses, snapshot_refuses, targets_refuses, all_serve}
+use Rattle.sigstore_tuf.specs.Authorised.{IsSigned, IsPinnedBy, AreAuthorised}
 use Rattle.sigstore_tuf.proofs.Files.{at_insert}
 
 -- ---- steps that were Ok
@@ -189,6 +187,7 @@ module _ (crypto : Crypto) (given : List ℕ) (config : UpdaterConfig) (now : ji
       by_state : (bytes : List ℕ) → (new ≡ old) ⊎ (new ≡ after_timestamp old (new_timestamp_of crypto old bytes now)) → AreAuthorised crypto given new
       by_state bytes (inl e) = unchanged old new e k
       by_state bytes (inr e) = subst (AreAuthorised crypto given) (sym e) (timestamp_put old bytes (new_timestamp_of crypto old bytes now) refl k)
+
       by_answer : IsUnfetched (codes "timestamp.json") config.timestamp_max_length old new repo repo' result ⊎ TookTimestamp crypto config now old new repo result → AreAuthorised crypto given new
       by_answer (inl u) = unchanged old new (unfetched (codes "timestamp.json") config.timestamp_max_length old new repo repo' result u) k
       by_answer (inr t) = by_state t.bytes t.takes.state

@@ -1,14 +1,13 @@
 -- The documents of a refresh that is Ok serve, as do those of a search that is Ok; and a chain of documents that are authorised
 -- and serve is trusted.
 use Rattle.std.proofs.Common.{◌≡◌, ◌⊎◌, inl, inr, ℕ, zero, suc, List, [], ◌∷◌, Bool, true, false, ◌&&◌, ◌==◌, not, if◌then◌else◌, Option, Some, None, Result, Ok, Err, codes, refl, sym, ap, ◌∙◌, subst, arith, ℤ, ◌≤ℤ◌, int_lt}
-use Rattle.std.specs.Prelude.{⊤, ok_or, map, is_some, option_map, option_and_then, nat_lt, IfOk, OnOk}
+use Rattle.std.specs.Prelude.{⊤, ok_or, is_some, option_map, option_and_then, IfOk, OnOk}
 use Rattle.std.proofs.lemmas.Bool.Decides.{nat_tests}
 use Rattle.jiff_core.specs.declared.timestamp.Timestamp as jiff
-use Rattle.foundation.specs.Steps.{◌>>=◌}
 use Rattle.foundation.specs.Watched.{Watched}
 use Rattle.sigstore_types_parts.specs.Entries.{at_name}
 use Rattle.sigstore_tuf_parts.specs.declared.error.Error.{Error}
-use Rattle.sigstore_tuf_parts.specs.declared.error.Error.TheVariants.{Malformed, IntegrityMismatch, NotRefreshed, TargetNotFound}
+use Rattle.sigstore_tuf_parts.specs.declared.error.Error.TheVariants.{Malformed, IntegrityMismatch, TargetNotFound}
 use Rattle.sigstore_tuf_parts.specs.declared.error.Mismatch.TheVariants.{Version}
 use Rattle.sigstore_tuf_parts.specs.declared.error.Rule.TheVariants as rule
 use Rattle.sigstore_tuf_parts.specs.declared.root.Root.{Root}
@@ -26,15 +25,14 @@ use Rattle.sigstore_tuf.specs.Repository.{Folders}
 use Rattle.sigstore_tuf.specs.declared.config.UpdaterConfig.{UpdaterConfig}
 use Rattle.sigstore_tuf.specs.declared.documents.Held.{Held}
 use Rattle.sigstore_tuf.specs.declared.documents.InForce.{InForce}
-use Rattle.sigstore_tuf.specs.declared.chain.RoleDoc.{RoleDoc}
 use Rattle.sigstore_tuf.specs.declared.chain.TrustChain.{TrustChain}
 use Rattle.sigstore_tuf.specs.Documents.{targets_document, content_of, snapshot_pin, targets_pin}
 use Rattle.sigstore_tuf.specs.Update.{new_timestamp_of, snapshot_pin_of, new_snapshot_of, new_targets_of, with_snapshot, with_targets}
-use Rattle.sigstore_tuf.specs.Client.{root_serves_of, consistent_of, after_timestamp, adoption_of, timestamp_serves_of, timestamp_answer_of, has_version, serves, snapshot_kept_in, is_snapshot_kept, targets_kept_in, is_targets_kept, top_targets, undelegated_of}
+use Rattle.sigstore_tuf.specs.Client.{root_serves_of, after_timestamp, adoption_of, timestamp_serves_of, timestamp_answer_of, serves, snapshot_kept_in, is_snapshot_kept, targets_kept_in, is_targets_kept, top_targets, undelegated_of}
 use Rattle.sigstore_tuf.specs.Refresh.{TookTimestamp, RefreshesTimestamp, RefreshesSnapshot, RefreshesPinned, RefreshesTargets, TookSnapshot, TookTargets, Refreshes, walk_refuses, root_refuses, timestamp_refuses, snapshot_refuses, targets_refuses, all_serve}
-use Rattle.sigstore_tuf.specs.Target.{fresh_timestamp_of, fresh_snapshot_of, unexpired_of, pinned_version_of, pinned_by_of, all_pinned_of, search_serves_of, entry_in, listed_in, entry_of, within_of, target_of, file_of, TookFile, FetchesTarget, visit_of, chain_in, chain_of, GetsTarget, unlisted, unfetched, unchained, found}
+use Rattle.sigstore_tuf.specs.Target.{fresh_timestamp_of, fresh_snapshot_of, unexpired_of, pinned_version_of, pinned_by_of, all_pinned_of, search_serves_of, entry_in, listed_in, entry_of, within_of, target_of, file_of, TookFile, FetchesTarget, visit_of, chain_of, GetsTarget, unlisted, unfetched, unchained, found}
 use Rattle.sigstore_tuf.specs.Order.{is_pinned, lists, first_visit, search_of, walk_of, order}
-use Rattle.sigstore_tuf.specs.Trusted.{visit_in, documents_in, IsTrustedRole, Trusted}
+use Rattle.sigstore_tuf.specs.Trusted.{documents_in, IsTrustedRole, Trusted}
 use Rattle.sigstore_tuf.specs.Authorised.{AreAuthorised, Serve}
 use Rattle.sigstore_tuf.proofs.Authorised.{step_ok, ok_same, some_same, ok_some, where_some, fresh_from, top_inserted, snapshot_adopted, targets_adopted}
 
@@ -134,11 +132,11 @@ module _ (crypto : Crypto) (config : UpdaterConfig) (now : jiff.Timestamp) where
       root_same : (a : Result (Held Timestamp) Error) → (after_timestamp old a).root ≡ old.root
       root_same (Ok held) = refl
       root_same (Err e) = refl
+
       by_answer : ⊥ ⊎ TookTimestamp crypto config now old new repo (Ok tt) → HasTimestamp now new × (new.root ≡ old.root)
       by_answer (inl nothing) = absurd nothing
       by_answer (inr t) =
-          let a = step_ok (adoption_of (new_timestamp_of crypto old t.bytes now)) _ tt t.takes.serves.0 in
-          (
+          let a = step_ok (adoption_of (new_timestamp_of crypto old t.bytes now)) _ tt t.takes.serves.0 in (
             subst (HasTimestamp now) (sym t.takes.serves.1) (timestamp_there now (after_timestamp old (new_timestamp_of crypto old t.bytes now)) a.2),
             ap (λ (s : InForce). s.root) t.takes.serves.1 ∙ root_same (new_timestamp_of crypto old t.bytes now),
           )
@@ -357,24 +355,26 @@ module _ (crypto : Crypto) (given path : List ℕ) (config : UpdaterConfig) (now
       let time = where_some set.timestamp _ serve.timestamp serve.timestamp_is k.timestamp in
       let snap = where_some set.snapshot _ serve.snapshot serve.snapshot_is k.snapshot in
       let role = role_trusted serve k in
-      let docs : documents_in (visit_of serve.targets ∷ []) (codes "targets") ≡ Some (content_of serve.targets) = documents_one serve.targets (where_some (top_targets set) _ serve.targets serve.targets_is k.targets).0.read in
-      (record { root = set.root; timestamp = serve.timestamp.document; snapshot = serve.snapshot.document; pin = serve.pin }, record {
-        roots = k.roots;
-        root_fresh = serve.root_fresh;
-        timestamp_read = time.read;
-        timestamp_fresh = serve.timestamp_fresh;
-        timestamp_met = time.met;
-        snapshot_read = snap.read;
-        snapshot_fresh = serve.snapshot_fresh;
-        snapshot_met = snap.met;
-        pin_is = serve.pin_is;
-        snapshot_version = serve.snapshot_version;
-        order_is = subst (λ n. order (documents_in (visit_of serve.targets ∷ [])) (content_of serve.snapshot) path n ≡ Some (first_visit ∷ [])) (sym max)
-            (one_visit (documents_in (visit_of serve.targets ∷ [])) (content_of serve.snapshot) path m (content_of serve.targets) docs (ap is_some role.pin_is) (ap is_some listed_is));
-        listed = ap (option_and_then (λ (doc : Targets). at_name path doc.targets)) docs ∙ listed_is;
-        roles = (role, tt);
-        file = (integrity_exactly (Some entry.length) (Some entry.hashes) file).0 intact;
-      })
+      let docs : documents_in (visit_of serve.targets ∷ []) (codes "targets") ≡ Some (content_of serve.targets) = documents_one serve.targets (where_some (top_targets set) _ serve.targets serve.targets_is k.targets).0.read in (
+        record { root = set.root; timestamp = serve.timestamp.document; snapshot = serve.snapshot.document; pin = serve.pin },
+        record {
+          roots = k.roots;
+          root_fresh = serve.root_fresh;
+          timestamp_read = time.read;
+          timestamp_fresh = serve.timestamp_fresh;
+          timestamp_met = time.met;
+          snapshot_read = snap.read;
+          snapshot_fresh = serve.snapshot_fresh;
+          snapshot_met = snap.met;
+          pin_is = serve.pin_is;
+          snapshot_version = serve.snapshot_version;
+          order_is = subst (λ n. order (documents_in (visit_of serve.targets ∷ [])) (content_of serve.snapshot) path n ≡ Some (first_visit ∷ [])) (sym max)
+              (one_visit (documents_in (visit_of serve.targets ∷ [])) (content_of serve.snapshot) path m (content_of serve.targets) docs (ap is_some role.pin_is) (ap is_some listed_is));
+          listed = ap (option_and_then (λ (doc : Targets). at_name path doc.targets)) docs ∙ listed_is;
+          roles = (role, tt);
+          file = (integrity_exactly (Some entry.length) (Some entry.hashes) file).0 intact;
+        },
+      )
 
   found_trusted : (repo repo' : Watched Folders) (entry : TargetFile) (file : List ℕ) (chain : TrustChain) → AreAuthorised crypto given set → target_of set config path now ≡ Ok entry
       → FetchesTarget entry path repo repo' (Ok file) → chain_of set entry file ≡ Ok chain → Trusts chain

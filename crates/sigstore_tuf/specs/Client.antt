@@ -1,5 +1,5 @@
 -- The client's steps: what is fetched, what each answer says of the repository and of the documents in force (TUF specification, section 5).
-use Rattle.std.specs.Prelude.{◌≡◌, ◌≢◌, ◌⊎◌, ℕ, ◌+◌, ◌-◌, ◌^◌, ◌<◌, ◌≤◌, ◌==◌, ◌&&◌, nat_lt, not, List, [], ◌∷◌, ◌++◌, length, Bool, true, false, if◌then◌else◌, Option, Some, None, ok_or, option_and_then, is_some, Result, Ok, Err, IfOk, IfErr, OnOk, codes, decimal, ⊤}
+use Rattle.std.specs.Prelude.{◌≡◌, ◌⊎◌, ℕ, ◌+◌, ◌-◌, ◌^◌, ◌<◌, ◌≤◌, ◌==◌, ◌&&◌, not, List, [], ◌∷◌, length, Bool, true, false, if◌then◌else◌, Option, Some, None, ok_or, Result, Ok, Err, IfOk, IfErr, OnOk, codes, ⊤}
 use Rattle.std.specs.Prelude.{int_lt}
 use Rattle.jiff_core.specs.declared.timestamp.Timestamp as jiff
 use Rattle.foundation.specs.Steps.{◌>>=◌}
@@ -7,33 +7,28 @@ use Rattle.foundation.specs.Watched.{Watched, Rose, IfTold, Since}
 use Rattle.sigstore_types_parts.specs.Entries.{at_name}
 use Rattle.sigstore_types_parts.specs.declared.form.Form.TheVariants as form
 use Rattle.sigstore_tuf_parts.specs.declared.error.Error.{Error}
-use Rattle.sigstore_tuf_parts.specs.declared.error.Error.TheVariants.{Malformed, EqualVersion, IntegrityMismatch, NotRefreshed, TargetNotFound, Transport, NoMemory, Unbuilt}
+use Rattle.sigstore_tuf_parts.specs.declared.error.Error.TheVariants.{Malformed, EqualVersion, Transport, NoMemory, Unbuilt}
 use Rattle.sigstore_tuf_parts.specs.declared.error.Rule.TheVariants as rule
-use Rattle.sigstore_tuf_parts.specs.declared.error.Mismatch.TheVariants as mismatch
 use Rattle.sigstore_tuf_parts.specs.declared.error.TransportFault.{TransportFault}
 use Rattle.sigstore_tuf_parts.specs.declared.error.TransportFault.TheVariants as transport
-use Rattle.sigstore_tuf_parts.specs.declared.root.Root.{Root}
 use Rattle.sigstore_tuf_parts.specs.declared.timestamp.MetaFile.{MetaFile}
 use Rattle.sigstore_tuf_parts.specs.declared.timestamp.Timestamp.{Timestamp}
 use Rattle.sigstore_tuf_parts.specs.declared.snapshot.Snapshot.{Snapshot}
 use Rattle.sigstore_tuf_parts.specs.declared.targets.Targets.{Targets}
-use Rattle.sigstore_tuf_parts.specs.declared.targets.TargetFile.{TargetFile}
 use Rattle.sigstore_tuf_parts.specs.declared.targets.Delegations.{Delegations}
 use Rattle.sigstore_tuf_parts.specs.declared.targets.DelegatedRole.{DelegatedRole}
 use Rattle.sigstore_tuf_parts.specs.Document.{content_in}
 use Rattle.sigstore_tuf_parts.specs.Crypto.{Crypto}
-use Rattle.sigstore_tuf_parts.specs.Integrity.{integrity_of, fresh_of}
+use Rattle.sigstore_tuf_parts.specs.Integrity.{fresh_of}
 use Rattle.sigstore_tuf_parts.specs.Names.{root_name}
-use Rattle.sigstore_tuf.specs.Repository.{Folders, Files, metadata_files, target_files}
+use Rattle.sigstore_tuf.specs.Repository.{Folders, Files, metadata_files}
 use Rattle.sigstore_tuf.specs.declared.repository.FetchFault.{FetchFault}
 use Rattle.sigstore_tuf.specs.declared.repository.FetchFault.TheVariants as fetch
 use Rattle.sigstore_tuf.specs.declared.config.UpdaterConfig.{UpdaterConfig}
 use Rattle.sigstore_tuf.specs.declared.documents.Held.{Held}
 use Rattle.sigstore_tuf.specs.declared.documents.InForce.{InForce}
-use Rattle.sigstore_tuf.specs.declared.chain.RoleDoc.{RoleDoc}
-use Rattle.sigstore_tuf.specs.declared.chain.TrustChain.{TrustChain}
 use Rattle.sigstore_tuf.specs.Documents.{content_of, snapshot_pin, targets_pin}
-use Rattle.sigstore_tuf.specs.Update.{new_timestamp_of, new_snapshot_of, new_targets_of, targets_pin_of, with_timestamp, with_snapshot, with_targets}
+use Rattle.sigstore_tuf.specs.Update.{new_timestamp_of, with_timestamp, with_snapshot, with_targets}
 
 -- ---- a fetch
 

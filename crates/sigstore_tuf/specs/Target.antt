@@ -1,5 +1,5 @@
 -- The search for a target and its file (TUF specification, sections 5.6.7 and 5.7).
-use Rattle.std.specs.Prelude.{◌≡◌, ◌≢◌, ◌⊎◌, ℕ, ◌≤◌, ◌==◌, nat_lt, List, [], ◌∷◌, length, Bool, true, false, if◌then◌else◌, Option, Some, None, ok_or, Result, Ok, Err, IfOk, IfErr, codes, ⊤}
+use Rattle.std.specs.Prelude.{◌≡◌, ◌≢◌, ◌⊎◌, ℕ, ◌≤◌, ◌==◌, nat_lt, List, [], ◌∷◌, length, if◌then◌else◌, Option, Some, None, Result, Ok, Err, IfOk, IfErr, codes, ⊤}
 use Rattle.jiff_core.specs.declared.timestamp.Timestamp as jiff
 use Rattle.foundation.specs.Steps.{◌>>=◌}
 use Rattle.foundation.specs.Watched.{Watched, Since}
@@ -21,7 +21,7 @@ use Rattle.sigstore_tuf.specs.declared.documents.InForce.{InForce}
 use Rattle.sigstore_tuf.specs.declared.chain.RoleDoc.{RoleDoc}
 use Rattle.sigstore_tuf.specs.declared.chain.TrustChain.{TrustChain}
 use Rattle.sigstore_tuf.specs.Documents.{content_of, snapshot_pin, targets_pin}
-use Rattle.sigstore_tuf.specs.Client.{Has, FetchCause, FetchesFile, has_version, top_targets, undelegated_of}
+use Rattle.sigstore_tuf.specs.Client.{Has, FetchCause, has_version, top_targets, undelegated_of}
 
 -- ---- the top-level documents
 

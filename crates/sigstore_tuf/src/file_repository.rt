@@ -1,4 +1,5 @@
 // A repository in a folder.
+ghost use Rattle.std.specs.Prelude.{◌≡◌};
 ghost use Rattle.foundation.specs.Watched.{untold};
 ghost use Rattle.sigstore_tuf.specs.Repository.{WithinLimit};
 
@@ -21,7 +22,10 @@ pub struct FileRepository<'r, X: Files + AllocGlobal> {
 
 impl<'r, X: Files + AllocGlobal> FileRepository<'r, X> {
     /// The repository in a folder.
-    pub fn new(rt: &'r X, dir: Text) -> FileRepository<'r, X> {
+    pub fn new(rt: &'r X, dir: Text) -> FileRepository<'r, X>
+        ensures dir { result.dir ≡ dir }
+        ensures faults { result.faults ≡ 0 }
+    {
         FileRepository { rt, dir, faults: 0 }
     }
 }

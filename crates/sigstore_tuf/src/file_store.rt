@@ -1,5 +1,5 @@
 // A store in a folder.
-ghost use Rattle.std.specs.Prelude.{⊤};
+ghost use Rattle.std.specs.Prelude.{◌≡◌, ⊤};
 ghost use Rattle.foundation.specs.Watched.{untold};
 ghost use Rattle.sigstore_tuf.specs.Store.{HasStoreCause};
 
@@ -25,7 +25,10 @@ pub struct FileStore<'r, X: Files + AllocGlobal> {
 
 impl<'r, X: Files + AllocGlobal> FileStore<'r, X> {
     /// The store in a folder, which is made when something is stored.
-    pub fn new(rt: &'r X, dir: Text) -> FileStore<'r, X> {
+    pub fn new(rt: &'r X, dir: Text) -> FileStore<'r, X>
+        ensures dir { result.dir ≡ dir }
+        ensures faults { result.faults ≡ 0 }
+    {
         FileStore { rt, dir, faults: 0 }
     }
 }

@@ -1,4 +1,3 @@
-use Rattle.std.proofs.Common.{Result, Ok, Err}
 use Rattle.sigstore_tuf.proofs.Authorised.{refresh_authorised}
 use Rattle.sigstore_tuf.proofs.Serving.{on_refresh}
 use Rattle.sigstore_tuf.proofs.client.refresh_parts.Goals as goal
