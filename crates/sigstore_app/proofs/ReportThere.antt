@@ -1,28 +1,26 @@
 -- The report over a chain that is trusted can always be made.
-use Rattle.std.proofs.Common.{◌≡◌, ℕ, suc, ◌-◌, List, [], ◌∷◌, length, ◌++◌, Option, Some, None, Result, Ok, Err, codes, refl, sym, ap, ◌∙◌, subst, arith}
-use Rattle.std.specs.Prelude.{⊤, slice_get, ok_or}
+use Rattle.std.proofs.Common.{◌≡◌, ℕ, suc, ◌-◌, List, [], ◌∷◌, length, ◌++◌, Option, Some, None, Ok, codes, refl, ap, ◌∙◌, subst, arith}
+use Rattle.std.specs.Prelude.{slice_get}
 use Rattle.std.specs.List.{AllByRecursion, AllZip, last_or}
 use Rattle.jiff_core.specs.declared.timestamp.Timestamp as jiff
 use Rattle.foundation.specs.Steps.{◌>>=◌}
 use Rattle.sigstore_types_parts.specs.declared.hash_algorithm.HashAlgorithm.{HashAlgorithm}
-use Rattle.sigstore_tuf_parts.specs.declared.error.Error.{Error}
-use Rattle.sigstore_tuf_parts.specs.declared.error.Error.TheVariants.{NotRefreshed}
 use Rattle.sigstore_tuf_parts.specs.declared.root.Root.{Root}
 use Rattle.sigstore_tuf_parts.specs.declared.timestamp.Timestamp.{Timestamp}
 use Rattle.sigstore_tuf_parts.specs.declared.snapshot.Snapshot.{Snapshot}
 use Rattle.sigstore_tuf_parts.specs.declared.targets.Targets.{Targets}
 use Rattle.sigstore_tuf_parts.specs.Document.{Document, content_in}
-use Rattle.sigstore_tuf_parts.specs.RootRoles.{root_document, Roots}
+use Rattle.sigstore_tuf_parts.specs.RootRoles.{root_document}
 use Rattle.sigstore_tuf_parts.specs.Crypto.{Crypto}
 use Rattle.sigstore_tuf.specs.Documents.{timestamp_document, snapshot_document, targets_document}
 use Rattle.sigstore_tuf.specs.declared.chain.TrustChain.{TrustChain}
 use Rattle.sigstore_tuf.specs.declared.chain.RoleDoc.{RoleDoc}
 use Rattle.sigstore_tuf.specs.Order.{Visit}
-use Rattle.sigstore_tuf.specs.Trusted.{BeginsWith, IsTrustedVisit, AreRoots, visit_in, documents_in, Trusted}
+use Rattle.sigstore_tuf.specs.Trusted.{IsTrustedVisit, visit_in, documents_in, Trusted}
 use Rattle.sigstore_verify.specs.declared.report.VerificationResult.{VerificationResult}
 use Rattle.sigstore_app_parts.specs.Printed.{line_of, named_line}
 use Rattle.sigstore_app.specs.declared.report.Versions.{Versions}
-use Rattle.sigstore_app.specs.Report.{version_of, root_version, timestamp_version, snapshot_version, targets_version, last_root, versions_of, versions_text, role_added, roles_added, tail_added, report_of}
+use Rattle.sigstore_app.specs.Report.{version_of, root_version, timestamp_version, snapshot_version, targets_version, versions_of, versions_text, role_added, roles_added, tail_added, report_of}
 
 -- ---- the last root
 

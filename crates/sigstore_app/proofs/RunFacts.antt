@@ -1,33 +1,26 @@
 -- What the parts of a run say of the whole.
-use Rattle.std.proofs.Common.{◌≡◌, ℕ, List, Option, Some, None, Result, Ok, Err, IfOk, refl, sym, ap, ◌∙◌, subst, codes}
+use Rattle.std.proofs.Common.{◌≡◌, ℕ, List, Option, Some, None, Result, Ok, Err, IfOk, refl, sym, ap, ◌∙◌, subst}
 use Rattle.std.specs.Result.{result_ok}
 use Rattle.jiff_core.specs.declared.timestamp.Timestamp as jiff
 use Rattle.foundation.specs.Watched.{Watched}
 use Rattle.foundation.specs.declared.no_memory.NoMemory.{NoMemory}
-use Rattle.sigstore_tuf_parts.specs.declared.error.Error.{Error as TufError}
 use Rattle.sigstore_tuf.specs.Repository.{Folders}
 use Rattle.sigstore_tuf.specs.Config.{default_config}
 use Rattle.sigstore_tuf.specs.declared.config.UpdaterConfig.{UpdaterConfig}
 use Rattle.sigstore_verify.specs.declared.policy.PublicKeyVerificationPolicy.{PublicKeyVerificationPolicy}
-use Rattle.sigstore_verify.specs.Policy.{Meaning, PublicKey}
+use Rattle.sigstore_verify.specs.Policy.{PublicKey}
 use Rattle.sigstore_verify.specs.declared.root.Rooted.{Rooted}
 use Rattle.sigstore_verify.specs.declared.root.RootFault.{RootFault}
-use Rattle.sigstore_verify.specs.declared.root.RootFault.TheVariants as root
 use Rattle.sigstore_verify.specs.Root.{trust_path, Runs, IsAccepted}
 use Rattle.sigstore_app_parts.specs.Inputs.{Held}
-use Rattle.sigstore_app_parts.specs.Sink.{WritesText}
 use Rattle.sigstore_app_parts.specs.Layout.{layout_of}
 use Rattle.sigstore_app_parts.specs.Gather.{gathered_of, ReadsAs}
 use Rattle.sigstore_app_parts.specs.declared.layout.Layout.{Layout}
 use Rattle.sigstore_app_parts.specs.declared.gather.Gathered.{Gathered}
 use Rattle.sigstore_app_parts.specs.declared.gather.Stop.{Stop}
-use Rattle.sigstore_app_parts.specs.declared.gather.Stop.TheVariants.{Words, Form, Input, Memory}
+use Rattle.sigstore_app_parts.specs.declared.gather.Stop.TheVariants.{Words}
 use Rattle.sigstore_app_parts.specs.declared.usage_fault.UsageFault.{UsageFault}
-use Rattle.sigstore_app_parts.specs.declared.sink.SinkFault.{SinkFault}
-use Rattle.sigstore_app.specs.declared.answer.Status.{Status}
-use Rattle.sigstore_app.specs.declared.answer.Status.TheVariants as status
 use Rattle.sigstore_app.specs.declared.answer.Answer.{Answer}
-use Rattle.sigstore_app.specs.Report.{report_of}
 use Rattle.sigstore_app.proofs.ReportThere.{report_there}
 use Rattle.sigstore_app.specs.Run as r
 use Rattle.sigstore_app.specs.Run.{answer, stop_answer, tuf_answer, verify_answer, refusal_answer, policy_meant, max_artifact, crypto_in, now_of, VerifiesInputs, AcceptsInputs, said_of, Reports, SaysReport, Judges, Proceeds, Decides, RunsTo, Accepts, OnAccepted}

@@ -1,6 +1,6 @@
 -- The report of an accepted bundle.
-use Rattle.std.specs.Prelude.{ℕ, ◌-◌, ℤ, pos, int_div, List, [], ◌∷◌, ◌++◌, length, slice_get, codes, Option, Some, None, Result, Ok, Err, ok_or}
-use Rattle.std.specs.Fmt.{decimal, signed_decimal}
+use Rattle.std.specs.Prelude.{ℕ, ◌-◌, pos, int_div, List, [], ◌∷◌, ◌++◌, length, slice_get, codes, Option, Some, None, Result, Ok, ok_or}
+use Rattle.std.specs.Fmt.{signed_decimal}
 use Rattle.serde_json.specs.Data.{Data}
 use Rattle.jiff_core.specs.declared.timestamp.Timestamp as jiff
 use Rattle.foundation.specs.Steps.{◌>>=◌}

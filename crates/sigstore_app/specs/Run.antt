@@ -13,7 +13,7 @@ use Rattle.sigstore_tuf.specs.Config.{default_config}
 use Rattle.sigstore_verify.specs.declared.error.Error.{Error as VerifyError}
 use Rattle.sigstore_verify.specs.Error as verify
 use Rattle.sigstore_verify.specs.declared.policy.PublicKeyVerificationPolicy.{PublicKeyVerificationPolicy}
-use Rattle.sigstore_verify.specs.Policy.{Meaning, PublicKey}
+use Rattle.sigstore_verify.specs.Policy.{PublicKey}
 use Rattle.sigstore_verify.specs.declared.root.Rooted.{Rooted}
 use Rattle.sigstore_verify.specs.declared.root.RootFault.{RootFault}
 use Rattle.sigstore_verify.specs.declared.root.RootFault.TheVariants as root

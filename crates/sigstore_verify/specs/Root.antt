@@ -1,5 +1,5 @@
 -- The top call: from a pinned root down to one artifact.
-use Rattle.std.specs.Prelude.{◌≡◌, ◌≢◌, ℕ, List, [], ◌∷◌, ⊤, Option, Some, Result, Ok, Err, IfOk, codes}
+use Rattle.std.specs.Prelude.{◌≡◌, ◌≢◌, ℕ, List, [], ◌∷◌, Result, Ok, Err, codes}
 use Rattle.sha2.specs.Sha256.{sha256}
 use Rattle.jiff_core.specs.declared.timestamp.Timestamp as jiff
 use Rattle.foundation.specs.Watched.{Watched}
@@ -24,7 +24,6 @@ use Rattle.sigstore_tuf.specs.Target.{GetsTarget}
 use Rattle.sigstore_tuf.specs.Trusted.{Trusted}
 use Rattle.sigstore_verify.specs.declared.error.Error.{Error}
 use Rattle.sigstore_verify.specs.declared.error.Error.TheVariants as verify
-use Rattle.sigstore_verify.specs.declared.report.VerificationResult.{VerificationResult}
 use Rattle.sigstore_verify.specs.declared.report.Kept.{Kept}
 use Rattle.sigstore_verify.specs.declared.root.Rooted.{Rooted}
 use Rattle.sigstore_verify.specs.declared.root.RootFault.{RootFault}

@@ -1,4 +1,4 @@
-use Rattle.std.proofs.Common.{◌≡◌, ℕ, List, ap, ◌∙◌, string_bytes}
+use Rattle.std.proofs.Common.{ap, ◌∙◌, string_bytes}
 use Rattle.sigstore_types_parts.specs.HashAlgorithm.{rekor_name_of}
 use Rattle.sigstore_app.proofs.Digests.{digests_more}
 use Rattle.sigstore_app.proofs.report.push_digests.Goals as goal
