@@ -83,7 +83,7 @@ versions_there crypto given now max path chain t =
     let is = t.1 in
     let last = last_root_there chain.roots is.roots.documents t.0.root is.roots.read is.roots.last in
     let versions : Versions =
-      record { root = (content_in {T = Root} t.0.root).version; timestamp = (content_in {T = Timestamp} t.0.timestamp).version; snapshot = (content_in {T = Snapshot} t.0.snapshot).version } in
+    record { root = (content_in {T = Root} t.0.root).version; timestamp = (content_in {T = Timestamp} t.0.timestamp).version; snapshot = (content_in {T = Snapshot} t.0.snapshot).version } in
     (versions, rw (last.1, root_number last.0 t.0.root last.2, timestamp_number chain.timestamp t.0.timestamp is.timestamp_read, snapshot_number chain.snapshot t.0.snapshot is.snapshot_read))
 
 pub report_there : (crypto : Crypto) (given : List ℕ) (now : jiff.Timestamp) (max : ℕ) (path : List ℕ) (chain : TrustChain) (digests : List (HashAlgorithm × List ℕ)) (result : VerificationResult)
@@ -92,9 +92,8 @@ unfolding report_of
 report_there crypto given now max path chain digests result t =
     let versions = versions_there crypto given now max path chain t in
     let start : List ℕ = line_of (codes "accepted") ++ versions_text versions.0 in
-    let roles = roles_there crypto (content_in t.0.root) (content_in t.0.snapshot) (documents_in chain.roles) now start chain.roles t.1.roles in
-    (
+    let roles = roles_there crypto (content_in t.0.root) (content_in t.0.snapshot) (documents_in chain.roles) now start chain.roles t.1.roles in (
       tail_added roles.0 chain digests result,
       ap (λ r. r >>= λ v. roles_added (line_of (codes "accepted") ++ versions_text v) chain.roles >>= λ text. Ok (tail_added text chain digests result)) versions.1
-      ∙ ap (λ r. r >>= λ text. Ok (tail_added text chain digests result)) roles.1,
+          ∙ ap (λ r. r >>= λ text. Ok (tail_added text chain digests result)) roles.1,
     )

@@ -3,6 +3,8 @@
 #![tactic(auto)]
 
 mod answer;
+#[cfg(test)]
+mod failure_tests;
 mod report;
 mod run;
 #[cfg(test)]

@@ -39,9 +39,9 @@ const WORDS: &str =
 
 // One part of the fixture, and the text in its place.
 #[derive(Clone, Copy)]
-struct Change<'a> {
-    part: &'a str,
-    text: &'a str,
+pub(crate) struct Change<'a> {
+    pub(crate) part: &'a str,
+    pub(crate) text: &'a str,
 }
 
 impl<'a> Change<'a> {
@@ -86,8 +86,13 @@ fn put(alloc: Global, repo: &mut MemoryRepository, name: &str, signed: &str) -> 
     Ok(())
 }
 
-fn no_failures(alloc: Global) -> Result<FailList, Fail> {
-    Ok(FailList::new(Vec::new(alloc)).ok_or("a list")?)
+// The calls of an object that fail: the one whose number the change gives, or else none.
+fn failures(alloc: Global, change: Change, object: &str) -> Result<FailList, Fail> {
+    let mut numbers = Vec::new(alloc);
+    if change.part == object {
+        numbers.push(change.text.parse::<u64>()?)?;
+    }
+    Ok(FailList::new(numbers).ok_or("a list")?)
 }
 
 fn repository(
@@ -96,7 +101,7 @@ fn repository(
     targets: &str,
     trust: &str,
 ) -> Result<MemoryRepository, Fail> {
-    let mut repo = MemoryRepository::new(alloc, no_failures(alloc)?);
+    let mut repo = MemoryRepository::new(alloc, failures(alloc, change, "repository fails")?);
     put(alloc, &mut repo, "2.root.json", change.of("next root", ""))?;
     put(
         alloc,
@@ -161,7 +166,7 @@ fn bundle(alloc: Global, change: Change) -> Result<String, Fail> {
 }
 
 fn inputs(alloc: Global, change: Change, root: &str, targets: &str) -> Result<MemoryInputs, Fail> {
-    let mut inputs = MemoryInputs::new(no_failures(alloc)?);
+    let mut inputs = MemoryInputs::new(failures(alloc, change, "inputs fail")?);
     let (key, skip) = (change.of("key", SPKI), change.of("skip", "skip tlog\n"));
     let policy = format!(in alloc; "key {key}\n{skip}")?;
     let provider = provider(alloc, change, root, targets)?;
@@ -174,10 +179,14 @@ fn inputs(alloc: Global, change: Change, root: &str, targets: &str) -> Result<Me
     Ok(inputs)
 }
 
-fn source(alloc: Global, artifact: &str) -> Result<MemorySource, Fail> {
+// The artifact, two bytes at a time.
+fn source(alloc: Global, change: Change) -> Result<MemorySource, Fail> {
     let step = NonZeroU32::new(2).ok_or("a step")?;
+    let signed = change.of("signed artifact", "hello");
+    let artifact = change.of("artifact", signed);
     let bytes = Bytes::new(alloc, artifact.as_bytes())?;
-    Ok(MemorySource::new(bytes, step, no_failures(alloc)?))
+    let failures = failures(alloc, change, "artifact fails")?;
+    Ok(MemorySource::new(bytes, step, failures))
 }
 
 fn words(alloc: Global, line: &str) -> Result<Vec<Text>, Fail> {
@@ -189,16 +198,15 @@ fn words(alloc: Global, line: &str) -> Result<Vec<Text>, Fail> {
 }
 
 // How a run over the changed fixture ends, and what a sink of that room holds after it.
-fn ended(alloc: Global, change: Change, room: u32) -> Result<(Status, String), Fail> {
+pub(crate) fn ended(alloc: Global, change: Change, room: u32) -> Result<(Status, String), Fail> {
     let root = root(alloc, change)?;
     let trust = change.of("trust", "{}");
     let targets = targets(alloc, change, trust)?;
     let mut inputs = inputs(alloc, change, root.as_str(), targets.as_str())?;
     let mut repo = repository(alloc, change, targets.as_str(), trust)?;
     let mut store = MemoryStore::new(alloc);
-    let signed = change.of("signed artifact", "hello");
-    let mut artifact = source(alloc, change.of("artifact", signed))?;
-    let mut sink = MemorySink::new(alloc, room, no_failures(alloc)?)?;
+    let mut artifact = source(alloc, change)?;
+    let mut sink = MemorySink::new(alloc, room, failures(alloc, change, "sink fails")?)?;
     let words = words(alloc, change.of("words", WORDS))?;
     let clock = Timestamp::UNIX_EPOCH;
     let ended = run(
@@ -216,7 +224,7 @@ fn ended(alloc: Global, change: Change, room: u32) -> Result<(Status, String), F
 }
 
 // What the sink holds after a run over the changed fixture, which ends with a status.
-fn said(alloc: Global, part: &str, text: &str, status: Status) -> Result<String, Fail> {
+pub(crate) fn said(alloc: Global, part: &str, text: &str, status: Status) -> Result<String, Fail> {
     let (ended, said) = ended(alloc, Change { part, text }, 1024)?;
     if ended != status {
         return Err("another status")?;
@@ -225,7 +233,7 @@ fn said(alloc: Global, part: &str, text: &str, status: Status) -> Result<String,
 }
 
 // The report over the fixture, or over the empty artifact.
-fn report_of(artifact: &str) -> &'static str {
+pub(crate) fn report_of(artifact: &str) -> &'static str {
     match artifact {
         "" =>
             "accepted\nroot 1\ntimestamp 1\nsnapshot 1\nrole targets 1\ntarget 2\nartifact sha256 e3b0c44298fc1c149afbf4c8996fb92427ae41e4649b934ca495991b7852b855\nidentity none\nissuer none\ncertificate no\nsct no\ntlog no\npolicy no\nintegrated none\ntimes 0\n",
