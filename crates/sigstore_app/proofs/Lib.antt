@@ -1,4 +1,4 @@
-mod Accepting
+mod Meaning
 mod Digests
 mod ReportThere
 mod RunFacts

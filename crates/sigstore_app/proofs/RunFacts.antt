@@ -23,7 +23,7 @@ use Rattle.sigstore_app_parts.specs.declared.usage_fault.UsageFault.{UsageFault}
 use Rattle.sigstore_app.specs.declared.answer.Answer.{Answer}
 use Rattle.sigstore_app.proofs.ReportThere.{report_there}
 use Rattle.sigstore_app.specs.Run as r
-use Rattle.sigstore_app.specs.Run.{answer, stop_answer, tuf_answer, verify_answer, refusal_answer, policy_meant, max_artifact, crypto_in, now_of, VerifiesInputs, AcceptsInputs, said_of, Reports, SaysReport, Judges, Proceeds, Decides, RunsTo, Accepts, OnAccepted}
+use Rattle.sigstore_app.specs.Run.{answer, stop_answer, tuf_answer, verify_answer, refusal_answer, policy_meant, max_artifact, crypto_in, now_of, VerifiesInputs, AcceptsInputs, said_of, Reports, SaysReport, Judges, Proceeds, Decides, RunsTo}
 
 -- the verification was called on the inputs
 pub on_inputs : (g : Gathered) (now : jiff.Timestamp) (repo repo' : Watched Folders) (source source' : Watched (List ℕ)) (result : Result Rooted RootFault)

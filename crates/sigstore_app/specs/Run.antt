@@ -1,8 +1,8 @@
 -- A run of the program: what it reads, what it says, and what it writes.
-use Rattle.std.specs.Prelude.{◌≡◌, ℕ, ◌^◌, List, codes, not, unwrap_or, ⊤, Option, Some, None, Result, Ok, Err}
+use Rattle.std.specs.Prelude.{◌≡◌, ◌⊎◌, ℕ, ◌^◌, List, codes, not, unwrap_or, ⊤, Option, Some, None, Result, Ok, Err}
 use Rattle.std.specs.Result.{result_ok}
 use Rattle.jiff_core.specs.declared.timestamp.Timestamp as jiff
-use Rattle.foundation.specs.Watched.{Watched}
+use Rattle.foundation.specs.Watched.{Watched, Rose}
 use Rattle.foundation.specs.declared.no_memory.NoMemory.{NoMemory}
 use Rattle.sigstore_crypto.specs.Good.{Judge}
 use Rattle.sigstore_tuf_parts.specs.declared.error.Error.{Error as TufError}
@@ -23,7 +23,8 @@ use Rattle.sigstore_app_parts.specs.Sink.{WritesText}
 use Rattle.sigstore_app_parts.specs.Rows.{accepts_of}
 use Rattle.sigstore_app_parts.specs.Tables.{is_armored_by, armor_content}
 use Rattle.sigstore_app_parts.specs.Layout.{layout_of}
-use Rattle.sigstore_app_parts.specs.Gather.{word_of, gathered_of, ReadsAs}
+use Rattle.sigstore_app_parts.specs.Gather.{word_of, gathered_of, FormCause, StopCause, ReadsAs}
+use Rattle.sigstore_app_parts.specs.declared.inputs.Which.{Which}
 use Rattle.sigstore_app_parts.specs.Printed.{line_of, pair_line, refused_line}
 use Rattle.sigstore_app_parts.specs.declared.layout.Layout.{Layout}
 use Rattle.sigstore_app_parts.specs.declared.gather.Gathered.{Gathered}
@@ -154,10 +155,40 @@ pub record Accepts (words : List (List ℕ)) (clock : jiff.Timestamp) (inputs in
   pub reported : report_of rooted.chain rooted.digests rooted.result ≡ Ok text
   pub written : WritesText {E = SinkFault} out out' text (Ok tt)
 
-abbrev pub OnAccepted : Status → Type 0 → Type 0
-OnAccepted status.Accepted P = P
-OnAccepted status.Refused P = ⊤
-OnAccepted status.Usage P = ⊤
-OnAccepted status.Input P = ⊤
-OnAccepted status.Output P = ⊤
-OnAccepted status.Memory P = ⊤
+-- the sink took exactly the text
+abbrev pub TakesAll : Watched (List ℕ) → Watched (List ℕ) → List ℕ → Type 0
+TakesAll out out' text = WritesText {E = SinkFault} out out' text (Ok tt)
+
+-- What status 1 means: the words give a layout, the inputs were read, the verification from the root refused, and the sink took
+-- exactly the refusal's line.
+pub record Refuses (words : List (List ℕ)) (clock : jiff.Timestamp) (inputs inputs' : Watched Held) (repo repo' : Watched Folders) (source source' out out' : Watched (List ℕ)) : Type 0 where
+  pub layout : Layout
+  pub worded : layout_of words ≡ Ok layout
+  pub gathered : Gathered
+  pub read : ReadsAs gathered_of inputs inputs' (Ok gathered)
+  pub fault : RootFault
+  pub verified : VerifiesInputs gathered (now_of layout clock) repo repo' source source' (Err fault)
+  pub said : Answer
+  pub line : refusal_answer fault ≡ Some said
+  pub written : TakesAll out out' said.text
+
+-- What status 2 means: the words are outside their grammar, or the policy or the provider's file is, and the sink took exactly
+-- the line that says so.
+abbrev pub Misuses : List (List ℕ) → Watched Held → Watched (List ℕ) → Watched (List ℕ) → Type 0
+Misuses words inputs out out' =
+    ((result_ok (layout_of words) ≡ None) × TakesAll out out' (line_of (codes "usage")))
+    ⊎ ((which : Which) × FormCause which inputs × TakesAll out out' (pair_line (codes "usage") (word_of which)))
+
+-- What status 3 means: the count of the inputs' faults rose, or told inputs lack this one or hold it longer than its limit; and
+-- the sink took exactly the line that names it.
+abbrev pub LacksInput : Watched Held → Watched Held → Watched (List ℕ) → Watched (List ℕ) → Type 0
+LacksInput inputs inputs' out out' = (which : Which) × StopCause inputs inputs' (Input which) × TakesAll out out' (pair_line (codes "input") (word_of which))
+
+-- What each status means. 4: the count of the sink's faults rose. 5: nothing was written.
+abbrev pub Means : List (List ℕ) → jiff.Timestamp → Watched Held → Watched Held → Watched Folders → Watched Folders → Watched (List ℕ) → Watched (List ℕ) → Watched (List ℕ) → Watched (List ℕ) → Status → Type 0
+Means words clock inputs inputs' repo repo' source source' out out' status.Accepted = Accepts words clock inputs inputs' repo repo' source source' out out'
+Means words clock inputs inputs' repo repo' source source' out out' status.Refused = Refuses words clock inputs inputs' repo repo' source source' out out'
+Means words clock inputs inputs' repo repo' source source' out out' status.Usage = Misuses words inputs out out'
+Means words clock inputs inputs' repo repo' source source' out out' status.Input = LacksInput inputs inputs' out out'
+Means words clock inputs inputs' repo repo' source source' out out' status.Output = Rose out.faults out'.faults
+Means words clock inputs inputs' repo repo' source source' out out' status.Memory = out' ≡ out

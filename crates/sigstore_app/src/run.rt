@@ -1,7 +1,7 @@
 // A run of the program.
 ghost use Rattle.std.specs.Prelude.{◌≡◌, IfOk};
 ghost use Rattle.sigstore_app_parts.specs.Sink.{WritesText};
-ghost use Rattle.sigstore_app.specs.Run.{policy_meant, Reports, Judges, Proceeds, Decides, RunsTo, Accepts, OnAccepted};
+ghost use Rattle.sigstore_app.specs.Run.{policy_meant, Reports, Judges, Proceeds, Decides, RunsTo, Means};
 
 use crate::answer::{Answer, Status, refused, refused_tuf, stopped};
 use crate::report::report;
@@ -141,7 +141,7 @@ pub fn run<I: Inputs, R: Repository, S: MetadataStore, A: ArtifactSource, K: Sin
     out: &mut K,
 ) -> Status
     ensures runs { RunsTo words.now clock (I.seen inputs.old) (I.seen inputs.new) (R.seen repo.old) (R.seen repo.new) (A.seen artifact.old) (A.seen artifact.new) (K.seen out.old) (K.seen out.new) result }
-    ensures accepted { OnAccepted result (Accepts words.now clock (I.seen inputs.old) (I.seen inputs.new) (R.seen repo.old) (R.seen repo.new) (A.seen artifact.old) (A.seen artifact.new) (K.seen out.old) (K.seen out.new)) }
+    ensures means { Means words.now clock (I.seen inputs.old) (I.seen inputs.new) (R.seen repo.old) (R.seen repo.new) (A.seen artifact.old) (A.seen artifact.new) (K.seen out.old) (K.seen out.new) result }
 {
     let said = match decide(alloc, words, clock, inputs, repo, store, artifact) {
         Ok(said) => said,

@@ -1,5 +1,5 @@
 -- The inputs of a run, read in their order: the policy, the provider's tables, the root, the bundle.
-use Rattle.std.specs.Prelude.{◌≡◌, ◌≢◌, ◌⊎◌, ℕ, List, length, codes, nat_lt, if◌then◌else◌, Option, Some, None, Result, Ok, Err, IfOk, IfErr}
+use Rattle.std.specs.Prelude.{◌≡◌, ◌≢◌, ◌⊎◌, ℕ, List, length, codes, nat_lt, if◌then◌else◌, Option, Some, None, Result, Ok, Err, IfOk, IfErr, ⊤}
 use Rattle.foundation.specs.Steps.{◌>>=◌}
 use Rattle.foundation.specs.Watched.{Watched, Rose, IfTold, Since}
 use Rattle.sigstore_app_parts.specs.Inputs.{Held}
@@ -12,7 +12,7 @@ use Rattle.sigstore_app_parts.specs.declared.inputs.Which.TheVariants.{Root, Bun
 use Rattle.sigstore_app_parts.specs.declared.inputs.InputFault.{InputFault}
 use Rattle.sigstore_app_parts.specs.declared.inputs.InputFault.TheVariants as input
 use Rattle.sigstore_app_parts.specs.declared.gather.Stop.{Stop}
-use Rattle.sigstore_app_parts.specs.declared.gather.Stop.TheVariants.{Form, Input, Memory}
+use Rattle.sigstore_app_parts.specs.declared.gather.Stop.TheVariants.{Words, Form, Input, Memory}
 use Rattle.sigstore_app_parts.specs.declared.gather.Gathered.{Gathered}
 use Rattle.sigstore_app_parts.specs.declared.policy.PolicyFile.{PolicyFile}
 use Rattle.sigstore_app_parts.specs.declared.tables.Tables.{Tables}
@@ -74,8 +74,31 @@ gathered_of held =
     tables_in held >>= λ tables.
     signed_in policy tables held
 
--- The promise of a reading: over told inputs the answer is this one, unless a reading failed or memory was wanting
+-- bytes that told inputs hold within their limit, and that are outside their grammar
+pub record IsMalformed {A : Type 0} (which : Which) (reads : List ℕ → Result A UsageFault) (seen : Watched Held) : Type 0 where
+  pub bytes : List ℕ
+  pub there : IfTold seen.told (λ held. input_of which held ≡ Ok bytes)
+  pub malformed : reads bytes ≡ Err usage.Usage
+
+-- the policy or the provider's file is outside its grammar
+abbrev pub FormCause : Which → Watched Held → Type 0
+FormCause Policy seen = IsMalformed Policy policy_of seen
+FormCause Provider seen = IsMalformed Provider tables_of seen
+FormCause Root seen = ⊥
+FormCause Bundle seen = ⊥
+
+-- Why the inputs stop a run: one is outside its grammar; or the count of faults rose, or told inputs lack one or hold it longer
+-- than its limit; or memory is wanting.
+abbrev pub StopCause : Watched Held → Watched Held → Stop → Type 0
+StopCause old new Words = ⊥
+StopCause old new (Form which) = FormCause which old
+StopCause old new (Input which) = Rose old.faults new.faults ⊎ IfTold old.told (λ held. input_of which held ≡ Err (Input which))
+StopCause old new Memory = ⊤
+
+-- The promise of a reading: over told inputs the answer is this one, unless a reading failed or memory was wanting; and what
+-- stops the run has its cause.
 pub record ReadsAs {A : Type 0} (of : Held → Result A Stop) (old new : Watched Held) (result : Result A Stop) : Type 0 where
   pub since : Since old new
   pub ok : IfOk result (λ x. IfTold old.told (λ held. of held ≡ Ok x))
   pub err : IfErr result (λ e. e ≢ Memory → Rose old.faults new.faults ⊎ IfTold old.told (λ held. of held ≡ Err e))
+  pub cause : IfErr result (StopCause old new)

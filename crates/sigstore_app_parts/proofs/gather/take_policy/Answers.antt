@@ -1,4 +1,4 @@
-use Rattle.sigstore_app_parts.proofs.Readings.{first_refused, then_ok, then_err}
+use Rattle.sigstore_app_parts.proofs.Readings.{first_refused, then_ok, then_malformed}
 use Rattle.sigstore_app_parts.specs.Gather.{input_of, by_form, policy_in}
 use Rattle.sigstore_app_parts.specs.Policy.{policy_of}
 use Rattle.sigstore_app_parts.specs.declared.inputs.Which.TheVariants.{Policy}
@@ -10,7 +10,7 @@ returns-in-Ok-formed_policy g c = then_ok (input_of Policy) (λ bytes held. by_f
 
 pub returns-in-Err-formed_policy : goal.returns-in-Err-formed_policy
 unfolding policy_in
-returns-in-Err-formed_policy g c = then_err (input_of Policy) (λ bytes held. by_form Policy (policy_of bytes)) _ _ c.in-Ok.bytes c.in-Err-formed_policy.e c.in-Ok.ensures (λ m held. c.in-Err-formed_policy.ensures.err m)
+returns-in-Err-formed_policy g c = then_malformed Policy policy_of _ _ c.in-Ok.bytes c.in-Err-formed_policy.e (λ m. m) c.in-Ok.ensures c.in-Err-formed_policy.ensures.err
 
 pub returns-in-Err : goal.returns-in-Err
 unfolding policy_in

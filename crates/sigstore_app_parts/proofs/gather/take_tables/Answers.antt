@@ -1,4 +1,4 @@
-use Rattle.sigstore_app_parts.proofs.Readings.{first_refused, then_ok, then_err}
+use Rattle.sigstore_app_parts.proofs.Readings.{first_refused, then_ok, then_malformed}
 use Rattle.sigstore_app_parts.specs.Gather.{input_of, by_form, tables_in}
 use Rattle.sigstore_app_parts.specs.Tables.{tables_of}
 use Rattle.sigstore_app_parts.specs.declared.inputs.Which.TheVariants.{Provider}
@@ -10,7 +10,7 @@ returns-in-Ok-formed_tables g c = then_ok (input_of Provider) (λ bytes held. by
 
 pub returns-in-Err-formed_tables : goal.returns-in-Err-formed_tables
 unfolding tables_in
-returns-in-Err-formed_tables g c = then_err (input_of Provider) (λ bytes held. by_form Provider (tables_of bytes)) _ _ c.in-Ok.bytes c.in-Err-formed_tables.e c.in-Ok.ensures (λ m held. c.in-Err-formed_tables.ensures.err m)
+returns-in-Err-formed_tables g c = then_malformed Provider tables_of _ _ c.in-Ok.bytes c.in-Err-formed_tables.e (λ m. m) c.in-Ok.ensures c.in-Err-formed_tables.ensures.err
 
 pub returns-in-Err : goal.returns-in-Err
 unfolding tables_in

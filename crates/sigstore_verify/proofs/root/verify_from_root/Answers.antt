@@ -14,5 +14,5 @@ pub returns-in-Ok-judge_bundle-clause-runs : goal.returns-in-Ok-judge_bundle-cla
 returns-in-Ok-judge_bundle-clause-runs g c = accepted _ c.in-Ok.ensures.gives (rw c.as_bytes.ensures at c.in-Ok-judge_bundle.ensures) refl
 
 pub returns-in-Ok-judge_bundle-clause-accepted : goal.returns-in-Ok-judge_bundle-clause-accepted
-returns-in-Ok-judge_bundle-clause-accepted g c = 
+returns-in-Ok-judge_bundle-clause-accepted g c =
     is_accepted _ _ _ _ _ _ _ _ _ _ (chain_trusts _ _ _ _ _ _ _ c.in-Ok.ensures.gives) (rw c.as_bytes.ensures at c.in-Ok-judge_bundle.ensures)
