@@ -1,0 +1,2 @@
+//! Strict DER.
+#![tactic(auto)]

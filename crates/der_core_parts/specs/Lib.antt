@@ -1,0 +1,11 @@
+pub mod Grammar
+pub mod Law
+pub mod Laws
+pub mod Many
+pub mod ManyLaws
+pub mod Sets
+pub mod SetLaws
+pub mod Choices
+pub mod Outcome
+pub mod Tlv
+pub mod TlvLaws

@@ -1,0 +1,84 @@
+// Why DER is refused.
+ghost use Rattle.std.specs.Prelude.{◌≡◌};
+ghost use Rattle.der_core_parts.specs.declared.error.DerError.TheVariants.{NoMemory as Want};
+ghost use Rattle.der_core_parts.specs.Outcome.{number_of};
+
+use foundation::NoMemory;
+use std::alloc::{AllocError, AllocFailed};
+use thiserror::Error;
+
+/// Why bytes are no DER encoding of a value, or a value has none.
+#[derive(Clone, Copy, Debug, PartialEq, Eq, Drop, Error)]
+pub enum DerError {
+    /// Bytes of a tag, a length or a value are missing.
+    #[error("Truncated")]
+    Truncated,
+    /// The length is indefinite, longer than four bytes or not in its shortest form
+    /// (X.690, 8.1.3 and 10.1).
+    #[error("Length")]
+    Length,
+    /// The tag has several bytes (X.690, 8.1.2.4), or isn't one of the type.
+    #[error("Tag")]
+    Tag,
+    /// The contents are outside the type's grammar.
+    #[error("Value")]
+    Value,
+    /// Bytes are left behind the value.
+    #[error("Trailing")]
+    Trailing,
+    /// Two members of a set are equal.
+    #[error("SetDuplicate")]
+    SetDuplicate,
+    /// A text or a list of arcs is no object identifier of at most 39 octets.
+    #[error("Oid")]
+    Oid,
+    /// A length is 2^28 or more.
+    #[error("TooLong")]
+    TooLong,
+    /// An allocation was refused.
+    #[error("NoMemory")]
+    NoMemory,
+}
+
+impl DerError {
+    /// The number of this refusal.
+    pub fn number(&self) -> u8
+        ensures { result ≡ number_of self.now }
+    {
+        match self {
+            DerError::Truncated => 1,
+            DerError::Length => 2,
+            DerError::Tag => 3,
+            DerError::Value => 4,
+            DerError::Trailing => 5,
+            DerError::SetDuplicate => 6,
+            DerError::Oid => 7,
+            DerError::TooLong => 8,
+            DerError::NoMemory => 9,
+        }
+    }
+}
+
+impl From<NoMemory> for DerError {
+    ghost from_gives = { λ _ e. e ≡ Want };
+
+    fn from(_: NoMemory) -> DerError {
+        DerError::NoMemory
+    }
+}
+
+impl From<AllocError> for DerError {
+    ghost from_gives = { λ _ e. e ≡ Want };
+
+    fn from(_: AllocError) -> DerError {
+        DerError::NoMemory
+    }
+}
+
+impl<T: Drop> From<AllocFailed<T>> for DerError {
+    ghost from_gives = { λ _ e. e ≡ Want };
+
+    fn from(_: AllocFailed<T>) -> DerError {
+        DerError::NoMemory
+    }
+}
