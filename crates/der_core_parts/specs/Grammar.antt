@@ -1,5 +1,8 @@
 -- What the values of a type look like in DER.
 use Rattle.std.specs.Prelude.{◌≡◌, ℕ, ◌+◌, ◌<◌, Bool, true, false, List, [], ◌∷◌, ◌++◌, length, Option, Some, None, Result, Ok, Err, nat_lt, ◌==◌, ◌&&◌, ◌||◌, if◌then◌else◌}
+use Rattle.std.specs.declared.cmp.Ordering.{Ordering}
+use Rattle.std.specs.Ordering.{nat_cmp}
+use Rattle.std.specs.Cmp.Lexicographic.{slice_cmp}
 use Rattle.foundation.specs.Steps.{◌>>=◌}
 use Rattle.der_core_parts.specs.declared.error.DerError.{DerError}
 use Rattle.der_core_parts.specs.declared.error.DerError.TheVariants.{Tag, Trailing, TooLong, Value}
@@ -56,6 +59,10 @@ framed tag contents = if nat_lt (length contents) 268435456 then Ok (tlv tag con
 -- the one encoding that is written
 unfoldable pub write : {A : Type 0} → Grammar A → A → Outcome (List ℕ)
 write g a = g.contents a >>= framed (g.tag a)
+
+-- the order of the encodings, octet by octet (X.690, 11.6)
+unfoldable pub order_of : {A : Type 0} → Grammar A → A → A → Outcome Ordering
+order_of g a b = write g a >>= λ x. write g b >>= λ y. Ok (slice_cmp nat_cmp x y)
 
 -- the bytes encode the value
 pub record Encodes {A : Type 0} (g : Grammar A) (a : A) (bytes : List ℕ) : Type 0 where
