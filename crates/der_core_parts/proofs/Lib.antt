@@ -1,2 +1,5 @@
 pub mod Loops
+pub mod Members
 pub mod Outcomes
+pub mod Placing
+pub mod Sorting

@@ -3,9 +3,12 @@ pub mod Law
 pub mod Laws
 pub mod Many
 pub mod ManyLaws
+pub mod Places
 pub mod Sets
 pub mod SetLaws
 pub mod Choices
+pub mod Octets
 pub mod Outcome
 pub mod Tlv
 pub mod TlvLaws
+pub mod Types

@@ -3,8 +3,11 @@ ghost use Rattle.std.specs.Prelude.{◌≡◌, ◌++◌, [], IfOk, IfErr, OnOk, 
 ghost use Rattle.std.specs.Cmp.{partial_equiv_from_equiv};
 ghost use Rattle.std.specs.Cmp.Lexicographic.{nat_list_eq_equiv};
 ghost use Rattle.der_core_parts.specs.declared.error.DerError.TheVariants.{NoMemory as Want};
+ghost use Rattle.der_core_parts.specs.Octets.{octet_string_type};
 
+use crate::der::Der;
 use crate::error::DerError;
+use crate::reader::Tag;
 use foundation::{Duplicate, NoMemory};
 use std::alloc::Global;
 use std::fmt;
@@ -87,4 +90,26 @@ impl fmt::Debug for OctetString {
     fn fmt<W: fmt::Write>(&self, f: &mut fmt::Formatter<W>) -> fmt::Result {
         fmt::Debug::fmt(&self.as_bytes(), f)
     }
+}
+
+impl Der for OctetString {
+    ghost grammar = { octet_string_type.grammar };
+
+    fn accepts(tag: Tag) -> bool {
+        tag.0 == 4
+    }
+
+    fn from_contents(alloc: Global, _tag: Tag, contents: &[u8]) -> Result<OctetString, DerError> {
+        OctetString::new(alloc, contents)
+    }
+
+    fn tag(&self) -> Tag {
+        Tag(4)
+    }
+
+    fn contents(&self, alloc: Global) -> Result<OctetString, DerError> {
+        Ok(self.duplicate(alloc)?)
+    }
+
+    ghost lawful = { octet_string_type.lawful };
 }
