@@ -1,2 +1,6 @@
 pub mod Numbers
+pub mod OidLaws
+pub mod OidReading
+pub mod OidText
+pub mod OidWriting
 pub mod Texts

@@ -1,2 +1,3 @@
+pub mod Oid
 pub mod Strings
 pub mod Unsigned

@@ -1,7 +1,10 @@
 //! Strict DER (ITU-T X.690): the types that hold no others, and the names of `der_core_parts`.
 #![tactic(auto)]
 
+mod arcs;
+mod dotted;
 mod kinds;
+mod oid;
 mod primitive;
 mod uint;
 
@@ -13,5 +16,6 @@ pub use der_core_parts::{
     read_is_written_same, read_optional, read_value, written_is_read,
 };
 pub use kinds::{BitString, BitStringKind, Ia5, Ia5Kind, Int, IntKind, Utf8, Utf8Kind};
+pub use oid::ObjectIdentifier;
 pub use primitive::{Primitive, PrimitiveKind};
 pub use uint::Uint;

@@ -52,7 +52,7 @@ read-shrinks {A} g bytes a rest e =
 
 -- ---- the bound on the number of members doesn't matter
 
-two_ways : {A B : Type 0} (r : Outcome A) (f h : A → Outcome B) → ((x : A) → r ≡ Ok x → f x ≡ h x) → (r >>= f) ≡ (r >>= h)
+pub two_ways : {A B : Type 0} (r : Outcome A) (f h : A → Outcome B) → ((x : A) → r ≡ Ok x → f x ≡ h x) → (r >>= f) ≡ (r >>= h)
 two_ways (Ok x) f h same = same x refl
 two_ways (Err e) f h same = refl
 
