@@ -6,6 +6,8 @@ mod dotted;
 mod kinds;
 mod oid;
 mod primitive;
+#[cfg(test)]
+mod tests;
 mod uint;
 
 pub use der_core_parts::{
