@@ -1,3 +1,4 @@
 pub mod Oid
 pub mod Strings
+pub mod Times
 pub mod Unsigned

@@ -2,12 +2,14 @@
 #![tactic(auto)]
 
 mod arcs;
+mod civil;
 mod dotted;
 mod kinds;
 mod oid;
 mod primitive;
 #[cfg(test)]
 mod tests;
+mod time;
 mod uint;
 
 pub use der_core_parts::{
@@ -17,7 +19,9 @@ pub use der_core_parts::{
     read_explicit_optional, read_implicit, read_implicit_optional, read_is_written,
     read_is_written_same, read_optional, read_value, written_is_read,
 };
+pub use civil::Civil;
 pub use kinds::{BitString, BitStringKind, Ia5, Ia5Kind, Int, IntKind, Utf8, Utf8Kind};
 pub use oid::ObjectIdentifier;
 pub use primitive::{Primitive, PrimitiveKind};
+pub use time::{GeneralizedTime, GeneralizedTimeKind, Time, TimeKind, UtcTime, UtcTimeKind};
 pub use uint::Uint;

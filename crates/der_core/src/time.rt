@@ -1,0 +1,174 @@
+// UTCTime and GeneralizedTime.
+ghost use Rattle.std.specs.Prelude.{◌≡◌, ◌<◌, ℕ, List, Bool, true, bytes_eq, IfOk, IfErr, Ok, Err, is_ok, length, refl};
+ghost use Rattle.std.specs.Cmp.{partial_equiv_from_equiv};
+ghost use Rattle.std.specs.Cmp.Lexicographic.{nat_list_eq_equiv};
+ghost use Rattle.der_core_parts.specs.Choices.{is_tag};
+ghost use Rattle.der_core_parts.specs.Grammar.{primitive};
+ghost use Rattle.der_core_parts.specs.Laws.{primitive-lawful};
+ghost use Rattle.der_core_parts.specs.Outcome.{Outcome};
+ghost use Rattle.der_core_parts.specs.Types.{valid};
+ghost use Rattle.der_core.specs.declared.civil.Civil.{Civil as CivilTime};
+ghost use Rattle.der_core.specs.Times.{generalized_of, utc_of, reads};
+
+use crate::civil::{Civil, generalized_in, utc_in};
+use arrayvec::ArrayVec;
+use der_core_parts::{Der, DerError, OctetString, Tag};
+use foundation::{Duplicate, NoMemory};
+use std::alloc::Global;
+use std::fmt;
+use std::marker::{Model, PhantomData};
+
+/// A type of times: its tag, and the civil time that contents name.
+pub trait TimeKind {
+    ghost number: { ℕ };
+
+    ghost civil: { List ℕ → Outcome CivilTime };
+
+    /// The tag.
+    fn tag_byte() -> u8
+        ensures { result ≡ number };
+
+    /// The civil time of contents; Value where they are none.
+    fn read(contents: &[u8]) -> Result<Civil, DerError>
+        ensures exact { result ≡ civil contents.now }
+        ensures short { IfOk result (λ c. length contents.now < 16) };
+
+    ghost is_number: { is_tag number ≡ true };
+}
+
+/// The kind of times with two digits of the year.
+#[derive(Drop)]
+pub struct UtcTimeKind;
+
+/// A UTCTime with seconds, of the years 1950 to 2049 (X.690, 11.8).
+pub type UtcTime = Time<UtcTimeKind>;
+
+impl TimeKind for UtcTimeKind {
+    ghost number = { 23 };
+
+    ghost civil = { utc_of };
+
+    fn tag_byte() -> u8 {
+        23
+    }
+
+    fn read(contents: &[u8]) -> Result<Civil, DerError> {
+        utc_in(contents)
+    }
+
+    ghost is_number = { refl };
+}
+
+/// The kind of times with four digits of the year.
+#[derive(Drop)]
+pub struct GeneralizedTimeKind;
+
+/// A GeneralizedTime with seconds and no fraction (X.690, 11.7).
+pub type GeneralizedTime = Time<GeneralizedTimeKind>;
+
+impl TimeKind for GeneralizedTimeKind {
+    ghost number = { 24 };
+
+    ghost civil = { generalized_of };
+
+    fn tag_byte() -> u8 {
+        24
+    }
+
+    fn read(contents: &[u8]) -> Result<Civil, DerError> {
+        generalized_in(contents)
+    }
+
+    ghost is_number = { refl };
+}
+
+/// A civil time of UTC, kept as it was written; contracts see its contents.
+#[derive(Drop)]
+pub struct Time<K: TimeKind> {
+    contents: ArrayVec<u8, 15>,
+    kind: PhantomData<K>,
+}
+
+impl<K: TimeKind> Model for Time<K> {
+    ghost use Rattle.std.specs.Prelude.{◌≡◌, ℕ, List, true};
+    ghost use Rattle.der_core.specs.Times.{reads};
+
+    ghost Value = { List ℕ };
+
+    ghost view = { λ t. t.contents.items };
+
+    ghost invariant = { λ t. reads K.civil t.contents.items ≡ true };
+}
+
+fn copy_of(contents: &[u8]) -> ArrayVec<u8, 15>
+    requires { length contents.now < 16 }
+    ensures { result.items ≡ contents.now }
+{
+    let mut copy = ArrayVec::new();
+    'octets: for octet in contents {
+        copy.push(*octet);
+    }
+    copy
+}
+
+impl<K: TimeKind> Time<K> {
+    /// The contents.
+    pub fn as_bytes(&self) -> &[u8]
+        ensures { result.now ≡ self.now }
+    {
+        self.contents.as_slice()
+    }
+}
+
+impl<K: TimeKind> Der for Time<K> {
+    ghost grammar = { primitive K.number (reads K.civil) };
+
+    fn accepts(tag: Tag) -> bool {
+        tag.0 == K::tag_byte()
+    }
+
+    fn from_contents(_alloc: Global, _tag: Tag, contents: &[u8]) -> Result<Time<K>, DerError> {
+        match K::read(contents) {
+            Ok(_) => Ok(Time {
+                contents: copy_of(contents),
+                kind: PhantomData,
+            }),
+            Err(_) => Err(DerError::Value),
+        }
+    }
+
+    fn tag(&self) -> Tag {
+        Tag(K::tag_byte())
+    }
+
+    fn contents(&self, alloc: Global) -> Result<OctetString, DerError> {
+        OctetString::new(alloc, self.contents.as_slice())
+    }
+
+    ghost lawful = { primitive-lawful K.number (reads K.civil) (valid K.number K.is_number) };
+}
+
+impl<K: TimeKind> Duplicate for Time<K> {
+    fn duplicate(&self, _alloc: Global) -> Result<Time<K>, NoMemory> {
+        Ok(Time {
+            contents: copy_of(self.contents.as_slice()),
+            kind: PhantomData,
+        })
+    }
+}
+
+impl<K: TimeKind> PartialEq for Time<K> {
+    ghost eq = { bytes_eq };
+
+    ghost laws = { partial_equiv_from_equiv nat_list_eq_equiv };
+
+    fn eq(&self, other: &Time<K>) -> bool {
+        self.as_bytes() == other.as_bytes()
+    }
+}
+
+impl<K: TimeKind> fmt::Debug for Time<K> {
+    fn fmt<W: fmt::Write>(&self, f: &mut fmt::Formatter<W>) -> fmt::Result {
+        fmt::Debug::fmt(&self.as_bytes(), f)
+    }
+}
