@@ -1,3 +1,4 @@
+pub mod Moments
 pub mod Numbers
 pub mod OidLaws
 pub mod OidReading

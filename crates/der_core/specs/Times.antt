@@ -30,7 +30,7 @@ real c = if is_civil c then Ok c else Err Value
 unfoldable pub civil_at : ℕ → List ℕ → ℕ → Outcome Civil
 civil_at year bytes i =
     if slice_index bytes (i + 10) == 90 then (pair_at bytes i >>= λ month. pair_at bytes (i + 2) >>= λ day. pair_at bytes (i + 4) >>= λ hour. pair_at bytes (i + 6) >>= λ minute. pair_at bytes (i + 8) >>= λ second.
-      real (record { year = year; month = month; day = day; hour = hour; minute = minute; second = second }))
+    real (record { year = year; month = month; day = day; hour = hour; minute = minute; second = second }))
     else Err Value
 
 -- YYYYMMDDHHMMSSZ

@@ -1,13 +1,9 @@
 // Civil times: read from digits, and the moments that they name.
-ghost use Rattle.std.specs.Prelude.{IfSome, IfNone, ◌≡◌, ◌<◌, ◌≤◌, ◌+◌, ◌==◌, true, length, pos, IfOk, IfErr, Ok, Err, ℤ};
-ghost use Rattle.jiff_core.specs.DateTime.{civil_nanos};
+ghost use Rattle.std.specs.Prelude.{◌≡◌, ◌<◌, ◌+◌, length, pos, true, IfOk};
 ghost use Rattle.jiff_core.specs.Calendar.{days_in_month};
-ghost use Rattle.der_core.specs.declared.civil.Civil.{Civil as CivilTime};
-ghost use Rattle.der_core.specs.Times.{IsWithinSecond, is_civil, pair_at, civil_at, generalized_of, utc_of, nanos_of, nearest};
+ghost use Rattle.der_core.specs.Times.{is_civil, pair_at, civil_at, generalized_of, utc_of};
 
 use der_core_parts::DerError;
-use jiff::Timestamp;
-use jiff_core::civil::{Date, DateTime, Time};
 
 /// A date with a time of day, to the second.
 #[derive(Clone, Copy, Debug, PartialEq, Eq)]
@@ -19,6 +15,16 @@ pub struct Civil {
     pub minute: u8,
     pub second: u8,
 }
+
+/// The start of 1970.
+pub const EPOCH: Civil = Civil {
+    year: 1970,
+    month: 1,
+    day: 1,
+    hour: 0,
+    minute: 0,
+    second: 0,
+};
 
 /// The days of a month in the Gregorian calendar.
 fn days_in(year: u16, month: u8) -> u8
@@ -68,7 +74,8 @@ fn two_digits(bytes: &[u8], at: usize) -> Result<u8, DerError>
 #[tactic(auto, unfolding(crate::specs::Times::civil_at))]
 fn civil_in(year: u16, bytes: &[u8], at: usize) -> Result<Civil, DerError>
     requires { at + 10 < length bytes.now }
-    ensures { result ≡ civil_at year bytes.now at }
+    ensures exact { result ≡ civil_at year bytes.now at }
+    ensures real { IfOk result (λ c. is_civil c ≡ true) }
 {
     if bytes[at + 10] != 90 {
         return Err(DerError::Value);
@@ -93,6 +100,7 @@ fn civil_in(year: u16, bytes: &[u8], at: usize) -> Result<Civil, DerError>
 pub fn generalized_in(bytes: &[u8]) -> Result<Civil, DerError>
     ensures exact { result ≡ generalized_of bytes.now }
     ensures short { IfOk result (λ c. length bytes.now < 16) }
+    ensures real { IfOk result (λ c. is_civil c ≡ true) }
 {
     if bytes.len() != 15 {
         return Err(DerError::Value);
@@ -110,6 +118,7 @@ pub fn generalized_in(bytes: &[u8]) -> Result<Civil, DerError>
 pub fn utc_in(bytes: &[u8]) -> Result<Civil, DerError>
     ensures exact { result ≡ utc_of bytes.now }
     ensures short { IfOk result (λ c. length bytes.now < 16) }
+    ensures real { IfOk result (λ c. is_civil c ≡ true) }
 {
     if bytes.len() != 13 {
         return Err(DerError::Value);

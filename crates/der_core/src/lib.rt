@@ -5,6 +5,7 @@ mod arcs;
 mod civil;
 mod dotted;
 mod kinds;
+mod moment;
 mod oid;
 mod primitive;
 #[cfg(test)]
@@ -12,6 +13,7 @@ mod tests;
 mod time;
 mod uint;
 
+pub use civil::Civil;
 pub use der_core_parts::{
     Any, Der, DerError, OctetString, Reader, SetOfVec, Tag, Tlv, append_default, append_each,
     append_explicit, append_explicit_optional, append_framed, append_implicit,
@@ -19,7 +21,6 @@ pub use der_core_parts::{
     read_explicit_optional, read_implicit, read_implicit_optional, read_is_written,
     read_is_written_same, read_optional, read_value, written_is_read,
 };
-pub use civil::Civil;
 pub use kinds::{BitString, BitStringKind, Ia5, Ia5Kind, Int, IntKind, Utf8, Utf8Kind};
 pub use oid::ObjectIdentifier;
 pub use primitive::{Primitive, PrimitiveKind};

@@ -8,12 +8,14 @@ ghost use Rattle.der_core_parts.specs.Laws.{primitive-lawful};
 ghost use Rattle.der_core_parts.specs.Outcome.{Outcome};
 ghost use Rattle.der_core_parts.specs.Types.{valid};
 ghost use Rattle.der_core.specs.declared.civil.Civil.{Civil as CivilTime};
-ghost use Rattle.der_core.specs.Times.{generalized_of, utc_of, reads};
+ghost use Rattle.der_core.specs.Times.{generalized_of, utc_of, reads, is_civil, nanos_of, nearest};
 
-use crate::civil::{Civil, generalized_in, utc_in};
+use crate::civil::{Civil, EPOCH, generalized_in, utc_in};
+use crate::moment::moment_of;
 use arrayvec::ArrayVec;
 use der_core_parts::{Der, DerError, OctetString, Tag};
 use foundation::{Duplicate, NoMemory};
+use jiff::Timestamp;
 use std::alloc::Global;
 use std::fmt;
 use std::marker::{Model, PhantomData};
@@ -31,7 +33,8 @@ pub trait TimeKind {
     /// The civil time of contents; Value where they are none.
     fn read(contents: &[u8]) -> Result<Civil, DerError>
         ensures exact { result ≡ civil contents.now }
-        ensures short { IfOk result (λ c. length contents.now < 16) };
+        ensures short { IfOk result (λ c. length contents.now < 16) }
+        ensures real { IfOk result (λ c. is_civil c ≡ true) };
 
     ghost is_number: { is_tag number ≡ true };
 }
@@ -112,6 +115,24 @@ fn copy_of(contents: &[u8]) -> ArrayVec<u8, 15>
 }
 
 impl<K: TimeKind> Time<K> {
+    /// The civil time.
+    pub fn civil(&self) -> Civil
+        ensures exact { K.civil self.now ≡ Ok result }
+        ensures real { is_civil result ≡ true }
+    {
+        match K::read(self.contents.as_slice()) {
+            Ok(civil) => civil,
+            Err(_) => EPOCH,
+        }
+    }
+
+    /// The moment of the civil time, or the nearest one in the range of `Timestamp`.
+    pub fn moment(&self) -> Timestamp
+        ensures { (c : CivilTime) → K.civil self.now ≡ Ok c → result.nanosecond ≡ nearest (nanos_of c) }
+    {
+        moment_of(&self.civil())
+    }
+
     /// The contents.
     pub fn as_bytes(&self) -> &[u8]
         ensures { result.now ≡ self.now }

@@ -1,0 +1,53 @@
+// Moments that civil times of UTC name.
+ghost use Rattle.std.specs.Prelude.{◌≡◌, true};
+ghost use Rattle.jiff_core.specs.DateTime.{civil_nanos};
+ghost use Rattle.der_core.specs.Times.{is_civil, nanos_of, nearest};
+
+use crate::civil::Civil;
+use jiff::Timestamp;
+use jiff_core::civil::{Date, DateTime, Time};
+
+/// The instant that many nanoseconds after the start of 1970, or the nearest one.
+fn at_nanosecond(nanosecond: i128) -> Timestamp
+    ensures { result.nanosecond ≡ nearest nanosecond }
+{
+    match Timestamp::from_nanosecond(nanosecond) {
+        Ok(moment) => moment,
+        Err(_) => {
+            if nanosecond < 0 {
+                Timestamp::MIN
+            } else {
+                Timestamp::MAX
+            }
+        }
+    }
+}
+
+/// The civil time as a date with a time of day of `jiff`.
+#[tactic(auto, unfolding(crate::specs::Times::nanos_of))]
+fn datetime_of(civil: &Civil) -> DateTime
+    requires { is_civil civil.now ≡ true }
+    ensures { civil_nanos result ≡ nanos_of civil.now }
+{
+    DateTime {
+        date: Date {
+            year: civil.year as i16,
+            month: civil.month,
+            day: civil.day,
+        },
+        time: Time {
+            hour: civil.hour,
+            minute: civil.minute,
+            second: civil.second,
+            subsec_nanosecond: 0,
+        },
+    }
+}
+
+/// The moment of a civil time of UTC, or the nearest one that there is.
+pub fn moment_of(civil: &Civil) -> Timestamp
+    requires { is_civil civil.now ≡ true }
+    ensures { result.nanosecond ≡ nearest (nanos_of civil.now) }
+{
+    at_nanosecond(datetime_of(civil).to_nanosecond())
+}
