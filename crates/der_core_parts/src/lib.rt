@@ -3,6 +3,7 @@
 #![tactic(auto)]
 
 mod any;
+mod boolean;
 mod der;
 mod error;
 mod keyed;
