@@ -1,6 +1,7 @@
 // Encodings worked out from X.690 by hand, read and written with ample memory.
 use crate::*;
 use foundation::{Duplicate, Sequence};
+use jiff::Timestamp;
 use std::alloc::Global;
 use std::cmp::Ordering;
 use std::test::Fail;
@@ -323,5 +324,91 @@ fn errors_print_their_names(rt: HostRuntime) -> Result<(), Fail> {
         assert_eq!(rt; format!(in alloc; "{error}")?.as_str(), name);
         assert_eq!(rt; error.number(), number);
     }
+    Ok(())
+}
+
+#[test]
+fn times(rt: HostRuntime) -> Result<(), Fail> {
+    let alloc = rt.alloc();
+    // The start of 1970, of 2000 and of 1950, and the last second of 2049.
+    let start = [
+        0x17u8, 13, 55, 48, 48, 49, 48, 49, 48, 48, 48, 48, 48, 48, 90,
+    ];
+    assert!(rt; is_kept::<UtcTime>(alloc, &start));
+    assert_eq!(rt;
+        UtcTime::from_der(alloc, &start)?.moment(),
+        Timestamp::UNIX_EPOCH
+    );
+    let bytes = [
+        0x17u8, 13, 48, 48, 48, 49, 48, 49, 48, 48, 48, 48, 48, 48, 90,
+    ];
+    let moment = UtcTime::from_der(alloc, &bytes)?.moment();
+    assert_eq!(rt; moment.as_second(), 946684800);
+    let bytes = [
+        0x17u8, 13, 53, 48, 48, 49, 48, 49, 48, 48, 48, 48, 48, 48, 90,
+    ];
+    let moment = UtcTime::from_der(alloc, &bytes)?.moment();
+    assert_eq!(rt; moment.as_second(), -631152000);
+    // 29 February of 1900 isn't there, and that of 2000 is.
+    let bytes = *b"\x18\x0f19000229000000Z";
+    assert_eq!(rt;
+        refusal::<GeneralizedTime>(alloc, &bytes),
+        Some(DerError::Value)
+    );
+    let bytes = *b"\x18\x0f20000229235959Z";
+    assert!(rt; is_kept::<GeneralizedTime>(alloc, &bytes));
+    assert_eq!(rt;
+        GeneralizedTime::from_der(alloc, &bytes)?
+            .moment()
+            .as_second(),
+        951868799
+    );
+    // The last second of 9999 is past the last moment.
+    let bytes = *b"\x18\x0f99991231235959Z";
+    assert_eq!(rt;
+        GeneralizedTime::from_der(alloc, &bytes)?.moment(),
+        Timestamp::MAX
+    );
+    // No fraction, no leap second, no hour 24, no letter in the place of a digit.
+    let bytes = *b"\x18\x1120000229235959.5Z";
+    assert_eq!(rt;
+        refusal::<GeneralizedTime>(alloc, &bytes),
+        Some(DerError::Value)
+    );
+    let bytes = *b"\x18\x0f20161231235960Z";
+    assert_eq!(rt;
+        refusal::<GeneralizedTime>(alloc, &bytes),
+        Some(DerError::Value)
+    );
+    let bytes = *b"\x18\x0f20161231240000Z";
+    assert_eq!(rt;
+        refusal::<GeneralizedTime>(alloc, &bytes),
+        Some(DerError::Value)
+    );
+    let bytes = *b"\x18\x0f2016123123595aZ";
+    assert_eq!(rt;
+        refusal::<GeneralizedTime>(alloc, &bytes),
+        Some(DerError::Value)
+    );
+    Ok(())
+}
+
+#[test]
+fn truth(rt: HostRuntime) -> Result<(), Fail> {
+    let alloc = rt.alloc();
+    assert!(rt; is_kept::<bool>(alloc, &[0x01, 0x01, 0xff]));
+    assert!(rt; is_kept::<bool>(alloc, &[0x01, 0x01, 0x00]));
+    assert_eq!(rt;
+        refusal::<bool>(alloc, &[0x01, 0x01, 0x01]),
+        Some(DerError::Value)
+    );
+    assert_eq!(rt;
+        refusal::<bool>(alloc, &[0x01, 0x00]),
+        Some(DerError::Value)
+    );
+    let mut reader = Reader::new(&[0x01, 0x01, 0x00]);
+    assert!(rt; read_default(alloc, false, &mut reader) == Err(DerError::Value));
+    let mut reader = Reader::new(&[0x04, 0x00]);
+    assert!(rt; read_default(alloc, false, &mut reader) == Ok(false));
     Ok(())
 }

@@ -1,12 +1,13 @@
 -- BOOLEAN: one octet, 0 for FALSE and 255 for TRUE (X.690, 8.2 and 11.1).
 use Rattle.std.specs.Prelude.{◌≡◌, ℕ, Bool, true, false, ◌==◌, List, [], ◌∷◌, Result, Ok, Err, if◌then◌else◌}
+use mathlib.Core.Bool.{beq}
 use Rattle.std.proofs.Common.{refl, sym, ap, eqb, ◌∙◌, inl, inr}
 use Rattle.std.proofs.lemmas.Bool.{eqb-true}
 use Rattle.der_core_parts.specs.declared.error.DerError.{DerError}
 use Rattle.der_core_parts.specs.declared.error.DerError.TheVariants.{Value}
 use Rattle.der_core_parts.specs.Outcome.{Outcome}
 use Rattle.der_core_parts.specs.TlvLaws.{chosen, passed, ok_is}
-use Rattle.der_core_parts.specs.Types.{AsnType, primitive_type, refined_type}
+use Rattle.der_core_parts.specs.Types.{AsnType, Components, primitive_type, refined_type, default_component}
 
 abbrev pub boolean_of : List ℕ → Outcome Bool
 boolean_of [] = Err Value
@@ -31,3 +32,12 @@ boolean-fixed false other e = sym (ok_is false other e)
 
 abbrev pub boolean_type : AsnType Bool
 boolean_type = refined_type boolean_of boolean_contents (primitive_type 1 (λ c. true) refl) boolean-again boolean-fixed
+
+-- ---- BOOLEAN DEFAULT FALSE
+
+pub only_false : (b : Bool) → beq false b ≡ true → b ≡ false
+only_false true e = absurd cc
+only_false false e = refl
+
+abbrev pub false_by_default : Components Bool
+false_by_default = default_component (beq false) false boolean_type refl only_false
