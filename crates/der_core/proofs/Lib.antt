@@ -5,3 +5,4 @@ pub mod OidReading
 pub mod OidText
 pub mod OidWriting
 pub mod Texts
+pub mod Written

@@ -1,9 +1,7 @@
 -- Octets of numbers from 0 on.
-use Rattle.std.proofs.Common.{◌≡◌, ◌⊎◌, ℕ, ◌+◌, ◌<◌, ◌≤◌, Bool, true, false, cond, ltb, eqb, List, [], ◌∷◌, length, refl, sym, ap, subst, arith, inl, inr}
-use Rattle.std.specs.Prelude.{not, ◌&&◌, ◌||◌}
+use Rattle.std.proofs.Common.{◌≡◌, ◌⊎◌, ℕ, ◌<◌, Bool, true, false, ltb, eqb, List, [], ◌∷◌, length, refl, arith, inl, inr}
 use Rattle.std.proofs.lemmas.Bool.{eqb-true, ltb-true}
-use Rattle.der_core.specs.Strings.{is_int}
-use Rattle.der_core.specs.Unsigned.{has_no_sign, is_uint, without_zeros, with_sign}
+use Rattle.der_core.specs.Unsigned.{is_uint, without_zeros, with_sign}
 
 pub short_same : (bytes : List ℕ) → length bytes < 2 → bytes ≡ without_zeros bytes
 short_same [] h = refl

@@ -1,12 +1,10 @@
 -- Arcs that were written are read again.
-use Rattle.std.proofs.Common.{◌≡◌, ◌⊎◌, ℕ, zero, suc, ◌+◌, ◌-◌, ◌*◌, ◌/◌, ◌%◌, ◌<◌, ◌≤◌, Bool, true, false, cond, ltb, eqb, List, [], ◌∷◌, ◌++◌, length, get_or, Result, Ok, Err, refl, sym, ap, subst, ◌∙◌, append_assoc, arith, inl, inr, eq-eqb}
+use Rattle.std.proofs.Common.{◌≡◌, ◌⊎◌, ℕ, zero, suc, ◌+◌, ◌-◌, ◌*◌, ◌/◌, ◌%◌, ◌<◌, ◌≤◌, Bool, true, false, cond, ltb, eqb, List, [], ◌∷◌, ◌++◌, length, get_or, Ok, Err, refl, sym, ap, subst, ◌∙◌, arith, inl, inr}
 use Rattle.std.specs.Prelude.{◌&&◌, ◌||◌, is_ok}
 use Rattle.std.proofs.lemmas.Bool.{cases_lt, le-ltb, lt-ltb, ltb-true, eqb-true}
 use Rattle.std.proofs.lemmas.Bool.Decides.{nat_tests}
-use Rattle.std.proofs.lemmas.List.{length-append}
 use Rattle.foundation.specs.Steps.{◌>>=◌}
-use Rattle.der_core_parts.specs.declared.error.DerError.{DerError}
-use Rattle.der_core_parts.specs.declared.error.DerError.TheVariants.{Value, Oid}
+use Rattle.der_core_parts.specs.declared.error.DerError.TheVariants.{Oid}
 use Rattle.der_core_parts.specs.Outcome.{Outcome}
 use Rattle.der_core_parts.specs.TlvLaws.{ok_is, passed}
 use Rattle.der_core.proofs.OidReading.{later-step}

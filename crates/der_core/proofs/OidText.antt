@@ -1,15 +1,15 @@
 -- Reading the arcs of a text, one character after the other.
-use Rattle.std.proofs.Common.{◌≡◌, ℕ, zero, suc, ◌+◌, ◌-◌, ◌*◌, ◌<◌, ◌≤◌, Bool, true, false, cond, ltb, eqb, List, [], ◌∷◌, ◌++◌, length, get_or, take, drop, Option, Some, None, Result, Ok, Err, refl, sym, ap, subst, ◌∙◌, append_assoc, arith, drop-cons, add-one, inl, inr}
-use Rattle.std.specs.Prelude.{◌&&◌, not, is_some}
+use Rattle.std.proofs.Common.{◌≡◌, ℕ, ◌+◌, ◌-◌, ◌*◌, ◌<◌, ◌≤◌, Bool, true, false, cond, ltb, eqb, List, [], ◌∷◌, ◌++◌, length, get_or, drop, Option, Some, None, Ok, Err, refl, sym, ap, ◌∙◌, append_assoc, arith, drop-cons, add-one, inl, inr}
+use Rattle.std.specs.Prelude.{is_some}
 use Rattle.std.specs.Option.{option_to_list}
 use Rattle.std.proofs.lemmas.Bool.{le-ltb}
-use Rattle.std.proofs.lemmas.List.{append-nil, length-append, drop_all, nil_from_length}
+use Rattle.std.proofs.lemmas.List.{length-append, drop_all}
 use Rattle.foundation.specs.Steps.{◌>>=◌}
 use Rattle.der_core_parts.specs.declared.error.DerError.{DerError}
 use Rattle.der_core_parts.specs.declared.error.DerError.TheVariants.{Value, Oid}
 use Rattle.der_core_parts.specs.Outcome.{Outcome}
 use Rattle.der_core_parts.specs.TlvLaws.{chosen}
-use Rattle.der_core.specs.Oid.{group_at, group_bytes, groups_bytes, arcs_bytes, are_arcs, oid_of, is_digit, one_character, at_end, decimals, oid_of_text}
+use Rattle.der_core.specs.Oid.{group_at, group_bytes, groups_bytes, are_arcs, oid_of, is_digit, one_character, at_end, decimals, oid_of_text}
 use Rattle.der_core.proofs.OidLaws.{group-again}
 
 -- ---- more than 40 arcs need more than 39 octets

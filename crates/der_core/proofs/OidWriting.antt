@@ -1,11 +1,8 @@
 -- Writing groups one after the other.
-use Rattle.std.proofs.Common.{◌≡◌, ℕ, zero, suc, ◌+◌, ◌*◌, ◌<◌, ◌≤◌, Bool, true, false, cond, ltb, eqb, List, [], ◌∷◌, ◌++◌, length, get_or, take, Result, Ok, Err, refl, sym, ap, subst, ◌∙◌, append_assoc, arith, add-one}
+use Rattle.std.proofs.Common.{◌≡◌, ℕ, zero, suc, ◌+◌, ◌*◌, ◌<◌, ◌≤◌, true, ltb, List, [], ◌∷◌, ◌++◌, length, get_or, take, Ok, sym, ap, ◌∙◌, append_assoc, arith, add-one}
 use Rattle.std.proofs.lemmas.Bool.{lt-ltb}
 use Rattle.std.proofs.lemmas.List.{append-nil, length-append}
-use Rattle.der_core_parts.specs.declared.error.DerError.{DerError}
-use Rattle.der_core_parts.specs.declared.error.DerError.TheVariants.{Oid}
-use Rattle.der_core_parts.specs.Outcome.{Outcome}
-use Rattle.der_core.specs.Oid.{group_bytes, groups_bytes, arcs_bytes, are_arcs, oid_of}
+use Rattle.der_core.specs.Oid.{group_bytes, groups_bytes, are_arcs, oid_of}
 
 groups-suc : (xs : List ℕ) (i : ℕ) (x : ℕ) → i < length xs → x ≡ get_or xs i 0 → groups_bytes (take (suc i) xs) ≡ groups_bytes (take i xs) ++ group_bytes x
 groups-suc [] i x lt is = absurd (omega arith)

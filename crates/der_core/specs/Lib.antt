@@ -1,4 +1,5 @@
 pub mod Oid
 pub mod Strings
+pub mod TimeLaws
 pub mod Times
 pub mod Unsigned

@@ -1,9 +1,8 @@
 -- UTCTime and GeneralizedTime (X.690, 11.7 and 11.8): digits and Z, with seconds and no fraction.
-use Rattle.std.specs.Prelude.{◌≡◌, ℕ, ◌+◌, ◌-◌, ◌*◌, Bool, ◌&&◌, ◌==◌, nat_lt, nat_le, List, length, slice_index, Result, Ok, Err, is_ok, if◌then◌else◌, refl, ℤ, pos, neg_ℤ, ◌+ℤ◌, ◌*ℤ◌, ◌≤ℤ◌, ◌<ℤ◌}
+use Rattle.std.specs.Prelude.{ℕ, ◌+◌, ◌-◌, ◌*◌, ◌/◌, ◌%◌, ◌++◌, ◌∷◌, [], Bool, ◌&&◌, ◌==◌, nat_lt, nat_le, List, length, slice_index, Ok, Err, is_ok, if◌then◌else◌, refl, ℤ, pos, neg_ℤ, ◌+ℤ◌, ◌*ℤ◌, ◌≤ℤ◌, ◌<ℤ◌}
 use Rattle.std.specs.Int.{int_min, int_max}
 use Rattle.foundation.specs.Steps.{◌>>=◌}
 use Rattle.jiff_core.specs.Calendar.{days_in_month, days_from_civil}
-use Rattle.der_core_parts.specs.declared.error.DerError.{DerError}
 use Rattle.der_core_parts.specs.declared.error.DerError.TheVariants.{Value}
 use Rattle.der_core_parts.specs.Outcome.{Outcome}
 use Rattle.der_core_parts.specs.Types.{AsnType, primitive_type}
@@ -55,6 +54,14 @@ generalized_time_type = primitive_type 24 (reads generalized_of) refl
 
 abbrev pub utc_time_type : AsnType (List ℕ)
 utc_time_type = primitive_type 23 (reads utc_of) refl
+
+-- ---- writing
+
+abbrev pub digits : ℕ → List ℕ
+digits n = (48 + n / 10) ∷ (48 + n % 10) ∷ []
+
+abbrev pub rest_digits : Civil → List ℕ
+rest_digits c = digits c.month ++ digits c.day ++ digits c.hour ++ digits c.minute ++ digits c.second ++ 90 ∷ []
 
 -- ---- moments
 

@@ -1,6 +1,5 @@
 -- INTEGER of numbers from 0 on, and the octets of such a number.
-use Rattle.std.specs.Prelude.{◌≡◌, ℕ, Bool, true, false, ◌&&◌, ◌==◌, nat_lt, List, [], ◌∷◌, Result, Ok, Err, if◌then◌else◌, refl}
-use Rattle.der_core_parts.specs.declared.error.DerError.{DerError}
+use Rattle.std.specs.Prelude.{ℕ, Bool, false, ◌&&◌, ◌==◌, nat_lt, List, [], ◌∷◌, Ok, Err, if◌then◌else◌, refl}
 use Rattle.der_core_parts.specs.declared.error.DerError.TheVariants.{Value}
 use Rattle.der_core_parts.specs.Outcome.{Outcome}
 use Rattle.der_core_parts.specs.Types.{AsnType, primitive_type}

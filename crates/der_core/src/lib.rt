@@ -3,6 +3,7 @@
 
 mod arcs;
 mod civil;
+mod digits;
 mod dotted;
 mod kinds;
 mod moment;

@@ -1,7 +1,8 @@
 // Moments that civil times of UTC name.
-ghost use Rattle.std.specs.Prelude.{◌≡◌, true};
+ghost use Rattle.std.specs.Prelude.{◌≡◌, true, IfSome, IfNone};
 ghost use Rattle.jiff_core.specs.DateTime.{civil_nanos};
-ghost use Rattle.der_core.specs.Times.{is_civil, nanos_of, nearest};
+ghost use Rattle.der_core.specs.Times.{is_civil, nanos_of, nearest, IsWithinSecond};
+ghost use Rattle.der_core.specs.declared.civil.Civil.{Civil as CivilTime};
 
 use crate::civil::Civil;
 use jiff::Timestamp;
@@ -50,4 +51,22 @@ pub fn moment_of(civil: &Civil) -> Timestamp
     ensures { result.nanosecond ≡ nearest (nanos_of civil.now) }
 {
     at_nanosecond(datetime_of(civil).to_nanosecond())
+}
+
+/// The civil time of UTC in whose second a moment lies; None before the year 0.
+pub fn civil_of(moment: Timestamp) -> Option<Civil>
+    ensures found { IfSome result (λ c. (is_civil c ≡ true) × IsWithinSecond moment.nanosecond c) }
+    ensures none { IfNone result ((c : CivilTime) → is_civil c ≡ true → IsWithinSecond moment.nanosecond c → ⊥) }
+{
+    match DateTime::from_nanosecond(moment.as_nanosecond()) {
+        Ok(datetime) if datetime.date.year >= 0 => Some(Civil {
+            year: datetime.date.year as u16,
+            month: datetime.date.month,
+            day: datetime.date.day,
+            hour: datetime.time.hour,
+            minute: datetime.time.minute,
+            second: datetime.time.second,
+        }),
+        _ => None,
+    }
 }

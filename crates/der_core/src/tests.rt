@@ -6,131 +6,91 @@ use std::alloc::Global;
 use std::cmp::Ordering;
 use std::test::Fail;
 
-/// Why bytes are refused.
-fn refusal<T: Der>(alloc: Global, bytes: &[u8]) -> Option<DerError> {
-    match T::from_der(alloc, bytes) {
-        Ok(_) => None,
-        Err(refusal) => Some(refusal),
+/// Why the bytes of a hexadecimal text are refused as a value; None where they are read, or aren't
+/// written again as those of `wanted`.
+fn refusal<T: Der>(alloc: Global, text: &str, wanted: &str) -> Result<Option<DerError>, Fail> {
+    let bytes = hex::decode(alloc, text)?;
+    match T::from_der(alloc, &bytes) {
+        Ok(value) => {
+            let written = value.to_der(alloc)?;
+            let wanted = hex::decode(alloc, wanted)?;
+            if written.as_bytes() == wanted.as_slice() {
+                Ok(None)
+            } else {
+                Ok(Some(DerError::Oid))
+            }
+        }
+        Err(refusal) => Ok(Some(refusal)),
     }
 }
 
-/// Whether bytes are read and written as these.
-fn is_written<T: Der>(alloc: Global, bytes: &[u8], wanted: &[u8]) -> bool {
-    match T::from_der(alloc, bytes) {
-        Ok(value) => match value.to_der(alloc) {
-            Ok(written) => written.as_bytes() == wanted,
-            Err(_) => false,
-        },
-        Err(_) => false,
+/// Whether each text is read and written again as it is.
+fn are_kept<T: Der>(alloc: Global, texts: &[&str]) -> Result<bool, Fail> {
+    for text in texts {
+        if refusal::<T>(alloc, text, text)?.is_some() {
+            return Ok(false);
+        }
     }
+    Ok(true)
 }
 
-/// Whether bytes are read and written again as they are.
-fn is_kept<T: Der>(alloc: Global, bytes: &[u8]) -> bool {
-    is_written::<T>(alloc, bytes, bytes)
+/// Whether each text is refused with this refusal.
+fn are_refused<T: Der>(alloc: Global, wanted: DerError, texts: &[&str]) -> Result<bool, Fail> {
+    for text in texts {
+        if refusal::<T>(alloc, text, text)? != Some(wanted) {
+            return Ok(false);
+        }
+    }
+    Ok(true)
 }
 
 #[test]
 fn tags_and_lengths(rt: HostRuntime) -> Result<(), Fail> {
     let alloc = rt.alloc();
-    assert_eq!(rt; refusal::<Any>(alloc, &[]), Some(DerError::Truncated));
-    assert_eq!(rt;
-        refusal::<Any>(alloc, &[0x1f, 0x01, 0x00]),
-        Some(DerError::Tag)
-    );
-    assert_eq!(rt; refusal::<Any>(alloc, &[0x04]), Some(DerError::Truncated));
-    assert_eq!(rt;
-        refusal::<Any>(alloc, &[0x04, 0x80, 0x00, 0x00]),
-        Some(DerError::Length)
-    );
-    assert_eq!(rt;
-        refusal::<Any>(alloc, &[0x04, 0x81]),
-        Some(DerError::Truncated)
-    );
-    assert_eq!(rt;
-        refusal::<Any>(alloc, &[0x04, 0x81, 0x7f]),
-        Some(DerError::Length)
-    );
-    assert_eq!(rt;
-        refusal::<Any>(alloc, &[0x04, 0x82, 0x00, 0xff]),
-        Some(DerError::Length)
-    );
-    assert_eq!(rt;
-        refusal::<Any>(alloc, &[0x04, 0x85, 0x01]),
-        Some(DerError::Truncated)
-    );
-    assert_eq!(rt;
-        refusal::<Any>(alloc, &[0x04, 0x85, 1, 0, 0, 0, 0]),
-        Some(DerError::Length)
-    );
-    assert_eq!(rt;
-        refusal::<Any>(alloc, &[0x04, 0x84, 0x10, 0, 0, 0]),
-        Some(DerError::TooLong)
-    );
-    assert_eq!(rt;
-        refusal::<Any>(alloc, &[0x04, 0x84, 0x0f, 0xff, 0xff, 0xff]),
-        Some(DerError::Truncated)
-    );
-    assert_eq!(rt;
-        refusal::<Any>(alloc, &[0x05, 0x00, 0x00]),
-        Some(DerError::Trailing)
-    );
-    assert_eq!(rt;
-        refusal::<Int>(alloc, &[0x02, 0x01]),
-        Some(DerError::Truncated)
-    );
-    assert_eq!(rt;
-        refusal::<Int>(alloc, &[0x04, 0x01, 0x00]),
-        Some(DerError::Tag)
-    );
-    assert_eq!(rt; refusal::<Any>(alloc, &[0xbe, 0x01, 0x00]), None);
+    let truncated = ["", "04", "0481", "048501", "04840fffffff", "0201"];
+    assert!(rt; are_refused::<Any>(alloc, DerError::Truncated, &truncated)?);
+    assert!(rt; are_refused::<Any>(alloc, DerError::Tag, &["1f0100"])?);
+    let lengths = [
+        "04800000",
+        "04817f",
+        "048200ff",
+        "04850100000000",
+        "04850000000001",
+    ];
+    assert!(rt; are_refused::<Any>(alloc, DerError::Length, &lengths)?);
+    assert!(rt; are_refused::<Any>(alloc, DerError::TooLong, &["048410000000"])?);
+    assert!(rt; are_refused::<Any>(alloc, DerError::Trailing, &["050000"])?);
+    assert!(rt; are_refused::<Int>(alloc, DerError::Tag, &["040100"])?);
+    assert!(rt; are_kept::<Any>(alloc, &["be0100", "0500", "a003020101"])?);
     Ok(())
 }
 
 #[test]
 fn long_lengths(rt: HostRuntime) -> Result<(), Fail> {
     let alloc = rt.alloc();
-    let mut bytes = vec![in alloc; 0x04u8, 0x81, 0x80]?;
-    for _ in 0..128 {
-        bytes.push(7)?;
-    }
-    assert!(rt; is_kept::<OctetString>(alloc, &bytes));
     let mut bytes = vec![in alloc; 0x04u8, 0x82, 0x01, 0x00]?;
     for _ in 0..256 {
         bytes.push(7)?;
     }
-    assert!(rt; is_kept::<OctetString>(alloc, &bytes));
+    let value = OctetString::from_der(alloc, &bytes)?;
+    assert_eq!(rt; value.as_bytes().len(), 256);
+    assert_eq!(rt; value.to_der(alloc)?.as_bytes(), bytes.as_slice());
     Ok(())
 }
 
 #[test]
 fn whole_numbers(rt: HostRuntime) -> Result<(), Fail> {
     let alloc = rt.alloc();
-    assert!(rt; is_kept::<Int>(alloc, &[0x02, 0x01, 0x00]));
-    assert!(rt; is_kept::<Int>(alloc, &[0x02, 0x02, 0x00, 0x80]));
-    assert!(rt; is_kept::<Int>(alloc, &[0x02, 0x01, 0x80]));
-    assert!(rt; is_kept::<Int>(alloc, &[0x02, 0x02, 0xff, 0x7f]));
-    assert_eq!(rt; refusal::<Int>(alloc, &[0x02, 0x00]), Some(DerError::Value));
-    assert_eq!(rt;
-        refusal::<Int>(alloc, &[0x02, 0x02, 0x00, 0x01]),
-        Some(DerError::Value)
-    );
-    assert_eq!(rt;
-        refusal::<Int>(alloc, &[0x02, 0x02, 0xff, 0x80]),
-        Some(DerError::Value)
-    );
-    assert!(rt; is_kept::<Uint>(alloc, &[0x02, 0x02, 0x00, 0x80]));
-    assert_eq!(rt;
-        refusal::<Uint>(alloc, &[0x02, 0x01, 0x80]),
-        Some(DerError::Value)
-    );
+    assert!(rt; are_kept::<Int>(alloc, &["020100", "02020080", "020180", "0202ff7f"])?);
+    assert!(rt; are_refused::<Int>(alloc, DerError::Value, &["0200", "02020001", "0202ff80"])?);
+    assert!(rt; are_kept::<Uint>(alloc, &["020100", "02020080"])?);
+    assert!(rt; are_refused::<Uint>(alloc, DerError::Value, &["0200", "020180", "0202007f"])?);
     let number = Uint::new(alloc, &[0, 0, 0x80])?;
     assert_eq!(rt; number.as_bytes(), [0x80u8].as_slice());
     assert_eq!(rt;
         number.to_der(alloc)?.as_bytes(),
         [0x02u8, 0x02, 0x00, 0x80].as_slice()
     );
-    assert_eq!(rt; Uint::new(alloc, &[0, 0])?.as_bytes(), [0u8].as_slice());
     assert!(rt; Uint::new(alloc, &[]).is_err());
     assert!(rt; Int::new(alloc, &[0, 1]).is_err());
     Ok(())
@@ -139,102 +99,55 @@ fn whole_numbers(rt: HostRuntime) -> Result<(), Fail> {
 #[test]
 fn strings(rt: HostRuntime) -> Result<(), Fail> {
     let alloc = rt.alloc();
-    assert!(rt; is_kept::<BitString>(alloc, &[3, 7, 4, 0x0a, 0x3b, 0x5f, 0x29, 0x1c, 0xd0]));
-    assert!(rt; is_kept::<BitString>(alloc, &[0x03, 0x01, 0x00]));
-    assert_eq!(rt;
-        refusal::<BitString>(alloc, &[0x03, 0x00]),
-        Some(DerError::Value)
-    );
-    assert_eq!(rt;
-        refusal::<BitString>(alloc, &[0x03, 0x01, 0x01]),
-        Some(DerError::Value)
-    );
-    assert_eq!(rt;
-        refusal::<BitString>(alloc, &[0x03, 0x02, 0x08, 0x00]),
-        Some(DerError::Value)
-    );
-    assert_eq!(rt;
-        refusal::<BitString>(alloc, &[0x03, 0x02, 0x07, 0x40]),
-        Some(DerError::Value)
-    );
-    assert_eq!(rt;
-        refusal::<BitString>(alloc, &[0x23, 0x01, 0x00]),
-        Some(DerError::Tag)
-    );
-    assert!(rt; is_kept::<Utf8>(alloc, &[0x0c, 0x02, 0xc3, 0xa9]));
-    assert_eq!(rt;
-        refusal::<Utf8>(alloc, &[0x0c, 0x01, 0xc3]),
-        Some(DerError::Value)
-    );
-    assert_eq!(rt;
-        refusal::<Utf8>(alloc, &[0x0c, 0x02, 0xc0, 0x80]),
-        Some(DerError::Value)
-    );
-    assert!(rt; is_kept::<Ia5>(alloc, &[0x16, 0x05, 0x4a, 0x6f, 0x6e, 0x65, 0x73]));
-    assert_eq!(rt;
-        refusal::<Ia5>(alloc, &[0x16, 0x01, 0x80]),
-        Some(DerError::Value)
-    );
+    assert!(rt; are_kept::<BitString>(alloc, &["0307040a3b5f291cd0", "030100"])?);
+    let bits = ["0300", "030101", "03020800", "03020740"];
+    assert!(rt; are_refused::<BitString>(alloc, DerError::Value, &bits)?);
+    assert!(rt; are_refused::<BitString>(alloc, DerError::Tag, &["230100"])?);
+    assert!(rt; are_kept::<Utf8>(alloc, &["0c02c3a9", "0c00"])?);
+    assert!(rt; are_refused::<Utf8>(alloc, DerError::Value, &["0c01c3", "0c02c080"])?);
+    assert!(rt; are_kept::<Ia5>(alloc, &["16054a6f6e6573"])?);
+    assert!(rt; are_refused::<Ia5>(alloc, DerError::Value, &["160180"])?);
+    assert!(rt; are_kept::<bool>(alloc, &["0101ff", "010100"])?);
+    assert!(rt; are_refused::<bool>(alloc, DerError::Value, &["010101", "0100"])?);
     Ok(())
 }
 
 #[test]
 fn identifiers(rt: HostRuntime) -> Result<(), Fail> {
     let alloc = rt.alloc();
-    let issuer = [
-        0x06u8, 0x0a, 0x2b, 0x06, 0x01, 0x04, 0x01, 0x83, 0xbf, 0x30, 0x01, 0x08,
-    ];
+    let texts = ["060a2b0601040183bf300108", "0603883703", "0603813403"];
+    assert!(rt; are_kept::<ObjectIdentifier>(alloc, &texts)?);
+    let texts = ["0600", "06032b8001", "06022b81", "06062b9080808000"];
+    assert!(rt; are_refused::<ObjectIdentifier>(alloc, DerError::Value, &texts)?);
     let identifier = ObjectIdentifier::new("1.3.6.1.4.1.57264.1.8")?;
-    assert_eq!(rt; identifier.to_der(alloc)?.as_bytes(), issuer.as_slice());
-    assert!(rt; is_kept::<ObjectIdentifier>(alloc, &issuer));
+    let bytes = hex::decode(alloc, "060a2b0601040183bf300108")?;
+    assert_eq!(rt; identifier.to_der(alloc)?.as_bytes(), bytes.as_slice());
     assert_eq!(rt; identifier.len(), 9);
     assert_eq!(rt; identifier.arc(6), Some(57264));
     assert_eq!(rt; identifier.arc(9), None);
     assert!(rt; identifier.parent() == Some(ObjectIdentifier::new("1.3.6.1.4.1.57264.1")?));
     assert!(rt; ObjectIdentifier::new("1.3")?.parent().is_none());
     let joint = ObjectIdentifier::from_arcs(&[2, 999, 3])?;
-    assert_eq!(rt;
-        joint.to_der(alloc)?.as_bytes(),
-        [0x06u8, 0x03, 0x88, 0x37, 0x03].as_slice()
-    );
-    assert_eq!(rt;
-        refusal::<ObjectIdentifier>(alloc, &[0x06, 0x00]),
-        Some(DerError::Value)
-    );
-    assert_eq!(rt;
-        refusal::<ObjectIdentifier>(alloc, &[6, 3, 0x2b, 0x80, 0x01]),
-        Some(DerError::Value)
-    );
-    assert_eq!(rt;
-        refusal::<ObjectIdentifier>(alloc, &[6, 2, 0x2b, 0x81]),
-        Some(DerError::Value)
-    );
-    assert_eq!(rt;
-        refusal::<ObjectIdentifier>(alloc, &[6, 6, 0x2b, 0x90, 0x80, 0x80, 0x80, 0]),
-        Some(DerError::Value)
-    );
+    assert_eq!(rt; joint.as_bytes(), [0x88u8, 0x37, 0x03].as_slice());
     Ok(())
-}
-
-/// Whether a text is refused as an identifier.
-fn is_no_identifier(text: &str) -> bool {
-    match ObjectIdentifier::new(text) {
-        Ok(_) => false,
-        Err(refusal) => refusal == DerError::Oid,
-    }
 }
 
 #[test]
 fn texts_of_identifiers(rt: HostRuntime) -> Result<(), Fail> {
-    assert!(rt; is_no_identifier("3.1"));
-    assert!(rt; is_no_identifier(""));
-    assert!(rt; is_no_identifier("1"));
-    assert!(rt; is_no_identifier("1."));
-    assert!(rt; is_no_identifier("1..2"));
-    assert!(rt; is_no_identifier("1.40"));
-    assert!(rt; is_no_identifier("1.2.03"));
-    assert!(rt; is_no_identifier("1.2.4294967296"));
-    assert!(rt; is_no_identifier("1.2.+3"));
+    for text in [
+        "3.1",
+        "",
+        "1",
+        "1.",
+        "1..2",
+        "1.40",
+        "1.2.03",
+        "1.2.4294967296",
+        "1.2.+3",
+        ".1.2",
+    ] {
+        assert!(rt; ObjectIdentifier::new(text) == Err(DerError::Oid));
+    }
     assert_eq!(rt;
         ObjectIdentifier::new("2.4294967295")?.arc(1),
         Some(4294967295)
@@ -249,27 +162,22 @@ fn texts_of_identifiers(rt: HostRuntime) -> Result<(), Fail> {
 #[test]
 fn sets_and_lists(rt: HostRuntime) -> Result<(), Fail> {
     let alloc = rt.alloc();
-    let ordered = [0x31u8, 0x06, 0x02, 0x01, 0x01, 0x02, 0x01, 0x02];
-    let turned = [0x31u8, 0x06, 0x02, 0x01, 0x02, 0x02, 0x01, 0x01];
-    let doubled = [0x31u8, 0x06, 0x02, 0x01, 0x01, 0x02, 0x01, 0x01];
-    assert!(rt; is_kept::<SetOfVec<Int>>(alloc, &ordered));
-    assert!(rt; is_written::<SetOfVec<Int>>(alloc, &turned, &ordered));
-    assert_eq!(rt;
-        refusal::<SetOfVec<Int>>(alloc, &doubled),
-        Some(DerError::SetDuplicate)
-    );
+    let ordered = "3106020101020102";
+    assert!(rt; are_kept::<SetOfVec<Int>>(alloc, &[ordered, "3100"])?);
+    assert!(rt; refusal::<SetOfVec<Int>>(alloc, "3106020102020101", ordered)?.is_none());
+    let doubled = ["3106020101020101"];
+    assert!(rt; are_refused::<SetOfVec<Int>>(alloc, DerError::SetDuplicate, &doubled)?);
     let mut set = SetOfVec::new(alloc);
     set.insert(alloc, Int::new(alloc, &[2])?)?;
     set.insert(alloc, Int::new(alloc, &[1])?)?;
     assert!(rt; set.insert(alloc, Int::new(alloc, &[2])?) == Err(DerError::SetDuplicate));
     assert_eq!(rt; set.len(), 2);
-    assert_eq!(rt; set.to_der(alloc)?.as_bytes(), ordered.as_slice());
-    let list = [0x30u8, 0x06, 0x02, 0x01, 0x02, 0x02, 0x01, 0x01];
-    assert!(rt; is_kept::<Sequence<Int>>(alloc, &list));
     assert_eq!(rt;
-        refusal::<Sequence<Int>>(alloc, &[0x30, 0x02, 0x04, 0x00]),
-        Some(DerError::Tag)
+        set.to_der(alloc)?.as_bytes(),
+        hex::decode(alloc, ordered)?.as_slice()
     );
+    assert!(rt; are_kept::<Sequence<Int>>(alloc, &["3006020102020101", "3000"])?);
+    assert!(rt; are_refused::<Sequence<Int>>(alloc, DerError::Tag, &["30020400"])?);
     Ok(())
 }
 
@@ -289,6 +197,20 @@ fn slices_of_the_input(rt: HostRuntime) -> Result<(), Fail> {
 }
 
 #[test]
+fn defaults(rt: HostRuntime) -> Result<(), Fail> {
+    let alloc = rt.alloc();
+    let mut reader = Reader::new(&[0x01, 0x01, 0x00]);
+    assert!(rt; read_default(alloc, false, &mut reader) == Err(DerError::Value));
+    let mut reader = Reader::new(&[0x04, 0x00]);
+    assert!(rt; read_default(alloc, false, &mut reader) == Ok(false));
+    let mut out = OctetString::empty(alloc);
+    append_default(alloc, &false, &false, &mut out)?;
+    append_default(alloc, &false, &true, &mut out)?;
+    assert_eq!(rt; out.as_bytes(), [0x01u8, 0x01, 0xff].as_slice());
+    Ok(())
+}
+
+#[test]
 fn copies_equal_their_source(rt: HostRuntime) -> Result<(), Fail> {
     let alloc = rt.alloc();
     let any = Any::new(alloc, Tag(0xa0), &[1, 2])?;
@@ -302,8 +224,6 @@ fn copies_equal_their_source(rt: HostRuntime) -> Result<(), Fail> {
     let mut out = OctetString::new(alloc, &[9])?;
     one.encode_into(alloc, &mut out)?;
     assert_eq!(rt; out.as_bytes(), [9u8, 2, 1, 1].as_slice());
-    let oid = ObjectIdentifier::new("1.2")?;
-    assert!(rt; oid.duplicate(alloc)? == oid);
     Ok(())
 }
 
@@ -327,88 +247,60 @@ fn errors_print_their_names(rt: HostRuntime) -> Result<(), Fail> {
     Ok(())
 }
 
+/// The moment of a time in hexadecimal, in seconds from the start of 1970 on.
+fn second_of<K: TimeKind>(alloc: Global, text: &str) -> Result<i64, Fail> {
+    let bytes = hex::decode(alloc, text)?;
+    Ok(Time::<K>::from_der(alloc, &bytes)?.moment().as_second())
+}
+
 #[test]
 fn times(rt: HostRuntime) -> Result<(), Fail> {
     let alloc = rt.alloc();
-    // The start of 1970, of 2000 and of 1950, and the last second of 2049.
-    let start = [
-        0x17u8, 13, 55, 48, 48, 49, 48, 49, 48, 48, 48, 48, 48, 48, 90,
-    ];
-    assert!(rt; is_kept::<UtcTime>(alloc, &start));
+    // The starts of 1970, of 2000 and of 1950.
+    for (text, second) in [
+        ("170d3730303130313030303030305a", 0),
+        ("170d3030303130313030303030305a", 946684800),
+        ("170d3530303130313030303030305a", -631152000),
+    ] {
+        assert_eq!(rt; second_of::<UtcTimeKind>(alloc, text)?, second);
+        assert!(rt; are_kept::<UtcTime>(alloc, &[text])?);
+    }
+    // The last second of 29 February 2000, and that of 9999, which is past the last moment.
+    let leap = "180f32303030303232393233353935395a";
+    assert_eq!(rt; second_of::<GeneralizedTimeKind>(alloc, leap)?, 951868799);
+    let last = hex::decode(alloc, "180f39393939313233313233353935395a")?;
     assert_eq!(rt;
-        UtcTime::from_der(alloc, &start)?.moment(),
-        Timestamp::UNIX_EPOCH
-    );
-    let bytes = [
-        0x17u8, 13, 48, 48, 48, 49, 48, 49, 48, 48, 48, 48, 48, 48, 90,
-    ];
-    let moment = UtcTime::from_der(alloc, &bytes)?.moment();
-    assert_eq!(rt; moment.as_second(), 946684800);
-    let bytes = [
-        0x17u8, 13, 53, 48, 48, 49, 48, 49, 48, 48, 48, 48, 48, 48, 90,
-    ];
-    let moment = UtcTime::from_der(alloc, &bytes)?.moment();
-    assert_eq!(rt; moment.as_second(), -631152000);
-    // 29 February of 1900 isn't there, and that of 2000 is.
-    let bytes = *b"\x18\x0f19000229000000Z";
-    assert_eq!(rt;
-        refusal::<GeneralizedTime>(alloc, &bytes),
-        Some(DerError::Value)
-    );
-    let bytes = *b"\x18\x0f20000229235959Z";
-    assert!(rt; is_kept::<GeneralizedTime>(alloc, &bytes));
-    assert_eq!(rt;
-        GeneralizedTime::from_der(alloc, &bytes)?
-            .moment()
-            .as_second(),
-        951868799
-    );
-    // The last second of 9999 is past the last moment.
-    let bytes = *b"\x18\x0f99991231235959Z";
-    assert_eq!(rt;
-        GeneralizedTime::from_der(alloc, &bytes)?.moment(),
+        GeneralizedTime::from_der(alloc, &last)?.moment(),
         Timestamp::MAX
     );
-    // No fraction, no leap second, no hour 24, no letter in the place of a digit.
-    let bytes = *b"\x18\x1120000229235959.5Z";
-    assert_eq!(rt;
-        refusal::<GeneralizedTime>(alloc, &bytes),
-        Some(DerError::Value)
-    );
-    let bytes = *b"\x18\x0f20161231235960Z";
-    assert_eq!(rt;
-        refusal::<GeneralizedTime>(alloc, &bytes),
-        Some(DerError::Value)
-    );
-    let bytes = *b"\x18\x0f20161231240000Z";
-    assert_eq!(rt;
-        refusal::<GeneralizedTime>(alloc, &bytes),
-        Some(DerError::Value)
-    );
-    let bytes = *b"\x18\x0f2016123123595aZ";
-    assert_eq!(rt;
-        refusal::<GeneralizedTime>(alloc, &bytes),
-        Some(DerError::Value)
-    );
+    // 29 February 1900, a fraction, a leap second, hour 24, a letter.
+    let refused = [
+        "180f31393030303232393030303030305a",
+        "181132303030303232393233353935392e355a",
+        "180f32303136313233313233353936305a",
+        "180f32303136313233313234303030305a",
+        "180f32303136313233313233353935615a",
+    ];
+    assert!(rt; are_refused::<GeneralizedTime>(alloc, DerError::Value, &refused)?);
     Ok(())
 }
 
 #[test]
-fn truth(rt: HostRuntime) -> Result<(), Fail> {
+fn times_of_moments(rt: HostRuntime) -> Result<(), Fail> {
     let alloc = rt.alloc();
-    assert!(rt; is_kept::<bool>(alloc, &[0x01, 0x01, 0xff]));
-    assert!(rt; is_kept::<bool>(alloc, &[0x01, 0x01, 0x00]));
-    assert_eq!(rt;
-        refusal::<bool>(alloc, &[0x01, 0x01, 0x01]),
-        Some(DerError::Value)
-    );
-    assert_eq!(rt;
-        refusal::<bool>(alloc, &[0x01, 0x00]),
-        Some(DerError::Value)
-    );
-    let mut reader = Reader::new(&[0x01, 0x01, 0x00]);
-    assert!(rt; read_default(alloc, false, &mut reader) == Err(DerError::Value));
-    let mut reader = Reader::new(&[0x04, 0x00]);
-    assert!(rt; read_default(alloc, false, &mut reader) == Ok(false));
+    let start = GeneralizedTime::new(Timestamp::UNIX_EPOCH)?;
+    assert_eq!(rt; start.as_bytes(), "19700101000000Z".as_bytes());
+    // A fraction is dropped, before 1970 too.
+    let before = GeneralizedTime::new(Timestamp::from_millisecond(-500)?)?;
+    assert_eq!(rt; before.as_bytes(), "19691231235959Z".as_bytes());
+    assert!(rt; before.duplicate(alloc)? == before);
+    // The first and the last second of a UTCTime, and those beside them.
+    assert!(rt; UtcTime::new(Timestamp::from_second(-631152001)?) == Err(DerError::Value));
+    let first = UtcTime::new(Timestamp::from_second(-631152000)?)?;
+    assert_eq!(rt; first.as_bytes(), "500101000000Z".as_bytes());
+    let last = UtcTime::new(Timestamp::from_second(2524607999)?)?;
+    assert_eq!(rt; last.as_bytes(), "491231235959Z".as_bytes());
+    assert!(rt; UtcTime::new(Timestamp::from_second(2524608000)?) == Err(DerError::Value));
+    assert!(rt; GeneralizedTime::new(Timestamp::MIN) == Err(DerError::Value));
     Ok(())
 }

@@ -8,11 +8,13 @@ ghost use Rattle.der_core_parts.specs.Laws.{primitive-lawful};
 ghost use Rattle.der_core_parts.specs.Outcome.{Outcome};
 ghost use Rattle.der_core_parts.specs.Types.{valid};
 ghost use Rattle.der_core.specs.declared.civil.Civil.{Civil as CivilTime};
-ghost use Rattle.der_core.specs.Times.{generalized_of, utc_of, reads, is_civil, nanos_of, nearest};
+ghost use Rattle.der_core.specs.Times.{generalized_of, utc_of, reads, is_civil, nanos_of, nearest, IsWithinSecond};
+ghost use Rattle.der_core_parts.specs.declared.error.DerError.TheVariants.{Value as BadValue};
+ghost use Rattle.der_core.specs.TimeLaws.{utc-real, generalized-real};
 
 use crate::civil::{Civil, EPOCH, generalized_in, utc_in};
-use crate::moment::moment_of;
-use arrayvec::ArrayVec;
+use crate::digits::{Contents, generalized_out, utc_out};
+use crate::moment::{civil_of, moment_of};
 use der_core_parts::{Der, DerError, OctetString, Tag};
 use foundation::{Duplicate, NoMemory};
 use jiff::Timestamp;
@@ -36,7 +38,15 @@ pub trait TimeKind {
         ensures short { IfOk result (λ c. length contents.now < 16) }
         ensures real { IfOk result (λ c. is_civil c ≡ true) };
 
+    /// The contents that name a civil time; Value exactly where none do.
+    fn write(time: &Civil) -> Result<Contents, DerError>
+        requires { is_civil time.now ≡ true }
+        ensures ok { IfOk result (λ out. civil out.items ≡ Ok time.now) }
+        ensures err { IfErr result (λ e. (e ≡ BadValue) × ((bytes : List ℕ) → civil bytes ≡ Ok time.now → ⊥)) };
+
     ghost is_number: { is_tag number ≡ true };
+
+    ghost real: { (bytes : List ℕ) (c : CivilTime) → civil bytes ≡ Ok c → is_civil c ≡ true };
 }
 
 /// The kind of times with two digits of the year.
@@ -59,7 +69,13 @@ impl TimeKind for UtcTimeKind {
         utc_in(contents)
     }
 
+    fn write(time: &Civil) -> Result<Contents, DerError> {
+        utc_out(time)
+    }
+
     ghost is_number = { refl };
+
+    ghost real = { utc-real };
 }
 
 /// The kind of times with four digits of the year.
@@ -82,13 +98,19 @@ impl TimeKind for GeneralizedTimeKind {
         generalized_in(contents)
     }
 
+    fn write(time: &Civil) -> Result<Contents, DerError> {
+        Ok(generalized_out(time))
+    }
+
     ghost is_number = { refl };
+
+    ghost real = { generalized-real };
 }
 
 /// A civil time of UTC, kept as it was written; contracts see its contents.
 #[derive(Drop)]
 pub struct Time<K: TimeKind> {
-    contents: ArrayVec<u8, 15>,
+    contents: Contents,
     kind: PhantomData<K>,
 }
 
@@ -103,11 +125,11 @@ impl<K: TimeKind> Model for Time<K> {
     ghost invariant = { λ t. reads K.civil t.contents.items ≡ true };
 }
 
-fn copy_of(contents: &[u8]) -> ArrayVec<u8, 15>
+fn copy_of(contents: &[u8]) -> Contents
     requires { length contents.now < 16 }
     ensures { result.items ≡ contents.now }
 {
-    let mut copy = ArrayVec::new();
+    let mut copy = Contents::new();
     'octets: for octet in contents {
         copy.push(*octet);
     }
@@ -115,6 +137,25 @@ fn copy_of(contents: &[u8]) -> ArrayVec<u8, 15>
 }
 
 impl<K: TimeKind> Time<K> {
+    /// The civil time of UTC in whose second a moment lies; Value exactly where its year is outside
+    /// those of the type.
+    pub fn new(moment: Timestamp) -> Result<Time<K>, DerError>
+        ensures ok { IfOk result (λ t. (c : CivilTime) × (K.civil t ≡ Ok c) × IsWithinSecond moment.nanosecond c) }
+        ensures err { IfErr result (λ e. (e ≡ BadValue)
+            × ((bytes : List ℕ) (c : CivilTime) → K.civil bytes ≡ Ok c → IsWithinSecond moment.nanosecond c → ⊥)) }
+    {
+        match civil_of(moment) {
+            None => Err(DerError::Value),
+            Some(time) => match K::write(&time) {
+                Ok(contents) => Ok(Time {
+                    contents,
+                    kind: PhantomData,
+                }),
+                Err(refusal) => Err(refusal),
+            },
+        }
+    }
+
     /// The civil time.
     pub fn civil(&self) -> Civil
         ensures exact { K.civil self.now ≡ Ok result }

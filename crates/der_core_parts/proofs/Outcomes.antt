@@ -1,5 +1,5 @@
 -- What clauses say of a result, joined to the laws of grammars.
-use Rattle.std.proofs.Common.{◌≡◌, ◌≢◌, ℕ, List, Result, Ok, Err, refl, sym, ◌∙◌}
+use Rattle.std.proofs.Common.{◌≡◌, ◌≢◌, ℕ, List, Ok, Err, refl, sym, ◌∙◌}
 use Rattle.std.specs.Prelude.{IfOk, IfErr, MatchResult}
 use Rattle.der_core_parts.specs.declared.error.DerError.{DerError}
 use Rattle.der_core_parts.specs.declared.error.DerError.TheVariants.{Truncated, Length, Tag, Value, Trailing, SetDuplicate, Oid, TooLong, NoMemory}

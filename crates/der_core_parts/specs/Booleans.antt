@@ -1,9 +1,8 @@
 -- BOOLEAN: one octet, 0 for FALSE and 255 for TRUE (X.690, 8.2 and 11.1).
-use Rattle.std.specs.Prelude.{◌≡◌, ℕ, Bool, true, false, ◌==◌, List, [], ◌∷◌, Result, Ok, Err, if◌then◌else◌}
+use Rattle.std.specs.Prelude.{◌≡◌, ℕ, Bool, true, false, ◌==◌, List, [], ◌∷◌, Ok, Err, if◌then◌else◌}
 use mathlib.Core.Bool.{beq}
 use Rattle.std.proofs.Common.{refl, sym, ap, eqb, ◌∙◌, inl, inr}
 use Rattle.std.proofs.lemmas.Bool.{eqb-true}
-use Rattle.der_core_parts.specs.declared.error.DerError.{DerError}
 use Rattle.der_core_parts.specs.declared.error.DerError.TheVariants.{Value}
 use Rattle.der_core_parts.specs.Outcome.{Outcome}
 use Rattle.der_core_parts.specs.TlvLaws.{chosen, passed, ok_is}

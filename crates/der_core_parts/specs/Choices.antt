@@ -1,13 +1,12 @@
 -- One type or another, a type under a further tag, and any type.
-use Rattle.std.specs.Prelude.{◌≡◌, ℕ, ◌⊎◌, ◌<◌, ◌%◌, Bool, true, false, not, List, [], length, Result, Ok, Err, nat_lt, ◌==◌, ◌&&◌, ◌||◌, if◌then◌else◌}
-use Rattle.std.proofs.Common.{inl, inr, refl, sym, ap, subst, arith, cond, ltb, eqb, ◌≢◌}
+use Rattle.std.specs.Prelude.{◌≡◌, ℕ, ◌⊎◌, ◌%◌, Bool, true, false, not, List, length, Ok, Err, nat_lt, ◌==◌, ◌&&◌, ◌||◌, if◌then◌else◌}
+use Rattle.std.proofs.Common.{inl, inr, refl, ap, subst, cond, ltb, eqb}
 use Rattle.std.proofs.lemmas.Bool.{ltb-true, eqb-false}
-use Rattle.der_core_parts.specs.declared.error.DerError.{DerError}
-use Rattle.der_core_parts.specs.declared.error.DerError.TheVariants.{Tag, Value}
+use Rattle.der_core_parts.specs.declared.error.DerError.TheVariants.{Value}
 use Rattle.der_core_parts.specs.Outcome.{Outcome}
 use Rattle.foundation.specs.Steps.{◌>>=◌}
 use Rattle.der_core_parts.specs.Tlv.{IsTag, IsBytes}
-use Rattle.der_core_parts.specs.Grammar.{Grammar, Fields, sequence, one}
+use Rattle.der_core_parts.specs.Grammar.{Grammar, sequence, one}
 use Rattle.der_core_parts.specs.Law.{WritesAs, IsLawful}
 use Rattle.der_core_parts.specs.Laws.{sequence-lawful, one-lawful}
 use Rattle.der_core_parts.specs.TlvLaws.{ok_is, bind_ok, passed}

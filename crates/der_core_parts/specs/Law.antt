@@ -1,5 +1,5 @@
 -- The laws of grammars.
-use Rattle.std.specs.Prelude.{◌≡◌, ℕ, ◌⊎◌, ◌<◌, Bool, true, false, List, [], ◌∷◌, ◌++◌, length, Result, Ok, Err}
+use Rattle.std.specs.Prelude.{◌≡◌, ℕ, ◌⊎◌, true, false, List, [], ◌++◌, length, Ok}
 use Rattle.der_core_parts.specs.Tlv.{IsTag, IsBytes}
 use Rattle.der_core_parts.specs.Outcome.{Outcome}
 use Rattle.der_core_parts.specs.Grammar.{Grammar, Fields, begins}

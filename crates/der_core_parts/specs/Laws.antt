@@ -1,13 +1,12 @@
 -- Proofs: the laws of a grammar from those of its parts.
-use Rattle.std.proofs.Common.{◌≡◌, ◌≢◌, ◌⊎◌, ℕ, zero, suc, ◌+◌, ◌-◌, ◌*◌, ◌/◌, ◌%◌, ◌^◌, ◌<◌, ◌≤◌, Bool, true, false, cond, ltb, eqb, List, [], ◌∷◌, ◌++◌, length, Option, Some, None, Result, Ok, Err, refl, sym, ap, subst, ◌∙◌, append_assoc, arith, inl, inr, eq-eqb}
+use Rattle.std.proofs.Common.{◌≡◌, ◌⊎◌, ℕ, suc, ◌<◌, Bool, true, false, cond, ltb, eqb, List, [], ◌∷◌, ◌++◌, length, Option, Some, None, Ok, refl, sym, ap, subst, ◌∙◌, append_assoc, arith, inl, inr, eq-eqb}
 use Rattle.std.specs.Prelude.{◌&&◌, ◌||◌}
-use Rattle.std.proofs.lemmas.Bool.{cases_lt, ltb-false, ltb-true, le-ltb, lt-ltb, eqb-true, eqb-false}
+use Rattle.std.proofs.lemmas.Bool.{ltb-true, lt-ltb, eqb-true}
 use Rattle.std.proofs.lemmas.List.{length-append, append-nil, append_cancel_right, nil_from_length}
-use Rattle.der_core_parts.specs.declared.error.DerError.{DerError}
 use Rattle.der_core_parts.specs.declared.error.DerError.TheVariants.{Tag, Trailing, TooLong, Value}
 use Rattle.der_core_parts.specs.Outcome.{Outcome}
 use Rattle.foundation.specs.Steps.{◌>>=◌}
-use Rattle.der_core_parts.specs.Tlv.{IsTag, IsBytes, IsTlv, tlv, length_bytes, tlv_at}
+use Rattle.der_core_parts.specs.Tlv.{IsTag, IsBytes, tlv, length_bytes, tlv_at}
 use Rattle.der_core_parts.specs.Grammar.{Grammar, Fields, read, read_body, ended, read_all, framed, write, Encodes, primitive, implicit, sequence, mapped, one, begins, IsEncodedOption, write_option, read_option, optional, AreEncoded, both, mapped_fields, refined, refined_fields, unless_default, or_default, defaulted}
 use Rattle.der_core_parts.specs.Law.{WritesAs, IsLawful, IsTaken, AreLawful}
 use Rattle.der_core_parts.specs.TlvLaws.{ok_is, bind_ok, passed, not_refused, chosen, tlv_takes, tlv_again}

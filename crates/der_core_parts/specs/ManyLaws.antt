@@ -1,17 +1,15 @@
 -- Proofs: the laws of values one after the other.
-use Rattle.std.proofs.Common.{◌≡◌, ◌≢◌, ◌⊎◌, ℕ, zero, suc, ◌+◌, ◌-◌, ◌*◌, ◌/◌, ◌%◌, ◌^◌, ◌<◌, ◌≤◌, Bool, true, false, cond, ltb, eqb, List, [], ◌∷◌, ◌++◌, length, take, drop, Option, Some, None, Result, Ok, Err, refl, sym, ap, subst, ◌∙◌, append_assoc, arith, inl, inr, eq-eqb}
-use Rattle.std.proofs.lemmas.Bool.{ltb-false, ltb-true, le-ltb, lt-ltb, eqb-true, eqb-false}
-use Rattle.std.proofs.lemmas.List.{length-append, append-nil, nil_from_length, length-drop, length-take}
-use Rattle.der_core_parts.specs.declared.error.DerError.{DerError}
-use Rattle.der_core_parts.specs.declared.error.DerError.TheVariants.{Truncated, Length, Tag, Trailing, TooLong, Value}
+use Rattle.std.proofs.Common.{◌≡◌, ◌⊎◌, ℕ, zero, suc, ◌-◌, ◌%◌, ◌<◌, ◌≤◌, true, false, cond, ltb, eqb, List, [], ◌∷◌, ◌++◌, length, take, drop, Ok, Err, refl, sym, ap, subst, ◌∙◌, arith, inl, inr}
+use Rattle.std.proofs.lemmas.List.{length-append, append-nil, length-drop}
+use Rattle.der_core_parts.specs.declared.error.DerError.TheVariants.{Truncated, Tag, TooLong}
 use Rattle.der_core_parts.specs.Outcome.{Outcome}
 use Rattle.foundation.specs.Steps.{◌>>=◌}
-use Rattle.der_core_parts.specs.Tlv.{IsTag, IsBytes, IsTlv, tlv, length_bytes, tlv_at, length_at, value_at, number_of}
-use Rattle.der_core_parts.specs.Grammar.{Grammar, Fields, read, read_body, write, Encodes, one, begins}
+use Rattle.der_core_parts.specs.Tlv.{IsBytes, tlv_at, length_at, value_at, number_of}
+use Rattle.der_core_parts.specs.Grammar.{Grammar, read, read_body, write, Encodes, begins}
 use Rattle.der_core_parts.specs.Law.{WritesAs, IsLawful, IsTaken, AreLawful}
 use Rattle.der_core_parts.specs.TlvLaws.{ok_is, bind_ok, passed, not_refused, chosen}
 use Rattle.der_core_parts.specs.Laws.{one-found, one-only, one-written, one-writes, one-front, one-same, begins-append, sequence-lawful}
-use Rattle.der_core_parts.specs.Many.{IsConcat, EachEncoded, many_at, many_of, write_each, many, sequence_of}
+use Rattle.der_core_parts.specs.Many.{EachEncoded, many_at, many_of, write_each, many, sequence_of}
 
 -- ---- reading takes at least a byte
 

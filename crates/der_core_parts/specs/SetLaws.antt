@@ -1,5 +1,5 @@
 -- Proofs: the laws of sets.
-use Rattle.std.proofs.Common.{◌≡◌, ◌≢◌, ◌⊎◌, ℕ, zero, suc, ◌+◌, ◌-◌, ◌<◌, ◌≤◌, Bool, true, false, cond, eqb, List, [], ◌∷◌, ◌++◌, length, map, Option, Some, None, Result, Ok, Err, refl, sym, ap, subst, ◌∙◌, append_assoc, arith, inl, inr, eq-eqb}
+use Rattle.std.proofs.Common.{◌≡◌, ℕ, ◌+◌, Bool, true, false, cond, List, [], ◌∷◌, ◌++◌, length, Ok, Err, refl, sym, ap, subst, ◌∙◌, arith}
 use Rattle.std.specs.Prelude.{◌&&◌}
 use Rattle.std.specs.declared.cmp.Ordering.{Ordering}
 use Rattle.std.specs.declared.cmp.Ordering.TheVariants.{Less, Equal, Greater}
@@ -7,16 +7,15 @@ use Rattle.std.specs.Ordering.{nat_cmp, is_lt}
 use Rattle.std.proofs.lemmas.Cmp.{nat_list_cmp_total}
 use Rattle.std.specs.Cmp.Lexicographic.{slice_cmp}
 use Rattle.std.proofs.lemmas.Bool.{eqb-true}
-use Rattle.std.proofs.lemmas.List.{length-append, append-nil}
+use Rattle.std.proofs.lemmas.List.{length-append}
 use Rattle.foundation.specs.Steps.{◌>>=◌}
-use Rattle.der_core_parts.specs.declared.error.DerError.{DerError}
 use Rattle.der_core_parts.specs.declared.error.DerError.TheVariants.{SetDuplicate, Value}
 use Rattle.der_core_parts.specs.Outcome.{Outcome}
-use Rattle.der_core_parts.specs.Tlv.{IsTag, IsBytes}
-use Rattle.der_core_parts.specs.Grammar.{Grammar, write, Encodes}
+use Rattle.der_core_parts.specs.Tlv.{IsTag}
+use Rattle.der_core_parts.specs.Grammar.{Grammar, write}
 use Rattle.der_core_parts.specs.Law.{WritesAs, IsLawful}
 use Rattle.der_core_parts.specs.TlvLaws.{ok_is, bind_ok, passed}
-use Rattle.der_core_parts.specs.Many.{IsConcat, EachEncoded, many_of, write_each}
+use Rattle.der_core_parts.specs.Many.{EachEncoded, many_of, write_each}
 use Rattle.der_core_parts.specs.ManyLaws.{many-found, many-only, each-written, each-writes}
 use Rattle.der_core_parts.specs.Sets.{Keyed, is_before, keyed, place, ordered, rises, values, distinct, set_from, rise, is_set, set_of}
 

@@ -1,9 +1,8 @@
 -- SET OF: the members in ascending order of their encodings (X.690, 11.6), no two equal.
-use Rattle.std.specs.Prelude.{◌≡◌, ℕ, Bool, true, false, List, [], ◌∷◌, map, Result, Ok, Err, ◌==◌, ◌&&◌, if◌then◌else◌}
+use Rattle.std.specs.Prelude.{◌≡◌, ℕ, Bool, true, false, List, [], ◌∷◌, map, Ok, Err, ◌==◌, ◌&&◌, if◌then◌else◌}
 use Rattle.std.specs.Ordering.{nat_cmp, is_lt}
 use Rattle.std.specs.Cmp.Lexicographic.{slice_cmp}
 use Rattle.foundation.specs.Steps.{◌>>=◌}
-use Rattle.der_core_parts.specs.declared.error.DerError.{DerError}
 use Rattle.der_core_parts.specs.declared.error.DerError.TheVariants.{SetDuplicate, Value}
 use Rattle.der_core_parts.specs.Outcome.{Outcome}
 use Rattle.der_core_parts.specs.Grammar.{Grammar, write}

@@ -1,10 +1,10 @@
 -- Types as one term each: a grammar with its laws, made of those of its parts. Each premise is a test that
 -- computes, so that `refl` meets it.
-use Rattle.std.specs.Prelude.{◌≡◌, ℕ, ◌⊎◌, ◌<◌, Bool, true, false, not, List, [], ◌∷◌, ◌++◌, Option, Some, None, Result, Ok, Err, ◌==◌, ◌&&◌, ◌||◌, if◌then◌else◌}
-use Rattle.std.proofs.Common.{refl, sym, ap, subst, cond, eqb, inl, inr, ◌∙◌}
+use Rattle.std.specs.Prelude.{◌≡◌, ℕ, ◌⊎◌, Bool, true, false, not, List, [], ◌∷◌, ◌++◌, Option, Some, None, Ok, ◌==◌, ◌&&◌, ◌||◌, if◌then◌else◌}
+use Rattle.std.proofs.Common.{refl, subst, cond, eqb, inl, inr}
 use Rattle.std.proofs.lemmas.Bool.{eqb-true}
 use Rattle.der_core_parts.specs.Tlv.{IsTag}
-use Rattle.der_core_parts.specs.Grammar.{Grammar, Fields, primitive, implicit, sequence, one, optional, both, mapped_fields, mapped, refined, refined_fields, defaulted}
+use Rattle.der_core_parts.specs.Grammar.{Grammar, Fields, primitive, implicit, sequence, one, optional, both, mapped_fields, mapped, refined, defaulted}
 use Rattle.der_core_parts.specs.Choices.{is_tag, explicit, either, either-lawful, any, any-lawful}
 use Rattle.der_core_parts.specs.Outcome.{Outcome}
 use Rattle.der_core_parts.specs.Many.{sequence_of}

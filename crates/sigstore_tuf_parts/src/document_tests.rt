@@ -4,6 +4,7 @@ use crate::tests::word_of;
 use foundation::Duplicate;
 use sigstore_types_parts::instant;
 use std::alloc::Global;
+use std::process::Abort;
 use std::test::Fail;
 
 fn read_word<T: Role>(alloc: Global, text: &str) -> &'static str {
@@ -16,8 +17,8 @@ fn framed(alloc: Global, signatures: &str, members: &str) -> Result<String, Fail
     Ok(format!(in alloc; r#"{{"signatures":{signatures},"signed":{{{members}}}}}"#)?)
 }
 
-fn frame_rows() -> [(&'static str, &'static str); 6] {
-    [
+fn frame_rows() -> &'static [(&'static str, &'static str)] {
+    &[
         ("", "Json"),
         ("[1.5]", "NonIntegerNumber"),
         ("[]", "Frame"),
@@ -27,8 +28,8 @@ fn frame_rows() -> [(&'static str, &'static str); 6] {
     ]
 }
 
-fn header_rows() -> [(&'static str, &'static str, &'static str); 5] {
-    [
+fn header_rows() -> &'static [(&'static str, &'static str, &'static str)] {
+    &[
         ("{}", r#""_type":"root""#, "Kind"),
         (
             "{}",
@@ -41,8 +42,8 @@ fn header_rows() -> [(&'static str, &'static str, &'static str); 5] {
     ]
 }
 
-fn version_rows() -> [(&'static str, &'static str, &'static str); 3] {
-    [
+fn version_rows() -> &'static [(&'static str, &'static str, &'static str)] {
+    &[
         (r#"[{"keyid":"k"}]"#, "1", "Json"),
         ("[]", "18446744073709551615", "Ok"),
         ("[]", "18446744073709551616", "NonIntegerNumber"),
@@ -65,7 +66,7 @@ fn header_word(alloc: Global, signatures: &str, members: &str) -> Result<&'stati
 #[test]
 fn frames_are_refused(rt: HostRuntime) {
     let alloc = rt.alloc();
-    for (text, word) in frame_rows() {
+    for &(text, word) in frame_rows() {
         assert_eq!(rt; read_word::<Timestamp>(alloc, text), word, "at {text}");
     }
 }
@@ -73,7 +74,7 @@ fn frames_are_refused(rt: HostRuntime) {
 #[test]
 fn headers_are_refused(rt: HostRuntime) -> Result<(), Fail> {
     let alloc = rt.alloc();
-    for (signatures, members, word) in header_rows() {
+    for &(signatures, members, word) in header_rows() {
         assert_eq!(rt;
             header_word(alloc, signatures, members)?,
             word,
@@ -86,7 +87,7 @@ fn headers_are_refused(rt: HostRuntime) -> Result<(), Fail> {
 #[test]
 fn signatures_then_members_are_refused(rt: HostRuntime) -> Result<(), Fail> {
     let alloc = rt.alloc();
-    for (signatures, version, word) in version_rows() {
+    for &(signatures, version, word) in version_rows() {
         assert_eq!(rt;
             timestamp_word(alloc, signatures, version)?,
             word,
@@ -106,8 +107,8 @@ fn targets_word(alloc: Global, member: &str) -> Result<&'static str, Fail> {
     Ok(read_word::<Targets>(alloc, text.as_str()))
 }
 
-fn null_rows() -> [(&'static str, &'static str); 5] {
-    [
+fn null_rows() -> &'static [(&'static str, &'static str)] {
+    &[
         ("", "Ok"),
         (r#","delegations":null"#, "Ok"),
         (r#","delegations":{"keys":{}}"#, "Ok"),
@@ -116,8 +117,8 @@ fn null_rows() -> [(&'static str, &'static str); 5] {
     ]
 }
 
-fn delegation_rows() -> [(&'static str, &'static str); 3] {
-    [
+fn delegation_rows() -> &'static [(&'static str, &'static str)] {
+    &[
         (r#"1,"paths":null,"path_hash_prefixes":null"#, "Ok"),
         (r#"1,"terminating":null"#, "Json"),
         ("-1", "Json"),
@@ -135,7 +136,7 @@ fn delegation_word(alloc: Global, threshold: &str) -> Result<&'static str, Fail>
 #[test]
 fn null_and_absence(rt: HostRuntime) -> Result<(), Fail> {
     let alloc = rt.alloc();
-    for (member, word) in null_rows() {
+    for &(member, word) in null_rows() {
         assert_eq!(rt; targets_word(alloc, member)?, word, "at {member}");
     }
     Ok(())
@@ -144,7 +145,7 @@ fn null_and_absence(rt: HostRuntime) -> Result<(), Fail> {
 #[test]
 fn null_and_absence_in_delegations(rt: HostRuntime) -> Result<(), Fail> {
     let alloc = rt.alloc();
-    for (threshold, word) in delegation_rows() {
+    for &(threshold, word) in delegation_rows() {
         assert_eq!(rt; delegation_word(alloc, threshold)?, word, "at {threshold}");
     }
     Ok(())
@@ -195,14 +196,18 @@ fn copied_key_is(alloc: Global, root: &Root, public: &str) -> Result<bool, Fail>
     Ok(copied_key(alloc, root)?.keyval.public.as_str() == public)
 }
 
+fn check_root(rt: &impl Abort, alloc: Global, read: &Metadata<Root>) -> Result<(), Fail> {
+    assert_eq!(rt; threshold_in(read.signed(), "targets"), 1);
+    assert_eq!(rt; first_signature(read), "01");
+    assert!(rt; copied_key_is(alloc, read.signed(), "p")?);
+    Ok(())
+}
+
 #[test]
 fn a_root_is_read(rt: HostRuntime) -> Result<(), Fail> {
     let alloc = rt.alloc();
     let read: Metadata<Root> = read(alloc, root_text())?;
-    assert_eq!(rt; threshold_in(read.signed(), "targets"), 1);
-    assert_eq!(rt; first_signature(&read), "01");
-    assert!(rt; copied_key_is(alloc, read.signed(), "p")?);
-    Ok(())
+    check_root(&rt, alloc, &read)
 }
 
 fn fresh(alloc: Global, timestamp: &Timestamp, now: jiff::Timestamp) -> Result<(), Error> {
@@ -231,12 +236,7 @@ fn pin_word(timestamp: &Timestamp, version: u64) -> &'static str {
     }
 }
 
-#[test]
-fn a_timestamp_is_read(rt: HostRuntime) -> Result<(), Fail> {
-    let alloc = rt.alloc();
-    let read: Metadata<Timestamp> = read(alloc, timestamp_text())?;
-    assert_eq!(rt; read.signed_canonical().len(), 128);
-    let timestamp = read.signed();
+fn check_timestamp(rt: &impl Abort, alloc: Global, timestamp: &Timestamp) {
     assert_eq!(rt; pin_word(timestamp, timestamp.version()), "Ok");
     assert_eq!(rt; pin_word(timestamp, 2), "IntegrityMismatch");
     assert_eq!(rt; fresh_word(alloc, timestamp, "2030-01-01T00:00:00Z"), "Ok");
@@ -244,6 +244,14 @@ fn a_timestamp_is_read(rt: HostRuntime) -> Result<(), Fail> {
         fresh_word(alloc, timestamp, "2030-01-01T00:00:01Z"),
         "Expired"
     );
+}
+
+#[test]
+fn a_timestamp_is_read(rt: HostRuntime) -> Result<(), Fail> {
+    let alloc = rt.alloc();
+    let read: Metadata<Timestamp> = read(alloc, timestamp_text())?;
+    assert_eq!(rt; read.signed_canonical().len(), 128);
+    check_timestamp(&rt, alloc, read.signed());
     Ok(())
 }
 

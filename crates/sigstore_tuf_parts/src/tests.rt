@@ -4,6 +4,7 @@ use foundation::Duplicate;
 use serde_json::Value;
 use sigstore_types_parts::{Bytes, Form, FromValue, Text, parse_json};
 use std::alloc::Global;
+use std::process::Abort;
 use std::test::Fail;
 
 // A refusal that holds two texts, by its number.
@@ -68,8 +69,8 @@ fn numbered(alloc: Global, number: u8) -> Result<Error, Fail> {
     }
 }
 
-fn names() -> [(u8, &'static str); 19] {
-    [
+fn names() -> &'static [(u8, &'static str)] {
+    &[
         (1, "Json"),
         (2, "Malformed"),
         (3, "NonIntegerNumber"),
@@ -92,14 +93,29 @@ fn names() -> [(u8, &'static str); 19] {
     ]
 }
 
+fn prints(alloc: Global, error: &Error, text: &str) -> Result<bool, Fail> {
+    Ok(format!(in alloc; "{error}")?.as_str() == text)
+}
+
+fn check_error(
+    rt: &impl Abort,
+    alloc: Global,
+    error: &Error,
+    name: &str,
+    number: u8,
+) -> Result<(), Fail> {
+    assert!(rt; prints(alloc, error, name)?, "at {name}");
+    assert_eq!(rt; error.name(), name);
+    assert_eq!(rt; error.number(), number);
+    Ok(())
+}
+
 #[test]
 fn errors_print_their_names(rt: HostRuntime) -> Result<(), Fail> {
     let alloc = rt.alloc();
-    for (number, name) in names() {
+    for &(number, name) in names() {
         let error = numbered(alloc, number)?;
-        assert_eq!(rt; format!(in alloc; "{error}")?.as_str(), name);
-        assert_eq!(rt; error.name(), name);
-        assert_eq!(rt; error.number(), number);
+        check_error(&rt, alloc, &error, name, number)?;
     }
     Ok(())
 }
@@ -130,8 +146,8 @@ fn canonical_word(alloc: Global, text: &str) -> Result<&'static str, Fail> {
     Ok(word_of(&canonical_text(alloc, text)?))
 }
 
-fn canonical_rows() -> [(&'static str, &'static str); 2] {
-    [
+fn canonical_rows() -> &'static [(&'static str, &'static str)] {
+    &[
         (
             r#"{"z":[3,2,1],"a":{"n":-5,"b":true}}"#,
             r#"{"a":{"b":true,"n":-5},"z":[3,2,1]}"#,
@@ -143,7 +159,7 @@ fn canonical_rows() -> [(&'static str, &'static str); 2] {
 #[test]
 fn canonical_texts(rt: HostRuntime) -> Result<(), Fail> {
     let alloc = rt.alloc();
-    for (text, canonical) in canonical_rows() {
+    for &(text, canonical) in canonical_rows() {
         assert!(rt; is_canonical(alloc, text, canonical)?, "at {text}");
     }
     assert_eq!(rt; canonical_word(alloc, "1.5")?, "NonIntegerNumber");

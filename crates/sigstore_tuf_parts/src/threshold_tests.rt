@@ -226,8 +226,8 @@ fn threshold_word(
 // A threshold, the public text of the keys, the signatures, and what is told of them.
 type Row = (&'static str, &'static str, &'static str, &'static str);
 
-fn once_rows() -> [Row; 6] {
-    [
+fn once_rows() -> &'static [Row] {
+    &[
         ("2", "p", "k=01 l=01", "Ok"),
         ("2", "p", "k=01 k=01 l=01", "second timestamp k"),
         ("1", "p", "k= k=01", "Ok"),
@@ -237,8 +237,8 @@ fn once_rows() -> [Row; 6] {
     ]
 }
 
-fn found_rows() -> [Row; 7] {
-    [
+fn found_rows() -> &'static [Row] {
+    &[
         ("2", "p", "l=01", "timestamp 1 of 2"),
         ("1", "p", "k=02", "timestamp 0 of 1"),
         ("1", "p", "m=01", "timestamp 0 of 1"),
@@ -257,7 +257,7 @@ fn is_told(alloc: Global, row: Row) -> Result<bool, Fail> {
 #[test]
 fn ids_sign_once(rt: HostRuntime) -> Result<(), Fail> {
     for row in once_rows() {
-        assert!(rt; is_told(rt.alloc(), row)?, "at {row:?}");
+        assert!(rt; is_told(rt.alloc(), *row)?, "at {row:?}");
     }
     Ok(())
 }
@@ -265,7 +265,7 @@ fn ids_sign_once(rt: HostRuntime) -> Result<(), Fail> {
 #[test]
 fn accepted_ids_are_counted(rt: HostRuntime) -> Result<(), Fail> {
     for row in found_rows() {
-        assert!(rt; is_told(rt.alloc(), row)?, "at {row:?}");
+        assert!(rt; is_told(rt.alloc(), *row)?, "at {row:?}");
     }
     Ok(())
 }
@@ -320,8 +320,8 @@ fn fault_word(alloc: Global, scheme: &str, public: &str) -> Result<&'static str,
     Ok(word_for(fault))
 }
 
-fn key_rows() -> [(&'static str, &'static str, &'static str); 6] {
-    [
+fn key_rows() -> &'static [(&'static str, &'static str, &'static str)] {
+    &[
         ("ecdsa-sha2-nistp256", "p", "a key"),
         ("ecdsa-sha2-nistp256", "r", "unusable"),
         ("ecdsa-sha2-nistp384", "p", "unbuilt"),
@@ -338,7 +338,7 @@ fn key_rows() -> [(&'static str, &'static str, &'static str); 6] {
 #[test]
 fn keys_are_told_apart(rt: HostRuntime) -> Result<(), Fail> {
     let alloc = rt.alloc();
-    for (scheme, public, fault) in key_rows() {
+    for &(scheme, public, fault) in key_rows() {
         assert_eq!(rt;
             fault_word(alloc, scheme, public)?,
             fault,

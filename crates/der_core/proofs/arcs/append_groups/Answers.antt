@@ -1,4 +1,4 @@
-use Rattle.std.proofs.Common.{◌≡◌, ◌<◌, refl, arith}
+use Rattle.std.proofs.Common.{refl}
 use Rattle.der_core.proofs.OidWriting.{groups-one, groups-full}
 use Rattle.der_core.proofs.arcs.append_groups.Goals as goal
 

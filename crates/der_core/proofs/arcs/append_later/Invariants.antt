@@ -1,4 +1,4 @@
-use Rattle.std.proofs.Common.{◌≡◌, ◌≤◌, ◌+◌, ◌++◌, Ok, length, List, ℕ}
+use Rattle.std.proofs.Common.{◌≤◌, ◌+◌, length}
 use Rattle.der_core.proofs.OidReading.{LaterOn}
 use Rattle.der_core.proofs.arcs.append_later.Given as goal
 

@@ -1,6 +1,5 @@
-use Rattle.std.proofs.Common.{◌≡◌, ◌∙◌, sym, refl, subst, arith, rules, Some}
 use Rattle.std.proofs.lemmas.Result.{err_from_is_err_and}
-use Rattle.der_core.proofs.OidText.{TextOn, text-one, text-refused, text-full, text-open, text-last_full, text-ends}
+use Rattle.der_core.proofs.OidText.{text-one, text-refused, text-full, text-open, text-last_full, text-ends}
 use Rattle.der_core.proofs.dotted.arcs_of_text.Goals as goal
 
 pub returns-in_err-ended-clause-err : goal.returns-in_err-ended-clause-err

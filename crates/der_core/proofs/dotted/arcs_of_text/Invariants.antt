@@ -1,4 +1,4 @@
-use Rattle.std.proofs.Common.{◌≡◌, drop}
+use Rattle.std.proofs.Common.{drop}
 use Rattle.der_core.proofs.OidText.{TextOn}
 use Rattle.der_core.proofs.dotted.arcs_of_text.Given as goal
 

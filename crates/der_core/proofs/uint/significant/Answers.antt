@@ -1,4 +1,4 @@
-use Rattle.std.proofs.Common.{◌≡◌, ◌∙◌, arith}
+use Rattle.std.proofs.Common.{◌∙◌, arith}
 use Rattle.der_core.proofs.Numbers.{short_same}
 use Rattle.der_core.proofs.uint.significant.Goals as goal
 

@@ -1,7 +1,6 @@
 use Rattle.std.proofs.Common.{◌≡◌, Ok, rules}
 use Rattle.der_core_parts.specs.Grammar.{write}
 use Rattle.der_core_parts.specs.Laws.{one-written}
-use Rattle.der_core_parts.specs.Outcome.{Outcome}
 use Rattle.der_core_parts.proofs.der.encoding_of.Goals as goal
 
 pub returns-clause-encodes : goal.returns-clause-encodes

@@ -1,9 +1,9 @@
-use Rattle.std.proofs.Common.{◌≡◌, ◌∙◌, ◌<◌, ◌+◌, ℕ, sym, arith, length, get_or, rules, subst}
+use Rattle.std.proofs.Common.{◌∙◌, arith, length}
 use Rattle.std.proofs.lemmas.Result.{err_from_is_err_and}
 use Rattle.std.proofs.lemmas.Iterator.Consumers.{YieldsList-turn, YieldsList-end}
 use Rattle.std.proofs.lemmas.Iterator.Adapters.{YieldsList-from_vec}
 use Rattle.std.proofs.lemmas.List.{length_push}
-use Rattle.der_core_parts.proofs.Members.{begins_keying, keys_one, keying_refused, ends_keying, KeyedOn}
+use Rattle.der_core_parts.proofs.Members.{begins_keying, keys_one, keying_refused, ends_keying}
 use Rattle.der_core_parts.proofs.keyed.with_encodings.Goals as goal
 
 pub members-init : goal.members-init

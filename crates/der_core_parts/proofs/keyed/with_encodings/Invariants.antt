@@ -1,4 +1,4 @@
-use Rattle.std.proofs.Common.{◌≡◌, length}
+use Rattle.std.proofs.Common.{length}
 use Rattle.der_core_parts.proofs.Members.{KeyedOn}
 use Rattle.der_core_parts.proofs.keyed.with_encodings.Given as goal
 

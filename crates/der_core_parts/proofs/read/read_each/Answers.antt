@@ -1,4 +1,3 @@
-use Rattle.std.proofs.Common.{◌≡◌, sym, arith}
 use Rattle.std.proofs.lemmas.Result.{err_from_is_err_and}
 use Rattle.der_core_parts.specs.ManyLaws.{read-shrinks}
 use Rattle.der_core_parts.proofs.Loops.{reads_one, reading_refused, ends_reading, next_is, no_next}

@@ -1,8 +1,8 @@
-use Rattle.std.proofs.Common.{◌≡◌, ◌+◌, ◌∙◌, Ok, ap, sym, arith, subst, ℕ}
+use Rattle.std.proofs.Common.{◌∙◌, Ok, ap, sym, arith, ℕ}
 use Rattle.std.proofs.lemmas.Result.{err_from_is_err_and}
 use Rattle.std.specs.Ordering.{nat_cmp}
 use Rattle.std.specs.Cmp.Lexicographic.{slice_cmp}
-use Rattle.der_core_parts.proofs.Placing.{placing_refused, place_less, place_equal, place_greater, ends_placing, PlacesOn}
+use Rattle.der_core_parts.proofs.Placing.{placing_refused, place_less, place_equal, place_greater, ends_placing}
 use Rattle.der_core_parts.proofs.set.place_for.Goals as goal
 
 pub returns-in_err-other-clause-err : goal.returns-in_err-other-clause-err

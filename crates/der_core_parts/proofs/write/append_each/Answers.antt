@@ -1,4 +1,3 @@
-use Rattle.std.proofs.Common.{◌≡◌, sym, arith}
 use Rattle.std.proofs.lemmas.Result.{err_from_is_err_and}
 use Rattle.der_core_parts.proofs.Loops.{writes_one, writing_refused, ends_writing}
 use Rattle.der_core_parts.proofs.write.append_each.Goals as goal

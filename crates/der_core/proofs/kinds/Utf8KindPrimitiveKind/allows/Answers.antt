@@ -1,4 +1,4 @@
-use Rattle.std.proofs.Common.{◌≡◌, ◌∙◌}
+use Rattle.std.proofs.Common.{◌∙◌}
 use Rattle.der_core.proofs.Texts.{utf8_answer}
 use Rattle.der_core.proofs.kinds.Utf8KindPrimitiveKind.allows.Goals as goal
 

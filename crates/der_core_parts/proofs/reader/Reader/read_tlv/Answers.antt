@@ -1,4 +1,4 @@
-use Rattle.std.proofs.Common.{◌≡◌, ◌≤◌, ◌++◌, length, arith, ap, sym}
+use Rattle.std.proofs.Common.{length, arith, ap}
 use Rattle.std.proofs.lemmas.List.{length-append}
 use Rattle.der_core_parts.specs.Tlv.{tlv}
 use Rattle.der_core_parts.specs.TlvLaws.{front_is}

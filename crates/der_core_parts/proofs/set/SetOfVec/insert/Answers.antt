@@ -1,4 +1,4 @@
-use Rattle.std.proofs.Common.{◌≡◌, ◌∙◌, sym}
+use Rattle.std.proofs.Common.{◌∙◌}
 use Rattle.std.proofs.lemmas.Result.{IfErr-weaker}
 use Rattle.der_core_parts.proofs.Placing.{put_is, put_as, keeps_set}
 use Rattle.der_core_parts.proofs.set.SetOfVec.insert.Goals as goal
