@@ -1,9 +1,13 @@
 -- Laws of the definitions.
-use Rattle.std.specs.Prelude.{◌≡◌, ◌↔◌, ℕ, List, true, Option, Ok}
+use Rattle.std.specs.Prelude.{◌≡◌, ◌↔◌, ℕ, List, true, Option, Result, Ok, Err}
 use Rattle.serde_json.specs.Data.{Data}
 use Rattle.jiff_core.specs.declared.timestamp.Timestamp.{Timestamp}
 use Rattle.sigstore_tuf_parts.specs.declared.keys.RoleKeys.{RoleKeys}
-use Rattle.sigstore_tuf_parts.specs.Document.{Document}
+use Rattle.sigstore_tuf_parts.specs.declared.error.Error.{Error}
+use Rattle.sigstore_tuf_parts.specs.declared.root.Root.{Root}
+use Rattle.sigstore_tuf_parts.specs.Document.{Document, document_of}
+use Rattle.sigstore_tuf_parts.specs.RootRoles.{meets_role_of}
+use Rattle.sigstore_tuf_parts.specs.Cause.{ReadCause, RoleCause, IntegrityCause, ExpiryCause}
 use Rattle.sigstore_tuf_parts.specs.Canon.{canon}
 use Rattle.sigstore_tuf_parts.specs.Exact.{IsExact}
 use Rattle.sigstore_tuf_parts.specs.Crypto.{Crypto}
@@ -31,3 +35,18 @@ FitsExactly = (pieces : List Piece) (text : List ℕ) → (fits pieces text ≡ 
 -- values whose numbers are integers of 64 bits, and whose canonical texts are equal, are equal
 abbrev pub TellsValues : Type 0
 TellsValues = (a b : Data) → IsExact a → IsExact b → canon a ≡ canon b → a ≡ b
+
+-- ---- each refusal of a definition has its cause
+
+-- bytes that aren't read as a document of the kind
+abbrev pub ReadsWithCause : {T : Type 0} → List ℕ → (Data → Result T Error) → Type 0
+ReadsWithCause kind reads = (bytes : List ℕ) (e : Error) → document_of kind reads bytes ≡ Err e → ReadCause kind reads bytes e
+
+abbrev pub MeetsWithCause : Type 0 → Type 0
+MeetsWithCause T = (crypto : Crypto) (root : Root) (name : List ℕ) (doc : Document T) (e : Error) → meets_role_of crypto root name doc ≡ Err e → RoleCause crypto root name doc e
+
+abbrev pub IntactWithCause : Type 0
+IntactWithCause = (size : Option ℕ) (hashes : Option Hashes) (bytes : List ℕ) (e : Error) → integrity_of size hashes bytes ≡ Err e → IntegrityCause size hashes bytes e
+
+abbrev pub FreshWithCause : Type 0
+FreshWithCause = (role : List ℕ) (expires now : Timestamp) (e : Error) → fresh_of role expires now ≡ Err e → ExpiryCause role expires now e

@@ -20,4 +20,5 @@ pub mod Crypto
 pub mod Threshold
 pub mod Meets
 pub mod RootRoles
+pub mod Cause
 pub mod Laws

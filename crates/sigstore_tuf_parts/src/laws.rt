@@ -1,5 +1,10 @@
 // Laws of the definitions. A call does nothing.
-ghost use Rattle.sigstore_tuf_parts.specs.Laws.{MeetsExactly, IntactExactly, FreshExactly, FitsExactly, TellsValues};
+ghost use Rattle.std.specs.Prelude.{codes};
+ghost use Rattle.sigstore_tuf_parts.specs.Laws.{MeetsExactly, IntactExactly, FreshExactly, FitsExactly, TellsValues, ReadsWithCause, MeetsWithCause, IntactWithCause, FreshWithCause};
+ghost use Rattle.sigstore_tuf_parts.specs.Root.{root_of};
+ghost use Rattle.sigstore_tuf_parts.specs.Timestamp.{timestamp_of};
+ghost use Rattle.sigstore_tuf_parts.specs.Snapshot.{snapshot_of};
+ghost use Rattle.sigstore_tuf_parts.specs.Targets.{targets_of};
 
 /// The checks of a threshold fail nowhere exactly where the document meets the role.
 pub fn meets_exactly<T>()
@@ -18,4 +23,24 @@ pub fn relations_exactly()
 /// the law.
 pub fn canonical_text_tells()
     ensures { TellsValues }
+{}
+
+/// Bytes that aren't read as a root, timestamp, snapshot or targets document have the cause of their
+/// refusal.
+pub fn readings_have_causes()
+    ensures root { ReadsWithCause (codes "root") root_of }
+    ensures timestamp { ReadsWithCause (codes "timestamp") timestamp_of }
+    ensures snapshot { ReadsWithCause (codes "snapshot") snapshot_of }
+    ensures targets { ReadsWithCause (codes "targets") targets_of }
+{}
+
+/// A document that doesn't meet a role has the cause of its refusal.
+pub fn roles_have_causes<T>()
+    ensures { MeetsWithCause T }
+{}
+
+/// A file that isn't the pinned one, and a document that is expired, have the cause of their refusal.
+pub fn pins_have_causes()
+    ensures intact { IntactWithCause }
+    ensures fresh { FreshWithCause }
 {}
