@@ -35,7 +35,10 @@ pub use error::{Error, Mismatch, Rule, TransportFault};
 pub use extra::others;
 pub use integrity::{check_fresh, check_integrity, check_version};
 pub use keys::{Key, KeyVal, RoleKeys};
-pub use laws::{canonical_text_tells, meets_exactly, relations_exactly};
+pub use laws::{
+    canonical_text_tells, meets_exactly, pins_have_causes, readings_have_causes, relations_exactly,
+    roles_have_causes,
+};
 pub use member::DocumentMember;
 pub use names::{SNAPSHOT_NAME, TARGETS_NAME, TIMESTAMP_NAME, pin_name, root_name};
 pub use role::Role;
