@@ -7,6 +7,9 @@ use Rattle.foundation.specs.declared.no_memory.NoMemory.{NoMemory}
 use Rattle.sigstore_tuf.specs.Repository.{Folders}
 use Rattle.sigstore_verify.specs.declared.root.RootFault.{RootFault}
 use Rattle.sigstore_verify.specs.declared.root.RootFault.TheVariants as root
+use Rattle.sigstore_tuf.specs.Config.{default_config}
+use Rattle.sigstore_verify.specs.Policy.{PublicKey}
+use Rattle.sigstore_verify.proofs.RootCauses.{runs_cause}
 use Rattle.sigstore_app_parts.specs.Inputs.{Held}
 use Rattle.sigstore_app_parts.specs.Layout.{layout_of}
 use Rattle.sigstore_app_parts.specs.Gather.{gathered_of, StopCause, ReadsAs}
@@ -17,7 +20,7 @@ use Rattle.sigstore_app_parts.specs.declared.gather.Stop.TheVariants.{Words, For
 use Rattle.sigstore_app.specs.declared.answer.Status.{Status}
 use Rattle.sigstore_app.specs.declared.answer.Status.TheVariants as status
 use Rattle.sigstore_app.specs.declared.answer.Answer.{Answer}
-use Rattle.sigstore_app.specs.Run.{answer, stop_answer, tuf_answer, verify_answer, refusal_answer, now_of, VerifiesInputs, Judges, want_judging, refused, reported, Proceeds, want_inputs, stopped, judged, Decides, want_words, misworded, worded, RunsTo, unwritten, cut, written, TakesAll, Means}
+use Rattle.sigstore_app.specs.Run.{answer, stop_answer, tuf_answer, verify_answer, refusal_answer, policy_meant, max_artifact, crypto_in, now_of, VerifiesInputs, RefusesInputs, Judges, want_judging, refused, reported, Proceeds, want_inputs, stopped, judged, Decides, want_words, misworded, worded, RunsTo, unwritten, cut, written, TakesAll, Means}
 
 some_same : (a b : Answer) → Some a ≡ Some b → a ≡ b
 some_same a b e = cc
@@ -48,12 +51,15 @@ module _ (words : List (List ℕ)) (clock : jiff.Timestamp) (inputs inputs' : Wa
   stopped_means Memory said c h = cc
 
   module _ (layout : Layout) (worded_is : layout_of words ≡ Ok layout) (gathered : Gathered) (read : ReadsAs gathered_of inputs inputs' (Ok gathered)) where
+    caused : {fault : RootFault} → VerifiesInputs gathered (now_of layout clock) repo repo' source source' (Err fault) → RefusesInputs gathered (now_of layout clock) repo repo' source source' fault
+    caused {fault} v = runs_cause (crypto_in gathered) (PublicKey (policy_meant gathered.policy)) gathered.root gathered.bundle default_config (now_of layout clock) repo repo' source source' max_artifact fault v
+
     refused_means : (fault : RootFault) (said : Answer) → VerifiesInputs gathered (now_of layout clock) repo repo' source source' (Err fault) → refusal_answer fault ≡ Some said → W said.text → M said.status
     unfolding refusal_answer tuf_answer verify_answer
     refused_means (root.Tuf e) said v h =
-        as_said _ said (some_same _ said h) (λ w. record { layout = layout; worded = worded_is; gathered = gathered; read = read; fault = root.Tuf e; verified = v; said = tuf_answer e; line = refl; written = w })
+        as_said _ said (some_same _ said h) (λ w. record { layout = layout; worded = worded_is; gathered = gathered; read = read; fault = root.Tuf e; verified = v; cause = caused v; said = tuf_answer e; line = refl; written = w })
     refused_means (root.Verify e chain) said v h =
-        as_said _ said (some_same _ said h) (λ w. record { layout = layout; worded = worded_is; gathered = gathered; read = read; fault = root.Verify e chain; verified = v; said = verify_answer e; line = refl; written = w })
+        as_said _ said (some_same _ said h) (λ w. record { layout = layout; worded = worded_is; gathered = gathered; read = read; fault = root.Verify e chain; verified = v; cause = caused v; said = verify_answer e; line = refl; written = w })
     refused_means root.NoMemory said v h = cc
 
     judged_means : (said : Answer) → Judges gathered (now_of layout clock) repo repo' source source' (Ok said) → W said.text → M said.status

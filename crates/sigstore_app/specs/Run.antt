@@ -18,6 +18,7 @@ use Rattle.sigstore_verify.specs.declared.root.Rooted.{Rooted}
 use Rattle.sigstore_verify.specs.declared.root.RootFault.{RootFault}
 use Rattle.sigstore_verify.specs.declared.root.RootFault.TheVariants as root
 use Rattle.sigstore_verify.specs.Root.{Runs, IsAccepted}
+use Rattle.sigstore_verify.specs.Cause.{RootCause}
 use Rattle.sigstore_app_parts.specs.Inputs.{Held}
 use Rattle.sigstore_app_parts.specs.Sink.{WritesText}
 use Rattle.sigstore_app_parts.specs.Rows.{accepts_of}
@@ -95,6 +96,11 @@ abbrev pub AcceptsInputs : Gathered → jiff.Timestamp → Watched (List ℕ) �
 AcceptsInputs gathered now source source' rooted =
     IsAccepted (crypto_in gathered) (PublicKey (policy_meant gathered.policy)) gathered.root gathered.bundle default_config now source source' max_artifact rooted
 
+-- the cause of a refusal, over the inputs
+abbrev pub RefusesInputs : Gathered → jiff.Timestamp → Watched Folders → Watched Folders → Watched (List ℕ) → Watched (List ℕ) → RootFault → Type 0
+RefusesInputs gathered now repo repo' source source' fault =
+    RootCause (crypto_in gathered) (PublicKey (policy_meant gathered.policy)) gathered.root gathered.bundle default_config now repo repo' source source' max_artifact fault
+
 -- what is said of an acceptance: its report, or the refusal of a document of its chain that isn't read
 abbrev pub said_of : Result (List ℕ) TufError → Option Answer
 said_of (Ok text) = Some (answer status.Accepted text)
@@ -159,8 +165,8 @@ pub record Accepts (words : List (List ℕ)) (clock : jiff.Timestamp) (inputs in
 abbrev pub TakesAll : Watched (List ℕ) → Watched (List ℕ) → List ℕ → Type 0
 TakesAll out out' text = WritesText {E = SinkFault} out out' text (Ok tt)
 
--- What status 1 means: the words give a layout, the inputs were read, the verification from the root refused, and the sink took
--- exactly the refusal's line.
+-- What status 1 means: the words give a layout, the inputs were read, the verification from the root refused, for its cause, and
+-- the sink took exactly the refusal's line.
 pub record Refuses (words : List (List ℕ)) (clock : jiff.Timestamp) (inputs inputs' : Watched Held) (repo repo' : Watched Folders) (source source' out out' : Watched (List ℕ)) : Type 0 where
   pub layout : Layout
   pub worded : layout_of words ≡ Ok layout
@@ -168,6 +174,7 @@ pub record Refuses (words : List (List ℕ)) (clock : jiff.Timestamp) (inputs in
   pub read : ReadsAs gathered_of inputs inputs' (Ok gathered)
   pub fault : RootFault
   pub verified : VerifiesInputs gathered (now_of layout clock) repo repo' source source' (Err fault)
+  pub cause : RefusesInputs gathered (now_of layout clock) repo repo' source source' fault
   pub said : Answer
   pub line : refusal_answer fault ≡ Some said
   pub written : TakesAll out out' said.text

@@ -232,7 +232,7 @@ module _ (crypto : Crypto) (given : List ℕ) (config : UpdaterConfig) (now : ji
   pinned_kept : (old new : InForce) (repo repo' : Watched Folders) (result : Result ⊤ Error) → RefreshesPinned crypto config now old new repo repo' result → Kept old new
   pinned_kept old new repo repo' result (inl same) k = unchanged old new same.1 k
   pinned_kept old new repo repo' result (inr (fetched, inl u)) k = unchanged old new (unpinned old new repo repo' result u) k
-  pinned_kept old new repo repo' result (inr (fetched, inr fetches)) k = by_answer fetches.answer
+  pinned_kept old new repo repo' result (inr (fetched, inr fetches)) k = by_answer fetches.1.answer
     where
       by_answer : IsUnfetched (codes "targets.json") config.targets_max_length old new repo repo' result ⊎ TookTargets crypto config now old new repo result → AreAuthorised crypto given new
       by_answer (inl u) = unchanged old new (unfetched (codes "targets.json") config.targets_max_length old new repo repo' result u) k

@@ -185,7 +185,7 @@ module _ (crypto : Crypto) (config : UpdaterConfig) (now : jiff.Timestamp) where
   pinned_step : (old new : InForce) (repo repo' : Watched Folders) → RefreshesPinned crypto config now old new repo repo' (Ok tt) → HasTargets new × SameBelow old new
   pinned_step old new repo repo' (inl same) = (subst HasTargets (sym same.1) (targets_kept_there old same.0), same_below old new same.1)
   pinned_step old new repo repo' (inr (fetched, inl nothing)) = absurd nothing
-  pinned_step old new repo repo' (inr (fetched, inr fetches)) = by_answer fetches.answer
+  pinned_step old new repo repo' (inr (fetched, inr fetches)) = by_answer fetches.1.answer
     where
       by_answer : ⊥ ⊎ TookTargets crypto config now old new repo (Ok tt) → HasTargets new × SameBelow old new
       by_answer (inl nothing) = absurd nothing

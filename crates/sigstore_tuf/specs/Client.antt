@@ -57,9 +57,10 @@ pub record FetchesFile (part : Folders → Files) (old new : Watched Folders) (n
 
 -- ---- the next root
 
--- why the walk over the next roots refuses
+-- why the walk over the next roots refuses; an absent next root ends it without a refusal
 abbrev pub WalkCause : UpdaterConfig → ℕ → Watched Folders → Watched Folders → Error → Type 0
-WalkCause config version old new (Transport (transport.Rotations max)) = (config.max_root_rotations ≡ 0) × (max ≡ 0)
+WalkCause config version old new (Transport (transport.Rotations max)) = (version < 2 ^ 64 - 1) × (config.max_root_rotations ≡ 0) × (max ≡ 0)
+WalkCause config version old new (Transport transport.Absent) = ⊥
 WalkCause config version old new (Transport fault) = (version < 2 ^ 64 - 1) × TransportCause metadata_files (root_name (version + 1)) config.root_max_length old new fault
 WalkCause config version old new (Unbuilt form.Rotation) =
     (version < 2 ^ 64 - 1) × ((bytes : List ℕ) × Has metadata_files old (root_name (version + 1)) bytes)

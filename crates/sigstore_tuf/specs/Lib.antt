@@ -11,3 +11,4 @@ pub mod Updater
 pub mod Order
 pub mod Trusted
 pub mod Authorised
+pub mod Cause

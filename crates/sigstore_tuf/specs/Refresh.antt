@@ -6,6 +6,7 @@ use Rattle.sigstore_tuf_parts.specs.declared.error.Error.{Error}
 use Rattle.sigstore_tuf_parts.specs.declared.error.Error.TheVariants.{NoMemory}
 use Rattle.sigstore_tuf_parts.specs.declared.snapshot.Snapshot.{Snapshot}
 use Rattle.sigstore_tuf_parts.specs.declared.targets.Targets.{Targets}
+use Rattle.sigstore_tuf_parts.specs.declared.timestamp.MetaFile.{MetaFile}
 use Rattle.sigstore_tuf_parts.specs.Document.{content_in}
 use Rattle.sigstore_tuf_parts.specs.Crypto.{Crypto}
 use Rattle.sigstore_tuf.specs.Repository.{Folders, metadata_files}
@@ -76,7 +77,11 @@ pub record TookTargets (crypto : Crypto) (config : UpdaterConfig) (now : jiff.Ti
   pub within : length bytes ≤ config.targets_max_length
   pub takes : TakesTargets crypto now old new bytes result
 
--- the snapshot in force is expired or pins no targets document
+-- the snapshot in force isn't expired and pins the targets document
+abbrev pub IsPinning : jiff.Timestamp → InForce → Type 0
+IsPinning now set = (pin : MetaFile) × (targets_pin_of set now ≡ Ok pin)
+
+-- it is expired or pins none
 abbrev pub IsUnpinned : jiff.Timestamp → InForce → InForce → Watched Folders → Watched Folders → Result ⊤ Error → Type 0
 IsUnpinned now old new repo repo' (Ok x) = ⊥
 IsUnpinned now old new repo repo' (Err e) = (new ≡ old) × (repo' ≡ repo) × (e ≢ NoMemory → targets_pin_of old now ≡ Err e)
@@ -86,7 +91,8 @@ pub record FetchesPinned (crypto : Crypto) (config : UpdaterConfig) (now : jiff.
   pub answer : IsUnfetched (codes "targets.json") config.targets_max_length old new repo repo' result ⊎ TookTargets crypto config now old new repo result
 
 abbrev pub FetchesTargets : Crypto → UpdaterConfig → jiff.Timestamp → InForce → InForce → Watched Folders → Watched Folders → Result ⊤ Error → Type 0
-FetchesTargets crypto config now old new repo repo' result = IsUnpinned now old new repo repo' result ⊎ FetchesPinned crypto config now old new repo repo' result
+FetchesTargets crypto config now old new repo repo' result =
+    IsUnpinned now old new repo repo' result ⊎ (IsPinning now old × FetchesPinned crypto config now old new repo repo' result)
 
 abbrev pub KeepsTargets : jiff.Timestamp → InForce → InForce → Watched Folders → Watched Folders → Result ⊤ Error → Type 0
 KeepsTargets now old new repo repo' result = (is_targets_kept old now ≡ true) × (new ≡ old) × (repo' ≡ repo) × (result ≡ Ok tt)

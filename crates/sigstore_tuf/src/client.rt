@@ -6,7 +6,7 @@ ghost use Rattle.sigstore_tuf.specs.Repository.{metadata_files};
 ghost use Rattle.sigstore_tuf.specs.Update.{new_timestamp_of, targets_pin_of, with_snapshot, with_targets};
 ghost use Rattle.sigstore_tuf.specs.Client.{FetchesFile, WalksRoots, transport_of, root_serves_of, adoption_of, after_timestamp, timestamp_serves_of, is_snapshot_kept, is_targets_kept, serves, top_targets, undelegated_of};
 ghost use Rattle.sigstore_tuf.specs.Authorised.{StaysAuthorised, Serve};
-ghost use Rattle.sigstore_tuf.specs.Refresh.{TakesTimestamp, RefreshesTimestamp, FetchesSnapshot, RefreshesSnapshot, TakesTargets, FetchesPinned, FetchesTargets, RefreshesPinned, RefreshesTargets, Refreshes};
+ghost use Rattle.sigstore_tuf.specs.Refresh.{TakesTimestamp, RefreshesTimestamp, FetchesSnapshot, RefreshesSnapshot, TakesTargets, IsPinning, FetchesPinned, FetchesTargets, RefreshesPinned, RefreshesTargets, Refreshes};
 
 use crate::config::UpdaterConfig;
 use crate::documents::{Held, InForce};
@@ -303,6 +303,7 @@ fn take_targets<C: CryptoProvider, M: Armor>(
 
 // The snapshot in force isn't expired, and pins the targets document.
 fn check_targets_pin(alloc: Global, documents: &InForce, now: jiff::Timestamp) -> Result<(), Error>
+    ensures ok { OnOk result (IsPinning now documents.now) }
     ensures err { IfErr result (λ e. e ≢ Want → targets_pin_of documents.now now ≡ Err e) }
 {
     match targets_pin(alloc, documents, now) {

@@ -25,7 +25,7 @@ use Rattle.sigstore_verify.specs.Judged.{by_types, by_crypto, scheme_of, needed_
 use Rattle.sigstore_verify.specs.Accepts.{signature_in, digest_in, IsBound, AcceptsKey, AcceptsExactly}
 
 -- a step that is Ok, and what follows it
-step : {A B : Type 0} (r : Result A Error) (f : A → Result B Error) (y : B) → (r >>= f) ≡ Ok y → (x : A) × (r ≡ Ok x) × (f x ≡ Ok y)
+pub step : {A B : Type 0} (r : Result A Error) (f : A → Result B Error) (y : B) → (r >>= f) ≡ Ok y → (x : A) × (r ≡ Ok x) × (f x ≡ Ok y)
 step (Ok x) f y h = (x, refl, h)
 step (Err e) f y h = cc
 
@@ -71,7 +71,7 @@ content_accepted accepts key (OfMessage message) digest b g =
     ∙ ap (λ (c : Bool). if c then Ok tt else Err SignatureInvalid) g
 
 -- the key under that scheme
-abbrev key_under : SigningScheme → VerificationKey → VerificationKey
+abbrev pub key_under : SigningScheme → VerificationKey → VerificationKey
 key_under scheme key = record { scheme = scheme; key = key.key }
 
 abbrev after_scheme : VerificationKey → SigningScheme → Result VerificationKey Error
@@ -84,19 +84,19 @@ abbrev after_structure : PublicKeyVerificationPolicy → Bundle → Result Verif
 after_structure policy bundle = by_crypto (spki_key_of policy.key) >>= after_key bundle
 
 -- the parts of what was prepared
-record Prepared (policy : PublicKeyVerificationPolicy) (bundle : Bundle) (ready : VerificationKey) : Type 0 where
-  structure : structure_of bundle policy.verify_tlog ≡ Ok tt
-  key : VerificationKey
-  read : spki_key_of policy.key ≡ Ok key
-  scheme : SigningScheme
-  chosen : scheme_of key.scheme bundle.content ≡ Ok scheme
-  needed : digest_algorithm_of scheme ≡ Some Sha2256
-  same : ready ≡ key_under scheme key
+pub record Prepared (policy : PublicKeyVerificationPolicy) (bundle : Bundle) (ready : VerificationKey) : Type 0 where
+  pub structure : structure_of bundle policy.verify_tlog ≡ Ok tt
+  pub key : VerificationKey
+  pub read : spki_key_of policy.key ≡ Ok key
+  pub scheme : SigningScheme
+  pub chosen : scheme_of key.scheme bundle.content ≡ Ok scheme
+  pub needed : digest_algorithm_of scheme ≡ Some Sha2256
+  pub same : ready ≡ key_under scheme key
 
 same_ok : (x y : VerificationKey) → ◌≡◌ {A = Result VerificationKey Error} (Ok x) (Ok y) → y ≡ x
 same_ok x y h = cc
 
-prepared_means : (policy : PublicKeyVerificationPolicy) (bundle : Bundle) (ready : VerificationKey) → prepared_of policy bundle ≡ Ok ready → Prepared policy bundle ready
+pub prepared_means : (policy : PublicKeyVerificationPolicy) (bundle : Bundle) (ready : VerificationKey) → prepared_of policy bundle ≡ Ok ready → Prepared policy bundle ready
 unfolding prepared_of
 prepared_means policy bundle ready h =
     let a = step (by_types (structure_of bundle policy.verify_tlog)) (λ _. after_structure policy bundle) ready h in

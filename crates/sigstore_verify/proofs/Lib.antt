@@ -1,3 +1,5 @@
 pub mod Stages
 pub mod Accepts
 pub mod RootFacts
+pub mod JudgeCauses
+pub mod RootCauses

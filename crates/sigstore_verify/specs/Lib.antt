@@ -5,3 +5,4 @@ pub mod Judged
 pub mod Promise
 pub mod Accepts
 pub mod Root
+pub mod Cause

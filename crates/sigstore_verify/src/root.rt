@@ -3,6 +3,7 @@ ghost use Rattle.std.specs.Prelude.{◌≡◌, ◌≢◌, Ok, Err, IfOk, IfErr};
 ghost use Rattle.sigstore_tuf_parts.specs.Crypto.{crypto_of};
 ghost use Rattle.sigstore_verify.specs.declared.error.Error.TheVariants.{NoMemory as Want};
 ghost use Rattle.sigstore_verify.specs.Root.{trust_fault, bundle_fault, trust_of, bundle_of, GivesChain, JudgesBundle, root_of_tuf, root_of_verify, Runs, IsAccepted};
+ghost use Rattle.sigstore_verify.specs.Cause.{RootCause};
 
 use crate::error::Error;
 use crate::policy::Policy;
@@ -198,6 +199,8 @@ pub fn verify_from_root<
         root_bytes.now bundle_bytes.now config now (R.seen repo.old) (R.seen repo.new) (A.seen artifact.old) (A.seen artifact.new) max_artifact result }
     ensures accepted { IfOk result (IsAccepted (crypto_of (C.accepts provider.now) (M.armored armor.now) (M.key_in armor.now)) (P.meant policy.now)
         root_bytes.now bundle_bytes.now config now (A.seen artifact.old) (A.seen artifact.new) max_artifact) }
+    ensures refused { IfErr result (RootCause (crypto_of (C.accepts provider.now) (M.armored armor.now) (M.key_in armor.now)) (P.meant policy.now)
+        root_bytes.now bundle_bytes.now config now (R.seen repo.old) (R.seen repo.new) (A.seen artifact.old) (A.seen artifact.new) max_artifact) }
     ensures store { S.seen store.new ≡ S.seen store.old }
 {
     let chain = match trust_chain(
