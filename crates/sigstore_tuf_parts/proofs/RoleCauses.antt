@@ -1,0 +1,1 @@
+-- A document that doesn't meet a role has the cause of its refusal.
