@@ -3,12 +3,9 @@ use Rattle.std.proofs.Common.{◌≡◌, Result, Ok, Err, refl, subst, ◌⊎◌
 use Rattle.foundation.specs.Steps.{◌>>=◌}
 use Rattle.sigstore_tuf_parts.specs.declared.error.Error.{Error}
 
-err_same : {A : Type 0} (a e : Error) → ◌≡◌ {A = Result A Error} (Err a) (Err e) → a ≡ e
-err_same a e h = cc
-
 -- what holds of the one refusal holds of the other
 pub same_refusal : {A : Type 0} (P : Error → Type 0) (a e : Error) → ◌≡◌ {A = Result A Error} (Err a) (Err e) → P a → P e
-same_refusal P a e h p = subst P (err_same a e h) p
+same_refusal P a e h p = let same : a ≡ e = cc in subst P same p
 
 -- the first step refuses, or it gives a value and the second one refuses
 pub refused_by : {A B : Type 0} (r : Result A Error) (f : A → Result B Error) (e : Error) → (r >>= f) ≡ Err e → (r ≡ Err e) ⊎ ((a : A) × (r ≡ Ok a) × (f a ≡ Err e))
