@@ -1,5 +1,5 @@
 -- A file that isn't the pinned one, and a document that is expired, have the cause of their refusal.
-use Rattle.std.proofs.Common.{◌≡◌, ◌≢◌, ℕ, List, length, Bool, true, false, ◌||◌, ◌==◌, if◌then◌else◌, Option, Some, None, is_some, Result, Ok, Err, codes, ℤ, ◌<ℤ◌, int_lt, refl, sym, arith, ◌⊎◌, inl, inr, ⊎_elim}
+use Rattle.std.proofs.Common.{◌≡◌, ◌≢◌, ℕ, List, length, Bool, true, false, ◌||◌, ◌==◌, if◌then◌else◌, Option, Some, None, is_some, Result, Ok, Err, codes, ℤ, ◌<ℤ◌, int_lt, refl, arith, inl, inr, ⊎_elim}
 use Rattle.std.specs.Prelude.{⊤}
 use Rattle.std.proofs.lemmas.Bool.Decides.{nat_tests}
 use Rattle.jiff_core.specs.declared.timestamp.Timestamp.{Timestamp}
@@ -9,9 +9,8 @@ use Rattle.sigstore_types_parts.specs.Entries.{at_name}
 use Rattle.sigstore_tuf_parts.specs.declared.error.Error.{Error}
 use Rattle.sigstore_tuf_parts.specs.declared.error.Error.TheVariants.{IntegrityMismatch, Expired}
 use Rattle.sigstore_tuf_parts.specs.declared.error.Mismatch.TheVariants.{Length, Digest, NoDigest}
-use Rattle.foundation.specs.Steps.{◌>>=◌}
 use Rattle.sigstore_tuf_parts.specs.Cause.{IsMisspelt, IntegrityCause, ExpiryCause}
-use Rattle.sigstore_tuf_parts.specs.Integrity.{Hashes, spells, agrees, length_of, digest_of, supported_of, digests_of, where_pinned, integrity_of, fresh_of}
+use Rattle.sigstore_tuf_parts.specs.Integrity.{Hashes, agrees, length_of, digest_of, supported_of, where_pinned, integrity_of, fresh_of}
 use Rattle.sigstore_tuf_parts.proofs.Steps.{same_refusal, refused_by}
 
 other_number : (m n : ℕ) → (m == n) ≡ false → m ≢ n
@@ -44,18 +43,18 @@ digest_cause size map bytes digest name e cause h =
 supported_cause : (size : Option ℕ) (map : Hashes) (bytes : List ℕ) (e : Error) → supported_of map ≡ Err e → IntegrityCause size (Some map) bytes e
 supported_cause size map bytes e h =
     by_test (IntegrityCause size (Some map) bytes) (is_some (at_name (codes "sha256") map) || is_some (at_name (codes "sha512") map)) (IntegrityMismatch NoDigest) e h (λ none_there.
-      let g = neither (at_name (codes "sha256") map) (at_name (codes "sha512") map) none_there in
-      (map, refl, g.0, g.1))
+    let g = neither (at_name (codes "sha256") map) (at_name (codes "sha512") map) none_there in
+    (map, refl, g.0, g.1))
 
 pinned_cause : (size : Option ℕ) (hashes : Option Hashes) (bytes : List ℕ) (e : Error) → where_pinned hashes bytes ≡ Err e → IntegrityCause size hashes bytes e
 pinned_cause size None bytes e h = cc
 pinned_cause size (Some map) bytes e h = elim (refused_by (digest_of (sha256 bytes) (at_name (codes "sha256") map)) _ e h) [
-    | inl first ↦ digest_cause size map bytes (sha256 bytes) (codes "sha256") e (λ is. (map, refl, inl is)) first
-    | inr g ↦ elim (refused_by (digest_of (sha512 bytes) (at_name (codes "sha512") map)) _ e g.2) [
-        | inl second ↦ digest_cause size map bytes (sha512 bytes) (codes "sha512") e (λ is. (map, refl, inr is)) second
-        | inr k ↦ supported_cause size map bytes e k.2
-      ]
+  | inl first ↦ digest_cause size map bytes (sha256 bytes) (codes "sha256") e (λ is. (map, refl, inl is)) first
+  | inr g ↦ elim (refused_by (digest_of (sha512 bytes) (at_name (codes "sha512") map)) _ e g.2) [
+    | inl second ↦ digest_cause size map bytes (sha512 bytes) (codes "sha512") e (λ is. (map, refl, inr is)) second
+    | inr k ↦ supported_cause size map bytes e k.2
   ]
+]
 
 pub integrity_cause : (size : Option ℕ) (hashes : Option Hashes) (bytes : List ℕ) (e : Error) → integrity_of size hashes bytes ≡ Err e → IntegrityCause size hashes bytes e
 unfolding integrity_of
@@ -67,6 +66,7 @@ expiry_cause role expires now e h = by_order (int_lt expires.nanosecond now.nano
   where
     is_before : (a b : ℤ) → int_lt a b ≡ true → a <ℤ b
     is_before a b p = grind (arith, arith)
+
     by_order : (b : Bool) → int_lt expires.nanosecond now.nanosecond ≡ b → ◌≡◌ {A = Result ⊤ Error} (if b then Err (Expired role expires) else Ok tt) (Err e) → ExpiryCause role expires now e
     by_order true p q = same_refusal (ExpiryCause role expires now) (Expired role expires) e q (refl, is_before expires.nanosecond now.nanosecond p)
     by_order false p q = cc

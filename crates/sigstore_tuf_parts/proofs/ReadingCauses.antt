@@ -9,7 +9,6 @@ use Rattle.sigstore_types_parts.specs.Instant.{instant_of}
 use Rattle.sigstore_types_parts.specs.Parse.{json_of_bytes, parsed_of}
 use Rattle.sigstore_types_parts.specs.Read as read
 use Rattle.sigstore_types_parts.specs.Read.{required_of, optional_of, defaulted_of, sequence_of, map_of}
-use Rattle.sigstore_types_parts.specs.declared.misread.Misread.TheVariants as misread
 use Rattle.sigstore_types_parts.specs.declared.parse.JsonFault.{JsonFault}
 use Rattle.sigstore_types_parts.specs.declared.parse.JsonFault.TheVariants as fault
 use Rattle.sigstore_tuf_parts.specs.declared.error.Error.{Error}
@@ -18,9 +17,9 @@ use Rattle.sigstore_tuf_parts.specs.declared.error.Rule.{Rule}
 use Rattle.sigstore_tuf_parts.specs.declared.error.Rule.TheVariants as rule
 use Rattle.sigstore_tuf_parts.specs.declared.member.DocumentMember.{DocumentMember}
 use Rattle.sigstore_tuf_parts.specs.declared.member.DocumentMember.TheVariants as m
-use Rattle.sigstore_tuf_parts.specs.Cause.{HasFrame, LacksFrame, HasText, LacksMember, OfAnotherKind, OfAnotherSpecVersion, ReadCause}
+use Rattle.sigstore_tuf_parts.specs.Cause.{HasFrame, ReadCause}
 use Rattle.sigstore_tuf_parts.specs.Document.{value_of, frame_of, signature_of, content_of, document_in, document_of}
-use Rattle.sigstore_tuf_parts.specs.Error.{error_of, error_of_fault}
+use Rattle.sigstore_tuf_parts.specs.Error.{error_of_fault}
 use Rattle.sigstore_tuf_parts.specs.Head.{head_of}
 use Rattle.sigstore_tuf_parts.specs.Header.{is_version_one_text, where_text, kind_of, spec_version_of, header_of}
 use Rattle.sigstore_tuf_parts.specs.Keys.{key_val_of, key_in_of, role_keys_of}
@@ -299,6 +298,7 @@ module _ {T : Type 0} (kind : List ℕ) (reads : Data → Result T Error) (only 
       by_float : (d : Data) (b : Bool) → ◌≡◌ {A = Result Data JsonFault} (if b then Err fault.Float else Ok d) (Err fault.NoMemory) → ⊥
       by_float d true h = cc
       by_float d false h = cc
+
       by_json : (o : Option Data) → (ok_or o fault.NotJson >>= λ d. if has_float d then Err fault.Float else Ok d) ≡ Err fault.NoMemory → ⊥
       by_json None h = cc
       by_json (Some d) h = by_float d (has_float d) h

@@ -1,6 +1,6 @@
 -- A document that doesn't meet a role has the cause of its refusal.
-use Rattle.std.proofs.Common.{◌≡◌, ℕ, zero, suc, ◌<◌, List, [], ◌∷◌, ◌++◌, length, get_or, filter, cond, Bool, true, false, ◌||◌, ◌==◌, nat_le, if◌then◌else◌, bytes_eq, Option, Some, None, is_some, ok_or, Result, Ok, Err, Contains, refl, sym, ap, ◌∙◌, subst, arith, ◌⊎◌, inl, inr, ⊎_elim}
-use Rattle.std.specs.List.{AllByRecursion, IsDistinct, list_any}
+use Rattle.std.proofs.Common.{◌≡◌, ℕ, suc, ◌<◌, List, [], ◌∷◌, ◌++◌, length, get_or, filter, cond, Bool, true, false, ◌||◌, ◌==◌, nat_le, if◌then◌else◌, bytes_eq, Option, Some, None, is_some, ok_or, Result, Ok, Err, Contains, refl, sym, ap, subst, arith, ◌⊎◌, inl, inr}
+use Rattle.std.specs.List.{list_any}
 use Rattle.std.specs.Result.{result_ok}
 use Rattle.std.specs.Prelude.{⊤}
 use Rattle.std.proofs.lemmas.Bool.Decides.{nat_tests}
@@ -22,9 +22,8 @@ use Rattle.sigstore_tuf_parts.specs.declared.verification.KeyFault.TheVariants a
 use Rattle.sigstore_tuf_parts.specs.Cause.{SignsTwice, SignedBy, SignsByUnbuilt, MeetsCause, RoleCause}
 use Rattle.sigstore_tuf_parts.specs.Crypto.{Crypto}
 use Rattle.sigstore_tuf_parts.specs.Document.{Document, signatures_in, text_in}
-use Rattle.sigstore_tuf_parts.specs.Meets.{Signs}
 use Rattle.sigstore_tuf_parts.specs.RootRoles.{meets_role_of}
-use Rattle.sigstore_tuf_parts.specs.Threshold.{Keys, is_among, is_counted, counted_of, ids_of, second_after, unbuilt_in, built_by, built_of, all_built, is_accepted, found_of, threshold_of, no_second, enough_of, meets_of}
+use Rattle.sigstore_tuf_parts.specs.Threshold.{Keys, is_among, is_counted, counted_of, ids_of, second_after, unbuilt_in, built_by, built_of, all_built, is_accepted, found_of, threshold_of, no_second, meets_of}
 use Rattle.sigstore_tuf_parts.proofs.MeetsLaw.{or_true, once_from_none, distinct_filtered, all_sign, found_of_signs, found_is}
 use Rattle.sigstore_tuf_parts.proofs.Steps.{same_refusal, refused_by}
 
@@ -83,9 +82,9 @@ module _ (role : RoleKeys) where
   stands_new : (seen : List (List ℕ)) (s : Signature) (xs : List Signature) (id : List ℕ) → is_counted role s ≡ true → Stands (s.keyid ∷ seen) xs id → Stands seen (s ∷ xs) id
   stands_new seen s xs id c (inr g) = inr (twice_later s xs id g)
   stands_new seen s xs id c (inl g) = elim (or_true (bytes_eq s.keyid id) (is_among seen id) g.0) [
-      | inl same ↦ inr (twice_here s xs id c ((bytes_eq-Decides s.keyid id).0 same) g.1)
-      | inr later ↦ inl (later, one_later s xs id g.1)
-    ]
+    | inl same ↦ inr (twice_here s xs id c ((bytes_eq-Decides s.keyid id).0 same) g.1)
+    | inr later ↦ inl (later, one_later s xs id g.1)
+  ]
 
   stands_counted : (seen : List (List ℕ)) (s : Signature) (xs : List Signature) (id : List ℕ) (b : Bool) → is_among seen s.keyid ≡ b → is_counted role s ≡ true
       → (second_after (s.keyid ∷ seen) (ids_of (counted_of role xs)) ≡ Some id → Stands (s.keyid ∷ seen) xs id)
@@ -107,9 +106,9 @@ module _ (role : RoleKeys) where
 
   signs_twice : (xs : List Signature) (id : List ℕ) → second_after [] (ids_of (counted_of role xs)) ≡ Some id → SignsTwice role xs id
   signs_twice xs id h = elim (stands xs id [] h) [
-      | inl g ↦ cc
-      | inr g ↦ g
-    ]
+    | inl g ↦ cc
+    | inr g ↦ g
+  ]
 
 -- ---- a key of a form that isn't built
 
@@ -137,9 +136,9 @@ module _ (crypto : Crypto) (keys : Keys) (role : RoleKeys) (signatures : List Si
   by_signatures : (xs : List Signature) → ((k : ℕ) (s : Signature) → k < length xs → get_or xs k s ≡ s → Contains (counted_of role signatures) s) → all_built crypto.key_of keys xs ≡ Err e → Unbuilt
   by_signatures [] there h = cc
   by_signatures (s ∷ xs) there h = elim (refused_by (built_of crypto.key_of keys s) _ e h) [
-      | inl here ↦ by_text s (there 0 s (omega arith) refl) (is_some (result_ok (decode_of s.sig))) here
-      | inr later ↦ by_signatures xs (λ k t below at. there (suc k) t (omega arith) at) later.2
-    ]
+    | inl here ↦ by_text s (there 0 s (omega arith) refl) (is_some (result_ok (decode_of s.sig))) here
+    | inr later ↦ by_signatures xs (λ k t below at. there (suc k) t (omega arith) at) later.2
+  ]
 
   signs_by_unbuilt : all_built crypto.key_of keys (counted_of role signatures) ≡ Err e → Unbuilt
   signs_by_unbuilt h = by_signatures (counted_of role signatures) (λ k s below at. (k, below, at)) h
@@ -155,9 +154,9 @@ below_of_test m n h = grind (arith, nat_tests)
 among_of_found : (id : List ℕ) (ids : List (List ℕ)) → list_any (bytes_eq id) ids ≡ true → is_among ids id ≡ true
 among_of_found id [] h = h
 among_of_found id (x ∷ ids) h = elim (or_true (bytes_eq id x) (list_any (bytes_eq id) ids) h) [
-    | inl same ↦ rw ((bytes_eq-Decides x id).1 (sym ((bytes_eq-Decides id x).0 same))) refl
-    | inr later ↦ by_first (bytes_eq x id) (among_of_found id ids later)
-  ]
+  | inl same ↦ rw ((bytes_eq-Decides x id).1 (sym ((bytes_eq-Decides id x).0 same))) refl
+  | inr later ↦ by_first (bytes_eq x id) (among_of_found id ids later)
+]
   where
     by_first : (b : Bool) → is_among ids id ≡ true → (b || is_among ids id) ≡ true
     by_first true h = refl
@@ -209,15 +208,15 @@ module _ {T : Type 0} (crypto : Crypto) (keys : Keys) (role : RoleKeys) (name : 
   pub meets_cause : meets_of crypto keys role name doc ≡ Err e → MeetsCause crypto keys role name doc e
   unfolding meets_of
   meets_cause h = elim (refused_by (threshold_of role.threshold) _ e h) [
-      | inl first ↦ by_threshold (role.threshold == 0) refl first
-      | inr g ↦ elim (refused_by (no_second name (second_after [] Ids)) _ e g.2) [
-          | inl second ↦ by_second (second_after [] Ids) refl second
-          | inr k ↦ elim (refused_by (all_built crypto.key_of keys (counted_of role (signatures_in doc))) _ e k.2) [
-              | inl third ↦ by_built third
-              | inr j ↦ by_count (none_second (second_after [] Ids) k.1) (nat_le role.threshold Found) refl j.2
-            ]
-        ]
+    | inl first ↦ by_threshold (role.threshold == 0) refl first
+    | inr g ↦ elim (refused_by (no_second name (second_after [] Ids)) _ e g.2) [
+      | inl second ↦ by_second (second_after [] Ids) refl second
+      | inr k ↦ elim (refused_by (all_built crypto.key_of keys (counted_of role (signatures_in doc))) _ e k.2) [
+        | inl third ↦ by_built third
+        | inr j ↦ by_count (none_second (second_after [] Ids) k.1) (nat_le role.threshold Found) refl j.2
+      ]
     ]
+  ]
 
 module _ {T : Type 0} (crypto : Crypto) (root : Root) (name : List ℕ) (doc : Document T) (e : Error) where
   by_role : (o : Option RoleKeys) → at_name name root.roles ≡ o → (ok_or o (tuf.UnknownRole name) >>= λ role. meets_of crypto root.keys role name doc) ≡ Err e → RoleCause crypto root name doc e
