@@ -5,4 +5,8 @@ pub mod MeetsLaw
 pub mod IntegrityLaws
 pub mod Fits
 pub mod Unique
+pub mod Steps
+pub mod ReadingCauses
+pub mod PinCauses
+pub mod RoleCauses
 mod Examples

@@ -31,6 +31,10 @@ or_false : (a b : Bool) → (a || b) ≡ false → (a ≡ false) × (b ≡ false
 or_false false b h = (refl, h)
 or_false true b h = cc
 
+pub or_true : (a b : Bool) → (a || b) ≡ true → (a ≡ true) ⊎ (b ≡ true)
+or_true true b h = inl refl
+or_true false b h = inr h
+
 apart : (seen : List (List ℕ)) (id : List ℕ) (ids : List (List ℕ)) → AllByRecursion (λ x. is_among (id ∷ seen) x ≡ false) ids
     → AllByRecursion (λ x. is_among seen x ≡ false) ids × AllByRecursion (λ x. bytes_eq id x ≡ false) ids
 apart seen id [] h = (tt, tt)
@@ -44,7 +48,7 @@ together : (seen : List (List ℕ)) (id : List ℕ) (ids : List (List ℕ)) → 
 together seen id [] h k = tt
 together seen id (x ∷ ids) h k = (rw (k.0, h.0), together seen id ids h.1 k.1)
 
-abbrev Once : List (List ℕ) → List (List ℕ) → Type 0
+abbrev pub Once : List (List ℕ) → List (List ℕ) → Type 0
 Once seen ids = AllByRecursion (λ x. is_among seen x ≡ false) ids × IsDistinct bytes_eq ids
 
 once_more : (seen : List (List ℕ)) (id : List ℕ) (ids : List (List ℕ)) (b : Bool) → is_among seen id ≡ b → (second_after (id ∷ seen) ids ≡ None → Once (id ∷ seen) ids)
@@ -56,7 +60,7 @@ once_more seen id ids false is later e =
     let parts = apart seen id ids rest.0 in
     ((is, parts.0), (parts.1, rest.1))
 
-once_from_none : (seen ids : List (List ℕ)) → second_after seen ids ≡ None → Once seen ids
+pub once_from_none : (seen ids : List (List ℕ)) → second_after seen ids ≡ None → Once seen ids
 unfolding IsDistinct
 once_from_none seen [] e = (tt, tt)
 once_from_none seen (id ∷ ids) e = once_more seen id ids (is_among seen id) refl (once_from_none (id ∷ seen) ids) e
@@ -87,7 +91,7 @@ unfolding IsDistinct
 distinct_more p s xs true a d = (all_filtered (λ x. bytes_eq s.keyid x ≡ false) p xs a, d)
 distinct_more p s xs false a d = d
 
-distinct_filtered : (p : Signature → Bool) (xs : List Signature) → IsDistinct bytes_eq (ids_of xs) → IsDistinct bytes_eq (ids_of (filter p xs))
+pub distinct_filtered : (p : Signature → Bool) (xs : List Signature) → IsDistinct bytes_eq (ids_of xs) → IsDistinct bytes_eq (ids_of (filter p xs))
 unfolding IsDistinct
 distinct_filtered p [] d = tt
 distinct_filtered p (s ∷ xs) d = distinct_more p s xs (p s) d.0 (distinct_filtered p xs d.1)
@@ -127,15 +131,15 @@ module _ {T : Type 0} (crypto : Crypto) (keys : Keys) (role : RoleKeys) (doc : D
   signs_one : (s : Signature) → Contains (signatures_in doc) s → is_counted role s ≡ true → is_accepted crypto keys (text_in doc) s ≡ true → Signs crypto keys role doc s.keyid
   signs_one s there is h = signs_known s there is (at_name s.keyid keys) refl h
 
-  abbrev Counts : Signature → Bool
+  abbrev pub Counts : Signature → Bool
   Counts = is_counted role
 
-  abbrev Accepts : Signature → Bool
+  abbrev pub Accepts : Signature → Bool
   Accepts = is_accepted crypto keys (text_in doc)
 
   -- ---- all of them
 
-  abbrev AllSign : List Signature → Type 0
+  abbrev pub AllSign : List Signature → Type 0
   AllSign xs = AllByRecursion (Signs crypto keys role doc) (ids_of xs)
 
   sign_accepted : (s : Signature) (xs : List Signature) (b : Bool) → Contains (signatures_in doc) s → is_counted role s ≡ true → Accepts s ≡ b → AllSign (filter Accepts xs)
@@ -148,13 +152,13 @@ module _ {T : Type 0} (crypto : Crypto) (keys : Keys) (role : RoleKeys) (doc : D
   sign_counted s xs true there is later = sign_accepted s (filter Counts xs) (Accepts s) there is refl later
   sign_counted s xs false there is later = later
 
-  all_sign : (xs : List Signature) → ((k : ℕ) (s : Signature) → k < length xs → get_or xs k s ≡ s → Contains (signatures_in doc) s) → AllSign (filter Accepts (filter Counts xs))
+  pub all_sign : (xs : List Signature) → ((k : ℕ) (s : Signature) → k < length xs → get_or xs k s ≡ s → Contains (signatures_in doc) s) → AllSign (filter Accepts (filter Counts xs))
   all_sign [] there = tt
   all_sign (s ∷ xs) there = sign_counted s xs (Counts s) (there 0 s (omega arith) refl) refl (all_sign xs (λ k t h e. there (suc k) t (omega arith) e))
 
   -- ---- each that signs was found
 
-  abbrev IsFound : List Signature → List ℕ → Type 0
+  abbrev pub IsFound : List Signature → List ℕ → Type 0
   IsFound xs id = list_any (bytes_eq id) (ids_of (filter Accepts (filter Counts xs))) ≡ true
 
   any_later : (test : List ℕ → Bool) (x : List ℕ) (xs : List (List ℕ)) → list_any test xs ≡ true → (test x || list_any test xs) ≡ true
@@ -188,16 +192,12 @@ module _ {T : Type 0} (crypto : Crypto) (keys : Keys) (role : RoleKeys) (doc : D
   accepts_of : (id : List ℕ) (g : Signs crypto keys role doc id) → Accepts g.signature ≡ true
   accepts_of id g = rw (g.its, g.known, g.usable, g.hexadecimal) g.good
 
-  found_of_signs : (id : List ℕ) → Signs crypto keys role doc id → IsFound (signatures_in doc) id
+  pub found_of_signs : (id : List ℕ) → Signs crypto keys role doc id → IsFound (signatures_in doc) id
   found_of_signs id g =
       subst (λ i. IsFound (signatures_in doc) i) g.its (found_at (signatures_in doc) g.there.0 g.signature g.there.1 g.there.2 (counts_of id g) (accepts_of id g))
 
   found_of_same : (id q : List ℕ) (b : Bool) → bytes_eq q id ≡ b → (b || false) ≡ (b || false) → Signs crypto keys role doc id → b ≡ true → IsFound (signatures_in doc) q
   found_of_same id q b e t g is = subst (λ i. IsFound (signatures_in doc) i) (sym ((bytes_eq-Decides q id).0 (e ∙ is))) (found_of_signs id g)
-
-  or_true : (a b : Bool) → (a || b) ≡ true → (a ≡ true) ⊎ (b ≡ true)
-  or_true true b h = inl refl
-  or_true false b h = inr h
 
   found_among : (ids : List (List ℕ)) → AllByRecursion (Signs crypto keys role doc) ids → (q : List ℕ) → list_any (bytes_eq q) ids ≡ true → IsFound (signatures_in doc) q
   found_among [] g q h = cc
@@ -205,7 +205,7 @@ module _ {T : Type 0} (crypto : Crypto) (keys : Keys) (role : RoleKeys) (doc : D
 
   -- ---- counting
 
-  found_is : length (ids_of (filter Accepts (filter Counts (signatures_in doc)))) ≡ found_of crypto keys role (signatures_in doc) (text_in doc)
+  pub found_is : length (ids_of (filter Accepts (filter Counts (signatures_in doc)))) ≡ found_of crypto keys role (signatures_in doc) (text_in doc)
   found_is = length-ids_of (filter Accepts (filter Counts (signatures_in doc))) ∙ length-filter Accepts (filter Counts (signatures_in doc))
 
   found_least : (ids : List (List ℕ)) → IsDistinct bytes_eq ids → AllByRecursion (Signs crypto keys role doc) ids → length ids ≤ found_of crypto keys role (signatures_in doc) (text_in doc)

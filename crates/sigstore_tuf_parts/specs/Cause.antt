@@ -1,5 +1,5 @@
 -- What each refusal of a document tells: of its bytes, of the role that it is to meet, of its pin, of its expiry (TUF specification, sections 4 and 5).
-use Rattle.std.specs.Prelude.{◌≡◌, ◌≢◌, ◌⊎◌, ℕ, ◌<◌, List, [], ◌∷◌, ◌++◌, length, true, false, bytes_eq, Option, Some, None, Result, Ok, Err, option_and_then, codes, ◌<ℤ◌, ⊤, Contains}
+use Rattle.std.specs.Prelude.{◌≡◌, ◌≢◌, ◌⊎◌, ℕ, ◌<◌, List, ◌∷◌, ◌++◌, length, true, false, bytes_eq, Option, Some, None, Result, Ok, Err, option_and_then, codes, ◌<ℤ◌, Contains}
 use Rattle.std.specs.List.{AllByRecursion, IsDistinct}
 use Rattle.sha2.specs.Sha256.{sha256}
 use Rattle.sha2.specs.Sha512.{sha512}
