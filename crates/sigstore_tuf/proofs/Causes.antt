@@ -21,7 +21,7 @@ use Rattle.sigstore_tuf_parts.specs.Cause.{IntegrityCause, ExpiryCause}
 use Rattle.sigstore_tuf_parts.specs.Crypto.{Crypto}
 use Rattle.sigstore_tuf_parts.specs.Document.{Document, content_in}
 use Rattle.sigstore_tuf_parts.specs.Integrity.{integrity_of, version_of, fresh_of}
-use Rattle.sigstore_tuf_parts.specs.Laws.{ReadsWithCause, MeetsWithCause, IntactWithCause, FreshWithCause}
+use Rattle.sigstore_tuf_parts.specs.Laws.{ReadsWithCause}
 use Rattle.sigstore_tuf_parts.specs.Pinned.{Fresh}
 use Rattle.sigstore_tuf_parts.specs.Root.{root_of}
 use Rattle.sigstore_tuf_parts.specs.RootRoles.{root_document, meets_role_of}
@@ -29,6 +29,9 @@ use Rattle.sigstore_tuf_parts.specs.Snapshot.{snapshot_of}
 use Rattle.sigstore_tuf_parts.specs.Targets.{targets_of}
 use Rattle.sigstore_tuf_parts.specs.Timestamp.{timestamp_of}
 use Rattle.sigstore_tuf_parts.proofs.IntegrityLaws.{fresh_exactly}
+use Rattle.sigstore_tuf_parts.proofs.PinCauses.{integrity_cause, expiry_cause}
+use Rattle.sigstore_tuf_parts.proofs.ReadingCauses.{read_cause, root_only, timestamp_only, snapshot_only, targets_only}
+use Rattle.sigstore_tuf_parts.proofs.RoleCauses.{role_cause}
 use Rattle.sigstore_tuf.specs.declared.chain.TrustChain.{TrustChain}
 use Rattle.sigstore_tuf.specs.declared.config.UpdaterConfig.{UpdaterConfig}
 use Rattle.sigstore_tuf.specs.declared.documents.Held.{Held}
@@ -99,11 +102,19 @@ since_pinned crypto config now s1 s2 r r' (inl same) = since_same r r' same.2
 since_pinned crypto config now s1 s2 r r' (inr (fetched, inl nothing)) = absurd nothing
 since_pinned crypto config now s1 s2 r r' (inr (fetched, inr fetches)) = fetches.1.since
 
-module _ (root_reads : ReadsWithCause (codes "root") root_of) (timestamp_reads : ReadsWithCause (codes "timestamp") timestamp_of)
-    (snapshot_reads : ReadsWithCause (codes "snapshot") snapshot_of) (targets_reads : ReadsWithCause (codes "targets") targets_of)
-    (root_meets : MeetsWithCause Root) (timestamp_meets : MeetsWithCause Timestamp) (snapshot_meets : MeetsWithCause Snapshot) (targets_meets : MeetsWithCause Targets)
-    (intact : IntactWithCause) (expires : FreshWithCause)
-    (crypto : Crypto) (given : List ℕ) (config : UpdaterConfig) (path : List ℕ) (now : jiff.Timestamp) (old new : Watched Folders) where
+root_reads : ReadsWithCause (codes "root") root_of
+root_reads = read_cause (codes "root") root_of root_only
+
+timestamp_reads : ReadsWithCause (codes "timestamp") timestamp_of
+timestamp_reads = read_cause (codes "timestamp") timestamp_of timestamp_only
+
+snapshot_reads : ReadsWithCause (codes "snapshot") snapshot_of
+snapshot_reads = read_cause (codes "snapshot") snapshot_of snapshot_only
+
+targets_reads : ReadsWithCause (codes "targets") targets_of
+targets_reads = read_cause (codes "targets") targets_of targets_only
+
+module _ (crypto : Crypto) (given : List ℕ) (config : UpdaterConfig) (path : List ℕ) (now : jiff.Timestamp) (old new : Watched Folders) where
   abbrev Cause : Error → Type 0
   Cause e = ClientCause crypto given config path now old new e
 
@@ -154,7 +165,7 @@ module _ (root_reads : ReadsWithCause (codes "root") root_of) (timestamp_reads :
   first_refused e h =
       refused_at (root_document given) _ e h (λ p. unread e (root_unread (root_reads given e p))) (λ root p k.
       refused_at (meets_role_of crypto (content_in {T = Root} root) (codes "root") root) _ e k
-          (λ q. unmet e (root_unmet root p (root_meets crypto (content_in {T = Root} root) (codes "root") root e q))) (λ u q l. cc))
+      (λ q. unmet e (root_unmet root p (role_cause crypto (content_in {T = Root} root) (codes "root") root e q))) (λ u q l. cc))
 
   -- ---- the root in force
 
@@ -162,9 +173,9 @@ module _ (root_reads : ReadsWithCause (codes "root") root_of) (timestamp_reads :
   unfolding root_serves_of
   root_refused set b e h =
       refused_at (fresh_of (codes "root") (content_in {T = Root} set.root).expires now) _ e h
-          (λ q. past e (root_expired set.root b.root_is (expires (codes "root") (content_in {T = Root} set.root).expires now e q))) (λ u q k.
+      (λ q. past e (root_expired set.root b.root_is (expiry_cause (codes "root") (content_in {T = Root} set.root).expires now e q))) (λ u q k.
       refused_if (content_in {T = Root} set.root).consistent_snapshot (tuf.Unbuilt form.Consistent) e k
-          (λ is same. unbuilt e (consistent set.root b.root_is is same)))
+      (λ is same. unbuilt e (consistent set.root b.root_is is same)))
 
   -- ---- the timestamp
 
@@ -176,13 +187,13 @@ module _ (root_reads : ReadsWithCause (codes "root") root_of) (timestamp_reads :
   unfolding new_timestamp_of
   timestamp_unadopted set b bytes there e h =
       refused_at (timestamp_document bytes) _ e h
-          (λ p. unread e (timestamp_unread (record { bytes = bytes; there = there; cause = timestamp_reads bytes e p }))) (λ doc p k.
+      (λ p. unread e (timestamp_unread (record { bytes = bytes; there = there; cause = timestamp_reads bytes e p }))) (λ doc p k.
       let fetched : IsTimestamp old doc = record { bytes = bytes; there = there; read = p } in
       refused_at (meets_role_of crypto (content_in {T = Root} set.root) (codes "timestamp") doc) _ e k
-          (λ q. unmet e (timestamp_unmet set.root doc b.root_is fetched (timestamp_meets crypto (content_in {T = Root} set.root) (codes "timestamp") doc e q))) (λ u q l.
+      (λ q. unmet e (timestamp_unmet set.root doc b.root_is fetched (role_cause crypto (content_in {T = Root} set.root) (codes "timestamp") doc e q))) (λ u q l.
       refused_at (newer_of set.timestamp (content_in {T = Timestamp} doc)) _ e l (λ q. newer_none set.timestamp (content_in {T = Timestamp} doc) e b.no_timestamp q) (λ u q m.
       refused_at (fresh_of (codes "timestamp") (content_in {T = Timestamp} doc).expires now) _ e m
-          (λ q. past e (timestamp_expired doc fetched (expires (codes "timestamp") (content_in {T = Timestamp} doc).expires now e q))) (λ u q n. cc))))
+      (λ q. past e (timestamp_expired doc fetched (expiry_cause (codes "timestamp") (content_in {T = Timestamp} doc).expires now e q))) (λ u q n. cc))))
 
   timestamp_read : (set : InForce) (bytes : List ℕ) (held : Held Timestamp) → Has metadata_files old (codes "timestamp.json") bytes → new_timestamp_of crypto set bytes now ≡ Ok held → IsTimestamp old held.document
   unfolding new_timestamp_of
@@ -219,8 +230,8 @@ module _ (root_reads : ReadsWithCause (codes "root") root_of) (timestamp_reads :
   unfolding timestamp_serves_of
   unserved set held had e h =
       refused_at (ok_or (snapshot_pin (content_of held)) (tuf.Malformed rule.Unpinned)) _ e h
-          (λ r. missing (snapshot_pin (content_of held)) _ e r (λ gone same. pinless e same (snapshot_unpinned held.document had gone))) (λ pin r l.
-      past e (timestamp_expired held.document had (expires (codes "timestamp") (content_of held).expires now e l)))
+      (λ r. missing (snapshot_pin (content_of held)) _ e r (λ gone same. pinless e same (snapshot_unpinned held.document had gone))) (λ pin r l.
+      past e (timestamp_expired held.document had (expiry_cause (codes "timestamp") (content_of held).expires now e l)))
 
   served : (set : InForce) (held : Held Timestamp) → timestamp_serves_of (with_timestamp set held) now ≡ Ok tt → (pin : MetaFile) × (snapshot_pin (content_of held) ≡ Some pin)
   unfolding timestamp_serves_of
@@ -239,7 +250,7 @@ module _ (root_reads : ReadsWithCause (codes "root") root_of) (timestamp_reads :
   timestamp_refused set s1 r b since e t = by_answer t.answer
     where
       by_answer : IsUnfetched (codes "timestamp.json") config.timestamp_max_length set s1 r new (Err e) ⊎ TookTimestamp crypto config now set s1 r (Err e) → Cause e
-      by_answer (inl u) = by_fetch crypto given config path now old new _ _ _ r since e (λ fault c. timestamp_unfetched c) u.1
+      by_answer (inl u) = by_fetch crypto given config path now old new metadata_files (codes "timestamp.json") config.timestamp_max_length r since e (λ fault c. timestamp_unfetched c) u.1
       by_answer (inr k) = wants e (λ other. answer_refused set b k.bytes (had_before metadata_files (codes "timestamp.json") k.bytes old r since k.there) e (k.takes.refused other))
 
   timed_from : (set s1 : InForce) → Began set → (bytes : List ℕ) → Has metadata_files old (codes "timestamp.json") bytes → timestamp_answer_of crypto set bytes now ≡ Ok tt → s1 ≡ after_timestamp set (new_timestamp_of crypto set bytes now) → Timed s1
@@ -283,7 +294,7 @@ module _ (root_reads : ReadsWithCause (codes "root") root_of) (timestamp_reads :
   unpinned : (held : Held Timestamp) (pin : MetaFile) → snapshot_pin (content_of held) ≡ Some pin → IsTimestamp old held.document → (e : Error)
       → (fresh_of (codes "timestamp") (content_of held).expires now >>= λ _. ok_or (snapshot_pin (content_of held)) (tuf.Malformed rule.Unpinned)) ≡ Err e → Cause e
   unpinned held pin is had e h =
-      refused_at (fresh_of (codes "timestamp") (content_of held).expires now) _ e h (λ r. past e (timestamp_expired held.document had (expires (codes "timestamp") (content_of held).expires now e r))) (λ u r l.
+      refused_at (fresh_of (codes "timestamp") (content_of held).expires now) _ e h (λ r. past e (timestamp_expired held.document had (expiry_cause (codes "timestamp") (content_of held).expires now e r))) (λ u r l.
       missing (snapshot_pin (content_of held)) _ e l (λ gone same. pinless e same (snapshot_unpinned held.document had gone)))
 
   pin_refused : (set : InForce) → (t : Timed set) → (e : Error) → snapshot_pin_of set now ≡ Err e → Cause e
@@ -303,11 +314,11 @@ module _ (root_reads : ReadsWithCause (codes "root") root_of) (timestamp_reads :
   unfolding snapshot_checks_of
   snapshot_unchecked set t doc fetched e h =
       refused_at (meets_role_of crypto (content_in {T = Root} set.root) (codes "snapshot") doc) _ e h
-          (λ q. unmet e (snapshot_unmet set.root doc t.root_is fetched (snapshot_meets crypto (content_in {T = Root} set.root) (codes "snapshot") doc e q))) (λ u q k.
+      (λ q. unmet e (snapshot_unmet set.root doc t.root_is fetched (role_cause crypto (content_in {T = Root} set.root) (codes "snapshot") doc e q))) (λ u q k.
       refused_at (version_of t.pin (content_in {T = Snapshot} doc).version) _ e k
-          (λ q. differs e (snapshot_version t.pin doc (pins_snapshot set t) fetched (another_version t.pin (content_in {T = Snapshot} doc).version e q))) (λ u q l.
+      (λ q. differs e (snapshot_version t.pin doc (pins_snapshot set t) fetched (another_version t.pin (content_in {T = Snapshot} doc).version e q))) (λ u q l.
       refused_at (kept_pins_of set.snapshot (content_in {T = Snapshot} doc)) _ e l (λ q. kept_none set.snapshot (content_in {T = Snapshot} doc) e t.no_snapshot q) (λ u q m.
-      past e (snapshot_expired doc fetched (expires (codes "snapshot") (content_in {T = Snapshot} doc).expires now e m)))))
+      past e (snapshot_expired doc fetched (expiry_cause (codes "snapshot") (content_in {T = Snapshot} doc).expires now e m)))))
 
   snapshot_unadopted : (set : InForce) → (t : Timed set) → (bytes : List ℕ) → Has metadata_files old (codes "snapshot.json") bytes → (e : Error) → new_snapshot_of crypto set bytes now ≡ Err e → Cause e
   unfolding new_snapshot_of
@@ -315,7 +326,7 @@ module _ (root_reads : ReadsWithCause (codes "root") root_of) (timestamp_reads :
       refused_at (snapshot_pin_of set now) _ e h (pin_refused set t e) (λ pin p k.
       let is = pin_same set t pin p in
       refused_at (integrity_of pin.length pin.hashes bytes) _ e k
-          (λ q. differs e (snapshot_differs t.pin bytes (pins_snapshot set t) there (subst (λ (x : MetaFile). IntegrityCause x.length x.hashes bytes e) is (intact pin.length pin.hashes bytes e q)))) (λ u q l.
+      (λ q. differs e (snapshot_differs t.pin bytes (pins_snapshot set t) there (subst (λ (x : MetaFile). IntegrityCause x.length x.hashes bytes e) is (integrity_cause pin.length pin.hashes bytes e q)))) (λ u q l.
       refused_at (snapshot_document bytes) _ e l (λ q. unread e (snapshot_unread (record { bytes = bytes; there = there; cause = snapshot_reads bytes e q }))) (λ doc q m.
       let fetched : IsSnapshot old doc = record { bytes = bytes; there = there; read = q } in
       refused_at (snapshot_checks_of crypto set pin doc now) _ e m (λ r. snapshot_unchecked set t doc fetched e (subst (λ (x : MetaFile). snapshot_checks_of crypto set x doc now ≡ Err e) is r)) (λ u r n. cc))))
@@ -350,7 +361,7 @@ module _ (root_reads : ReadsWithCause (codes "root") root_of) (timestamp_reads :
   snapshot_refused s1 s2 r t since e (inr fetches) = by_answer fetches.1.answer
     where
       by_answer : IsUnfetched (codes "snapshot.json") config.snapshot_max_length s1 s2 r new (Err e) ⊎ TookSnapshot crypto config now s1 s2 r (Err e) → Cause e
-      by_answer (inl u) = by_fetch crypto given config path now old new _ _ _ r since e (λ fault c. snapshot_unfetched t.pin (pins_snapshot s1 t) c) u.1
+      by_answer (inl u) = by_fetch crypto given config path now old new metadata_files (codes "snapshot.json") config.snapshot_max_length r since e (λ fault c. snapshot_unfetched t.pin (pins_snapshot s1 t) c) u.1
       by_answer (inr k) = wants e (λ other. snapshot_unadopted s1 t k.bytes (had_before metadata_files (codes "snapshot.json") k.bytes old r since k.there) e (k.refused.1 other))
 
   put_snapped : (set : InForce) (t : Timed set) (bytes : List ℕ) (held : Held Snapshot) → Has metadata_files old (codes "snapshot.json") bytes → new_snapshot_of crypto set bytes now ≡ Ok held → Snapped (with_snapshot set held)
@@ -394,7 +405,7 @@ module _ (root_reads : ReadsWithCause (codes "root") root_of) (timestamp_reads :
   targets_pinless : (held : Held Snapshot) → IsSnapshot old held.document → (e : Error)
       → (fresh_of (codes "snapshot") (content_of held).expires now >>= λ _. ok_or (targets_pin (content_of held)) (tuf.Malformed rule.Unpinned)) ≡ Err e → Cause e
   targets_pinless held had e h =
-      refused_at (fresh_of (codes "snapshot") (content_of held).expires now) _ e h (λ r. past e (snapshot_expired held.document had (expires (codes "snapshot") (content_of held).expires now e r))) (λ u r l.
+      refused_at (fresh_of (codes "snapshot") (content_of held).expires now) _ e h (λ r. past e (snapshot_expired held.document had (expiry_cause (codes "snapshot") (content_of held).expires now e r))) (λ u r l.
       missing (targets_pin (content_of held)) _ e l (λ gone same. pinless e same (targets_unpinned held.document had gone)))
 
   targets_pin_refused : (set : InForce) → (s : Snapped set) → (e : Error) → targets_pin_of set now ≡ Err e → Cause e
@@ -408,14 +419,14 @@ module _ (root_reads : ReadsWithCause (codes "root") root_of) (timestamp_reads :
   targets_unadopted set s bytes there e h =
       refused_at (targets_pin_of set now) _ e h (targets_pin_refused set s e) (λ pin p k.
       let pinned = pins_targets set s pin p in
-      refused_at (integrity_of pin.length pin.hashes bytes) _ e k (λ q. differs e (targets_differ pin bytes pinned there (intact pin.length pin.hashes bytes e q))) (λ u q l.
+      refused_at (integrity_of pin.length pin.hashes bytes) _ e k (λ q. differs e (targets_differ pin bytes pinned there (integrity_cause pin.length pin.hashes bytes e q))) (λ u q l.
       refused_at (targets_document bytes) _ e l (λ q. unread e (targets_unread (record { bytes = bytes; there = there; cause = targets_reads bytes e q }))) (λ doc q m.
       let fetched : IsTargets old doc = record { bytes = bytes; there = there; read = q } in
       refused_at (version_of pin (content_in {T = Targets} doc).version) _ e m (λ r. differs e (targets_version pin doc pinned fetched (another_version pin (content_in {T = Targets} doc).version e r))) (λ u r n.
       refused_at (meets_role_of crypto (content_in {T = Root} set.root) (codes "targets") doc) _ e n
-          (λ t. unmet e (targets_unmet set.root doc s.root_is fetched (targets_meets crypto (content_in {T = Root} set.root) (codes "targets") doc e t))) (λ u t o.
+      (λ t. unmet e (targets_unmet set.root doc s.root_is fetched (role_cause crypto (content_in {T = Root} set.root) (codes "targets") doc e t))) (λ u t o.
       refused_at (fresh_of (codes "targets") (content_in {T = Targets} doc).expires now) _ e o
-          (λ v. past e (targets_expired doc fetched (expires (codes "targets") (content_in {T = Targets} doc).expires now e v))) (λ u v w. cc))))))
+      (λ v. past e (targets_expired doc fetched (expiry_cause (codes "targets") (content_in {T = Targets} doc).expires now e v))) (λ u v w. cc))))))
 
   targets_read : (set : InForce) (bytes : List ℕ) (held : Held Targets) → Has metadata_files old (codes "targets.json") bytes → new_targets_of crypto set bytes now ≡ Ok held → IsTargets old held.document
   unfolding new_targets_of
@@ -442,7 +453,7 @@ module _ (root_reads : ReadsWithCause (codes "root") root_of) (timestamp_reads :
   pinned_refused s2 s3 r s since e (inr (fetched, inr fetches)) = by_answer fetches.1.answer
     where
       by_answer : IsUnfetched (codes "targets.json") config.targets_max_length s2 s3 r new (Err e) ⊎ TookTargets crypto config now s2 s3 r (Err e) → Cause e
-      by_answer (inl u) = by_fetch crypto given config path now old new _ _ _ r since e (λ fault c. targets_unfetched fetches.0.0 (pins_targets s2 s fetches.0.0 fetches.0.1) c) u.1
+      by_answer (inl u) = by_fetch crypto given config path now old new metadata_files (codes "targets.json") config.targets_max_length r since e (λ fault c. targets_unfetched fetches.0.0 (pins_targets s2 s fetches.0.0 fetches.0.1) c) u.1
       by_answer (inr k) = wants e (λ other. targets_unadopted s2 s k.bytes (had_before metadata_files (codes "targets.json") k.bytes old r since k.there) e (k.takes.refused.1 other))
 
   -- the targets document in force is one that was fetched
@@ -573,8 +584,8 @@ module _ (root_reads : ReadsWithCause (codes "root") root_of) (timestamp_reads :
       refused_at (search_serves_of set now) _ e h (λ q. let ok = search_ok set serve k in cc) (λ u q l.
       refused_at (entry_of set config path) _ e l (entry_refused set t e) (λ entry q m.
       refused_at (within_of config entry) _ e m
-          (λ r. refused_if (nat_lt config.target_max_length entry.length) (tuf.IntegrityMismatch mismatch.TooLong) e r (λ is same.
-              differs e (listed_too_long entry (entry_listed set t entry q) same (is_less config.target_max_length entry.length is)))) (λ u r n. cc)))
+      (λ r. refused_if (nat_lt config.target_max_length entry.length) (tuf.IntegrityMismatch mismatch.TooLong) e r (λ is same.
+      differs e (listed_too_long entry (entry_listed set t entry q) same (is_less config.target_max_length entry.length is)))) (λ u r n. cc)))
 
   target_listed : (set : InForce) → Topped set → (entry : TargetFile) → target_of set config path now ≡ Ok entry → IsListed old path entry
   unfolding target_of
@@ -588,8 +599,8 @@ module _ (root_reads : ReadsWithCause (codes "root") root_of) (timestamp_reads :
   file_refused entry mid listed since e f = by_answer f.answer
     where
       by_answer : IsUnfetchedFile entry path mid new (Err e) ⊎ TookFile entry path mid (Err e) → Cause e
-      by_answer (inl u) = by_fetch crypto given config path now old new _ _ _ mid since e (λ fault c. file_unfetched entry listed c) u
-      by_answer (inr k) = differs e (file_differs entry k.bytes listed (had_before target_files path k.bytes old mid since k.there) (intact (Some entry.length) (Some entry.hashes) k.bytes e k.refused))
+      by_answer (inl u) = by_fetch crypto given config path now old new target_files path entry.length mid since e (λ fault c. file_unfetched entry listed c) u
+      by_answer (inr k) = differs e (file_differs entry k.bytes listed (had_before target_files path k.bytes old mid since k.there) (integrity_cause (Some entry.length) (Some entry.hashes) k.bytes e k.refused))
 
   chained : {C : Type 0} (set : InForce) (entry : TargetFile) (file : List ℕ) → Serve now set → (e : Error) → chain_of set entry file ≡ Err e → C
   chained set entry file serve e h = all_there set.timestamp set.snapshot (top_targets set) serve.timestamp_is serve.snapshot_is serve.targets_is h

@@ -12,3 +12,4 @@ pub mod Order
 pub mod Trusted
 pub mod Authorised
 pub mod Cause
+pub mod Laws
