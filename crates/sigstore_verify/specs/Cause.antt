@@ -38,7 +38,7 @@ use Rattle.sigstore_verify.specs.Root.{trust_fault, bundle_fault, trust_path, Tr
 
 -- a lower definition refuses, and its refusal is this one here
 abbrev pub IsRefusedAs : {T X : Type 0} → (X → Error) → Result T X → Error → Type 0
-IsRefusedAs as r e = (x : _) × (r ≡ Err x) × (as x ≡ e)
+IsRefusedAs {T} {X} error_of r e = (x : X) × (r ≡ Err x) × (error_of x ≡ e)
 
 -- the bundle's bytes are read as this
 abbrev pub IsRead : List ℕ → Bundle → Type 0
@@ -96,12 +96,12 @@ pub record IsUnsigned (accepts : Judge) (policy : PublicKeyVerificationPolicy) (
   pub unsigned : is_good_over accepts (record { scheme = scheme; key = key.key }) (sha256 bytes) (signature_in reading.content) ≡ false
 
 -- a form that isn't built: of the trust file, of the bundle, of the policy's key or its scheme, or a digest other than SHA-256
-pub data IsUnbuilt (policy : PublicKeyVerificationPolicy) (file bundle : List ℕ) (form : Form) : Type 0 where
-  trust_unbuilt : trusted_root_of_bytes file ≡ Err (types.Unbuilt form) → IsUnbuilt policy file bundle form
-  bundle_unbuilt : bundle_of_bytes bundle ≡ Err (types.Unbuilt form) → IsUnbuilt policy file bundle form
-  scheme_unbuilt : LacksScheme policy bundle (verify.Unbuilt form) → IsUnbuilt policy file bundle form
+pub data IsUnbuilt (policy : PublicKeyVerificationPolicy) (file bundle : List ℕ) (unbuilt : Form) : Type 0 where
+  trust_unbuilt : trusted_root_of_bytes file ≡ Err (types.Unbuilt unbuilt) → IsUnbuilt policy file bundle unbuilt
+  bundle_unbuilt : bundle_of_bytes bundle ≡ Err (types.Unbuilt unbuilt) → IsUnbuilt policy file bundle unbuilt
+  scheme_unbuilt : LacksScheme policy bundle (verify.Unbuilt unbuilt) → IsUnbuilt policy file bundle unbuilt
   digest_unbuilt : (reading : Bundle) (scheme : SigningScheme) (key : VerificationKey) (algorithm : HashAlgorithm) → IsRead bundle reading → HasScheme policy reading scheme key
-      → digest_algorithm_of scheme ≡ Some algorithm → algorithm ≢ Sha2256 → form ≡ form.Digest → IsUnbuilt policy file bundle form
+      → digest_algorithm_of scheme ≡ Some algorithm → algorithm ≢ Sha2256 → unbuilt ≡ form.Digest → IsUnbuilt policy file bundle unbuilt
 
 -- ---- each refusal of the judgement, by its number and name
 
@@ -114,7 +114,7 @@ JudgeCause accepts (PublicKey policy) file bundle source source' max verify.Cryp
 JudgeCause accepts (PublicKey policy) file bundle source source' max verify.Bundle = LacksEntry policy bundle
 JudgeCause accepts (PublicKey policy) file bundle source source' max verify.TrustRoot = IsRefusedAs trust_fault (trusted_root_of_bytes file) verify.TrustRoot
 JudgeCause accepts (PublicKey policy) file bundle source source' max (verify.ArtifactRead fault) = ReadCause source source' max fault
-JudgeCause accepts (PublicKey policy) file bundle source source' max (verify.Unbuilt form) = IsUnbuilt policy file bundle form
+JudgeCause accepts (PublicKey policy) file bundle source source' max (verify.Unbuilt unbuilt) = IsUnbuilt policy file bundle unbuilt
 JudgeCause accepts (PublicKey policy) file bundle source source' max verify.NoMemory = ⊤
 JudgeCause accepts (PublicKey policy) file bundle source source' max _ = ⊥
 
