@@ -1,6 +1,5 @@
 -- A refusal by its source is one by its number.
 use Rattle.std.proofs.Common.{◌≡◌, ◌≢◌, ◌⊎◌, inl, inr, ℕ, ◌≤◌, List, length, Option, Some, None, Result, Ok, Err, codes, refl, sym, ap, subst, arith}
-use Rattle.std.specs.Prelude.{⊤}
 use Rattle.serde_json.specs.Data.{Data}
 use Rattle.jiff_core.specs.declared.timestamp.Timestamp as jiff
 use Rattle.foundation.specs.Watched.{Watched, Rose, IfTold, Since}
@@ -18,7 +17,7 @@ use Rattle.sigstore_tuf_parts.specs.declared.root.Root.{Root}
 use Rattle.sigstore_tuf_parts.specs.declared.snapshot.Snapshot.{Snapshot}
 use Rattle.sigstore_tuf_parts.specs.declared.targets.Targets.{Targets}
 use Rattle.sigstore_tuf_parts.specs.declared.timestamp.Timestamp.{Timestamp}
-use Rattle.sigstore_tuf_parts.specs.Cause.{ReadCause, MeetsCause, RoleCause, IsUndeclared, IsUnmet, IntegrityCause}
+use Rattle.sigstore_tuf_parts.specs.Cause.{ReadCause, MeetsCause, RoleCause, IntegrityCause}
 use Rattle.sigstore_tuf_parts.specs.Crypto.{Crypto}
 use Rattle.sigstore_tuf_parts.specs.Document.{Document, content_in}
 use Rattle.sigstore_tuf_parts.specs.Integrity.{Hashes}

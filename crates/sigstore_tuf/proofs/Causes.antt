@@ -1,6 +1,6 @@
 -- Each refusal of a client that begins with a root, refreshes and asks for one target has its cause.
-use Rattle.std.proofs.Common.{◌≡◌, ◌≢◌, ◌⊎◌, inl, inr, ℕ, zero, suc, ◌<◌, ◌≤◌, List, [], ◌∷◌, Bool, true, false, ◌&&◌, ◌==◌, not, nat_lt, if◌then◌else◌, Option, Some, None, Result, Ok, Err, codes, refl, sym, ap, ◌∙◌, subst, arith, le_trans, le_refl}
-use Rattle.std.specs.Prelude.{⊤, ok_or, IfSome}
+use Rattle.std.proofs.Common.{◌≡◌, ◌≢◌, ◌⊎◌, inl, inr, ℕ, ◌<◌, ◌≤◌, List, [], ◌∷◌, Bool, true, false, ◌==◌, nat_lt, if◌then◌else◌, Option, Some, None, Result, Ok, Err, codes, refl, sym, ap, ◌∙◌, subst, arith, le_trans, le_refl}
+use Rattle.std.specs.Prelude.{⊤, ok_or}
 use Rattle.std.proofs.lemmas.Bool.Decides.{nat_tests}
 use Rattle.jiff_core.specs.declared.timestamp.Timestamp as jiff
 use Rattle.foundation.specs.Steps.{◌>>=◌}
@@ -17,12 +17,11 @@ use Rattle.sigstore_tuf_parts.specs.declared.targets.TargetFile.{TargetFile}
 use Rattle.sigstore_tuf_parts.specs.declared.targets.Targets.{Targets}
 use Rattle.sigstore_tuf_parts.specs.declared.timestamp.MetaFile.{MetaFile}
 use Rattle.sigstore_tuf_parts.specs.declared.timestamp.Timestamp.{Timestamp}
-use Rattle.sigstore_tuf_parts.specs.Cause.{IntegrityCause, ExpiryCause}
+use Rattle.sigstore_tuf_parts.specs.Cause.{IntegrityCause}
 use Rattle.sigstore_tuf_parts.specs.Crypto.{Crypto}
 use Rattle.sigstore_tuf_parts.specs.Document.{Document, content_in}
 use Rattle.sigstore_tuf_parts.specs.Integrity.{integrity_of, version_of, fresh_of}
 use Rattle.sigstore_tuf_parts.specs.Laws.{ReadsWithCause}
-use Rattle.sigstore_tuf_parts.specs.Pinned.{Fresh}
 use Rattle.sigstore_tuf_parts.specs.Root.{root_of}
 use Rattle.sigstore_tuf_parts.specs.RootRoles.{root_document, meets_role_of}
 use Rattle.sigstore_tuf_parts.specs.Snapshot.{snapshot_of}
@@ -32,18 +31,17 @@ use Rattle.sigstore_tuf_parts.proofs.IntegrityLaws.{fresh_exactly}
 use Rattle.sigstore_tuf_parts.proofs.PinCauses.{integrity_cause, expiry_cause}
 use Rattle.sigstore_tuf_parts.proofs.ReadingCauses.{read_cause, root_only, timestamp_only, snapshot_only, targets_only}
 use Rattle.sigstore_tuf_parts.proofs.RoleCauses.{role_cause}
-use Rattle.sigstore_tuf.specs.declared.chain.TrustChain.{TrustChain}
 use Rattle.sigstore_tuf.specs.declared.config.UpdaterConfig.{UpdaterConfig}
 use Rattle.sigstore_tuf.specs.declared.documents.Held.{Held}
 use Rattle.sigstore_tuf.specs.declared.documents.InForce.{InForce}
 use Rattle.sigstore_tuf.specs.Authorised.{AreAuthorised, Serve}
-use Rattle.sigstore_tuf.specs.Cause.{IsFetched, IsGiven, IsTimestamp, IsSnapshot, IsTargets, IsListed, ReadRefusal, RoleRefusal, ExpiryRefusal, PinRefusal, PinsNone, FormRefusal, root_unread, timestamp_unread, snapshot_unread, targets_unread, root_unmet, timestamp_unmet, snapshot_unmet, targets_unmet, root_expired, timestamp_expired, snapshot_expired, targets_expired, PinsSnapshot, PinsTargets, IsOfAnotherVersion, snapshot_differs, snapshot_version, targets_differ, targets_version, listed_too_long, file_differs, snapshot_unpinned, targets_unpinned, IsUnlisted, none_visited, not_listed, timestamp_unfetched, snapshot_unfetched, targets_unfetched, file_unfetched, consistent, delegations, ClientCause}
-use Rattle.sigstore_tuf.specs.Client.{Has, FetchCause, WalksRoots, root_serves_of, consistent_of, after_timestamp, adoption_of, timestamp_serves_of, timestamp_answer_of, snapshot_kept_in, is_snapshot_kept, targets_kept_in, is_targets_kept, has_version, top_targets, delegates_none, undelegated_of}
+use Rattle.sigstore_tuf.specs.Cause.{IsGiven, IsTimestamp, IsSnapshot, IsTargets, IsListed, ReadRefusal, RoleRefusal, ExpiryRefusal, PinRefusal, PinsNone, FormRefusal, root_unread, timestamp_unread, snapshot_unread, targets_unread, root_unmet, timestamp_unmet, snapshot_unmet, targets_unmet, root_expired, timestamp_expired, snapshot_expired, targets_expired, PinsSnapshot, PinsTargets, IsOfAnotherVersion, snapshot_differs, snapshot_version, targets_differ, targets_version, listed_too_long, file_differs, snapshot_unpinned, targets_unpinned, IsUnlisted, none_visited, not_listed, timestamp_unfetched, snapshot_unfetched, targets_unfetched, file_unfetched, consistent, delegations, ClientCause}
+use Rattle.sigstore_tuf.specs.Client.{Has, root_serves_of, after_timestamp, adoption_of, timestamp_serves_of, timestamp_answer_of, snapshot_kept_in, targets_kept_in, top_targets, delegates_none, undelegated_of}
 use Rattle.sigstore_tuf.specs.Documents.{timestamp_document, snapshot_document, targets_document, content_of, snapshot_pin, targets_pin}
 use Rattle.sigstore_tuf.specs.Refresh.{TookTimestamp, IsUnfetched, RefreshesTimestamp, TookSnapshot, RefreshesSnapshot, TookTargets, IsUnpinned, RefreshesPinned, RefreshesTargets, Refreshes, walk_refuses, root_refuses, timestamp_refuses, snapshot_refuses, targets_refuses, all_serve}
 use Rattle.sigstore_tuf.specs.Repository.{Folders, metadata_files, target_files}
-use Rattle.sigstore_tuf.specs.Target.{fresh_timestamp_of, fresh_snapshot_of, unexpired_of, pinned_version_of, pinned_by_of, all_pinned_of, search_serves_of, entry_in, listed_in, entry_of, within_of, target_of, file_of, chain_in, TookFile, IsUnfetchedFile, FetchesTarget, chain_of, GetsTarget, unlisted, unfetched, unchained, found}
-use Rattle.sigstore_tuf.specs.Update.{first_root_of, newer_of, new_timestamp_of, snapshot_pin_of, kept_pins_of, snapshot_checks_of, new_snapshot_of, targets_pin_of, new_targets_of, with_timestamp, with_snapshot, with_targets}
+use Rattle.sigstore_tuf.specs.Target.{unexpired_of, pinned_by_of, search_serves_of, entry_in, listed_in, entry_of, within_of, target_of, chain_in, TookFile, IsUnfetchedFile, FetchesTarget, chain_of, GetsTarget, unlisted, unfetched, unchained, found}
+use Rattle.sigstore_tuf.specs.Update.{first_root_of, newer_of, new_timestamp_of, snapshot_pin_of, kept_pins_of, snapshot_checks_of, new_snapshot_of, targets_pin_of, new_targets_of, with_timestamp, with_snapshot}
 use Rattle.sigstore_tuf.proofs.Authorised.{step_ok, ok_same, ok_some, some_same, where_some, top_inserted, first_root_authorised, refresh_authorised}
 use Rattle.sigstore_tuf.proofs.CauseNumbers.{had_before, by_read, by_role, by_expiry, by_pin, by_none, by_form, by_fetch, by_walk, wanting, unadopted, adopted}
 use Rattle.sigstore_tuf.proofs.Serving.{refresh_serves}

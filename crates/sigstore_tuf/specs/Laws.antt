@@ -1,5 +1,5 @@
 -- Laws of the definitions: each refusal of a client has its cause.
-use Rattle.std.specs.Prelude.{◌≡◌, List, ℕ, Result, Ok, Err}
+use Rattle.std.specs.Prelude.{◌≡◌, List, ℕ, Ok, Err}
 use Rattle.jiff_core.specs.declared.timestamp.Timestamp as jiff
 use Rattle.foundation.specs.Watched.{Watched}
 use Rattle.sigstore_tuf_parts.specs.declared.error.Error.{Error}
