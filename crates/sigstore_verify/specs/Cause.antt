@@ -28,7 +28,7 @@ use Rattle.sigstore_verify.specs.declared.error.Error.{Error}
 use Rattle.sigstore_verify.specs.declared.error.Error.TheVariants as verify
 use Rattle.sigstore_verify.specs.declared.policy.PublicKeyVerificationPolicy.{PublicKeyVerificationPolicy}
 use Rattle.sigstore_verify.specs.declared.root.RootFault.{RootFault}
-use Rattle.sigstore_verify.specs.declared.root.RootFault.TheVariants as root
+use Rattle.sigstore_verify.specs.declared.root.RootFault.TheVariants as refusal
 use Rattle.sigstore_verify.specs.Accepts.{signature_in, digest_in}
 use Rattle.sigstore_verify.specs.Error.{error_of_crypto}
 use Rattle.sigstore_verify.specs.Judged.{scheme_of}
@@ -123,9 +123,9 @@ JudgeCause accepts (PublicKey policy) file bundle source source' max _ = ⊥
 -- Tuf: its cause is in the root and the repository. Verify: the chain that is handed back is trusted, and the cause is in its
 -- file, the bundle, the policy and the artifact. Want of memory is never told as one of these.
 abbrev pub RootCause : Crypto → Meaning → List ℕ → List ℕ → UpdaterConfig → jiff.Timestamp → Watched Folders → Watched Folders → Watched (List ℕ) → Watched (List ℕ) → ℕ → RootFault → Type 0
-RootCause crypto policy root bundle config now repo repo' source source' max (root.Tuf tuf.NoMemory) = ⊥
-RootCause crypto policy root bundle config now repo repo' source source' max (root.Tuf e) = ClientCause crypto root config trust_path now repo repo' e × (source' ≡ source)
-RootCause crypto policy root bundle config now repo repo' source source' max (root.Verify verify.NoMemory chain) = ⊥
-RootCause crypto policy root bundle config now repo repo' source source' max (root.Verify e chain) =
+RootCause crypto policy root bundle config now repo repo' source source' max (refusal.Tuf tuf.NoMemory) = ⊥
+RootCause crypto policy root bundle config now repo repo' source source' max (refusal.Tuf e) = ClientCause crypto root config trust_path now repo repo' e × (source' ≡ source)
+RootCause crypto policy root bundle config now repo repo' source source' max (refusal.Verify verify.NoMemory chain) = ⊥
+RootCause crypto policy root bundle config now repo repo' source source' max (refusal.Verify e chain) =
     TrustsChain crypto root config now chain × JudgeCause crypto.accepts policy chain.file bundle source source' max e
-RootCause crypto policy root bundle config now repo repo' source source' max root.NoMemory = ⊤
+RootCause crypto policy root bundle config now repo repo' source source' max refusal.NoMemory = ⊤
