@@ -65,24 +65,58 @@ fn tags_and_lengths(rt: HostRuntime) -> Result<(), Fail> {
     Ok(())
 }
 
-#[test]
-fn long_lengths(rt: HostRuntime) -> Result<(), Fail> {
-    let alloc = rt.alloc();
-    let mut bytes = vec![in alloc; 0x04u8, 0x82, 0x01, 0x00]?;
-    for _ in 0..256 {
+/// The octets of a hexadecimal text, and so many more.
+fn with_contents(alloc: Global, header: &str, length: usize) -> Result<Vec<u8>, Fail> {
+    let mut bytes = hex::decode(alloc, header)?;
+    for _ in 0..length {
         bytes.push(7)?;
     }
-    let value = OctetString::from_der(alloc, &bytes)?;
-    assert_eq!(rt; value.as_bytes().len(), 256);
-    assert_eq!(rt; value.to_der(alloc)?.as_bytes(), bytes.as_slice());
+    Ok(bytes)
+}
+
+#[test]
+fn lengths_at_boundaries(rt: HostRuntime) -> Result<(), Fail> {
+    let alloc = rt.alloc();
+    for (length, header) in [
+        (127, "047f"),
+        (128, "048180"),
+        (255, "0481ff"),
+        (256, "04820100"),
+        (65535, "0482ffff"),
+        (65536, "0483010000"),
+    ] {
+        let bytes = with_contents(alloc, header, length)?;
+        let value = OctetString::from_der(alloc, &bytes)?;
+        assert_eq!(rt; value.as_bytes().len(), length);
+        assert_eq!(rt; value.to_der(alloc)?.as_bytes(), bytes.as_slice());
+    }
+    // The same lengths in longer forms.
+    for (length, header) in [
+        (127, "04817f"),
+        (128, "04820080"),
+        (255, "048200ff"),
+        (65535, "048300ffff"),
+    ] {
+        let bytes = with_contents(alloc, header, length)?;
+        assert!(rt; OctetString::from_der(alloc, &bytes) == Err(DerError::Length));
+    }
     Ok(())
 }
 
 #[test]
 fn whole_numbers(rt: HostRuntime) -> Result<(), Fail> {
     let alloc = rt.alloc();
-    assert!(rt; are_kept::<Int>(alloc, &["020100", "02020080", "020180", "0202ff7f"])?);
-    assert!(rt; are_refused::<Int>(alloc, DerError::Value, &["0200", "02020001", "0202ff80"])?);
+    let signs = [
+        "020100", "02017f", "02020080", "020180", "0202ff7f", "0201ff",
+    ];
+    assert!(rt; are_kept::<Int>(alloc, &signs)?);
+    assert!(rt;
+        are_refused::<Int>(
+            alloc,
+            DerError::Value,
+            &["0200", "02020001", "0202007f", "0202ff80", "0202ffff"]
+        )?
+    );
     assert!(rt; are_kept::<Uint>(alloc, &["020100", "02020080"])?);
     assert!(rt; are_refused::<Uint>(alloc, DerError::Value, &["0200", "020180", "0202007f"])?);
     let number = Uint::new(alloc, &[0, 0, 0x80])?;
@@ -99,8 +133,23 @@ fn whole_numbers(rt: HostRuntime) -> Result<(), Fail> {
 #[test]
 fn strings(rt: HostRuntime) -> Result<(), Fail> {
     let alloc = rt.alloc();
-    assert!(rt; are_kept::<BitString>(alloc, &["0307040a3b5f291cd0", "030100"])?);
-    let bits = ["0300", "030101", "03020800", "03020740"];
+    let bits = [
+        "0307040a3b5f291cd0",
+        "030100",
+        "030200ff",
+        "030201fe",
+        "030202fc",
+        "030203f8",
+        "030204f0",
+        "030205e0",
+        "030206c0",
+        "03020780",
+    ];
+    assert!(rt; are_kept::<BitString>(alloc, &bits)?);
+    let bits = [
+        "0300", "030101", "03020800", "03020101", "03020202", "03020304", "03020408", "03020510",
+        "03020620", "03020740",
+    ];
     assert!(rt; are_refused::<BitString>(alloc, DerError::Value, &bits)?);
     assert!(rt; are_refused::<BitString>(alloc, DerError::Tag, &["230100"])?);
     assert!(rt; are_kept::<Utf8>(alloc, &["0c02c3a9", "0c00"])?);
@@ -115,9 +164,25 @@ fn strings(rt: HostRuntime) -> Result<(), Fail> {
 #[test]
 fn identifiers(rt: HostRuntime) -> Result<(), Fail> {
     let alloc = rt.alloc();
-    let texts = ["060a2b0601040183bf300108", "0603883703", "0603813403"];
+    // Among them arcs of 127, 128 and 2^32 - 1, and an identifier of 39 octets.
+    let texts = [
+        "060a2b0601040183bf300108",
+        "0603883703",
+        "0603813403",
+        "06022b7f",
+        "06032b8100",
+        "06062b8fffffff7f",
+        "06272b0101010101010101010101010101010101010101010101010101010101010101010101010101",
+    ];
     assert!(rt; are_kept::<ObjectIdentifier>(alloc, &texts)?);
-    let texts = ["0600", "06032b8001", "06022b81", "06062b9080808000"];
+    let texts = [
+        "0600",
+        "06032b8001",
+        "06032b807f",
+        "06022b81",
+        "06062b9080808000",
+        "06282b010101010101010101010101010101010101010101010101010101010101010101010101010101",
+    ];
     assert!(rt; are_refused::<ObjectIdentifier>(alloc, DerError::Value, &texts)?);
     let identifier = ObjectIdentifier::new("1.3.6.1.4.1.57264.1.8")?;
     let bytes = hex::decode(alloc, "060a2b0601040183bf300108")?;
@@ -207,6 +272,17 @@ fn defaults(rt: HostRuntime) -> Result<(), Fail> {
     append_default(alloc, &false, &false, &mut out)?;
     append_default(alloc, &false, &true, &mut out)?;
     assert_eq!(rt; out.as_bytes(), [0x01u8, 0x01, 0xff].as_slice());
+    let zero = Int::new(alloc, &[0])?;
+    let mut reader = Reader::new(&[0xa0, 0x03, 0x02, 0x01, 0x00]);
+    let written = read_explicit_default(alloc, Tag(0xa0), zero.duplicate(alloc)?, &mut reader);
+    assert!(rt; written == Err(DerError::Value));
+    let mut reader = Reader::new(&[0xa0, 0x03, 0x02, 0x01, 0x02]);
+    let two = read_explicit_default(alloc, Tag(0xa0), zero.duplicate(alloc)?, &mut reader)?;
+    assert_eq!(rt; two.as_bytes(), [2u8].as_slice());
+    let mut out = OctetString::empty(alloc);
+    append_explicit_default(alloc, Tag(0xa0), &zero, &zero, &mut out)?;
+    append_explicit_default(alloc, Tag(0xa0), &zero, &two, &mut out)?;
+    assert_eq!(rt; out.as_bytes(), [0xa0u8, 0x03, 0x02, 0x01, 0x02].as_slice());
     Ok(())
 }
 
