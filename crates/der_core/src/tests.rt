@@ -224,6 +224,24 @@ fn texts_of_identifiers(rt: HostRuntime) -> Result<(), Fail> {
     Ok(())
 }
 
+/// The set of INTEGERs of one octet each, put in one after the other.
+fn set_with(alloc: Global, octets: &[u8]) -> Result<SetOfVec<Int>, DerError> {
+    let mut set = SetOfVec::new(alloc);
+    for octet in octets {
+        set.insert(alloc, Int::new(alloc, &[*octet])?)?;
+    }
+    Ok(set)
+}
+
+/// The set of INTEGERs of one octet each, all at once.
+fn set_from(alloc: Global, octets: &[u8]) -> Result<SetOfVec<Int>, DerError> {
+    let mut items = Vec::new(alloc);
+    for octet in octets {
+        items.push(Int::new(alloc, &[*octet])?)?;
+    }
+    Ok(SetOfVec::try_from(alloc, items)?)
+}
+
 #[test]
 fn sets_and_lists(rt: HostRuntime) -> Result<(), Fail> {
     let alloc = rt.alloc();
@@ -232,17 +250,20 @@ fn sets_and_lists(rt: HostRuntime) -> Result<(), Fail> {
     assert!(rt; refusal::<SetOfVec<Int>>(alloc, "3106020102020101", ordered)?.is_none());
     let doubled = ["3106020101020101"];
     assert!(rt; are_refused::<SetOfVec<Int>>(alloc, DerError::SetDuplicate, &doubled)?);
-    let mut set = SetOfVec::new(alloc);
-    set.insert(alloc, Int::new(alloc, &[2])?)?;
-    set.insert(alloc, Int::new(alloc, &[1])?)?;
-    assert!(rt; set.insert(alloc, Int::new(alloc, &[2])?) == Err(DerError::SetDuplicate));
-    assert_eq!(rt; set.len(), 2);
-    assert_eq!(rt;
-        set.to_der(alloc)?.as_bytes(),
-        hex::decode(alloc, ordered)?.as_slice()
-    );
     assert!(rt; are_kept::<Sequence<Int>>(alloc, &["3006020102020101", "3000"])?);
     assert!(rt; are_refused::<Sequence<Int>>(alloc, DerError::Tag, &["30020400"])?);
+    Ok(())
+}
+
+#[test]
+fn members_of_sets(rt: HostRuntime) -> Result<(), Fail> {
+    let alloc = rt.alloc();
+    assert!(rt; set_with(alloc, &[2, 1, 2]) == Err(DerError::SetDuplicate));
+    assert!(rt; set_from(alloc, &[2, 1, 2]) == Err(DerError::SetDuplicate));
+    assert!(rt; set_with(alloc, &[2, 3, 1])? == set_from(alloc, &[3, 2, 1])?);
+    let set = set_with(alloc, &[2, 1])?;
+    assert_eq!(rt; set.len(), 2);
+    assert!(rt; set.get(2).is_none());
     Ok(())
 }
 
@@ -261,44 +282,77 @@ fn slices_of_the_input(rt: HostRuntime) -> Result<(), Fail> {
     Ok(())
 }
 
+/// The BOOLEAN DEFAULT FALSE at the front of octets.
+fn truth_of(alloc: Global, bytes: &[u8]) -> Result<bool, DerError> {
+    let mut reader = Reader::new(bytes);
+    Ok(read_default(alloc, false, &mut reader)?)
+}
+
+/// A BOOLEAN DEFAULT FALSE as it is written.
+fn truth_written(alloc: Global, value: bool) -> Result<OctetString, DerError> {
+    let mut out = OctetString::empty(alloc);
+    append_default(alloc, &false, &value, &mut out)?;
+    Ok(out)
+}
+
+/// The INTEGER DEFAULT 0 under tag a0 at the front of octets, written again.
+fn number_again(alloc: Global, bytes: &[u8]) -> Result<OctetString, DerError> {
+    let zero = Int::new(alloc, &[0])?;
+    let mut reader = Reader::new(bytes);
+    let value = read_explicit_default(alloc, Tag(0xa0), zero.duplicate(alloc)?, &mut reader)?;
+    let mut out = OctetString::empty(alloc);
+    append_explicit_default(alloc, Tag(0xa0), &zero, &value, &mut out)?;
+    Ok(out)
+}
+
 #[test]
 fn defaults(rt: HostRuntime) -> Result<(), Fail> {
     let alloc = rt.alloc();
-    let mut reader = Reader::new(&[0x01, 0x01, 0x00]);
-    assert!(rt; read_default(alloc, false, &mut reader) == Err(DerError::Value));
-    let mut reader = Reader::new(&[0x04, 0x00]);
-    assert!(rt; read_default(alloc, false, &mut reader) == Ok(false));
-    let mut out = OctetString::empty(alloc);
-    append_default(alloc, &false, &false, &mut out)?;
-    append_default(alloc, &false, &true, &mut out)?;
-    assert_eq!(rt; out.as_bytes(), [0x01u8, 0x01, 0xff].as_slice());
-    let zero = Int::new(alloc, &[0])?;
-    let mut reader = Reader::new(&[0xa0, 0x03, 0x02, 0x01, 0x00]);
-    let written = read_explicit_default(alloc, Tag(0xa0), zero.duplicate(alloc)?, &mut reader);
-    assert!(rt; written == Err(DerError::Value));
-    let mut reader = Reader::new(&[0xa0, 0x03, 0x02, 0x01, 0x02]);
-    let two = read_explicit_default(alloc, Tag(0xa0), zero.duplicate(alloc)?, &mut reader)?;
-    assert_eq!(rt; two.as_bytes(), [2u8].as_slice());
-    let mut out = OctetString::empty(alloc);
-    append_explicit_default(alloc, Tag(0xa0), &zero, &zero, &mut out)?;
-    append_explicit_default(alloc, Tag(0xa0), &zero, &two, &mut out)?;
-    assert_eq!(rt; out.as_bytes(), [0xa0u8, 0x03, 0x02, 0x01, 0x02].as_slice());
+    assert!(rt; truth_of(alloc, &[0x01, 0x01, 0x00]) == Err(DerError::Value));
+    assert!(rt; truth_of(alloc, &[0x04, 0x00]) == Ok(false));
+    assert!(rt; truth_of(alloc, &[0x01, 0x01, 0xff]) == Ok(true));
+    assert!(rt; truth_written(alloc, false)?.as_bytes().is_empty());
+    assert_eq!(rt;
+        truth_written(alloc, true)?.as_bytes(),
+        [0x01u8, 0x01, 0xff].as_slice()
+    );
+    let two = [0xa0u8, 0x03, 0x02, 0x01, 0x02];
+    assert_eq!(rt; number_again(alloc, &two)?.as_bytes(), two.as_slice());
+    assert!(rt; number_again(alloc, &[])?.as_bytes().is_empty());
+    assert!(rt; number_again(alloc, &[0xa0, 0x03, 0x02, 0x01, 0x00]) == Err(DerError::Value));
     Ok(())
+}
+
+/// Whether the duplicate equals the value.
+fn is_copied<T: Duplicate + PartialEq>(alloc: Global, value: &T) -> Result<bool, Fail> {
+    Ok(value.duplicate(alloc)? == *value)
+}
+
+/// How the encodings of two INTEGERs are ordered.
+fn order_of(alloc: Global, first: &[u8], second: &[u8]) -> Result<Ordering, DerError> {
+    let first = Int::new(alloc, first)?;
+    let second = Int::new(alloc, second)?;
+    Ok(first.der_cmp(alloc, &second)?)
 }
 
 #[test]
 fn copies_equal_their_source(rt: HostRuntime) -> Result<(), Fail> {
     let alloc = rt.alloc();
-    let any = Any::new(alloc, Tag(0xa0), &[1, 2])?;
-    assert!(rt; any.duplicate(alloc)? == any);
+    assert!(rt; is_copied(alloc, &Any::new(alloc, Tag(0xa0), &[1, 2])?)?);
+    assert!(rt; is_copied(alloc, &set_from(alloc, &[3])?)?);
+    assert!(rt; is_copied(alloc, &Uint::new(alloc, &[0, 0x80])?)?);
     assert!(rt; Any::new(alloc, Tag(0x1f), &[]).is_err());
-    let set = SetOfVec::try_from(alloc, vec![in alloc; Int::new(alloc, &[3])?]?)?;
-    assert!(rt; set.duplicate(alloc)? == set);
-    assert!(rt; set.get(1).is_none());
-    let one = Int::new(alloc, &[1])?;
-    assert!(rt; one.der_cmp(alloc, &Int::new(alloc, &[1, 0])?)? == Ordering::Less);
+    Ok(())
+}
+
+#[test]
+fn encodings_in_order(rt: HostRuntime) -> Result<(), Fail> {
+    let alloc = rt.alloc();
+    assert!(rt; order_of(alloc, &[1], &[1, 0])? == Ordering::Less);
+    assert!(rt; order_of(alloc, &[2], &[1])? == Ordering::Greater);
+    assert!(rt; order_of(alloc, &[7], &[7])? == Ordering::Equal);
     let mut out = OctetString::new(alloc, &[9])?;
-    one.encode_into(alloc, &mut out)?;
+    Int::new(alloc, &[1])?.encode_into(alloc, &mut out)?;
     assert_eq!(rt; out.as_bytes(), [9u8, 2, 1, 1].as_slice());
     Ok(())
 }
