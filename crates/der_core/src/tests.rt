@@ -65,24 +65,58 @@ fn tags_and_lengths(rt: HostRuntime) -> Result<(), Fail> {
     Ok(())
 }
 
-#[test]
-fn long_lengths(rt: HostRuntime) -> Result<(), Fail> {
-    let alloc = rt.alloc();
-    let mut bytes = vec![in alloc; 0x04u8, 0x82, 0x01, 0x00]?;
-    for _ in 0..256 {
+/// The octets of a hexadecimal text, and so many more.
+fn with_contents(alloc: Global, header: &str, length: usize) -> Result<Vec<u8>, Fail> {
+    let mut bytes = hex::decode(alloc, header)?;
+    for _ in 0..length {
         bytes.push(7)?;
     }
-    let value = OctetString::from_der(alloc, &bytes)?;
-    assert_eq!(rt; value.as_bytes().len(), 256);
-    assert_eq!(rt; value.to_der(alloc)?.as_bytes(), bytes.as_slice());
+    Ok(bytes)
+}
+
+#[test]
+fn lengths_at_boundaries(rt: HostRuntime) -> Result<(), Fail> {
+    let alloc = rt.alloc();
+    for (length, header) in [
+        (127, "047f"),
+        (128, "048180"),
+        (255, "0481ff"),
+        (256, "04820100"),
+        (65535, "0482ffff"),
+        (65536, "0483010000"),
+    ] {
+        let bytes = with_contents(alloc, header, length)?;
+        let value = OctetString::from_der(alloc, &bytes)?;
+        assert_eq!(rt; value.as_bytes().len(), length);
+        assert_eq!(rt; value.to_der(alloc)?.as_bytes(), bytes.as_slice());
+    }
+    // The same lengths in longer forms.
+    for (length, header) in [
+        (127, "04817f"),
+        (128, "04820080"),
+        (255, "048200ff"),
+        (65535, "048300ffff"),
+    ] {
+        let bytes = with_contents(alloc, header, length)?;
+        assert!(rt; OctetString::from_der(alloc, &bytes) == Err(DerError::Length));
+    }
     Ok(())
 }
 
 #[test]
 fn whole_numbers(rt: HostRuntime) -> Result<(), Fail> {
     let alloc = rt.alloc();
-    assert!(rt; are_kept::<Int>(alloc, &["020100", "02020080", "020180", "0202ff7f"])?);
-    assert!(rt; are_refused::<Int>(alloc, DerError::Value, &["0200", "02020001", "0202ff80"])?);
+    let signs = [
+        "020100", "02017f", "02020080", "020180", "0202ff7f", "0201ff",
+    ];
+    assert!(rt; are_kept::<Int>(alloc, &signs)?);
+    assert!(rt;
+        are_refused::<Int>(
+            alloc,
+            DerError::Value,
+            &["0200", "02020001", "0202007f", "0202ff80", "0202ffff"]
+        )?
+    );
     assert!(rt; are_kept::<Uint>(alloc, &["020100", "02020080"])?);
     assert!(rt; are_refused::<Uint>(alloc, DerError::Value, &["0200", "020180", "0202007f"])?);
     let number = Uint::new(alloc, &[0, 0, 0x80])?;
@@ -99,8 +133,23 @@ fn whole_numbers(rt: HostRuntime) -> Result<(), Fail> {
 #[test]
 fn strings(rt: HostRuntime) -> Result<(), Fail> {
     let alloc = rt.alloc();
-    assert!(rt; are_kept::<BitString>(alloc, &["0307040a3b5f291cd0", "030100"])?);
-    let bits = ["0300", "030101", "03020800", "03020740"];
+    let bits = [
+        "0307040a3b5f291cd0",
+        "030100",
+        "030200ff",
+        "030201fe",
+        "030202fc",
+        "030203f8",
+        "030204f0",
+        "030205e0",
+        "030206c0",
+        "03020780",
+    ];
+    assert!(rt; are_kept::<BitString>(alloc, &bits)?);
+    let bits = [
+        "0300", "030101", "03020800", "03020101", "03020202", "03020304", "03020408", "03020510",
+        "03020620", "03020740",
+    ];
     assert!(rt; are_refused::<BitString>(alloc, DerError::Value, &bits)?);
     assert!(rt; are_refused::<BitString>(alloc, DerError::Tag, &["230100"])?);
     assert!(rt; are_kept::<Utf8>(alloc, &["0c02c3a9", "0c00"])?);
@@ -115,9 +164,25 @@ fn strings(rt: HostRuntime) -> Result<(), Fail> {
 #[test]
 fn identifiers(rt: HostRuntime) -> Result<(), Fail> {
     let alloc = rt.alloc();
-    let texts = ["060a2b0601040183bf300108", "0603883703", "0603813403"];
+    // Among them arcs of 127, 128 and 2^32 - 1, and an identifier of 39 octets.
+    let texts = [
+        "060a2b0601040183bf300108",
+        "0603883703",
+        "0603813403",
+        "06022b7f",
+        "06032b8100",
+        "06062b8fffffff7f",
+        "06272b0101010101010101010101010101010101010101010101010101010101010101010101010101",
+    ];
     assert!(rt; are_kept::<ObjectIdentifier>(alloc, &texts)?);
-    let texts = ["0600", "06032b8001", "06022b81", "06062b9080808000"];
+    let texts = [
+        "0600",
+        "06032b8001",
+        "06032b807f",
+        "06022b81",
+        "06062b9080808000",
+        "06282b010101010101010101010101010101010101010101010101010101010101010101010101010101",
+    ];
     assert!(rt; are_refused::<ObjectIdentifier>(alloc, DerError::Value, &texts)?);
     let identifier = ObjectIdentifier::new("1.3.6.1.4.1.57264.1.8")?;
     let bytes = hex::decode(alloc, "060a2b0601040183bf300108")?;
@@ -159,6 +224,24 @@ fn texts_of_identifiers(rt: HostRuntime) -> Result<(), Fail> {
     Ok(())
 }
 
+/// The set of INTEGERs of one octet each, put in one after the other.
+fn set_with(alloc: Global, octets: &[u8]) -> Result<SetOfVec<Int>, DerError> {
+    let mut set = SetOfVec::new(alloc);
+    for octet in octets {
+        set.insert(alloc, Int::new(alloc, &[*octet])?)?;
+    }
+    Ok(set)
+}
+
+/// The set of INTEGERs of one octet each, all at once.
+fn set_from(alloc: Global, octets: &[u8]) -> Result<SetOfVec<Int>, DerError> {
+    let mut items = Vec::new(alloc);
+    for octet in octets {
+        items.push(Int::new(alloc, &[*octet])?)?;
+    }
+    Ok(SetOfVec::try_from(alloc, items)?)
+}
+
 #[test]
 fn sets_and_lists(rt: HostRuntime) -> Result<(), Fail> {
     let alloc = rt.alloc();
@@ -167,17 +250,20 @@ fn sets_and_lists(rt: HostRuntime) -> Result<(), Fail> {
     assert!(rt; refusal::<SetOfVec<Int>>(alloc, "3106020102020101", ordered)?.is_none());
     let doubled = ["3106020101020101"];
     assert!(rt; are_refused::<SetOfVec<Int>>(alloc, DerError::SetDuplicate, &doubled)?);
-    let mut set = SetOfVec::new(alloc);
-    set.insert(alloc, Int::new(alloc, &[2])?)?;
-    set.insert(alloc, Int::new(alloc, &[1])?)?;
-    assert!(rt; set.insert(alloc, Int::new(alloc, &[2])?) == Err(DerError::SetDuplicate));
-    assert_eq!(rt; set.len(), 2);
-    assert_eq!(rt;
-        set.to_der(alloc)?.as_bytes(),
-        hex::decode(alloc, ordered)?.as_slice()
-    );
     assert!(rt; are_kept::<Sequence<Int>>(alloc, &["3006020102020101", "3000"])?);
     assert!(rt; are_refused::<Sequence<Int>>(alloc, DerError::Tag, &["30020400"])?);
+    Ok(())
+}
+
+#[test]
+fn members_of_sets(rt: HostRuntime) -> Result<(), Fail> {
+    let alloc = rt.alloc();
+    assert!(rt; set_with(alloc, &[2, 1, 2]) == Err(DerError::SetDuplicate));
+    assert!(rt; set_from(alloc, &[2, 1, 2]) == Err(DerError::SetDuplicate));
+    assert!(rt; set_with(alloc, &[2, 3, 1])? == set_from(alloc, &[3, 2, 1])?);
+    let set = set_with(alloc, &[2, 1])?;
+    assert_eq!(rt; set.len(), 2);
+    assert!(rt; set.get(2).is_none());
     Ok(())
 }
 
@@ -196,33 +282,77 @@ fn slices_of_the_input(rt: HostRuntime) -> Result<(), Fail> {
     Ok(())
 }
 
+/// The BOOLEAN DEFAULT FALSE at the front of octets.
+fn truth_of(alloc: Global, bytes: &[u8]) -> Result<bool, DerError> {
+    let mut reader = Reader::new(bytes);
+    Ok(read_default(alloc, false, &mut reader)?)
+}
+
+/// A BOOLEAN DEFAULT FALSE as it is written.
+fn truth_written(alloc: Global, value: bool) -> Result<OctetString, DerError> {
+    let mut out = OctetString::empty(alloc);
+    append_default(alloc, &false, &value, &mut out)?;
+    Ok(out)
+}
+
+/// The INTEGER DEFAULT 0 under tag a0 at the front of octets, written again.
+fn number_again(alloc: Global, bytes: &[u8]) -> Result<OctetString, DerError> {
+    let zero = Int::new(alloc, &[0])?;
+    let mut reader = Reader::new(bytes);
+    let value = read_explicit_default(alloc, Tag(0xa0), zero.duplicate(alloc)?, &mut reader)?;
+    let mut out = OctetString::empty(alloc);
+    append_explicit_default(alloc, Tag(0xa0), &zero, &value, &mut out)?;
+    Ok(out)
+}
+
 #[test]
 fn defaults(rt: HostRuntime) -> Result<(), Fail> {
     let alloc = rt.alloc();
-    let mut reader = Reader::new(&[0x01, 0x01, 0x00]);
-    assert!(rt; read_default(alloc, false, &mut reader) == Err(DerError::Value));
-    let mut reader = Reader::new(&[0x04, 0x00]);
-    assert!(rt; read_default(alloc, false, &mut reader) == Ok(false));
-    let mut out = OctetString::empty(alloc);
-    append_default(alloc, &false, &false, &mut out)?;
-    append_default(alloc, &false, &true, &mut out)?;
-    assert_eq!(rt; out.as_bytes(), [0x01u8, 0x01, 0xff].as_slice());
+    assert!(rt; truth_of(alloc, &[0x01, 0x01, 0x00]) == Err(DerError::Value));
+    assert!(rt; truth_of(alloc, &[0x04, 0x00]) == Ok(false));
+    assert!(rt; truth_of(alloc, &[0x01, 0x01, 0xff]) == Ok(true));
+    assert!(rt; truth_written(alloc, false)?.as_bytes().is_empty());
+    assert_eq!(rt;
+        truth_written(alloc, true)?.as_bytes(),
+        [0x01u8, 0x01, 0xff].as_slice()
+    );
+    let two = [0xa0u8, 0x03, 0x02, 0x01, 0x02];
+    assert_eq!(rt; number_again(alloc, &two)?.as_bytes(), two.as_slice());
+    assert!(rt; number_again(alloc, &[])?.as_bytes().is_empty());
+    assert!(rt; number_again(alloc, &[0xa0, 0x03, 0x02, 0x01, 0x00]) == Err(DerError::Value));
     Ok(())
+}
+
+/// Whether the duplicate equals the value.
+fn is_copied<T: Duplicate + PartialEq>(alloc: Global, value: &T) -> Result<bool, Fail> {
+    Ok(value.duplicate(alloc)? == *value)
+}
+
+/// How the encodings of two INTEGERs are ordered.
+fn order_of(alloc: Global, first: &[u8], second: &[u8]) -> Result<Ordering, DerError> {
+    let first = Int::new(alloc, first)?;
+    let second = Int::new(alloc, second)?;
+    Ok(first.der_cmp(alloc, &second)?)
 }
 
 #[test]
 fn copies_equal_their_source(rt: HostRuntime) -> Result<(), Fail> {
     let alloc = rt.alloc();
-    let any = Any::new(alloc, Tag(0xa0), &[1, 2])?;
-    assert!(rt; any.duplicate(alloc)? == any);
+    assert!(rt; is_copied(alloc, &Any::new(alloc, Tag(0xa0), &[1, 2])?)?);
+    assert!(rt; is_copied(alloc, &set_from(alloc, &[3])?)?);
+    assert!(rt; is_copied(alloc, &Uint::new(alloc, &[0, 0x80])?)?);
     assert!(rt; Any::new(alloc, Tag(0x1f), &[]).is_err());
-    let set = SetOfVec::try_from(alloc, vec![in alloc; Int::new(alloc, &[3])?]?)?;
-    assert!(rt; set.duplicate(alloc)? == set);
-    assert!(rt; set.get(1).is_none());
-    let one = Int::new(alloc, &[1])?;
-    assert!(rt; one.der_cmp(alloc, &Int::new(alloc, &[1, 0])?)? == Ordering::Less);
+    Ok(())
+}
+
+#[test]
+fn encodings_in_order(rt: HostRuntime) -> Result<(), Fail> {
+    let alloc = rt.alloc();
+    assert!(rt; order_of(alloc, &[1], &[1, 0])? == Ordering::Less);
+    assert!(rt; order_of(alloc, &[2], &[1])? == Ordering::Greater);
+    assert!(rt; order_of(alloc, &[7], &[7])? == Ordering::Equal);
     let mut out = OctetString::new(alloc, &[9])?;
-    one.encode_into(alloc, &mut out)?;
+    Int::new(alloc, &[1])?.encode_into(alloc, &mut out)?;
     assert_eq!(rt; out.as_bytes(), [9u8, 2, 1, 1].as_slice());
     Ok(())
 }

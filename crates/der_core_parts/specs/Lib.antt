@@ -3,6 +3,7 @@ pub mod Choices
 pub mod Grammar
 pub mod Law
 pub mod Laws
+pub mod Listed
 pub mod Many
 pub mod ManyLaws
 pub mod Octets

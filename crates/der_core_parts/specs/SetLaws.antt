@@ -8,6 +8,8 @@ use Rattle.std.proofs.lemmas.Cmp.{nat_list_cmp_total}
 use Rattle.std.specs.Cmp.Lexicographic.{slice_cmp}
 use Rattle.std.proofs.lemmas.Bool.{eqb-true}
 use Rattle.std.proofs.lemmas.List.{length-append}
+use Rattle.std.specs.List.Sorted.{IsPermutation}
+use Rattle.std.proofs.lemmas.List.Sorted.{IsPermutation-refl, IsPermutation-trans, IsPermutation-cons, IsPermutation-insert, IsPermutation-map}
 use Rattle.foundation.specs.Steps.{◌>>=◌}
 use Rattle.der_core_parts.specs.declared.error.DerError.TheVariants.{SetDuplicate, Value}
 use Rattle.der_core_parts.specs.Outcome.{Outcome}
@@ -17,7 +19,7 @@ use Rattle.der_core_parts.specs.Law.{WritesAs, IsLawful}
 use Rattle.der_core_parts.specs.TlvLaws.{ok_is, bind_ok, passed}
 use Rattle.der_core_parts.specs.Many.{EachEncoded, many_of, write_each}
 use Rattle.der_core_parts.specs.ManyLaws.{many-found, many-only, each-written, each-writes}
-use Rattle.der_core_parts.specs.Sets.{Keyed, is_before, keyed, place, ordered, rises, values, distinct, set_from, rise, is_set, set_of}
+use Rattle.der_core_parts.specs.Sets.{Keyed, is_before, keyed, place, ordered, rises, values, distinct, set_from, rise, is_set, IsSetOf, set_of}
 
 -- ---- encodings and members
 
@@ -169,6 +171,34 @@ set_from-length {A} g members a text e w =
     let after = write_each-values g (ordered m.0) (ordered-keyed g m.0 k) in
     subst (λ (z : List A). WritesAs (write_each g z) text) (ok_is (values (ordered m.0)) a p.1)
     (texts (ordered m.0), after, ordered-length m.0 ∙ ap length (ok_is (texts m.0) text before))
+
+-- ---- a set has the members that were put in
+
+placed-permutes : {A : Type 0} (x y : Keyed A) (ys others : List (Keyed A)) (b : Bool) → IsPermutation (x ∷ ys) others → IsPermutation (x ∷ y ∷ ys) (cond b (y ∷ others) (x ∷ y ∷ ys))
+placed-permutes x y ys others true h = IsPermutation-trans (x ∷ y ∷ ys) (y ∷ x ∷ ys) (y ∷ others) (IsPermutation-insert (y ∷ ys) 1 x) (IsPermutation-cons y (x ∷ ys) others h)
+placed-permutes x y ys others false h = IsPermutation-refl (x ∷ y ∷ ys)
+
+place-permutes : {A : Type 0} (x : Keyed A) (ys : List (Keyed A)) → IsPermutation (x ∷ ys) (place x ys)
+place-permutes x [] = IsPermutation-refl (x ∷ [])
+place-permutes x (y ∷ ys) = placed-permutes x y ys (place x ys) (is_before y x) (place-permutes x ys)
+
+ordered-permutes : {A : Type 0} (ks : List (Keyed A)) → IsPermutation ks (ordered ks)
+ordered-permutes [] = IsPermutation-refl []
+ordered-permutes (x ∷ xs) = IsPermutation-trans (x ∷ xs) (x ∷ ordered xs) (place x (ordered xs)) (IsPermutation-cons x xs (ordered xs) (ordered-permutes xs)) (place-permutes x (ordered xs))
+
+set_from-permutes : {A : Type 0} (g : Grammar A) (members a : List A) → set_from g members ≡ Ok a → IsPermutation members a
+unfolding set_from
+set_from-permutes {A} g members a e =
+    let m = bind_ok (keyed g members) (λ ks. distinct (ordered ks)) a e in
+    let p = passed (rises (ordered m.0)) SetDuplicate (Ok (values (ordered m.0))) a m.2 in
+    subst (λ (z : List A). IsPermutation z a) (keyed-values g members m.0 m.1)
+    (subst (λ (z : List A). IsPermutation (values m.0) z) (ok_is (values (ordered m.0)) a p.1)
+    (IsPermutation-map (λ k. k.1) m.0 (ordered m.0) (ordered-permutes m.0)))
+
+pub set_from-members : {A : Type 0} (g : Grammar A) (members a : List A) → set_from g members ≡ Ok a → IsSetOf g members a
+set_from-members g members a e =
+    let h = set_is_rising g a (set_from-is_set g members a e) in
+    record { same = set_from-permutes g members a e; keys = h.keys; are = h.are; rise_so = h.rise_so }
 
 -- ---- the laws
 

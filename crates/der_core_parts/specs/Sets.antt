@@ -1,5 +1,6 @@
 -- SET OF: the members in ascending order of their encodings (X.690, 11.6), no two equal.
 use Rattle.std.specs.Prelude.{◌≡◌, ℕ, Bool, true, false, List, [], ◌∷◌, map, Ok, Err, ◌==◌, ◌&&◌, if◌then◌else◌}
+use Rattle.std.specs.List.Sorted.{IsPermutation}
 use Rattle.std.specs.Ordering.{nat_cmp, is_lt}
 use Rattle.std.specs.Cmp.Lexicographic.{slice_cmp}
 use Rattle.foundation.specs.Steps.{◌>>=◌}
@@ -55,6 +56,13 @@ rise (Err e) = false
 -- a list that is a set: each member can be written and comes before the next
 unfoldable pub is_set : {A : Type 0} → Grammar A → List A → Bool
 is_set g xs = rise (keyed g xs)
+
+-- the members of a set: those that were put in, each encoded before the next
+pub record IsSetOf {A : Type 0} (g : Grammar A) (members a : List A) : Type 0 where
+  pub same : IsPermutation members a
+  pub keys : List (Keyed A)
+  pub are : keyed g a ≡ Ok keys
+  pub rise_so : rises keys ≡ true
 
 -- read in any order, written in ascending order
 abbrev pub set_of : {A : Type 0} → Grammar A → Grammar (List A)

@@ -1,8 +1,10 @@
 -- Types as one term each: a grammar with its laws, made of those of its parts. Each premise is a test that
 -- computes, so that `refl` meets it.
 use Rattle.std.specs.Prelude.{◌≡◌, ℕ, ◌⊎◌, Bool, true, false, not, List, [], ◌∷◌, ◌++◌, Option, Some, None, Ok, ◌==◌, ◌&&◌, ◌||◌, if◌then◌else◌}
-use Rattle.std.proofs.Common.{refl, subst, cond, eqb, inl, inr}
+use Rattle.std.specs.Str.{bytes_eq}
+use Rattle.std.proofs.Common.{refl, sym, subst, cond, eqb, inl, inr}
 use Rattle.std.proofs.lemmas.Bool.{eqb-true}
+use Rattle.std.proofs.lemmas.Slice.Eq.{bytes_eq-Decides}
 use Rattle.der_core_parts.specs.Tlv.{IsTag}
 use Rattle.der_core_parts.specs.Grammar.{Grammar, Fields, primitive, implicit, sequence, one, optional, both, mapped_fields, mapped, refined, defaulted}
 use Rattle.der_core_parts.specs.Choices.{is_tag, explicit, either, either-lawful, any, any-lawful}
@@ -170,6 +172,10 @@ optional_component k = record { fields = optional k.grammar; lawful = optional-l
 -- the default is the one value that passes the test
 abbrev pub default_component : {A : Type 0} (is_default : A → Bool) (d : A) (k : AsnType A) → is_default d ≡ true → ((a : A) → is_default a ≡ true → a ≡ d) → Components A
 default_component is_default d k tested only_one = record { fields = defaulted is_default d k.grammar; lawful = defaulted-lawful is_default d k.grammar tested only_one k.lawful; first = k.tags; stops = k.tags; begins_so = k.tagged; stops_so = k.tagged }
+
+-- the same of values that are octets
+abbrev pub octets_by_default : List ℕ → AsnType (List ℕ) → Components (List ℕ)
+octets_by_default d k = default_component (bytes_eq d) d k ((bytes_eq-Decides d d).1 refl) (λ a e. sym ((bytes_eq-Decides d a).0 e))
 
 abbrev pub followed_by : {A B : Type 0} (f : Components A) (g : Components B) → apart g.first f.stops ≡ true → Components (A × B)
 followed_by f g ok = record {

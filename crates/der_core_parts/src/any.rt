@@ -17,7 +17,7 @@ use std::alloc::Global;
 use std::marker::Model;
 
 /// A value of any type: a tag of one byte with its contents, kept as encoded.
-#[derive(Drop)]
+#[derive(Debug, Drop)]
 pub struct Any {
     tag: Tag,
     bytes: OctetString,

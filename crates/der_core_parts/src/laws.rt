@@ -2,6 +2,7 @@
 ghost use Rattle.std.specs.Prelude.{◌≡◌, ℕ, true, List, ◌++◌, length, Ok};
 ghost use Rattle.der_core_parts.specs.Tlv.{IsBytes};
 ghost use Rattle.der_core_parts.specs.Grammar.{Encodes, read_all, write};
+ghost use Rattle.der_core_parts.specs.Sets.{IsSetOf, set_from};
 
 use crate::der::Der;
 
@@ -25,4 +26,9 @@ pub fn read_is_written<T: Der>()
 /// A type with no sets within writes the very bytes that were read.
 pub fn read_is_written_same<T: Der>()
     ensures { T.grammar.plain ≡ true → (a : T) (x : List ℕ) → IsBytes x → read_all T.grammar x ≡ Ok a → write T.grammar a ≡ Ok x }
+{}
+
+/// A set has the members that were put in, each encoded before the next.
+pub fn set_has_members<T: Der>()
+    ensures { (members a : List T) → set_from T.grammar members ≡ Ok a → IsSetOf T.grammar members a }
 {}

@@ -123,6 +123,20 @@ pub fn read_explicit_optional<T: Der>(
     }
 }
 
+/// Reads a component with a DEFAULT under an explicit tag; Value where the default was written.
+pub fn read_explicit_default<T: Der + PartialEq>(
+    alloc: Global,
+    tag: Tag,
+    default: T,
+    reader: &mut Reader,
+) -> Result<T, DerError>
+    ensures ok { IfOk result (λ a. (defaulted (T.eq default) default (explicit tag.0 T.grammar)).value_at reader.old ≡ Ok (a, reader.new)) }
+    ensures err { IfErr result (λ e. e ≢ Want → (defaulted (T.eq default) default (explicit tag.0 T.grammar)).value_at reader.old ≡ Err e) }
+{
+    let value = read_explicit_optional(alloc, tag, reader)?;
+    Ok(or_default_value(default, value)?)
+}
+
 /// Reads values up to the end of the bytes.
 pub fn read_each<T: Der>(alloc: Global, reader: &mut Reader) -> Result<Vec<T>, DerError>
     ensures ok { IfOk result (λ v. many_of T.grammar reader.old ≡ Ok v.items) }

@@ -24,7 +24,7 @@ use std::marker::Model;
 
 /// A SET OF, its members in ascending order of their encodings and no two equal (X.690, 11.6);
 /// contracts see its members.
-#[derive(Drop)]
+#[derive(Debug, Drop)]
 pub struct SetOfVec<T: Der> {
     members: Vec<T>,
 }

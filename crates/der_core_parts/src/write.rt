@@ -29,6 +29,13 @@ pub fn append_optional<T: Der>(
     }
 }
 
+/// Whether a component is left out, being the default.
+fn is_left_out<T: PartialEq>(default: &T, value: &T) -> bool
+    ensures { result ≡ T.eq default.now value.now }
+{
+    default == value
+}
+
 /// Appends a component with a DEFAULT, unless it is the default (X.690, 11.5).
 pub fn append_default<T: Der + PartialEq>(
     alloc: Global,
@@ -41,7 +48,7 @@ pub fn append_default<T: Der + PartialEq>(
     ensures cause { IfErr result IsTooLong }
     ensures kept { OnErr result (KeepsFront out.old out.new) }
 {
-    if default == value {
+    if is_left_out(default, value) {
         Ok(())
     } else {
         value.encode_into(alloc, out)
@@ -123,6 +130,26 @@ pub fn append_explicit_optional<T: Der>(
     match value {
         None => Ok(()),
         Some(value) => append_explicit(alloc, tag, value, out),
+    }
+}
+
+/// Appends a component with a DEFAULT under an explicit tag, unless it is the default.
+pub fn append_explicit_default<T: Der + PartialEq>(
+    alloc: Global,
+    tag: Tag,
+    default: &T,
+    value: &T,
+    out: &mut OctetString,
+) -> Result<(), DerError>
+    ensures ok { OnOk result (Appended (write_option (explicit tag.0 T.grammar) (unless_default (T.eq default.now) value.now)) out.old out.new) }
+    ensures err { IfErr result (λ e. e ≢ Want → write_option (explicit tag.0 T.grammar) (unless_default (T.eq default.now) value.now) ≡ Err e) }
+    ensures cause { IfErr result IsTooLong }
+    ensures kept { OnErr result (KeepsFront out.old out.new) }
+{
+    if is_left_out(default, value) {
+        Ok(())
+    } else {
+        append_explicit(alloc, tag, value, out)
     }
 }
 
