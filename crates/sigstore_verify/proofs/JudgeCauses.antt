@@ -1,5 +1,5 @@
 -- Each refusal of the judgement has its cause.
-use Rattle.std.proofs.Common.{◌≡◌, ◌≢◌, ◌⊎◌, inl, inr, ℕ, List, Bool, true, false, if◌then◌else◌, bytes_eq, Option, Some, None, Result, Ok, Err, refl, sym, ap, ◌∙◌, subst}
+use Rattle.std.proofs.Common.{◌≡◌, ◌≢◌, ◌⊎◌, inl, inr, ℕ, List, Bool, true, false, if◌then◌else◌, Option, Some, None, Result, Ok, Err, refl, sym, ap, ◌∙◌, subst}
 use Rattle.std.specs.Prelude.{⊤}
 use Rattle.std.proofs.lemmas.Slice.Eq.{bytes_eq-Decides}
 use Rattle.sha2.specs.Sha256.{sha256}
@@ -27,16 +27,14 @@ use Rattle.sigstore_crypto.specs.Scheme.{digest_algorithm_of}
 use Rattle.sigstore_verify.specs.declared.error.Error.{Error}
 use Rattle.sigstore_verify.specs.declared.error.Error.TheVariants as verify
 use Rattle.sigstore_verify.specs.declared.policy.PublicKeyVerificationPolicy.{PublicKeyVerificationPolicy}
-use Rattle.sigstore_verify.specs.declared.report.Kept.{Kept}
-use Rattle.sigstore_verify.specs.declared.report.VerificationResult.{VerificationResult}
 use Rattle.sigstore_verify.specs.Accepts.{signature_in, digest_in}
-use Rattle.sigstore_verify.specs.Cause.{IsRefusedAs, IsRead, HasScheme, LacksEntry, LacksScheme, key_unread, no_scheme, LacksDigest, IsOfAnother, IsUnsigned, trust_unbuilt, bundle_unbuilt, scheme_unbuilt, digest_unbuilt, JudgeCause}
+use Rattle.sigstore_verify.specs.Cause.{IsRefusedAs, IsRead, HasScheme, LacksScheme, key_unread, no_scheme, trust_unbuilt, bundle_unbuilt, scheme_unbuilt, digest_unbuilt, JudgeCause}
 use Rattle.sigstore_verify.specs.Error.{error_of_crypto, error_of_types}
-use Rattle.sigstore_verify.specs.Judged.{by_crypto, by_types, scheme_of, needed_of, prepared_of, is_bound, content_judged_of, key_judged_of, key_report_of, ready_of}
+use Rattle.sigstore_verify.specs.Judged.{by_crypto, by_types, scheme_of, needed_of, prepared_of, is_bound, content_judged_of, key_judged_of, ready_of}
 use Rattle.sigstore_verify.specs.Policy.{Meaning, PublicKey}
 use Rattle.sigstore_verify.specs.Promise as promise
 use Rattle.sigstore_verify.specs.Root.{or_fault, trust_fault, bundle_fault, JudgesBundle, trust_refused, verifier_refused, bundle_refused, judged}
-use Rattle.sigstore_verify.proofs.Accepts.{step, Prepared, prepared_means, key_under}
+use Rattle.sigstore_verify.proofs.Accepts.{Prepared, prepared_means}
 
 err_same : {A E : Type 0} (d e : E) → ◌≡◌ {A = Result A E} (Err d) (Err e) → d ≡ e
 err_same d e h = cc

@@ -1,6 +1,5 @@
 -- Each refusal of the top call has its cause.
-use Rattle.std.proofs.Common.{◌≡◌, ◌≢◌, ℕ, List, Result, Ok, Err, codes, refl, sym, subst}
-use Rattle.std.specs.Prelude.{⊤}
+use Rattle.std.proofs.Common.{◌≡◌, ℕ, List, Result, Err, sym, subst}
 use Rattle.jiff_core.specs.declared.timestamp.Timestamp as jiff
 use Rattle.foundation.specs.Watched.{Watched}
 use Rattle.sigstore_tuf_parts.specs.declared.error.Error.{Error as TufError}
@@ -14,9 +13,7 @@ use Rattle.sigstore_tuf.proofs.CauseNumbers.{wanting}
 use Rattle.sigstore_tuf.proofs.Causes.{first_refused, refresh_refused, search_refused}
 use Rattle.sigstore_verify.specs.declared.error.Error.{Error}
 use Rattle.sigstore_verify.specs.declared.error.Error.TheVariants as verify
-use Rattle.sigstore_verify.specs.declared.root.Rooted.{Rooted}
 use Rattle.sigstore_verify.specs.declared.root.RootFault.{RootFault}
-use Rattle.sigstore_verify.specs.declared.root.RootFault.TheVariants as root_fault
 use Rattle.sigstore_verify.specs.Cause.{JudgeCause, RootCause}
 use Rattle.sigstore_verify.specs.Policy.{Meaning}
 use Rattle.sigstore_verify.specs.Root as top
