@@ -1,1 +1,3 @@
 mod Arcs
+mod Lists
+mod Shorter

@@ -1,3 +1,5 @@
+pub mod Certificates
+pub mod Extensions
 pub mod Reading
 pub mod Spki
 pub mod Views

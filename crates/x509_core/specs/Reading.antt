@@ -1,5 +1,5 @@
 -- Parts of bytes, or the first refusal in reading order.
-use Rattle.std.specs.Prelude.{ℕ, ◌∷◌, [], List, Bool, Option, Some, None, Result, Ok, Err, ◌==◌, ◌&&◌, nat_lt, nat_le, length, if◌then◌else◌}
+use Rattle.std.specs.Prelude.{ℕ, ◌-◌, ◌∷◌, [], List, Bool, false, Option, Some, None, Result, Ok, Err, ◌==◌, length, take, if◌then◌else◌}
 use Rattle.foundation.specs.Steps.{◌>>=◌}
 use Rattle.der_core_parts.specs.declared.error.DerError.{DerError}
 use Rattle.der_core_parts.specs.declared.error.DerError.TheVariants as der
@@ -41,12 +41,25 @@ with_tag tag t = if t.0 == tag then Ok (t.1, t.2) else Err (Der der.Tag)
 unfoldable pub contents_at : ℕ → List ℕ → Reading (List ℕ × List ℕ)
 contents_at tag bytes = of_der (tlv_at bytes) >>= with_tag tag
 
+-- a value that has this tag, as it is encoded
+unfoldable pub encoded_at : ℕ → List ℕ → Reading (List ℕ × List ℕ)
+encoded_at tag bytes = contents_at tag bytes >>= λ x. Ok (tlv tag x.0, x.1)
+
 abbrev pub checked : {A : Type 0} → Bool → A → Reading A
 checked test a = if test then Ok a else Err (Der der.Value)
 
 -- the contents of an OBJECT IDENTIFIER
 unfoldable pub oid_at : List ℕ → Reading (List ℕ × List ℕ)
 oid_at bytes = contents_at 6 bytes >>= λ x. checked (is_oid x.0) x
+
+-- the contents of an INTEGER
+unfoldable pub int_at : List ℕ → Reading (List ℕ × List ℕ)
+int_at bytes = contents_at 2 bytes >>= λ x. checked (is_int x.0) x
+
+-- whether a value with this tag comes next
+abbrev pub begins_with : ℕ → List ℕ → Bool
+begins_with tag [] = false
+begins_with tag (t ∷ bytes) = t == tag
 
 -- a value of any type as it is encoded, where one is there
 unfoldable pub any_at : List ℕ → Reading (Option (List ℕ) × List ℕ)
@@ -64,3 +77,7 @@ bits_at bytes = contents_at 3 bytes >>= λ x. bits_of x.0 >>= λ bits. Ok (bits,
 -- the value, where nothing follows
 abbrev pub at_end : {A : Type 0} → A → List ℕ → Reading A
 at_end a bytes = if length bytes == 0 then Ok a else Err (Der der.Trailing)
+
+-- what stands before a rest
+abbrev pub before : List ℕ → List ℕ → List ℕ
+before bytes rest = take (length bytes - length rest) bytes

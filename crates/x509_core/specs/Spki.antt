@@ -35,9 +35,14 @@ spki_of contents = do
   bits ← bits_at algorithm.1
   at_end (record { algorithm = algorithm.0; unused_bits = bits.0.0; key = bits.0.1 }) bits.1
 
+unfoldable pub spki_at : List ℕ → Reading (Spki × List ℕ)
+spki_at bytes = do
+  contents ← contents_at 48 bytes
+  spki ← spki_of contents.0
+  Ok (spki, contents.1)
+
 -- the parts of a key that all the bytes encode, or the first refusal in reading order
 unfoldable pub spki_view_of : List ℕ → Reading Spki
 spki_view_of bytes = do
-  contents ← contents_at 48 bytes
-  spki ← spki_of contents.0
-  at_end spki contents.1
+  spki ← spki_at bytes
+  at_end spki.0 spki.1

@@ -2,10 +2,15 @@
 //! timestamps (RFC 6962).
 #![tactic(auto)]
 
+mod certificate;
 mod error;
+mod extension;
 mod identifier;
 mod read;
+mod signed;
 mod spki;
 
+pub use certificate::CertView;
 pub use error::X509Error;
+pub use extension::ExtensionView;
 pub use spki::SpkiView;

@@ -1,11 +1,10 @@
 // Algorithm identifiers and keys.
 ghost use Rattle.std.specs.Prelude.{◌≡◌, IfOk, IfErr, Ok, Err};
-ghost use Rattle.x509_core.specs.Spki.{algorithm_of, algorithm_at, spki_of, spki_view_of};
+ghost use Rattle.x509_core.specs.Spki.{algorithm_of, algorithm_at, spki_of, spki_at, spki_view_of};
 ghost use Rattle.x509_core.specs.Views.{algorithm_parts, spki_parts};
 
 use crate::error::X509Error;
 use crate::read;
-use der_core::Reader;
 
 /// An AlgorithmIdentifier (RFC 5280, 4.1.1.2), its parts as slices of the bytes that were read.
 #[derive(Clone, Copy)]
@@ -38,10 +37,9 @@ fn algorithm_in(contents: &[u8]) -> Result<AlgorithmView, X509Error>
     ensures ok { IfOk result (λ a. algorithm_of contents.now ≡ Ok (algorithm_parts a)) }
     ensures err { IfErr result (λ e. algorithm_of contents.now ≡ Err e) }
 {
-    let mut reader = Reader::new(contents);
-    let oid = read::oid(&mut reader)?;
-    let parameters = read::any(&mut reader)?;
-    read::finish(reader)?;
+    let (oid, rest) = read::oid(contents)?;
+    let (parameters, rest) = read::any(rest)?;
+    read::end(rest)?;
     Ok(AlgorithmView {
         encoded: contents,
         oid,
@@ -49,15 +47,15 @@ fn algorithm_in(contents: &[u8]) -> Result<AlgorithmView, X509Error>
     })
 }
 
-/// Reads the AlgorithmIdentifier that comes next.
+/// An AlgorithmIdentifier at the front.
 #[tactic(auto, unfolding(crate::specs::Spki::algorithm_at))]
-pub fn algorithm<'a>(reader: &mut Reader<'a>) -> Result<AlgorithmView<'a>, X509Error>
-    ensures ok { IfOk result (λ a. algorithm_at reader.old ≡ Ok (algorithm_parts a, reader.new)) }
-    ensures err { IfErr result (λ e. algorithm_at reader.old ≡ Err e) }
+pub fn algorithm(bytes: &[u8]) -> Result<(AlgorithmView, &[u8]), X509Error>
+    ensures ok { IfOk result (λ x. algorithm_at bytes.now ≡ Ok (algorithm_parts x.0, x.1.now)) }
+    ensures err { IfErr result (λ e. algorithm_at bytes.now ≡ Err e) }
 {
-    let contents = read::contents(48, reader)?;
+    let (contents, rest) = read::contents(48, bytes)?;
     let algorithm = algorithm_in(contents)?;
-    Ok(algorithm)
+    Ok((algorithm, rest))
 }
 
 /// The key of the contents of a SubjectPublicKeyInfo.
@@ -66,10 +64,9 @@ pub fn spki_in(contents: &[u8]) -> Result<SpkiView, X509Error>
     ensures ok { IfOk result (λ s. spki_of contents.now ≡ Ok (spki_parts s)) }
     ensures err { IfErr result (λ e. spki_of contents.now ≡ Err e) }
 {
-    let mut reader = Reader::new(contents);
-    let algorithm = algorithm(&mut reader)?;
-    let (unused_bits, key) = read::bits(&mut reader)?;
-    read::finish(reader)?;
+    let (algorithm, rest) = algorithm(contents)?;
+    let (unused_bits, key, rest) = read::bits(rest)?;
+    read::end(rest)?;
     Ok(SpkiView {
         algorithm: algorithm.encoded,
         oid: algorithm.oid,
@@ -79,6 +76,17 @@ pub fn spki_in(contents: &[u8]) -> Result<SpkiView, X509Error>
     })
 }
 
+/// A SubjectPublicKeyInfo at the front.
+#[tactic(auto, unfolding(crate::specs::Spki::spki_at))]
+pub fn spki(bytes: &[u8]) -> Result<(SpkiView, &[u8]), X509Error>
+    ensures ok { IfOk result (λ x. spki_at bytes.now ≡ Ok (spki_parts x.0, x.1.now)) }
+    ensures err { IfErr result (λ e. spki_at bytes.now ≡ Err e) }
+{
+    let (contents, rest) = read::contents(48, bytes)?;
+    let spki = spki_in(contents)?;
+    Ok((spki, rest))
+}
+
 impl<'a> SpkiView<'a> {
     /// The key that all the bytes encode, or the first refusal in reading order: those of DER alone.
     #[tactic(auto, unfolding(crate::specs::Spki::spki_view_of))]
@@ -86,10 +94,8 @@ impl<'a> SpkiView<'a> {
         ensures ok { IfOk result (λ s. spki_view_of bytes.now ≡ Ok (spki_parts s)) }
         ensures err { IfErr result (λ e. spki_view_of bytes.now ≡ Err e) }
     {
-        let mut reader = Reader::new(bytes);
-        let contents = read::contents(48, &mut reader)?;
-        let spki = spki_in(contents)?;
-        read::finish(reader)?;
+        let (spki, rest) = spki(bytes)?;
+        read::end(rest)?;
         Ok(spki)
     }
 }
