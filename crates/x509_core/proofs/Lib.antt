@@ -1,3 +1,4 @@
 mod Arcs
 mod Lists
+mod SctLists
 mod Shorter

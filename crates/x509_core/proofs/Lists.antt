@@ -18,7 +18,7 @@ pub bind_reads : {A B : Type 0} (r : Reading A) (f : A → Reading B) (y : B) �
 bind_reads (Ok x) f y e = (x, refl, e)
 bind_reads (Err d) f y e = absurd cc
 
-both_ways : {A B : Type 0} (r : Reading A) (f h : A → Reading B) → ((x : A) → r ≡ Ok x → f x ≡ h x) → (r >>= f) ≡ (r >>= h)
+pub both_ways : {A B : Type 0} (r : Reading A) (f h : A → Reading B) → ((x : A) → r ≡ Ok x → f x ≡ h x) → (r >>= f) ≡ (r >>= h)
 both_ways (Ok x) f h same = same x refl
 both_ways (Err e) f h same = refl
 
@@ -43,7 +43,7 @@ contents-shrinks tag bytes c rest h = read-shrinks (primitive tag (λ c. true)) 
 abbrev done : {A : Type 0} → A → Reading A
 done x = Ok x
 
-reading_is : {A : Type 0} (x y : A) → done x ≡ done y → x ≡ y
+pub reading_is : {A : Type 0} (x y : A) → done x ≡ done y → x ≡ y
 reading_is x y e = cc
 
 extension-shrinks : (bytes : List ℕ) (x : OneExtension) (rest : List ℕ) → extension_at bytes ≡ Ok (x, rest) → length rest < length bytes

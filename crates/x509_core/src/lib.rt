@@ -7,10 +7,14 @@ mod error;
 mod extension;
 mod identifier;
 mod read;
+mod sct;
+mod scts;
 mod signed;
 mod spki;
 
 pub use certificate::CertView;
 pub use error::X509Error;
 pub use extension::ExtensionView;
+pub use sct::Sct;
+pub use scts::sct_list;
 pub use spki::SpkiView;
