@@ -1,5 +1,6 @@
 pub mod Certificates
 pub mod Extensions
+pub mod Precertificates
 pub mod Reading
 pub mod Scts
 pub mod Spki

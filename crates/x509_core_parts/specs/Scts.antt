@@ -96,11 +96,13 @@ two_octets n = (n / 256) ∷ (n % 256) ∷ []
 abbrev pub three_octets : ℕ → List ℕ
 three_octets n = (n / 65536) ∷ (n / 256 % 256) ∷ (n % 256) ∷ []
 
--- sct_version v1, signature_type certificate_timestamp, timestamp, entry_type precert_entry, issuer_key_hash,
--- tbs_certificate and extensions
+-- sct_version v1, signature_type certificate_timestamp, timestamp, entry_type precert_entry and issuer_key_hash
+abbrev pub signed_front : Parts → List ℕ → List ℕ
+signed_front sct key_hash = (0 ∷ 0 ∷ []) ++ to_be_bytes w64 sct.milliseconds ++ (0 ∷ 1 ∷ []) ++ key_hash
+
+-- behind them tbs_certificate and extensions, each behind its length
 abbrev pub signed_bytes : Parts → List ℕ → List ℕ → List ℕ
-signed_bytes sct key_hash tbs =
-    0 ∷ 0 ∷ to_be_bytes w64 sct.milliseconds ++ 0 ∷ 1 ∷ key_hash ++ three_octets (length tbs) ++ tbs ++ two_octets (length sct.extensions) ++ sct.extensions
+signed_bytes sct key_hash tbs = signed_front sct key_hash ++ three_octets (length tbs) ++ tbs ++ two_octets (length sct.extensions) ++ sct.extensions
 
 unfoldable pub signed_of : Parts → List ℕ → List ℕ → Reading (List ℕ)
 signed_of sct key_hash tbs = if nat_lt (length tbs) 16777216 then Ok (signed_bytes sct key_hash tbs) else Err SctList
