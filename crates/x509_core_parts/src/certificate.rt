@@ -1,5 +1,5 @@
 // Certificates as parts of their bytes.
-ghost use Rattle.std.specs.Prelude.{◌≡◌, IfOk, IfErr, Ok, Err, option_copied, option_map};
+ghost use Rattle.std.specs.Prelude.{◌≡◌, IfOk, IfErr, Ok, Err, is_ok, option_copied, option_map};
 ghost use Rattle.x509_core_parts.specs.Certificates.{signed_of, same_algorithm, full_octets, signature_at, parts_of, certificate_of};
 ghost use Rattle.x509_core_parts.specs.Views.{signed_parts, certificate_parts, shown, extension_shown};
 ghost use Rattle.x509_core_parts.specs.Extensions.{found_in};
@@ -154,4 +154,11 @@ impl<'a> CertView<'a> {
             None => None,
         }
     }
+}
+
+/// Whether octets are the contents of a certificate's SEQUENCE.
+pub fn is_certificate(contents: &[u8]) -> bool
+    ensures { result ≡ is_ok (parts_of contents.now) }
+{
+    parts_in(contents, contents).is_ok()
 }

@@ -13,7 +13,7 @@ mod scts;
 mod signed;
 mod spki;
 
-pub use certificate::CertView;
+pub use certificate::{CertView, is_certificate};
 pub use error::X509Error;
 pub use extension::ExtensionView;
 pub use precert::{precert_tbs, sct_signed_bytes};

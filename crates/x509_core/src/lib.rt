@@ -1,0 +1,28 @@
+//! The types of X.509 certificates (RFC 5280) that own their bytes, and the names of
+//! `x509_core_parts`.
+#![tactic(auto)]
+
+mod algorithm;
+mod attribute;
+mod extension;
+mod general_name;
+mod kinds;
+mod laws;
+mod other_name;
+mod time;
+
+pub use algorithm::AlgorithmIdentifierOwned;
+pub use attribute::{Attribute, Attributes};
+pub use extension::Extension;
+pub use general_name::GeneralName;
+pub use kinds::{
+    Certificate, CertificateKind, CertificateList, CertificateListKind, Name, NameKind,
+    SerialNumber, SerialNumberKind, SubjectKeyIdentifier, SubjectKeyIdentifierKind,
+};
+pub use laws::certificates_alike;
+pub use other_name::OtherName;
+pub use time::Time;
+pub use x509_core_parts::{
+    CertView, ExtensionView, Sct, SpkiView, X509Error, is_certificate, precert_tbs, sct_list,
+    sct_signed_bytes,
+};
