@@ -23,14 +23,23 @@ parts_alike : (r : Reading Certificate) (contents rest : List ℕ)
 parts_alike (Ok parts) contents rest = ends_alike (eqb (length rest) 0) contents parts
 parts_alike (Err e) contents rest = refl
 
-tags_alike : (b : Bool) (t : ℕ × List ℕ × List ℕ)
-    → is_ok (cond b (judged (is_ok (parts_of t.1)) t.1 >>= λ a. Ok (a, t.2)) (Err der.Tag) >>= ended) ≡ is_ok (cond b (Ok (t.1, t.2)) (Err (Der der.Tag)) >>= λ x. parts_of x.0 >>= λ parts. at_end parts x.1)
-tags_alike true t = parts_alike (parts_of t.1) t.1 t.2
-tags_alike false t = refl
+abbrev owned : List ℕ → List ℕ → Outcome (List ℕ × List ℕ)
+owned contents rest = judged (is_ok (parts_of contents)) contents >>= λ a. Ok (a, rest)
+
+abbrev viewed : List ℕ × List ℕ → Reading Certificate
+viewed x = parts_of x.0 >>= λ parts. at_end parts x.1
+
+abbrev one : List ℕ → List ℕ → Reading (List ℕ × List ℕ)
+one contents rest = Ok (contents, rest)
+
+tags_alike : (b : Bool) (contents rest : List ℕ)
+    → is_ok (cond b (owned contents rest) (Err der.Tag) >>= ended) ≡ is_ok (cond b (one contents rest) (Err (Der der.Tag)) >>= viewed)
+tags_alike true contents rest = parts_alike (parts_of contents) contents rest
+tags_alike false contents rest = refl
 
 values_alike : (r : Outcome (ℕ × List ℕ × List ℕ))
-    → is_ok ((r >>= read_body certificate_type.grammar) >>= ended) ≡ is_ok ((of_der r >>= with_tag 48) >>= λ x. parts_of x.0 >>= λ parts. at_end parts x.1)
-values_alike (Ok t) = tags_alike (eqb t.0 48) t
+    → is_ok ((r >>= read_body certificate_type.grammar) >>= ended) ≡ is_ok ((of_der r >>= with_tag 48) >>= viewed)
+values_alike (Ok t) = tags_alike (eqb t.0 48) t.1 t.2
 values_alike (Err e) = refl
 
 pub alike : (bytes : List ℕ) → is_ok (read_all certificate_type.grammar bytes) ≡ is_ok (certificate_of bytes)

@@ -7,7 +7,7 @@ use Rattle.der_core_parts.specs.Octets.{octet_string_type}
 use Rattle.der_core.specs.Oid.{oid_type}
 use Rattle.der_core.specs.Strings.{ia5_type}
 use Rattle.der_core.specs.Times.{utc_time_type, generalized_time_type}
-use Rattle.x509_core.specs.AnyOf.{any_of_type}
+use Rattle.x509_core.specs.OtherNames.{other_name_type}
 use Rattle.x509_core.specs.declared.algorithm.AlgorithmIdentifierOwned.{AlgorithmIdentifierOwned}
 use Rattle.x509_core.specs.declared.attribute.Attribute.{Attribute}
 use Rattle.x509_core.specs.declared.extension.Extension.{Extension}
@@ -53,13 +53,6 @@ abbrev pub time_type : AsnType Time
 time_type = choice_type to_time from_time utc_time_type generalized_time_type refl time-there time-again
 
 -- ---- GeneralName (RFC 5280, 4.2.1.6)
-
--- otherName, dNSName, x400Address, directoryName, ediPartyName, iPAddress and registeredID
-abbrev pub other_tags : List ℕ
-other_tags = 160 ∷ 130 ∷ 163 ∷ 164 ∷ 165 ∷ 135 ∷ 136 ∷ []
-
-abbrev pub other_name_type : AsnType (ℕ × List ℕ)
-other_name_type = any_of_type other_tags refl
 
 -- uniformResourceIdentifier [6] IMPLICIT IA5String, or one of the others
 abbrev pub uri_or_other_type : AsnType (List ℕ ⊎ (ℕ × List ℕ))

@@ -26,21 +26,11 @@ impl Der for GeneralName {
 
     fn from_contents(alloc: Global, tag: Tag, contents: &[u8]) -> Result<GeneralName, DerError> {
         if tag.0 == 129 {
-            Ok(GeneralName::Rfc822Name(Ia5::from_contents(
-                alloc,
-                Tag(22),
-                contents,
-            )?))
+            Ok(GeneralName::Rfc822Name(Ia5::from_contents(alloc, Tag(22), contents)?))
         } else if tag.0 == 134 {
-            Ok(GeneralName::Uri(Ia5::from_contents(
-                alloc,
-                Tag(22),
-                contents,
-            )?))
+            Ok(GeneralName::Uri(Ia5::from_contents(alloc, Tag(22), contents)?))
         } else {
-            Ok(GeneralName::Other(OtherName::from_contents(
-                alloc, tag, contents,
-            )?))
+            Ok(GeneralName::Other(OtherName::from_contents(alloc, tag, contents)?))
         }
     }
 

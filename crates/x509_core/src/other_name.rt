@@ -5,7 +5,7 @@ ghost use Rattle.std.specs.Cmp.Rules.{comparing};
 ghost use Rattle.std.proofs.Common.{rules};
 ghost use Rattle.der_core_parts.specs.declared.error.DerError.TheVariants.{NoMemory as Want, Value as BadValue};
 ghost use Rattle.der_core_parts.specs.Types.{is_in};
-ghost use Rattle.x509_core.specs.Types.{other_tags, other_name_type};
+ghost use Rattle.x509_core.specs.OtherNames.{other_tags, other_name_type};
 
 use der_core::{Der, DerError, OctetString, Tag};
 use foundation::{Duplicate, NoMemory};
@@ -23,7 +23,7 @@ pub struct OtherName {
 impl Model for OtherName {
     ghost use Rattle.std.specs.Prelude.{◌≡◌, ℕ, List, true};
     ghost use Rattle.der_core_parts.specs.Types.{is_in};
-    ghost use Rattle.x509_core.specs.Types.{other_tags};
+    ghost use Rattle.x509_core.specs.OtherNames.{other_tags};
 
     ghost Value = { ℕ × List ℕ };
 
