@@ -9,6 +9,10 @@ mod general_name;
 mod kinds;
 mod laws;
 mod other_name;
+#[cfg(test)]
+mod test_data;
+#[cfg(test)]
+mod tests;
 mod time;
 
 pub use algorithm::AlgorithmIdentifierOwned;

@@ -1,0 +1,400 @@
+// Certificates that OpenSSL made, changes of them, and encodings worked out by hand.
+use crate::test_data::{ED25519, ISSUER, LISTED, LOG, P256, P384, RSA, SIGNED};
+use crate::*;
+use der_core::{Civil, Der, DerError, ObjectIdentifier, Tag};
+use foundation::Duplicate;
+use std::alloc::Global;
+use std::test::Fail;
+
+/// Where a part begins and ends.
+type Place = (usize, usize);
+
+/// Where OpenSSL finds the parts of a certificate.
+#[derive(Clone, Copy)]
+struct Places {
+    tbs: Place,
+    serial: Place,
+    issuer: Place,
+    subject: Place,
+    spki: Place,
+    signature: Place,
+}
+
+fn part(bytes: &[u8], place: Place) -> &[u8] {
+    let (front, _) = bytes.split_at(place.1.min(bytes.len()));
+    let (_, part) = front.split_at(place.0.min(front.len()));
+    part
+}
+
+fn stands_at(bytes: &[u8], places: &Places) -> bool {
+    match CertView::parse(bytes) {
+        Ok(cert) => {
+            cert.whole == bytes
+                && cert.version == 2
+                && cert.tbs == part(bytes, places.tbs)
+                && cert.serial == part(bytes, places.serial)
+                && cert.issuer == part(bytes, places.issuer)
+                && cert.subject == part(bytes, places.subject)
+                && cert.spki == part(bytes, places.spki)
+                && cert.signature == part(bytes, places.signature)
+        }
+        Err(_) => false,
+    }
+}
+
+#[test]
+fn parts_of_certificates(rt: HostRuntime) -> Result<(), Fail> {
+    let alloc = rt.alloc();
+    let rows = [
+        (
+            P256,
+            Places {
+                tbs: (4, 330),
+                serial: (15, 17),
+                issuer: (29, 46),
+                subject: (78, 95),
+                spki: (95, 186),
+                signature: (345, 416),
+            },
+        ),
+        (
+            P384,
+            Places {
+                tbs: (4, 285),
+                serial: (15, 20),
+                issuer: (32, 47),
+                subject: (79, 94),
+                spki: (94, 214),
+                signature: (300, 402),
+            },
+        ),
+        (
+            RSA,
+            Places {
+                tbs: (4, 318),
+                serial: (15, 16),
+                issuer: (31, 47),
+                subject: (79, 95),
+                spki: (95, 257),
+                signature: (337, 465),
+            },
+        ),
+        (
+            ED25519,
+            Places {
+                tbs: (4, 197),
+                serial: (14, 35),
+                issuer: (42, 57),
+                subject: (89, 104),
+                spki: (104, 148),
+                signature: (207, 271),
+            },
+        ),
+    ];
+    for (text, places) in &rows {
+        let bytes = hex::decode(alloc, text)?;
+        assert!(rt; stands_at(&bytes, places));
+    }
+    Ok(())
+}
+
+/// The critical mark and the value of an extension.
+fn extension_of(alloc: Global, text: &str, oid: &str) -> Result<Option<(bool, String)>, Fail> {
+    let bytes = hex::decode(alloc, text)?;
+    let cert = CertView::parse(&bytes)?;
+    match cert.extension(&ObjectIdentifier::new(oid)?) {
+        Some(extension) => Ok(Some((extension.critical, hex::encode(alloc, extension.value)?))),
+        None => Ok(None),
+    }
+}
+
+#[test]
+fn extensions_and_times(rt: HostRuntime) -> Result<(), Fail> {
+    let alloc = rt.alloc();
+    let rows = [
+        (P256, "2.5.29.15", true, "03020780"),
+        (P256, "2.5.29.37", false, "300a06082b06010505070303"),
+        (
+            P256,
+            "2.5.29.17",
+            true,
+            "3015861368747470733a2f2f612e6578616d706c652f77",
+        ),
+        (
+            P256,
+            "1.3.6.1.4.1.57264.1.8",
+            false,
+            "0c1168747470733a2f2f692e6578616d706c65",
+        ),
+        (P384, "2.5.29.19", true, "30060101ff020101"),
+        (
+            RSA,
+            "2.5.29.17",
+            false,
+            "300f810d62406578616d706c652e6f7267",
+        ),
+        (ED25519, "2.5.29.19", true, "3000"),
+    ];
+    for (text, oid, critical, value) in &rows {
+        match extension_of(alloc, text, oid)? {
+            Some(found) => assert!(rt; found.0 == *critical && found.1.as_str() == *value),
+            None => assert!(rt; false),
+        }
+    }
+    assert!(rt; extension_of(alloc, P256, "2.5.29.19")?.is_none());
+    let bytes = hex::decode(alloc, P384)?;
+    let cert = CertView::parse(&bytes)?;
+    let start = Civil {
+        year: 2026,
+        month: 11,
+        day: 27,
+        hour: 6,
+        minute: 38,
+        second: 59,
+    };
+    assert_eq!(rt; cert.not_before, start);
+    assert_eq!(rt; cert.not_after.year, 2036);
+    assert_eq!(rt; cert.not_after.day, 24);
+    Ok(())
+}
+
+#[test]
+fn keys(rt: HostRuntime) -> Result<(), Fail> {
+    let alloc = rt.alloc();
+    let rows = [
+        (P256, "2a8648ce3d0201", "06082a8648ce3d030107", 65),
+        (P384, "2a8648ce3d0201", "06052b81040022", 97),
+        (RSA, "2a864886f70d010101", "0500", 140),
+        (ED25519, "2b6570", "", 32),
+    ];
+    for (text, oid, parameters, length) in &rows {
+        let bytes = hex::decode(alloc, text)?;
+        let key = SpkiView::parse(CertView::parse(&bytes)?.spki)?;
+        assert_eq!(rt; hex::encode(alloc, key.oid)?.as_str(), *oid);
+        assert_eq!(rt;
+            hex::encode(alloc, key.parameters.unwrap_or(&[]))?.as_str(),
+            *parameters
+        );
+        assert!(rt; key.unused_bits == 0 && key.key.len() == *length);
+    }
+    let bytes = hex::decode(alloc, "3009300306012a030204f0")?;
+    let key = SpkiView::parse(&bytes)?;
+    assert!(rt; key.unused_bits == 4 && key.key == [0xf0u8].as_slice());
+    let rows = [
+        ("", DerError::Truncated),
+        ("3000", DerError::Truncated),
+        ("3009300306012a040204f0", DerError::Tag),
+        ("3009300306018003020400", DerError::Value),
+        ("3009300306012a030204f1", DerError::Value),
+        ("300b300306012a030204f00500", DerError::Trailing),
+        ("300d300706012a05000500030204f0", DerError::Trailing),
+        ("3009300306012a030204f000", DerError::Trailing),
+    ];
+    for (text, refusal) in &rows {
+        let bytes = hex::decode(alloc, text)?;
+        assert!(rt; SpkiView::parse(&bytes).err() == Some(X509Error::Der(*refusal)));
+    }
+    Ok(())
+}
+
+/// Why the P-256 certificate with one octet changed is refused.
+fn refusal_of(alloc: Global, at: usize, octet: u8) -> Result<Option<X509Error>, Fail> {
+    let mut bytes = hex::decode(alloc, P256)?;
+    if at < bytes.len() {
+        bytes[at] = octet;
+    } else {
+        bytes.push(octet)?;
+    }
+    Ok(CertView::parse(&bytes).err())
+}
+
+#[test]
+fn changed_certificates(rt: HostRuntime) -> Result<(), Fail> {
+    let alloc = rt.alloc();
+    let rows = [
+        (0, 0x31, X509Error::Der(DerError::Tag)),
+        (1, 0x80, X509Error::Der(DerError::Length)),
+        (3, 0x9d, X509Error::Der(DerError::Truncated)),
+        (12, 0x00, X509Error::Version),
+        (12, 0x03, X509Error::Version),
+        (15, 0x00, X509Error::Der(DerError::Value)),
+        (28, 0x03, X509Error::Algorithms),
+        (29, 0x31, X509Error::Der(DerError::Tag)),
+        (48, 0x16, X509Error::Time),
+        (52, 0x32, X509Error::Time),
+        (120, 0x08, X509Error::Der(DerError::Value)),
+        (186, 0xa1, X509Error::Der(DerError::Trailing)),
+        (201, 0x00, X509Error::Der(DerError::Value)),
+        (235, 0x0f, X509Error::Extension),
+        (344, 0x01, X509Error::Der(DerError::Value)),
+        (416, 0x00, X509Error::Der(DerError::Trailing)),
+    ];
+    for (at, octet, refusal) in &rows {
+        assert!(rt; refusal_of(alloc, *at, *octet)? == Some(*refusal));
+    }
+    assert!(rt; refusal_of(alloc, 15, 0x7e)?.is_none());
+    Ok(())
+}
+
+#[test]
+fn timestamps(rt: HostRuntime) -> Result<(), Fail> {
+    let alloc = rt.alloc();
+    let bytes = hex::decode(alloc, LISTED)?;
+    let cert = CertView::parse(&bytes)?;
+    let tbs = precert_tbs(alloc, &cert)?;
+    let oid = ObjectIdentifier::new("1.3.6.1.4.1.11129.2.4.2")?;
+    let value = match cert.extension(&oid) {
+        Some(extension) => extension.value,
+        None => &[],
+    };
+    let mut scts = sct_list(alloc, value)?;
+    assert_eq!(rt; scts.len(), 1);
+    let long = vec![in alloc; 0u8; 16777216]?;
+    match scts.pop() {
+        Some(sct) => {
+            assert_eq!(rt; sct.log_id(), &LOG);
+            assert_eq!(rt; sct.milliseconds(), 1764225540123);
+            assert!(rt; sct.extensions().is_empty() && sct.algorithm() == [4, 3]);
+            assert_eq!(rt; sct.signature().len(), 70);
+            let signed = sct_signed_bytes(alloc, &sct, &ISSUER, tbs.as_bytes())?;
+            assert_eq!(rt; hex::encode(alloc, signed.as_bytes())?.as_str(), SIGNED);
+            let refused = sct_signed_bytes(alloc, &sct, &ISSUER, &long);
+            assert!(rt; refused.err() == Some(X509Error::SctList));
+            assert_eq!(rt; sct.duplicate(alloc)?.milliseconds(), 1764225540123);
+        }
+        None => assert!(rt; false),
+    }
+    let bytes = hex::decode(alloc, P256)?;
+    let cert = CertView::parse(&bytes)?;
+    assert_eq!(rt; precert_tbs(alloc, &cert)?.as_bytes(), cert.tbs);
+    Ok(())
+}
+
+#[test]
+fn lists_of_timestamps(rt: HostRuntime) -> Result<(), Fail> {
+    let alloc = rt.alloc();
+    let empty = hex::decode(alloc, "04020000")?;
+    assert!(rt; sct_list(alloc, &empty)?.is_empty());
+    let rows = [
+        "",
+        "0400",
+        "04020001",
+        "0403000000",
+        "0402000000",
+        "05020000",
+        "040400020000",
+        "04050003000100",
+    ];
+    for text in &rows {
+        let bytes = hex::decode(alloc, text)?;
+        assert!(rt; sct_list(alloc, &bytes).err() == Some(X509Error::SctList));
+    }
+    Ok(())
+}
+
+/// Why the bytes of a hexadecimal text are refused as a value; None where they are read, are equal
+/// to a copy and are written again.
+fn owned_refusal<T: Der + Duplicate + PartialEq>(
+    alloc: Global,
+    text: &str,
+) -> Result<Option<DerError>, Fail> {
+    let bytes = hex::decode(alloc, text)?;
+    match T::from_der(alloc, &bytes) {
+        Ok(value) => {
+            let copy = value.duplicate(alloc)?;
+            if copy == value && copy.to_der(alloc)?.as_bytes() == bytes.as_slice() {
+                Ok(None)
+            } else {
+                Ok(Some(DerError::Oid))
+            }
+        }
+        Err(refusal) => Ok(Some(refusal)),
+    }
+}
+
+fn answers<T: Der + Duplicate + PartialEq>(
+    alloc: Global,
+    rows: &[(&str, Option<DerError>)],
+) -> Result<bool, Fail> {
+    for (text, refusal) in rows {
+        if owned_refusal::<T>(alloc, text)? != *refusal {
+            return Ok(false);
+        }
+    }
+    Ok(true)
+}
+
+#[test]
+fn owned_types(rt: HostRuntime) -> Result<(), Fail> {
+    let alloc = rt.alloc();
+    let (tag, value) = (Some(DerError::Tag), Some(DerError::Value));
+    let algorithms = [
+        ("300d06092a864886f70d01010b0500", None),
+        ("300506032b6570", None),
+        ("300706032b65700500ff", Some(DerError::Trailing)),
+        ("300906032b657005000500", Some(DerError::Trailing)),
+    ];
+    assert!(rt; answers::<AlgorithmIdentifierOwned>(alloc, &algorithms)?);
+    let attribute = [
+        ("300a06032b65703103020101", None),
+        (
+            "300d06032b65703106020101020101",
+            Some(DerError::SetDuplicate),
+        ),
+    ];
+    assert!(rt; answers::<Attribute>(alloc, &attribute)?);
+    let attributes = [("310c300a06032b65703103020101", None), ("3100", None)];
+    assert!(rt; answers::<Attributes>(alloc, &attributes)?);
+    let extensions = [
+        ("300e0603551d0f0101ff040403020780", None),
+        ("300b0603551d0f040403020780", None),
+        ("300e0603551d0f010100040403020780", value),
+    ];
+    assert!(rt; answers::<Extension>(alloc, &extensions)?);
+    let names = [
+        ("8103614062", None),
+        ("8603613a62", None),
+        ("a000", None),
+        ("8704c0000201", None),
+        ("8101ff", value),
+        ("a100", tag),
+    ];
+    assert!(rt; answers::<GeneralName>(alloc, &names)?);
+    let times = [
+        ("170d3236313132373036333835395a", None),
+        ("180f32303236313132373036333835395a", None),
+        ("170d3236313332373036333835395a", value),
+        ("160100", tag),
+    ];
+    assert!(rt; answers::<Time>(alloc, &times)?);
+    Ok(())
+}
+
+#[test]
+fn kept_types(rt: HostRuntime) -> Result<(), Fail> {
+    let alloc = rt.alloc();
+    let value = Some(DerError::Value);
+    assert!(rt; answers::<Name>(alloc, &[("3000", None), ("3002ffff", None)])?);
+    let serials = [
+        ("0215008000000000000000000000000000000000000001", None),
+        ("021600800000000000000000000000000000000000000001", value),
+        ("0200", value),
+    ];
+    assert!(rt; answers::<SerialNumber>(alloc, &serials)?);
+    assert!(rt; answers::<SubjectKeyIdentifier>(alloc, &[("0400", None)])?);
+    let lists = [
+        ("3006300005000500", None),
+        ("300430000500", Some(DerError::Value)),
+        ("3008300005000500", Some(DerError::Truncated)),
+        ("3008300005000500ff00", value),
+    ];
+    assert!(rt; answers::<CertificateList>(alloc, &lists)?);
+    assert!(rt; answers::<Certificate>(alloc, &[(P256, None), (ED25519, None), ("3000", value)])?);
+    let other = OtherName::new(alloc, Tag(0x82), b"a.example")?;
+    assert_eq!(rt;
+        other.to_der(alloc)?.as_bytes(),
+        b"\x82\x09a.example".as_slice()
+    );
+    assert!(rt; OtherName::new(alloc, Tag(0x81), b"a").is_err());
+    Ok(())
+}
