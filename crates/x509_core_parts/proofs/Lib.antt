@@ -2,3 +2,5 @@ mod Arcs
 mod Lists
 mod SctLists
 mod Shorter
+mod Signed
+mod Wholes
