@@ -1,6 +1,6 @@
 mod Arcs
 mod Lists
+mod Made
 mod SctLists
 mod Shorter
-mod Signed
 mod Wholes

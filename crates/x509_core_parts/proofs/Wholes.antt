@@ -83,9 +83,12 @@ pub record Inner {A : Type 0} (tag : ℕ) (bytes : List ℕ) (f : List ℕ → R
   pub read : contents_at tag bytes ≡ Ok (contents, rest)
   pub value : f contents ≡ Ok a
 
-pub inner-so : {A : Type 0} (tag : ℕ) (bytes : List ℕ) (f : List ℕ → Reading A) (a : A) (rest : List ℕ) → (contents_at tag bytes >>= λ x. f x.0 >>= λ v. Ok (v, x.1)) ≡ Ok (a, rest) → Inner tag bytes f a rest
+abbrev pub valued : {A : Type 0} → (List ℕ → Reading A) → List ℕ × List ℕ → Reading (A × List ℕ)
+valued f x = f x.0 >>= λ v. Ok (v, x.1)
+
+pub inner-so : {A : Type 0} (tag : ℕ) (bytes : List ℕ) (f : List ℕ → Reading A) (a : A) (rest : List ℕ) → (contents_at tag bytes >>= valued f) ≡ Ok (a, rest) → Inner tag bytes f a rest
 inner-so {A} tag bytes f a rest h =
-    let m = bind_reads (contents_at tag bytes) _ (a, rest) h in
+    let m = bind_reads (contents_at tag bytes) (valued f) (a, rest) h in
     let v = bind_reads (f m.0.0) _ (a, rest) m.2 in
     let same = reading_is (v.0, m.0.1) (a, rest) v.2 in
     let is : m.0.1 ≡ rest = ap (λ (z : A × List ℕ). z.1) same in

@@ -1,4 +1,4 @@
-use Rattle.x509_core_parts.proofs.Signed.{extension-facts}
+use Rattle.x509_core_parts.proofs.Made.{extension-facts}
 use Rattle.x509_core_parts.proofs.laws.signed_part_is_its_parts.Goals as goal
 
 pub returns : goal.returns
