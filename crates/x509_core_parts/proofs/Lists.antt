@@ -46,7 +46,7 @@ done x = Ok x
 pub reading_is : {A : Type 0} (x y : A) → done x ≡ done y → x ≡ y
 reading_is x y e = cc
 
-extension-shrinks : (bytes : List ℕ) (x : OneExtension) (rest : List ℕ) → extension_at bytes ≡ Ok (x, rest) → length rest < length bytes
+pub extension-shrinks : (bytes : List ℕ) (x : OneExtension) (rest : List ℕ) → extension_at bytes ≡ Ok (x, rest) → length rest < length bytes
 unfolding extension_at
 extension-shrinks bytes x rest h =
     let c = bind_reads (contents_at 48 bytes) _ (x, rest) h in

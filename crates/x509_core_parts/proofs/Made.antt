@@ -219,7 +219,7 @@ parts-facts contents c fits h =
     let last : a.0.1 ≡ tlv 3 (0 ∷ g.0.0) = kg.whole ∙ ap (λ (z : List ℕ). tlv 3 (0 ∷ g.0.0) ++ z) e.1 ∙ append-nil (tlv 3 (0 ∷ g.0.0)) in
     let rest : t.0.1 ≡ tlv 48 a.0.0.encoded ++ tlv 3 (0 ∷ g.0.0) = ka.whole ∙ ap (λ (z : List ℕ). tlv 48 a.0.0.encoded ++ z) last in
     let all : contents ≡ tlv 48 t.0.0 ++ tlv 48 a.0.0.encoded ++ tlv 3 (0 ∷ g.0.0) =
-        kt.whole ∙ ap (λ (z : List ℕ). tlv 48 t.0.0 ++ z) rest ∙ sym (append_assoc (tlv 48 t.0.0) (tlv 48 a.0.0.encoded) (tlv 3 (0 ∷ g.0.0))) in
+    kt.whole ∙ ap (λ (z : List ℕ). tlv 48 t.0.0 ++ z) rest ∙ sym (append_assoc (tlv 48 t.0.0) (tlv 48 a.0.0.encoded) (tlv 3 (0 ∷ g.0.0))) in
     record {
       body = t.0.0;
       body_bytes = kt.value_bytes;

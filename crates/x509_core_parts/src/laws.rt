@@ -16,3 +16,15 @@ pub fn signed_part_is_its_parts()
     ensures { (bytes : List ℕ) (c : Certificate) (list : List ℕ) → IsBytes bytes → certificate_of bytes ≡ Ok c → c.signed.tail.extensions ≡ Some list
         → c.tbs ≡ tlv 48 (c.signed.tail.front ++ tlv 163 (tlv 48 list)) }
 {}
+
+/// No identifier stands twice among a certificate's extensions (RFC 5280, 4.2).
+pub fn extension_stands_once()
+    ensures { (bytes : List ℕ) (c : Certificate) (list oid : List ℕ) (found : Found) → IsBytes bytes → certificate_of bytes ≡ Ok c → c.signed.tail.extensions ≡ Some list
+        → found_of oid list ≡ Some found → found_of oid found.behind ≡ None }
+{}
+
+/// For a certificate that was read, the signed part of its precertificate is there.
+pub fn precertificate_is_there()
+    ensures { (bytes : List ℕ) (c : Certificate) → IsBytes bytes → certificate_of bytes ≡ Ok c
+        → (tbs : List ℕ) × (precert_of c.tbs c.signed.tail.front c.signed.tail.extensions ≡ Ok tbs) }
+{}

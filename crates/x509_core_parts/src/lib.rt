@@ -17,7 +17,10 @@ mod spki;
 pub use certificate::{CertView, is_certificate};
 pub use error::X509Error;
 pub use extension::ExtensionView;
-pub use laws::{certificate_is_its_parts, signed_part_is_its_parts};
+pub use laws::{
+    certificate_is_its_parts, extension_stands_once, precertificate_is_there,
+    signed_part_is_its_parts,
+};
 pub use precert::{precert_tbs, sct_signed_bytes};
 pub use sct::Sct;
 pub use scts::sct_list;
