@@ -1,5 +1,5 @@
 // Certificates that OpenSSL made, changes of them, and encodings worked out by hand.
-use crate::test_data::{ED25519, ISSUER, LISTED, LOG, P256, P384, RSA, SIGNED};
+use crate::test_data::{ISSUER, LOG, ed25519, listed, p256, p384, rsa, signed};
 use crate::*;
 use der_core::{Civil, Der, DerError, ObjectIdentifier, Tag};
 use foundation::Duplicate;
@@ -42,12 +42,10 @@ fn stands_at(bytes: &[u8], places: &Places) -> bool {
     }
 }
 
-#[test]
-fn parts_of_certificates(rt: HostRuntime) -> Result<(), Fail> {
-    let alloc = rt.alloc();
-    let rows = [
+fn place_rows() -> [(&'static str, Places); 4] {
+    [
         (
-            P256,
+            p256(),
             Places {
                 tbs: (4, 330),
                 serial: (15, 17),
@@ -58,7 +56,7 @@ fn parts_of_certificates(rt: HostRuntime) -> Result<(), Fail> {
             },
         ),
         (
-            P384,
+            p384(),
             Places {
                 tbs: (4, 285),
                 serial: (15, 20),
@@ -69,7 +67,7 @@ fn parts_of_certificates(rt: HostRuntime) -> Result<(), Fail> {
             },
         ),
         (
-            RSA,
+            rsa(),
             Places {
                 tbs: (4, 318),
                 serial: (15, 16),
@@ -80,7 +78,7 @@ fn parts_of_certificates(rt: HostRuntime) -> Result<(), Fail> {
             },
         ),
         (
-            ED25519,
+            ed25519(),
             Places {
                 tbs: (4, 197),
                 serial: (14, 35),
@@ -90,7 +88,13 @@ fn parts_of_certificates(rt: HostRuntime) -> Result<(), Fail> {
                 signature: (207, 271),
             },
         ),
-    ];
+    ]
+}
+
+#[test]
+fn parts_of_certificates(rt: HostRuntime) -> Result<(), Fail> {
+    let alloc = rt.alloc();
+    let rows = place_rows();
     for (text, places) in &rows {
         let bytes = hex::decode(alloc, text)?;
         assert!(rt; stands_at(&bytes, places));
@@ -108,41 +112,45 @@ fn extension_of(alloc: Global, text: &str, oid: &str) -> Result<Option<(bool, St
     }
 }
 
-#[test]
-fn extensions_and_times(rt: HostRuntime) -> Result<(), Fail> {
-    let alloc = rt.alloc();
-    let rows = [
-        (P256, "2.5.29.15", true, "03020780"),
-        (P256, "2.5.29.37", false, "300a06082b06010505070303"),
+fn extensions() -> [(&'static str, &'static str, bool, &'static str); 7] {
+    [
+        (p256(), "2.5.29.15", true, "03020780"),
+        (p256(), "2.5.29.37", false, "300a06082b06010505070303"),
         (
-            P256,
+            p256(),
             "2.5.29.17",
             true,
             "3015861368747470733a2f2f612e6578616d706c652f77",
         ),
         (
-            P256,
+            p256(),
             "1.3.6.1.4.1.57264.1.8",
             false,
             "0c1168747470733a2f2f692e6578616d706c65",
         ),
-        (P384, "2.5.29.19", true, "30060101ff020101"),
+        (p384(), "2.5.29.19", true, "30060101ff020101"),
         (
-            RSA,
+            rsa(),
             "2.5.29.17",
             false,
             "300f810d62406578616d706c652e6f7267",
         ),
-        (ED25519, "2.5.29.19", true, "3000"),
-    ];
+        (ed25519(), "2.5.29.19", true, "3000"),
+    ]
+}
+
+#[test]
+fn extensions_and_times(rt: HostRuntime) -> Result<(), Fail> {
+    let alloc = rt.alloc();
+    let rows = extensions();
     for (text, oid, critical, value) in &rows {
         match extension_of(alloc, text, oid)? {
             Some(found) => assert!(rt; found.0 == *critical && found.1.as_str() == *value),
             None => assert!(rt; false),
         }
     }
-    assert!(rt; extension_of(alloc, P256, "2.5.29.19")?.is_none());
-    let bytes = hex::decode(alloc, P384)?;
+    assert!(rt; extension_of(alloc, p256(), "2.5.29.19")?.is_none());
+    let bytes = hex::decode(alloc, p384())?;
     let cert = CertView::parse(&bytes)?;
     let start = Civil {
         year: 2026,
@@ -158,15 +166,19 @@ fn extensions_and_times(rt: HostRuntime) -> Result<(), Fail> {
     Ok(())
 }
 
+fn key_rows() -> [(&'static str, &'static str, &'static str, usize); 4] {
+    [
+        (p256(), "2a8648ce3d0201", "06082a8648ce3d030107", 65),
+        (p384(), "2a8648ce3d0201", "06052b81040022", 97),
+        (rsa(), "2a864886f70d010101", "0500", 140),
+        (ed25519(), "2b6570", "", 32),
+    ]
+}
+
 #[test]
 fn keys(rt: HostRuntime) -> Result<(), Fail> {
     let alloc = rt.alloc();
-    let rows = [
-        (P256, "2a8648ce3d0201", "06082a8648ce3d030107", 65),
-        (P384, "2a8648ce3d0201", "06052b81040022", 97),
-        (RSA, "2a864886f70d010101", "0500", 140),
-        (ED25519, "2b6570", "", 32),
-    ];
+    let rows = key_rows();
     for (text, oid, parameters, length) in &rows {
         let bytes = hex::decode(alloc, text)?;
         let key = SpkiView::parse(CertView::parse(&bytes)?.spki)?;
@@ -177,10 +189,11 @@ fn keys(rt: HostRuntime) -> Result<(), Fail> {
         );
         assert!(rt; key.unused_bits == 0 && key.key.len() == *length);
     }
-    let bytes = hex::decode(alloc, "3009300306012a030204f0")?;
-    let key = SpkiView::parse(&bytes)?;
-    assert!(rt; key.unused_bits == 4 && key.key == [0xf0u8].as_slice());
-    let rows = [
+    Ok(())
+}
+
+fn bad_keys() -> [(&'static str, DerError); 8] {
+    [
         ("", DerError::Truncated),
         ("3000", DerError::Truncated),
         ("3009300306012a040204f0", DerError::Tag),
@@ -189,7 +202,16 @@ fn keys(rt: HostRuntime) -> Result<(), Fail> {
         ("300b300306012a030204f00500", DerError::Trailing),
         ("300d300706012a05000500030204f0", DerError::Trailing),
         ("3009300306012a030204f000", DerError::Trailing),
-    ];
+    ]
+}
+
+#[test]
+fn unused_bits_of_keys(rt: HostRuntime) -> Result<(), Fail> {
+    let alloc = rt.alloc();
+    let bytes = hex::decode(alloc, "3009300306012a030204f0")?;
+    let key = SpkiView::parse(&bytes)?;
+    assert!(rt; key.unused_bits == 4 && key.key == [0xf0u8].as_slice());
+    let rows = bad_keys();
     for (text, refusal) in &rows {
         let bytes = hex::decode(alloc, text)?;
         assert!(rt; SpkiView::parse(&bytes).err() == Some(X509Error::Der(*refusal)));
@@ -199,7 +221,7 @@ fn keys(rt: HostRuntime) -> Result<(), Fail> {
 
 /// Why the P-256 certificate with one octet changed is refused.
 fn refusal_of(alloc: Global, at: usize, octet: u8) -> Result<Option<X509Error>, Fail> {
-    let mut bytes = hex::decode(alloc, P256)?;
+    let mut bytes = hex::decode(alloc, p256())?;
     if at < bytes.len() {
         bytes[at] = octet;
     } else {
@@ -208,10 +230,8 @@ fn refusal_of(alloc: Global, at: usize, octet: u8) -> Result<Option<X509Error>, 
     Ok(CertView::parse(&bytes).err())
 }
 
-#[test]
-fn changed_certificates(rt: HostRuntime) -> Result<(), Fail> {
-    let alloc = rt.alloc();
-    let rows = [
+fn changes() -> [(usize, u8, X509Error); 16] {
+    [
         (0, 0x31, X509Error::Der(DerError::Tag)),
         (1, 0x80, X509Error::Der(DerError::Length)),
         (3, 0x9d, X509Error::Der(DerError::Truncated)),
@@ -228,7 +248,13 @@ fn changed_certificates(rt: HostRuntime) -> Result<(), Fail> {
         (235, 0x0f, X509Error::Extension),
         (344, 0x01, X509Error::Der(DerError::Value)),
         (416, 0x00, X509Error::Der(DerError::Trailing)),
-    ];
+    ]
+}
+
+#[test]
+fn changed_certificates(rt: HostRuntime) -> Result<(), Fail> {
+    let alloc = rt.alloc();
+    let rows = changes();
     for (at, octet, refusal) in &rows {
         assert!(rt; refusal_of(alloc, *at, *octet)? == Some(*refusal));
     }
@@ -239,7 +265,7 @@ fn changed_certificates(rt: HostRuntime) -> Result<(), Fail> {
 #[test]
 fn timestamps(rt: HostRuntime) -> Result<(), Fail> {
     let alloc = rt.alloc();
-    let bytes = hex::decode(alloc, LISTED)?;
+    let bytes = hex::decode(alloc, listed())?;
     let cert = CertView::parse(&bytes)?;
     let tbs = precert_tbs(alloc, &cert)?;
     let oid = ObjectIdentifier::new("1.3.6.1.4.1.11129.2.4.2")?;
@@ -256,26 +282,22 @@ fn timestamps(rt: HostRuntime) -> Result<(), Fail> {
             assert_eq!(rt; sct.milliseconds(), 1764225540123);
             assert!(rt; sct.extensions().is_empty() && sct.algorithm() == [4, 3]);
             assert_eq!(rt; sct.signature().len(), 70);
-            let signed = sct_signed_bytes(alloc, &sct, &ISSUER, tbs.as_bytes())?;
-            assert_eq!(rt; hex::encode(alloc, signed.as_bytes())?.as_str(), SIGNED);
+            let bytes = sct_signed_bytes(alloc, &sct, &ISSUER, tbs.as_bytes())?;
+            assert_eq!(rt; hex::encode(alloc, bytes.as_bytes())?.as_str(), signed());
             let refused = sct_signed_bytes(alloc, &sct, &ISSUER, &long);
             assert!(rt; refused.err() == Some(X509Error::SctList));
             assert_eq!(rt; sct.duplicate(alloc)?.milliseconds(), 1764225540123);
         }
         None => assert!(rt; false),
     }
-    let bytes = hex::decode(alloc, P256)?;
+    let bytes = hex::decode(alloc, p256())?;
     let cert = CertView::parse(&bytes)?;
     assert_eq!(rt; precert_tbs(alloc, &cert)?.as_bytes(), cert.tbs);
     Ok(())
 }
 
-#[test]
-fn lists_of_timestamps(rt: HostRuntime) -> Result<(), Fail> {
-    let alloc = rt.alloc();
-    let empty = hex::decode(alloc, "04020000")?;
-    assert!(rt; sct_list(alloc, &empty)?.is_empty());
-    let rows = [
+fn bad_lists() -> [&'static str; 8] {
+    [
         "",
         "0400",
         "04020001",
@@ -284,7 +306,15 @@ fn lists_of_timestamps(rt: HostRuntime) -> Result<(), Fail> {
         "05020000",
         "040400020000",
         "04050003000100",
-    ];
+    ]
+}
+
+#[test]
+fn lists_of_timestamps(rt: HostRuntime) -> Result<(), Fail> {
+    let alloc = rt.alloc();
+    let empty = hex::decode(alloc, "04020000")?;
+    assert!(rt; sct_list(alloc, &empty)?.is_empty());
+    let rows = bad_lists();
     for text in &rows {
         let bytes = hex::decode(alloc, text)?;
         assert!(rt; sct_list(alloc, &bytes).err() == Some(X509Error::SctList));
@@ -389,7 +419,9 @@ fn kept_types(rt: HostRuntime) -> Result<(), Fail> {
         ("3008300005000500ff00", value),
     ];
     assert!(rt; answers::<CertificateList>(alloc, &lists)?);
-    assert!(rt; answers::<Certificate>(alloc, &[(P256, None), (ED25519, None), ("3000", value)])?);
+    assert!(rt;
+        answers::<Certificate>(alloc, &[(p256(), None), (ed25519(), None), ("3000", value)])?
+    );
     let other = OtherName::new(alloc, Tag(0x82), b"a.example")?;
     assert_eq!(rt;
         other.to_der(alloc)?.as_bytes(),
