@@ -1,5 +1,8 @@
 // Signed certificate timestamps (RFC 6962, 3.2).
-ghost use Rattle.std.specs.Prelude.{◌≡◌, ◌<◌, length};
+ghost use Rattle.std.specs.Prelude.{◌≡◌, ◌<◌, length, nat_eq, bytes_eq};
+ghost use Rattle.std.specs.Ordering.{on, eq_of_both};
+ghost use Rattle.std.specs.Cmp.Rules.{comparing};
+ghost use Rattle.std.proofs.Common.{rules};
 ghost use Rattle.x509_core_parts.specs.Scts.{Parts};
 
 use der_core::OctetString;
@@ -8,7 +11,7 @@ use std::alloc::Global;
 use std::marker::Model;
 
 /// A signed certificate timestamp; contracts see its parts.
-#[derive(Drop)]
+#[derive(Debug, Drop)]
 pub struct Sct {
     log_id: [u8; 32],
     milliseconds: u64,
@@ -95,5 +98,20 @@ impl Duplicate for Sct {
             algorithm: self.algorithm,
             signature: self.signature.duplicate(alloc)?,
         })
+    }
+}
+
+impl PartialEq for Sct {
+    ghost eq = { eq_of_both (on (λ s. s.log_id) bytes_eq) (eq_of_both (on (λ s. s.milliseconds) nat_eq) (eq_of_both (on (λ s. s.extensions) bytes_eq)
+        (eq_of_both (on (λ s. s.algorithm) bytes_eq) (on (λ s. s.signature) bytes_eq)))) };
+
+    ghost laws = { Prim.search (comparing, rules) };
+
+    fn eq(&self, other: &Sct) -> bool {
+        self.log_id == other.log_id
+            && self.milliseconds == other.milliseconds
+            && self.extensions == other.extensions
+            && self.algorithm == other.algorithm
+            && self.signature == other.signature
     }
 }
