@@ -262,34 +262,72 @@ fn changed_certificates(rt: HostRuntime) -> Result<(), Fail> {
     Ok(())
 }
 
+fn zeros(alloc: Global, count: usize) -> Result<Vec<u8>, Fail> {
+    Ok(vec![in alloc; 0u8; count]?)
+}
+
+/// The last timestamp in a certificate's list.
+fn last_sct(alloc: Global, cert: &CertView) -> Result<Option<Sct>, Fail> {
+    let oid = ObjectIdentifier::new("1.3.6.1.4.1.11129.2.4.2")?;
+    match cert.extension(&oid) {
+        Some(extension) => {
+            let mut scts = sct_list(alloc, extension.value)?;
+            Ok(scts.pop())
+        }
+        None => Ok(None),
+    }
+}
+
+fn has_wanted_parts(sct: &Sct) -> bool {
+    sct.log_id() == &LOG
+        && sct.milliseconds() == 1764225540123
+        && sct.extensions().is_empty()
+        && sct.algorithm() == [4, 3]
+        && sct.signature().len() == 70
+}
+
 #[test]
 fn timestamps(rt: HostRuntime) -> Result<(), Fail> {
     let alloc = rt.alloc();
     let bytes = hex::decode(alloc, listed())?;
     let cert = CertView::parse(&bytes)?;
-    let tbs = precert_tbs(alloc, &cert)?;
-    let oid = ObjectIdentifier::new("1.3.6.1.4.1.11129.2.4.2")?;
-    let value = match cert.extension(&oid) {
-        Some(extension) => extension.value,
-        None => &[],
-    };
-    let mut scts = sct_list(alloc, value)?;
-    assert_eq!(rt; scts.len(), 1);
-    let long = vec![in alloc; 0u8; 16777216]?;
-    match scts.pop() {
+    match last_sct(alloc, &cert)? {
         Some(sct) => {
-            assert_eq!(rt; sct.log_id(), &LOG);
-            assert_eq!(rt; sct.milliseconds(), 1764225540123);
-            assert!(rt; sct.extensions().is_empty() && sct.algorithm() == [4, 3]);
-            assert_eq!(rt; sct.signature().len(), 70);
-            let bytes = sct_signed_bytes(alloc, &sct, &ISSUER, tbs.as_bytes())?;
-            assert_eq!(rt; hex::encode(alloc, bytes.as_bytes())?.as_str(), signed());
-            let refused = sct_signed_bytes(alloc, &sct, &ISSUER, &long);
-            assert!(rt; refused.err() == Some(X509Error::SctList));
-            assert_eq!(rt; sct.duplicate(alloc)?.milliseconds(), 1764225540123);
+            let copy = sct.duplicate(alloc)?;
+            assert!(rt; has_wanted_parts(&sct) && copy == sct);
         }
         None => assert!(rt; false),
     }
+    Ok(())
+}
+
+/// What the log signed for a certificate, in hexadecimal.
+fn signed_for(alloc: Global, cert: &CertView, sct: &Sct) -> Result<String, Fail> {
+    let tbs = precert_tbs(alloc, cert)?;
+    let bytes = sct_signed_bytes(alloc, sct, &ISSUER, tbs.as_bytes())?;
+    Ok(hex::encode(alloc, bytes.as_bytes())?)
+}
+
+#[test]
+fn signed_bytes(rt: HostRuntime) -> Result<(), Fail> {
+    let alloc = rt.alloc();
+    let bytes = hex::decode(alloc, listed())?;
+    let cert = CertView::parse(&bytes)?;
+    match last_sct(alloc, &cert)? {
+        Some(sct) => {
+            assert_eq!(rt; signed_for(alloc, &cert, &sct)?.as_str(), signed());
+            let long = zeros(alloc, 16777216)?;
+            let refused = sct_signed_bytes(alloc, &sct, &ISSUER, &long).err();
+            assert!(rt; refused == Some(X509Error::SctList));
+        }
+        None => assert!(rt; false),
+    }
+    Ok(())
+}
+
+#[test]
+fn signed_part_without_timestamps(rt: HostRuntime) -> Result<(), Fail> {
+    let alloc = rt.alloc();
     let bytes = hex::decode(alloc, p256())?;
     let cert = CertView::parse(&bytes)?;
     assert_eq!(rt; precert_tbs(alloc, &cert)?.as_bytes(), cert.tbs);
