@@ -10,7 +10,7 @@ use Rattle.der_core.specs.declared.civil.Civil.{Civil}
 use Rattle.der_core.specs.Strings.{is_bit_string}
 use Rattle.x509_core_parts.specs.declared.error.X509Error.TheVariants.{Der, Algorithms}
 use Rattle.x509_core_parts.specs.Reading.{Reading, contents_at, encoded_at, oid_at, any_at, int_at, bits_of, bits_at, begins_with, before, at_end}
-use Rattle.x509_core_parts.specs.Spki.{Algorithm, algorithm_of, algorithm_at, spki_of}
+use Rattle.x509_core_parts.specs.Spki.{Algorithm, Spki, algorithm_of, algorithm_at, spki_of, spki_at, spki_view_of}
 use Rattle.x509_core_parts.specs.Extensions.{distinct_of}
 use Rattle.x509_core_parts.specs.Certificates.{Front, Middle, Tail, Signed, Certificate, version_of, version_at, serial_at, front_at, validity_of, middle_at, behind_identifier, list_of, list_at, tail_of, signed_of, same_algorithm, full_octets, signature_at, parts_of, certificate_of}
 use Rattle.x509_core_parts.proofs.Lists.{bind_reads, reading_is}
@@ -266,3 +266,33 @@ extension-facts bytes c list fits h some =
       fits = subst (λ (z : List ℕ). length z < 268435456) t.whole r.facts.body_fits;
       list_facts = t.list_facts;
     }
+
+-- ---- keys
+
+bits-of : (contents : List ℕ) (bits : ℕ × List ℕ) → bits_of contents ≡ Ok bits → contents ≡ bits.0 ∷ bits.1
+bits-of [] bits b = absurd cc
+bits-of (u ∷ more) bits b =
+    let p = passes (is_bit_string (u ∷ more)) (Der der.Value) (Ok (u, more)) bits b in
+    ap (λ (z : ℕ × List ℕ). z.0 ∷ z.1) (reading_is (u, more) bits p.1)
+
+spki-whole : (contents : List ℕ) (s : Spki) → IsBytes contents → spki_of contents ≡ Ok s → contents ≡ tlv 48 s.algorithm.encoded ++ tlv 3 (s.unused_bits ∷ s.key)
+unfolding spki_of bits_at
+spki-whole contents s fits h =
+    let a = bind_reads (algorithm_at contents) _ s h in
+    let b = bind_reads (bits_at a.0.1) _ s a.2 in
+    let e = ends-so (record { algorithm = a.0.0; unused_bits = b.0.0.0; key = b.0.0.1 }) b.0.1 s b.2 in
+    let ka = algorithm-whole contents a.0.0 a.0.1 fits a.1 in
+    let i = inner-so 3 a.0.1 bits_of b.0.0 b.0.1 b.1 in
+    let kb = contents-whole 3 a.0.1 i.contents b.0.1 ka.rest_bytes i.read in
+    let last : a.0.1 ≡ tlv 3 (b.0.0.0 ∷ b.0.0.1) = kb.whole ∙ ap (λ (z : List ℕ). tlv 3 i.contents ++ z) e.1 ∙ append-nil (tlv 3 i.contents) ∙ ap (tlv 3) (bits-of i.contents b.0.0 i.value) in
+    ka.whole ∙ ap (λ (z : List ℕ). tlv 48 a.0.0.encoded ++ z) last ∙ ap (λ (z : Spki). tlv 48 z.algorithm.encoded ++ tlv 3 (z.unused_bits ∷ z.key)) e.0
+
+pub key-is-its-parts : (bytes : List ℕ) (s : Spki) → IsBytes bytes → spki_view_of bytes ≡ Ok s → bytes ≡ tlv 48 (tlv 48 s.algorithm.encoded ++ tlv 3 (s.unused_bits ∷ s.key))
+unfolding spki_view_of spki_at
+key-is-its-parts bytes s fits h =
+    let o = bind_reads (spki_at bytes) _ s h in
+    let e = ends-so o.0.0 o.0.1 s o.2 in
+    let i = inner-so 48 bytes spki_of o.0.0 o.0.1 o.1 in
+    let k = contents-whole 48 bytes i.contents o.0.1 fits i.read in
+    let whole : bytes ≡ tlv 48 i.contents = k.whole ∙ ap (λ (z : List ℕ). tlv 48 i.contents ++ z) e.1 ∙ append-nil (tlv 48 i.contents) in
+    whole ∙ ap (tlv 48) (spki-whole i.contents o.0.0 k.value_bytes i.value) ∙ ap (λ (z : Spki). tlv 48 (tlv 48 z.algorithm.encoded ++ tlv 3 (z.unused_bits ∷ z.key))) e.0

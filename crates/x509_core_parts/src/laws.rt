@@ -4,6 +4,7 @@ ghost use Rattle.der_core_parts.specs.Tlv.{IsBytes, tlv};
 ghost use Rattle.x509_core_parts.specs.Certificates.{Certificate, certificate_of};
 ghost use Rattle.x509_core_parts.specs.Extensions.{Found, found_of};
 ghost use Rattle.x509_core_parts.specs.Precertificates.{precert_of};
+ghost use Rattle.x509_core_parts.specs.Spki.{Spki, spki_view_of};
 
 /// A certificate is its signed part, its algorithm and its signature, octet by octet.
 pub fn certificate_is_its_parts()
@@ -27,4 +28,10 @@ pub fn extension_stands_once()
 pub fn precertificate_is_there()
     ensures { (bytes : List ℕ) (c : Certificate) → IsBytes bytes → certificate_of bytes ≡ Ok c
         → (tbs : List ℕ) × (precert_of c.tbs c.signed.tail.front c.signed.tail.extensions ≡ Ok tbs) }
+{}
+
+/// A key is its algorithm and its bits, octet by octet.
+pub fn key_is_its_parts()
+    ensures { (bytes : List ℕ) (s : Spki) → IsBytes bytes → spki_view_of bytes ≡ Ok s
+        → bytes ≡ tlv 48 (tlv 48 s.algorithm.encoded ++ tlv 3 (s.unused_bits ∷ s.key)) }
 {}

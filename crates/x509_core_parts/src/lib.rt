@@ -18,7 +18,7 @@ pub use certificate::{CertView, is_certificate};
 pub use error::X509Error;
 pub use extension::ExtensionView;
 pub use laws::{
-    certificate_is_its_parts, extension_stands_once, precertificate_is_there,
+    certificate_is_its_parts, extension_stands_once, key_is_its_parts, precertificate_is_there,
     signed_part_is_its_parts,
 };
 pub use precert::{precert_tbs, sct_signed_bytes};
