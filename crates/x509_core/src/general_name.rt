@@ -7,7 +7,7 @@ use foundation::{Duplicate, NoMemory};
 use std::alloc::Global;
 
 /// A GeneralName (RFC 5280, 4.2.1.6).
-#[derive(PartialEq, Drop)]
+#[derive(Debug, PartialEq, Drop)]
 pub enum GeneralName {
     /// A mail address.
     Rfc822Name(Ia5),

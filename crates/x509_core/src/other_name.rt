@@ -14,7 +14,7 @@ use std::marker::Model;
 
 /// A GeneralName other than rfc822Name and uniformResourceIdentifier (RFC 5280, 4.2.1.6), kept as
 /// encoded.
-#[derive(Drop)]
+#[derive(Debug, Drop)]
 pub struct OtherName {
     tag: Tag,
     bytes: OctetString,

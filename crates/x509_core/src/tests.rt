@@ -392,79 +392,121 @@ fn answers<T: Der + Duplicate + PartialEq>(
     Ok(true)
 }
 
-#[test]
-fn owned_types(rt: HostRuntime) -> Result<(), Fail> {
-    let alloc = rt.alloc();
-    let (tag, value) = (Some(DerError::Tag), Some(DerError::Value));
-    let algorithms = [
+fn reads_algorithms(alloc: Global) -> Result<bool, Fail> {
+    let rows = [
         ("300d06092a864886f70d01010b0500", None),
         ("300506032b6570", None),
         ("300706032b65700500ff", Some(DerError::Trailing)),
         ("300906032b657005000500", Some(DerError::Trailing)),
     ];
-    assert!(rt; answers::<AlgorithmIdentifierOwned>(alloc, &algorithms)?);
-    let attribute = [
-        ("300a06032b65703103020101", None),
+    answers::<AlgorithmIdentifierOwned>(alloc, &rows)
+}
+
+fn reads_attributes(alloc: Global) -> Result<bool, Fail> {
+    let rows = [
+        ("310c300a06032b65703103020101", None),
+        ("3100", None),
         (
-            "300d06032b65703106020101020101",
+            "310f300d06032b65703106020101020101",
             Some(DerError::SetDuplicate),
         ),
     ];
-    assert!(rt; answers::<Attribute>(alloc, &attribute)?);
-    let attributes = [("310c300a06032b65703103020101", None), ("3100", None)];
-    assert!(rt; answers::<Attributes>(alloc, &attributes)?);
-    let extensions = [
+    answers::<Attributes>(alloc, &rows)
+}
+
+fn reads_extensions(alloc: Global) -> Result<bool, Fail> {
+    let rows = [
         ("300e0603551d0f0101ff040403020780", None),
         ("300b0603551d0f040403020780", None),
-        ("300e0603551d0f010100040403020780", value),
+        ("300e0603551d0f010100040403020780", Some(DerError::Value)),
     ];
-    assert!(rt; answers::<Extension>(alloc, &extensions)?);
-    let names = [
+    answers::<Extension>(alloc, &rows)
+}
+
+fn reads_names(alloc: Global) -> Result<bool, Fail> {
+    let rows = [
         ("8103614062", None),
         ("8603613a62", None),
         ("a000", None),
         ("8704c0000201", None),
-        ("8101ff", value),
-        ("a100", tag),
+        ("8101ff", Some(DerError::Value)),
+        ("a100", Some(DerError::Tag)),
     ];
-    assert!(rt; answers::<GeneralName>(alloc, &names)?);
-    let times = [
+    answers::<GeneralName>(alloc, &rows)
+}
+
+fn reads_times(alloc: Global) -> Result<bool, Fail> {
+    let rows = [
         ("170d3236313132373036333835395a", None),
         ("180f32303236313132373036333835395a", None),
-        ("170d3236313332373036333835395a", value),
-        ("160100", tag),
+        ("170d3236313332373036333835395a", Some(DerError::Value)),
+        ("160100", Some(DerError::Tag)),
     ];
-    assert!(rt; answers::<Time>(alloc, &times)?);
+    answers::<Time>(alloc, &rows)
+}
+
+#[test]
+fn owned_types(rt: HostRuntime) -> Result<(), Fail> {
+    let alloc = rt.alloc();
+    assert!(rt; reads_algorithms(alloc)?);
+    assert!(rt; reads_attributes(alloc)?);
+    assert!(rt; reads_extensions(alloc)?);
+    assert!(rt; reads_names(alloc)?);
+    assert!(rt; reads_times(alloc)?);
     Ok(())
+}
+
+fn reads_serial_numbers(alloc: Global) -> Result<bool, Fail> {
+    let rows = [
+        ("0215008000000000000000000000000000000000000001", None),
+        (
+            "021600800000000000000000000000000000000000000001",
+            Some(DerError::Value),
+        ),
+        ("0200", Some(DerError::Value)),
+    ];
+    answers::<SerialNumber>(alloc, &rows)
+}
+
+fn reads_certificate_lists(alloc: Global) -> Result<bool, Fail> {
+    let rows = [
+        ("3006300005000500", None),
+        ("300430000500", Some(DerError::Value)),
+        ("3008300005000500", Some(DerError::Truncated)),
+        ("3008300005000500ff00", Some(DerError::Value)),
+    ];
+    answers::<CertificateList>(alloc, &rows)
+}
+
+fn reads_certificates(alloc: Global) -> Result<bool, Fail> {
+    let rows = [
+        (p256(), None),
+        (ed25519(), None),
+        ("3000", Some(DerError::Value)),
+    ];
+    answers::<Certificate>(alloc, &rows)
 }
 
 #[test]
 fn kept_types(rt: HostRuntime) -> Result<(), Fail> {
     let alloc = rt.alloc();
-    let value = Some(DerError::Value);
     assert!(rt; answers::<Name>(alloc, &[("3000", None), ("3002ffff", None)])?);
-    let serials = [
-        ("0215008000000000000000000000000000000000000001", None),
-        ("021600800000000000000000000000000000000000000001", value),
-        ("0200", value),
-    ];
-    assert!(rt; answers::<SerialNumber>(alloc, &serials)?);
     assert!(rt; answers::<SubjectKeyIdentifier>(alloc, &[("0400", None)])?);
-    let lists = [
-        ("3006300005000500", None),
-        ("300430000500", Some(DerError::Value)),
-        ("3008300005000500", Some(DerError::Truncated)),
-        ("3008300005000500ff00", value),
-    ];
-    assert!(rt; answers::<CertificateList>(alloc, &lists)?);
-    assert!(rt;
-        answers::<Certificate>(alloc, &[(p256(), None), (ed25519(), None), ("3000", value)])?
-    );
-    let other = OtherName::new(alloc, Tag(0x82), b"a.example")?;
+    assert!(rt; reads_serial_numbers(alloc)?);
+    assert!(rt; reads_certificate_lists(alloc)?);
+    assert!(rt; reads_certificates(alloc)?);
+    Ok(())
+}
+
+#[test]
+fn other_names(rt: HostRuntime) -> Result<(), Fail> {
+    let alloc = rt.alloc();
+    let other = OtherName::new(alloc, Tag(0x82), &[0x61, 0x62])?;
+    assert_eq!(rt; other.tag_byte().0, 0x82);
     assert_eq!(rt;
         other.to_der(alloc)?.as_bytes(),
-        b"\x82\x09a.example".as_slice()
+        [0x82u8, 0x02, 0x61, 0x62].as_slice()
     );
-    assert!(rt; OtherName::new(alloc, Tag(0x81), b"a").is_err());
+    assert!(rt; OtherName::new(alloc, Tag(0x81), &[0x61]).is_err());
     Ok(())
 }
