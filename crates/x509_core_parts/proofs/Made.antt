@@ -2,7 +2,6 @@
 use Rattle.std.proofs.Common.{◌≡◌, ◌⊎◌, ℕ, ◌+◌, ◌-◌, ◌<◌, ◌≤◌, Bool, true, false, cond, eqb, List, [], ◌∷◌, ◌++◌, length, take, Option, Some, None, Result, Ok, Err, refl, sym, ap, subst, ◌∙◌, append_assoc, arith, inl, inr}
 use Rattle.std.specs.Prelude.{bytes_eq, nat_le}
 use Rattle.std.proofs.lemmas.Bool.{eqb-true}
-use Rattle.std.proofs.lemmas.List.{append-nil}
 use Rattle.foundation.specs.Steps.{◌>>=◌}
 use Rattle.der_core_parts.specs.declared.error.DerError.TheVariants as der
 use Rattle.der_core_parts.specs.Tlv.{IsBytes, IsTlv, tlv}
@@ -14,7 +13,7 @@ use Rattle.x509_core_parts.specs.Spki.{Algorithm, Spki, algorithm_of, algorithm_
 use Rattle.x509_core_parts.specs.Extensions.{distinct_of}
 use Rattle.x509_core_parts.specs.Certificates.{Front, Middle, Tail, Signed, Certificate, version_of, version_at, serial_at, front_at, validity_of, middle_at, behind_identifier, list_of, list_at, tail_of, signed_of, same_algorithm, full_octets, signature_at, parts_of, certificate_of}
 use Rattle.x509_core_parts.proofs.Lists.{bind_reads, reading_is}
-use Rattle.x509_core_parts.proofs.Wholes.{passes, contents-whole, Follows, stays, further, contents-follow, joins, ends-so, inner-so, inner-follows, int-follows, encoded-follows}
+use Rattle.x509_core_parts.proofs.Wholes.{passes, contents-whole, Follows, stays, further, contents-follow, joins, alone, in-two, in-three, ends-so, inner-so, inner-follows, int-follows, encoded-follows}
 
 chooses : {A : Type 0} (b : Bool) (x y z : Reading A) → cond b x y ≡ z → ((b ≡ true) × (x ≡ z)) ⊎ ((b ≡ false) × (y ≡ z))
 chooses true x y z e = inl (refl, e)
@@ -92,9 +91,9 @@ list-facts bytes x list rest k none h =
     let d = bind_reads (distinct_of m.0.0) _ list m.2 in
     let e = ends-so m.0.0 m.0.1 list d.2 in
     let l = contents-whole 48 x m.0.0 m.0.1 k.value_bytes m.1 in
-    let inner : x ≡ tlv 48 list = l.whole ∙ ap (λ (z : List ℕ). tlv 48 m.0.0 ++ z) e.1 ∙ append-nil (tlv 48 m.0.0) ∙ ap (tlv 48) e.0 in
+    let inner : x ≡ tlv 48 list = alone x (tlv 48 m.0.0) m.0.1 l.whole e.1 ∙ ap (tlv 48) e.0 in
     record {
-      whole = k.whole ∙ ap (λ (z : List ℕ). tlv 163 x ++ z) none ∙ append-nil (tlv 163 x) ∙ ap (tlv 163) inner;
+      whole = alone bytes (tlv 163 x) rest k.whole none ∙ ap (tlv 163) inner;
       fits = subst (λ (z : List ℕ). length z < 268435456) e.0 l.fits;
       outer_fits = subst (λ (z : List ℕ). length z < 268435456) inner k.fits;
       once = subst (λ (z : List ℕ). distinct_of z ≡ Ok tt) e.0 d.1;
@@ -216,10 +215,9 @@ parts-facts contents c fits h =
     let kt = contents-whole 48 contents t.0.0 t.0.1 fits t.1 in
     let ka = algorithm-whole t.0.1 a.0.0 a.0.1 kt.rest_bytes a.1 in
     let kg = signature-whole a.0.1 g.0.0 g.0.1 ka.rest_bytes g.1 in
-    let last : a.0.1 ≡ tlv 3 (0 ∷ g.0.0) = kg.whole ∙ ap (λ (z : List ℕ). tlv 3 (0 ∷ g.0.0) ++ z) e.1 ∙ append-nil (tlv 3 (0 ∷ g.0.0)) in
-    let rest : t.0.1 ≡ tlv 48 a.0.0.encoded ++ tlv 3 (0 ∷ g.0.0) = ka.whole ∙ ap (λ (z : List ℕ). tlv 48 a.0.0.encoded ++ z) last in
+    let last : a.0.1 ≡ tlv 3 (0 ∷ g.0.0) = alone a.0.1 (tlv 3 (0 ∷ g.0.0)) g.0.1 kg.whole e.1 in
     let all : contents ≡ tlv 48 t.0.0 ++ tlv 48 a.0.0.encoded ++ tlv 3 (0 ∷ g.0.0) =
-    kt.whole ∙ ap (λ (z : List ℕ). tlv 48 t.0.0 ++ z) rest ∙ sym (append_assoc (tlv 48 t.0.0) (tlv 48 a.0.0.encoded) (tlv 3 (0 ∷ g.0.0))) in
+    in-three contents (tlv 48 t.0.0) (tlv 48 a.0.0.encoded) (tlv 3 (0 ∷ g.0.0)) t.0.1 a.0.1 kt.whole ka.whole last in
     record {
       body = t.0.0;
       body_bytes = kt.value_bytes;
@@ -244,7 +242,7 @@ read-facts bytes c fits h =
     record {
       contents = o.0.0;
       facts = subst (λ (z : Certificate). CertificateFacts o.0.0 z) e.0 (parts-facts o.0.0 p.0 k.value_bytes p.1);
-      whole = k.whole ∙ ap (λ (z : List ℕ). tlv 48 o.0.0 ++ z) e.1 ∙ append-nil (tlv 48 o.0.0);
+      whole = alone bytes (tlv 48 o.0.0) o.0.1 k.whole e.1;
     }
 
 -- ---- the laws
@@ -284,8 +282,8 @@ spki-whole contents s fits h =
     let ka = algorithm-whole contents a.0.0 a.0.1 fits a.1 in
     let i = inner-so 3 a.0.1 bits_of b.0.0 b.0.1 b.1 in
     let kb = contents-whole 3 a.0.1 i.contents b.0.1 ka.rest_bytes i.read in
-    let last : a.0.1 ≡ tlv 3 (b.0.0.0 ∷ b.0.0.1) = kb.whole ∙ ap (λ (z : List ℕ). tlv 3 i.contents ++ z) e.1 ∙ append-nil (tlv 3 i.contents) ∙ ap (tlv 3) (bits-of i.contents b.0.0 i.value) in
-    ka.whole ∙ ap (λ (z : List ℕ). tlv 48 a.0.0.encoded ++ z) last ∙ ap (λ (z : Spki). tlv 48 z.algorithm.encoded ++ tlv 3 (z.unused_bits ∷ z.key)) e.0
+    let last : a.0.1 ≡ tlv 3 (b.0.0.0 ∷ b.0.0.1) = alone a.0.1 (tlv 3 i.contents) b.0.1 kb.whole e.1 ∙ ap (tlv 3) (bits-of i.contents b.0.0 i.value) in
+    in-two contents (tlv 48 a.0.0.encoded) (tlv 3 (b.0.0.0 ∷ b.0.0.1)) a.0.1 ka.whole last ∙ ap (λ (z : Spki). tlv 48 z.algorithm.encoded ++ tlv 3 (z.unused_bits ∷ z.key)) e.0
 
 pub key-is-its-parts : (bytes : List ℕ) (s : Spki) → IsBytes bytes → spki_view_of bytes ≡ Ok s → bytes ≡ tlv 48 (tlv 48 s.algorithm.encoded ++ tlv 3 (s.unused_bits ∷ s.key))
 unfolding spki_view_of spki_at
@@ -294,5 +292,5 @@ key-is-its-parts bytes s fits h =
     let e = ends-so o.0.0 o.0.1 s o.2 in
     let i = inner-so 48 bytes spki_of o.0.0 o.0.1 o.1 in
     let k = contents-whole 48 bytes i.contents o.0.1 fits i.read in
-    let whole : bytes ≡ tlv 48 i.contents = k.whole ∙ ap (λ (z : List ℕ). tlv 48 i.contents ++ z) e.1 ∙ append-nil (tlv 48 i.contents) in
+    let whole : bytes ≡ tlv 48 i.contents = alone bytes (tlv 48 i.contents) o.0.1 k.whole e.1 in
     whole ∙ ap (tlv 48) (spki-whole i.contents o.0.0 k.value_bytes i.value) ∙ ap (λ (z : Spki). tlv 48 (tlv 48 z.algorithm.encoded ++ tlv 3 (z.unused_bits ∷ z.key))) e.0

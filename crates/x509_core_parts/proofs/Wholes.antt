@@ -71,6 +71,15 @@ none_left : (rest : List ℕ) → length rest ≡ 0 → rest ≡ []
 none_left [] e = refl
 none_left (b ∷ rest) e = absurd (omega arith)
 
+pub alone : (bytes front rest : List ℕ) → bytes ≡ front ++ rest → rest ≡ [] → bytes ≡ front
+alone bytes front rest whole none = whole ∙ ap (λ (z : List ℕ). front ++ z) none ∙ append-nil front
+
+pub in-two : (bytes a b rest : List ℕ) → bytes ≡ a ++ rest → rest ≡ b → bytes ≡ a ++ b
+in-two bytes a b rest whole same = whole ∙ ap (λ (z : List ℕ). a ++ z) same
+
+pub in-three : (bytes a b c rest last : List ℕ) → bytes ≡ a ++ rest → rest ≡ b ++ last → last ≡ c → bytes ≡ a ++ b ++ c
+in-three bytes a b c rest last whole then end = whole ∙ ap (λ (z : List ℕ). a ++ z) (in-two rest b c last then end) ∙ sym (append_assoc a b c)
+
 pub ends-so : {A : Type 0} (a : A) (rest : List ℕ) (y : A) → at_end a rest ≡ Ok y → (a ≡ y) × (rest ≡ [])
 ends-so a rest y h =
     let p = passes (eqb (length rest) 0) (Der der.Trailing) (Ok a) y h in
