@@ -1,14 +1,12 @@
 -- What a certificate that was read is made of.
-use Rattle.std.proofs.Common.{◌≡◌, ◌⊎◌, ℕ, ◌+◌, ◌-◌, ◌<◌, ◌≤◌, Bool, true, false, cond, eqb, List, [], ◌∷◌, ◌++◌, length, take, Option, Some, None, Result, Ok, Err, refl, sym, ap, subst, ◌∙◌, append_assoc, arith, inl, inr}
-use Rattle.std.specs.Prelude.{bytes_eq, nat_le}
+use Rattle.std.proofs.Common.{◌≡◌, ◌⊎◌, ℕ, ◌<◌, Bool, true, false, cond, eqb, List, [], ◌∷◌, ◌++◌, length, Option, Some, None, Ok, refl, sym, ap, subst, ◌∙◌, inl, inr}
+use Rattle.std.specs.Prelude.{nat_le}
 use Rattle.std.proofs.lemmas.Bool.{eqb-true}
-use Rattle.foundation.specs.Steps.{◌>>=◌}
 use Rattle.der_core_parts.specs.declared.error.DerError.TheVariants as der
 use Rattle.der_core_parts.specs.Tlv.{IsBytes, IsTlv, tlv}
-use Rattle.der_core.specs.declared.civil.Civil.{Civil}
 use Rattle.der_core.specs.Strings.{is_bit_string}
-use Rattle.x509_core_parts.specs.declared.error.X509Error.TheVariants.{Der, Algorithms}
-use Rattle.x509_core_parts.specs.Reading.{Reading, contents_at, encoded_at, oid_at, any_at, int_at, bits_of, bits_at, begins_with, before, at_end}
+use Rattle.x509_core_parts.specs.declared.error.X509Error.TheVariants.{Der}
+use Rattle.x509_core_parts.specs.Reading.{Reading, contents_at, encoded_at, oid_at, any_at, int_at, bits_of, bits_at, begins_with, before}
 use Rattle.x509_core_parts.specs.Spki.{Algorithm, Spki, algorithm_of, algorithm_at, spki_of, spki_at, spki_view_of}
 use Rattle.x509_core_parts.specs.Extensions.{distinct_of}
 use Rattle.x509_core_parts.specs.Certificates.{Front, Middle, Tail, Signed, Certificate, version_of, version_at, serial_at, front_at, validity_of, middle_at, behind_identifier, list_of, list_at, tail_of, signed_of, same_algorithm, full_octets, signature_at, parts_of, certificate_of}

@@ -1,19 +1,18 @@
 -- An identifier stands once among extensions, and what is left without it is shorter.
-use Rattle.std.proofs.Common.{◌≡◌, ◌⊎◌, ℕ, zero, suc, ◌+◌, ◌-◌, ◌<◌, ◌≤◌, Bool, true, false, cond, ltb, List, [], ◌∷◌, ◌++◌, length, take, Option, Some, None, Result, Ok, Err, refl, sym, ap, subst, ◌∙◌, arith, inl, inr}
+use Rattle.std.proofs.Common.{◌≡◌, ℕ, zero, suc, ◌-◌, ◌<◌, ◌≤◌, Bool, true, false, ltb, List, [], ◌∷◌, ◌++◌, length, Option, Some, None, Ok, Err, refl, sym, ap, subst, ◌∙◌, arith, inl, inr}
 use Rattle.std.specs.Prelude.{bytes_eq, is_some}
 use Rattle.std.proofs.lemmas.Bool.{cases_lt, lt-ltb, le-ltb}
 use Rattle.std.proofs.lemmas.List.{length-append, length-take}
 use Rattle.std.proofs.lemmas.Slice.Eq.{bytes_eq-Decides}
-use Rattle.foundation.specs.Steps.{◌>>=◌}
 use Rattle.der_core_parts.specs.Outcome.{Outcome}
 use Rattle.der_core_parts.specs.Tlv.{IsBytes, length_bytes, tlv}
 use Rattle.der_core_parts.specs.Grammar.{framed}
 use Rattle.x509_core_parts.specs.declared.error.X509Error.TheVariants.{Extension}
 use Rattle.x509_core_parts.specs.Reading.{Reading, of_der, before}
-use Rattle.x509_core_parts.specs.Extensions.{OneExtension, Found, extension_at, found_or, found_at, found_of, distinct_of}
+use Rattle.x509_core_parts.specs.Extensions.{OneExtension, Found, extension_at, found_of, distinct_of}
 use Rattle.x509_core_parts.specs.Certificates.{Certificate, certificate_of}
 use Rattle.x509_core_parts.specs.Precertificates.{sct_oid, written_anew, without, rewritten, precert_of}
-use Rattle.x509_core_parts.proofs.Lists.{reading_is, extension-shrinks, found-none, found-stop, found-here, found-later, distinct-refused, distinct-twice, distinct-later}
+use Rattle.x509_core_parts.proofs.Lists.{extension-shrinks, found-none, found-stop, found-here, found-later, distinct-twice, distinct-later}
 use Rattle.x509_core_parts.proofs.Made.{ExtensionFacts, extension-facts}
 
 abbrev some_found : Found → Option Found

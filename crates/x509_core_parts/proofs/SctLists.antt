@@ -1,12 +1,12 @@
 -- Timestamps one after the other: a step, whatever the bound, and the loop over them.
-use Rattle.std.proofs.Common.{◌≡◌, ◌≢◌, ℕ, zero, suc, ◌+◌, ◌*◌, ◌<◌, ◌≤◌, Bool, true, false, cond, List, [], ◌∷◌, ◌++◌, length, take, drop, Result, Ok, Err, refl, sym, ap, ◌∙◌, append_assoc, arith}
+use Rattle.std.proofs.Common.{◌≡◌, ◌≢◌, ℕ, zero, suc, ◌+◌, ◌*◌, ◌<◌, ◌≤◌, Bool, true, false, cond, List, [], ◌∷◌, ◌++◌, length, take, drop, Ok, Err, refl, sym, ap, ◌∙◌, append_assoc, arith}
 use Rattle.std.specs.Prelude.{nat_le}
 use Rattle.std.proofs.lemmas.List.{append-nil, length-drop}
 use Rattle.foundation.specs.Steps.{◌>>=◌}
 use Rattle.x509_core_parts.specs.declared.error.X509Error.{X509Error}
 use Rattle.x509_core_parts.specs.declared.error.X509Error.TheVariants.{SctList, NoMemory}
 use Rattle.x509_core_parts.specs.Reading.{Reading}
-use Rattle.x509_core_parts.specs.Scts.{Parts, octets_at, vector_at, sct_of, item_at, scts_at, scts_of}
+use Rattle.x509_core_parts.specs.Scts.{Parts, vector_at, sct_of, item_at, scts_at, scts_of}
 use Rattle.x509_core_parts.proofs.Lists.{bind_reads, both_ways, reading_is}
 
 -- ---- an item takes an octet at least

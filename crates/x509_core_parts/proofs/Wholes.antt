@@ -1,5 +1,5 @@
 -- What was read is encoded so, and what is left stands at the end.
-use Rattle.std.proofs.Common.{◌≡◌, ℕ, ◌+◌, ◌-◌, ◌<◌, ◌≤◌, Bool, true, false, cond, eqb, List, [], ◌∷◌, ◌++◌, length, take, drop, Option, Some, None, Result, Ok, Err, refl, sym, ap, subst, ◌∙◌, append_assoc, arith}
+use Rattle.std.proofs.Common.{◌≡◌, ℕ, ◌-◌, Bool, true, false, cond, eqb, List, [], ◌∷◌, ◌++◌, length, take, Ok, Err, refl, sym, ap, subst, ◌∙◌, append_assoc, arith}
 use Rattle.std.proofs.lemmas.Bool.{eqb-true}
 use Rattle.std.proofs.lemmas.List.{take_at, length-append, append-nil}
 use Rattle.foundation.specs.Steps.{◌>>=◌}
@@ -10,7 +10,7 @@ use Rattle.der_core_parts.specs.TlvLaws.{tlv_takes}
 use Rattle.der_core.specs.Strings.{is_int}
 use Rattle.x509_core_parts.specs.declared.error.X509Error.{X509Error}
 use Rattle.x509_core_parts.specs.declared.error.X509Error.TheVariants.{Der}
-use Rattle.x509_core_parts.specs.Reading.{Reading, of_der, with_tag, contents_at, encoded_at, int_at, checked, begins_with, before, at_end}
+use Rattle.x509_core_parts.specs.Reading.{Reading, of_der, with_tag, contents_at, encoded_at, int_at, before, at_end}
 use Rattle.x509_core_parts.proofs.Lists.{bind_reads, reading_is}
 
 pub passes : {A : Type 0} (b : Bool) (e : X509Error) (r : Reading A) (y : A) → cond b r (Err e) ≡ Ok y → (b ≡ true) × (r ≡ Ok y)

@@ -1,5 +1,5 @@
 -- Certificates (RFC 5280, 4.1), as parts of their bytes.
-use Rattle.std.specs.Prelude.{ℕ, List, [], ◌∷◌, Bool, Option, Some, None, Ok, Err, length, ◌==◌, ◌||◌, nat_le, bytes_eq, if◌then◌else◌}
+use Rattle.std.specs.Prelude.{ℕ, List, [], ◌∷◌, Option, Some, None, Ok, Err, length, ◌==◌, ◌||◌, nat_le, bytes_eq, if◌then◌else◌}
 use Rattle.foundation.specs.Steps.{◌>>=◌}
 use Rattle.der_core_parts.specs.Outcome.{Outcome}
 use Rattle.der_core_parts.specs.Tlv.{tlv, tlv_at}
@@ -7,7 +7,7 @@ use Rattle.der_core.specs.declared.civil.Civil.{Civil}
 use Rattle.der_core.specs.Times.{utc_of, generalized_of}
 use Rattle.x509_core_parts.specs.declared.error.X509Error.TheVariants.{Version, Algorithms, Time}
 use Rattle.x509_core_parts.specs.Reading.{Reading, of_der, contents_at, encoded_at, int_at, bits_at, checked, begins_with, before, at_end}
-use Rattle.x509_core_parts.specs.Spki.{Algorithm, algorithm_at, spki_of}
+use Rattle.x509_core_parts.specs.Spki.{algorithm_at, spki_of}
 use Rattle.x509_core_parts.specs.Extensions.{distinct_of}
 
 -- ---- version, serial number, algorithm and issuer

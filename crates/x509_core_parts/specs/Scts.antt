@@ -1,5 +1,5 @@
 -- Signed certificate timestamps (RFC 6962, 3.2 and 3.3).
-use Rattle.std.specs.Prelude.{◌≡◌, ℕ, zero, suc, ◌+◌, ◌*◌, ◌/◌, ◌%◌, ◌⊎◌, ◌++◌, List, [], ◌∷◌, Option, Some, None, Ok, Err, length, take, drop, ◌==◌, nat_le, nat_lt, if◌then◌else◌}
+use Rattle.std.specs.Prelude.{◌≡◌, ℕ, zero, suc, ◌+◌, ◌*◌, ◌/◌, ◌%◌, ◌⊎◌, ◌++◌, List, [], ◌∷◌, Ok, Err, length, take, drop, ◌==◌, nat_le, nat_lt, if◌then◌else◌}
 use Rattle.std.specs.Int.{w64, from_be_bytes, to_be_bytes}
 use Rattle.foundation.specs.Steps.{◌>>=◌}
 use Rattle.x509_core_parts.specs.declared.error.X509Error.{X509Error}
