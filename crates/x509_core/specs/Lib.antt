@@ -1,0 +1,4 @@
+pub mod AnyOf
+pub mod Kinds
+pub mod OtherNames
+pub mod Types

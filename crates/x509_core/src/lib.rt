@@ -1,0 +1,33 @@
+//! The types of X.509 certificates (RFC 5280) that own their bytes, and the names of
+//! `x509_core_parts`.
+#![tactic(auto)]
+
+mod algorithm;
+mod attribute;
+mod extension;
+mod general_name;
+mod kinds;
+mod laws;
+mod other_name;
+#[cfg(test)]
+mod test_data;
+#[cfg(test)]
+mod tests;
+mod time;
+
+pub use algorithm::AlgorithmIdentifierOwned;
+pub use attribute::{Attribute, Attributes};
+pub use extension::Extension;
+pub use general_name::GeneralName;
+pub use kinds::{
+    Certificate, CertificateKind, CertificateList, CertificateListKind, Name, NameKind,
+    SerialNumber, SerialNumberKind, SubjectKeyIdentifier, SubjectKeyIdentifierKind,
+};
+pub use laws::certificates_alike;
+pub use other_name::OtherName;
+pub use time::Time;
+pub use x509_core_parts::{
+    CertView, ExtensionView, Sct, SpkiView, X509Error, certificate_is_its_parts,
+    extension_stands_once, is_certificate, key_is_its_parts, precert_tbs, precertificate_is_there,
+    sct_list, sct_signed_bytes, signed_part_is_its_parts,
+};

@@ -1,0 +1,7 @@
+mod Arcs
+mod Lists
+mod Made
+mod Once
+mod SctLists
+mod Shorter
+mod Wholes

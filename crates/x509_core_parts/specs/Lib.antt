@@ -1,0 +1,7 @@
+pub mod Certificates
+pub mod Extensions
+pub mod Precertificates
+pub mod Reading
+pub mod Scts
+pub mod Spki
+pub mod Views

@@ -1,0 +1,27 @@
+//! X.509 certificates (RFC 5280) as parts of their bytes, and the bytes of signed certificate
+//! timestamps (RFC 6962).
+#![tactic(auto)]
+
+mod certificate;
+mod error;
+mod extension;
+mod identifier;
+mod laws;
+mod precert;
+mod read;
+mod sct;
+mod scts;
+mod signed;
+mod spki;
+
+pub use certificate::{CertView, is_certificate};
+pub use error::X509Error;
+pub use extension::ExtensionView;
+pub use laws::{
+    certificate_is_its_parts, extension_stands_once, key_is_its_parts, precertificate_is_there,
+    signed_part_is_its_parts,
+};
+pub use precert::{precert_tbs, sct_signed_bytes};
+pub use sct::Sct;
+pub use scts::sct_list;
+pub use spki::SpkiView;
