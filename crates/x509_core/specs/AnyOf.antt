@@ -1,5 +1,5 @@
 -- A value with one of some tags, kept as encoded.
-use Rattle.std.specs.Prelude.{◌≡◌, ℕ, Bool, true, false, ◌&&◌, ◌||◌, ◌==◌, List, [], ◌∷◌, length, Some, Ok, Err, if◌then◌else◌}
+use Rattle.std.specs.Prelude.{◌≡◌, ℕ, Bool, true, false, ◌&&◌, ◌||◌, List, [], ◌∷◌, length, Some, Ok, Err, if◌then◌else◌}
 use Rattle.std.proofs.Common.{refl, sym, ap, subst, eqb}
 use Rattle.std.proofs.lemmas.Bool.{eqb-true}
 use Rattle.der_core_parts.specs.declared.error.DerError.TheVariants.{Value}

@@ -1,5 +1,5 @@
 -- What each type looks like in DER.
-use Rattle.std.specs.Prelude.{◌≡◌, ◌⊎◌, ℕ, List, [], ◌∷◌, refl}
+use Rattle.std.specs.Prelude.{◌≡◌, ◌⊎◌, ℕ, List, refl}
 use Rattle.std.proofs.Common.{inl, inr}
 use Rattle.der_core_parts.specs.Types.{AsnType, sequence_type, set_of_type, implicit_type, any_type, components_as, followed_by, required_component, optional_component, choice_type}
 use Rattle.der_core_parts.specs.Booleans.{false_by_default}
