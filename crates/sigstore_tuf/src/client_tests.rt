@@ -107,7 +107,7 @@ fn client<'a>(
     alloc: Global,
     armor: &'a OneKey,
     repo: &'a mut MemoryRepository,
-) -> Result<Client<'a>, Error> {
+) -> Result<Updater<'a, One, OneKey, MemoryRepository, NoStore>, Error> {
     Updater::new(alloc, &One, armor, repo, ROOT.as_bytes())
 }
 
@@ -132,55 +132,26 @@ fn a_set_of_a_root(rt: HostRuntime) -> Result<(), Fail> {
     Ok(())
 }
 
-fn moment(text: &str) -> Result<Timestamp, Fail> {
-    Ok(text.parse()?)
-}
-
-type Client<'a> = Updater<'a, One, OneKey, MemoryRepository, NoStore>;
-
-// The versions of the timestamp, the snapshot and the targets document in force; 0 where there is none.
-fn versions(client: &Client) -> (u64, u64, u64) {
-    let set = client.trusted();
-    (
-        set.timestamp().map_or(0, |timestamp| timestamp.version),
-        set.snapshot().map_or(0, |snapshot| snapshot.version),
-        set.targets_role("targets")
-            .map_or(0, |targets| targets.version),
-    )
-}
-
-fn gives(client: &mut Client, alloc: Global, path: &str, text: &str) -> Result<bool, Fail> {
-    let file = client.get_target(alloc, path, moment("2025-01-01T00:00:00Z")?)?;
-    Ok(file.as_bytes() == text.as_bytes())
-}
-
-fn is_whole(chain: &TrustChain) -> bool {
-    chain.roots.len() == 1
-        && chain.roles.len() == 1
-        && chain.timestamp.as_bytes() == TIMESTAMP.as_bytes()
-        && chain.snapshot.as_bytes() == SNAPSHOT.as_bytes()
-        && chain.target.length == 2
-        && chain.file.as_bytes() == "{}".as_bytes()
-}
-
-fn has_chain(client: &Client, alloc: Global) -> Result<bool, Fail> {
-    match client.chain(alloc)? {
-        Some(chain) => Ok(is_whole(&chain)),
-        None => Ok(false),
-    }
-}
-
 #[test]
 fn a_client_gets_a_target(rt: HostRuntime) -> Result<(), Fail> {
     let alloc = rt.alloc();
     let armor = armor(alloc)?;
+    let now: Timestamp = "2025-01-01T00:00:00Z".parse()?;
     let mut repo = repository(alloc, Some(TIMESTAMP))?;
     let mut client = client(alloc, &armor, &mut repo)?;
-    assert!(rt; !has_chain(&client, alloc)?);
-    client.refresh(alloc, moment("2025-01-01T00:00:00Z")?)?;
-    assert_eq!(rt; versions(&client), (2, 3, 4));
-    assert!(rt; gives(&mut client, alloc, "a", "{}")?);
-    assert!(rt; has_chain(&client, alloc)?);
+    assert!(rt; client.chain(alloc)?.is_none());
+    client.refresh(alloc, now)?;
+    let set = client.trusted();
+    assert_eq!(rt; set.timestamp().ok_or("a timestamp")?.version, 2);
+    assert_eq!(rt; set.snapshot().ok_or("a snapshot")?.version, 3);
+    assert_eq!(rt; set.targets_role("targets").ok_or("targets")?.version, 4);
+    let file = client.get_target(alloc, "a", now)?;
+    assert_eq!(rt; file.as_bytes(), "{}".as_bytes());
+    let chain = client.chain(alloc)?.ok_or("a chain")?;
+    assert!(rt; chain.roots.len() == 1 && chain.roles.len() == 1);
+    assert_eq!(rt; chain.timestamp.as_bytes(), TIMESTAMP.as_bytes());
+    assert_eq!(rt; chain.snapshot.as_bytes(), SNAPSHOT.as_bytes());
+    assert!(rt; chain.target.length == 2 && chain.file == file);
     Ok(())
 }
 
@@ -193,10 +164,10 @@ fn word_of(answer: &Result<(), Error>) -> &'static str {
     }
 }
 
-// What a refresh answers at a moment, with so many next roots at most, where a timestamp is served or none.
+// What a refresh answers at a moment, with so many next roots at most.
 fn refreshed(
     alloc: Global,
-    served: bool,
+    timestamp: Option<&str>,
     moment: &str,
     max_root_rotations: u32,
 ) -> Result<&'static str, Fail> {
@@ -206,26 +177,21 @@ fn refreshed(
         max_root_rotations,
         ..UpdaterConfig::default()
     };
-    let timestamp = if served { Some(TIMESTAMP) } else { None };
     let mut repo = repository(alloc, timestamp)?;
     let mut client = client(alloc, &armor, &mut repo)?.with_config(config);
     Ok(word_of(&client.refresh(alloc, now)))
 }
 
-fn refresh_rows() -> &'static [(bool, &'static str, u32, &'static str)] {
-    &[
-        (true, "2030-01-01T00:00:00Z", 32, "Ok"),
-        (true, "2030-01-01T00:00:01Z", 32, "Expired"),
-        (true, "2025-01-01T00:00:00Z", 0, "Rotations"),
-        (false, "2025-01-01T00:00:00Z", 32, "Absent"),
-    ]
-}
-
 #[test]
 fn refreshes_are_judged(rt: HostRuntime) -> Result<(), Fail> {
     let alloc = rt.alloc();
-    for &(served, moment, rotations, word) in refresh_rows() {
-        assert_eq!(rt; refreshed(alloc, served, moment, rotations)?, word);
+    for (timestamp, moment, rotations, word) in [
+        (Some(TIMESTAMP), "2030-01-01T00:00:00Z", 32, "Ok"),
+        (Some(TIMESTAMP), "2030-01-01T00:00:01Z", 32, "Expired"),
+        (Some(TIMESTAMP), "2025-01-01T00:00:00Z", 0, "Rotations"),
+        (None, "2025-01-01T00:00:00Z", 32, "Absent"),
+    ] {
+        assert_eq!(rt; refreshed(alloc, timestamp, moment, rotations)?, word);
     }
     Ok(())
 }
