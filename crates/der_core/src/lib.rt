@@ -9,8 +9,6 @@ mod kinds;
 mod moment;
 mod oid;
 mod primitive;
-#[cfg(test)]
-mod tests;
 mod time;
 mod uint;
 

@@ -32,15 +32,6 @@ impl Model for ObjectIdentifier {
     ghost invariant = { λ o. is_oid o.contents.items ≡ true };
 }
 
-/// Whether contents are those of an identifier.
-#[tactic(auto, unfolding(crate::specs::Oid::is_oid))]
-fn is_contents(contents: &[u8]) -> bool
-    ensures exact { result ≡ is_oid contents.now }
-    ensures short { OnTrue result (length contents.now < 40) }
-{
-    contents.len() < 40 && arcs_in(contents).is_ok()
-}
-
 fn copy_of(contents: &[u8]) -> Contents
     requires { length contents.now < 40 }
     ensures { result.items ≡ contents.now }
@@ -61,6 +52,15 @@ fn front(arcs: &[u32]) -> &[u32]
 }
 
 impl ObjectIdentifier {
+    /// Whether octets are the contents of an identifier; no memory is taken.
+    #[tactic(auto, unfolding(crate::specs::Oid::is_oid))]
+    pub fn is_contents(octets: &[u8]) -> bool
+        ensures exact { result ≡ is_oid octets.now }
+        ensures short { OnTrue result (length octets.now < 40) }
+    {
+        octets.len() < 40 && arcs_in(octets).is_ok()
+    }
+
     /// The identifier of a text of two or more shortest decimals joined by dots; Oid exactly where
     /// it is none.
     #[tactic(auto, unfolding(crate::specs::Oid::oid_of_text))]
@@ -138,7 +138,7 @@ impl Der for ObjectIdentifier {
         _tag: Tag,
         contents: &[u8],
     ) -> Result<ObjectIdentifier, DerError> {
-        if !is_contents(contents) {
+        if !ObjectIdentifier::is_contents(contents) {
             return Err(DerError::Value);
         }
         Ok(ObjectIdentifier {

@@ -323,7 +323,12 @@ fn the_bundle_is_refused(rt: HostRuntime) -> Result<(), Fail> {
             "refused verify 22 InvalidBundle\n",
         ),
         ("skip", "", "refused verify 27 Bundle\n"),
-        ("key", "AA==", "refused verify 90 Unbuilt\n"),
+        ("key", "AA==", "refused verify 26 Crypto\n"),
+        (
+            "key",
+            "MCowBQYDK2VwAyEAAAAAAAAAAAAAAAAAAAAAAAAAAAAAAAAAAAAAAAAAAAA=",
+            "refused verify 90 Unbuilt\n",
+        ),
         ("trust", r#"{"tlogs":[{}]}"#, "refused verify 90 Unbuilt\n"),
         (
             "content",

@@ -17,8 +17,6 @@ mod rows;
 mod sink;
 mod stdout_sink;
 mod tables;
-#[cfg(test)]
-mod tests;
 mod usage_fault;
 mod writing;
 

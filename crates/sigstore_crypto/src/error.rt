@@ -36,6 +36,8 @@ pub enum CertificateFault {
 #[derive(Clone, Copy, Debug, PartialEq, Eq, Drop)]
 pub enum KeyRule {
     RawKey,
+    Encoding,
+    UnusedBits,
 }
 
 /// Why a key, a signature or a digest is refused.

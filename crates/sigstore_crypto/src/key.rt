@@ -1,8 +1,9 @@
 // Keys that verify.
-ghost use Rattle.std.specs.Prelude.{◌≡◌, ◌≢◌, ◌↔◌, Ok, Err, IsTrue, IsOk, IfOk, IfErr, MatchOption, true, false, drop, length};
+ghost use Rattle.std.specs.Prelude.{◌≡◌, ◌≢◌, ◌↔◌, Ok, Err, IsTrue, IsOk, IfOk, IfErr, length};
 ghost use Rattle.sigstore_crypto.specs.declared.error.Error.TheVariants.{NoMemory as Want};
 ghost use Rattle.sigstore_crypto.specs.Scheme.{has_digest, key_algorithm_of, digest_size_of};
-ghost use Rattle.sigstore_crypto.specs.Key.{is_p256_spki, spki_key_of};
+ghost use Rattle.x509_core_parts.specs.Views.{spki_parts};
+ghost use Rattle.sigstore_crypto.specs.Key.{is_p256, key_of_parts, spki_key_of};
 ghost use Rattle.sigstore_crypto.specs.Good.{is_uncompressed, raw_key_by, raw_key_of, verified_of, prehashed_of, is_good, is_good_over};
 
 use crate::error::{Error, KeyRule, VerificationFault};
@@ -11,6 +12,7 @@ use crate::scheme::{KeyAlgorithm, SigningScheme};
 use foundation::{Duplicate, NoMemory};
 use sigstore_types_parts::{Bytes, DerPublicKey, Form, SignatureBytes};
 use std::alloc::Global;
+use x509_core_parts::SpkiView;
 
 /// A scheme and a raw key of its sort.
 #[derive(Debug, PartialEq, Eq, Drop)]
@@ -19,24 +21,38 @@ pub struct VerificationKey {
     pub key: Bytes,
 }
 
-// The contents of a SubjectPublicKeyInfo (RFC 5480) of a P-256 key before the raw key.
-const P256_HEAD: [u8; 26] = [
-    0x30, 0x59, 0x30, 0x13, 0x06, 0x07, 0x2a, 0x86, 0x48, 0xce, 0x3d, 0x02, 0x01, 0x06, 0x08, 0x2a,
-    0x86, 0x48, 0xce, 0x3d, 0x03, 0x01, 0x07, 0x03, 0x42, 0x00,
-];
+// id-ecPublicKey, and the curve secp256r1 as it is encoded (RFC 5480, section 2.1).
+const EC_OID: [u8; 7] = [0x2a, 0x86, 0x48, 0xce, 0x3d, 0x02, 0x01];
 
-fn p256_raw(der: &[u8]) -> Option<&[u8]>
-    ensures { MatchOption result (is_p256_spki der.now ≡ false) (λ raw. (is_p256_spki der.now ≡ true) × (raw.now ≡ drop 26 der.now)) }
+const P256_CURVE: [u8; 10] = [0x06, 0x08, 0x2a, 0x86, 0x48, 0xce, 0x3d, 0x03, 0x01, 0x07];
+
+fn is_p256(view: &SpkiView) -> bool
+    ensures { result ≡ is_p256 (spki_parts view.now).algorithm }
 {
-    if der.len() != 91 {
-        return None;
+    if view.oid != EC_OID.as_slice() {
+        return false;
     }
-    let (head, raw) = der.split_at(26);
-    if head == P256_HEAD.as_slice() {
-        Some(raw)
-    } else {
-        None
+    match view.parameters {
+        Some(parameters) => parameters == P256_CURVE.as_slice(),
+        None => false,
     }
+}
+
+#[tactic(auto, unfolding(crate::specs::Key::key_of_parts))]
+fn key_in(alloc: Global, view: &SpkiView) -> Result<VerificationKey, Error>
+    ensures ok { IfOk result (λ key. key_of_parts (spki_parts view.now) ≡ Ok key) }
+    ensures err { IfErr result (λ e. e ≢ Want → key_of_parts (spki_parts view.now) ≡ Err e) }
+{
+    if !is_p256(view) {
+        return Err(Error::Unbuilt(Form::Key));
+    }
+    if view.unused_bits != 0 {
+        return Err(Error::InvalidKey(KeyRule::UnusedBits));
+    }
+    Ok(VerificationKey {
+        scheme: SigningScheme::EcdsaP256Sha256,
+        key: Bytes::new(alloc, view.key)?,
+    })
 }
 
 // A point that isn't compressed begins with 04 (SEC 1, section 2.3.3).
@@ -78,18 +94,21 @@ pub fn validate_raw_public_key(scheme: SigningScheme, key: &[u8]) -> Result<(), 
 }
 
 impl VerificationKey {
-    /// The key of a SubjectPublicKeyInfo, under its default scheme. Errors: `Unbuilt` for every key that
-    /// isn't a P-256 key in 91 bytes.
+    /// The key of a SubjectPublicKeyInfo (RFC 5280, section 4.1), under its default scheme. Errors:
+    /// `InvalidKey` where the bytes aren't one, or the bits of a P-256 key aren't whole octets; `Unbuilt`
+    /// for every other algorithm.
+    #[tactic(auto, unfolding(crate::specs::Key::spki_key_of))]
     pub fn from_spki(alloc: Global, der: &DerPublicKey) -> Result<VerificationKey, Error>
         ensures ok { IfOk result (λ key. spki_key_of der.now ≡ Ok key) }
         ensures err { IfErr result (λ e. e ≢ Want → spki_key_of der.now ≡ Err e) }
     {
-        match p256_raw(der.as_bytes()) {
-            None => Err(Error::Unbuilt(Form::Key)),
-            Some(raw) => Ok(VerificationKey {
-                scheme: SigningScheme::EcdsaP256Sha256,
-                key: Bytes::new(alloc, raw)?,
-            }),
+        let view = match SpkiView::parse(der.as_bytes()) {
+            Ok(view) => view,
+            Err(_) => return Err(Error::InvalidKey(KeyRule::Encoding)),
+        };
+        match key_in(alloc, &view) {
+            Ok(key) => Ok(key),
+            Err(e) => Err(e),
         }
     }
 

@@ -10,8 +10,6 @@ mod provider;
 mod reader;
 mod scheme;
 mod source;
-#[cfg(test)]
-mod tests;
 
 pub use digest::{sha256, sha384, sha512};
 pub use error::{CertificateFault, CheckpointFault, Error, KeyRule, VerificationFault};

@@ -4,8 +4,6 @@
 
 mod chain;
 mod client;
-#[cfg(test)]
-mod client_tests;
 mod config;
 mod documents;
 mod file;
@@ -20,8 +18,6 @@ mod no_store;
 mod repository;
 mod store;
 mod target;
-#[cfg(test)]
-mod tests;
 mod trusted;
 mod update;
 mod updater;

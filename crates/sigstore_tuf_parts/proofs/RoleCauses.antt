@@ -6,6 +6,7 @@ use Rattle.std.specs.Prelude.{⊤}
 use Rattle.std.proofs.lemmas.Bool.Decides.{nat_tests}
 use Rattle.std.proofs.lemmas.Slice.Eq.{bytes_eq-Decides}
 use Rattle.hex.specs.Hex.{decode_of}
+use Rattle.hex.specs.declared.error.FromHexError.{FromHexError}
 use Rattle.foundation.specs.Steps.{◌>>=◌}
 use Rattle.sigstore_types_parts.specs.Entries.{at_name}
 use Rattle.sigstore_types_parts.specs.declared.form.Form.{Form}
@@ -116,27 +117,28 @@ module _ (crypto : Crypto) (keys : Keys) (role : RoleKeys) (signatures : List Si
   abbrev Unbuilt : Type 0
   Unbuilt = (form : Form) × (e ≡ tuf.Unbuilt form) × SignsByUnbuilt crypto keys role signatures form
 
-  module _ (s : Signature) (counts : Contains (counted_of role signatures) s) where
+  module _ (s : Signature) (counts : Contains (counted_of role signatures) s) (raw : List ℕ) (hexadecimal : decode_of s.sig ≡ Ok raw) where
     by_fault : (key : Key) → at_name s.keyid keys ≡ Some key → (r : Result VerificationKey KeyFault) → crypto.key_of key ≡ r → unbuilt_in r ≡ Err e → Unbuilt
     by_fault key k (Ok v) u h = cc
     by_fault key k (Err key_fault.Unusable) u h = cc
     by_fault key k (Err key_fault.Unsupported) u h = cc
     by_fault key k (Err key_fault.Refused) u h = cc
-    by_fault key k (Err (key_fault.Unbuilt form)) u h = (form, cc, record { signature = s; counts = counts; key = key; known = k; unbuilt = u })
+    by_fault key k (Err (key_fault.Unbuilt form)) u h = (form, cc, record { signature = s; counts = counts; raw = raw; hexadecimal = hexadecimal; key = key; known = k; unbuilt = u })
     by_fault key k (Err key_fault.NoMemory) u h = cc
 
     by_key : (o : Option Key) → at_name s.keyid keys ≡ o → built_by crypto.key_of o ≡ Err e → Unbuilt
     by_key None k h = cc
     by_key (Some key) k h = by_fault key k (crypto.key_of key) refl h
 
-    by_text : (b : Bool) → (if b then built_by crypto.key_of (at_name s.keyid keys) else Ok tt) ≡ Err e → Unbuilt
-    by_text true h = by_key (at_name s.keyid keys) refl h
-    by_text false h = cc
+  by_text : (s : Signature) → Contains (counted_of role signatures) s → (r : Result (List ℕ) FromHexError) → decode_of s.sig ≡ r
+      → (if is_some (result_ok r) then built_by crypto.key_of (at_name s.keyid keys) else Ok tt) ≡ Err e → Unbuilt
+  by_text s counts (Ok raw) d h = by_key s counts raw d (at_name s.keyid keys) refl h
+  by_text s counts (Err fault) d h = cc
 
   by_signatures : (xs : List Signature) → ((k : ℕ) (s : Signature) → k < length xs → get_or xs k s ≡ s → Contains (counted_of role signatures) s) → all_built crypto.key_of keys xs ≡ Err e → Unbuilt
   by_signatures [] there h = cc
   by_signatures (s ∷ xs) there h = elim (refused_by (built_of crypto.key_of keys s) _ e h) [
-    | inl here ↦ by_text s (there 0 s (omega arith) refl) (is_some (result_ok (decode_of s.sig))) here
+    | inl here ↦ by_text s (there 0 s (omega arith) refl) (decode_of s.sig) refl here
     | inr later ↦ by_signatures xs (λ k t below at. there (suc k) t (omega arith) at) later.2
   ]
 

@@ -3,6 +3,7 @@ use Rattle.std.specs.Prelude.{◌≡◌, ◌≢◌, ◌⊎◌, ℕ, ◌<◌, Lis
 use Rattle.std.specs.List.{AllByRecursion, IsDistinct}
 use Rattle.sha2.specs.Sha256.{sha256}
 use Rattle.sha2.specs.Sha512.{sha512}
+use Rattle.hex.specs.Hex.{decode_of}
 use Rattle.serde_json.specs.Data.{Data}
 use Rattle.serde_json.specs.Find.{get, as_str}
 use Rattle.jiff_core.specs.declared.timestamp.Timestamp as jiff
@@ -103,10 +104,12 @@ pub record SignedBy {T : Type 0} (crypto : Crypto) (keys : Keys) (role : RoleKey
   pub others : (id : List ℕ) → Signs crypto keys role doc id → is_among ids id ≡ true
   pub number : length ids ≡ found
 
--- a signature that counts names a key of a form that isn't built
+-- a hexadecimal signature that counts names a key of a form that isn't built
 pub record SignsByUnbuilt (crypto : Crypto) (keys : Keys) (role : RoleKeys) (signatures : List Signature) (form : Form) : Type 0 where
   pub signature : Signature
   pub counts : Contains (counted_of role signatures) signature
+  pub raw : List ℕ
+  pub hexadecimal : decode_of signature.sig ≡ Ok raw
   pub key : Key
   pub known : at_name signature.keyid keys ≡ Some key
   pub unbuilt : crypto.key_of key ≡ Err (key_fault.Unbuilt form)

@@ -5,8 +5,6 @@ mod accepted;
 mod canonical;
 mod counted;
 mod document;
-#[cfg(test)]
-mod document_tests;
 mod error;
 mod extra;
 mod head;
@@ -21,11 +19,7 @@ mod root;
 mod root_role;
 mod snapshot;
 mod targets;
-#[cfg(test)]
-mod tests;
 mod threshold;
-#[cfg(test)]
-mod threshold_tests;
 mod timestamp;
 mod verification;
 

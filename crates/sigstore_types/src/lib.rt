@@ -5,8 +5,6 @@
 mod bundle;
 mod content;
 mod material;
-#[cfg(test)]
-mod tests;
 mod trusted_root;
 mod words;
 

@@ -17,8 +17,6 @@ mod member;
 mod misread;
 mod parse;
 mod read;
-#[cfg(test)]
-mod tests;
 mod text;
 mod text_map;
 

@@ -7,8 +7,6 @@ mod laws;
 mod policy;
 mod report;
 mod root;
-#[cfg(test)]
-mod tests;
 mod verifier;
 
 pub use error::{CertificateError, Error, TimestampError, TransparencyLogError};

@@ -9,7 +9,7 @@ use foundation::{Duplicate, NoMemory};
 use std::alloc::Global;
 
 /// An AlgorithmIdentifier (RFC 5280, 4.1.1.2).
-#[derive(PartialEq, Drop)]
+#[derive(Debug, PartialEq, Drop)]
 pub struct AlgorithmIdentifierOwned {
     pub oid: ObjectIdentifier,
     pub parameters: Option<Any>,

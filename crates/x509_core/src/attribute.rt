@@ -8,7 +8,7 @@ use foundation::{Duplicate, NoMemory};
 use std::alloc::Global;
 
 /// An attribute: its type, and a set of values (RFC 5652, 5.3).
-#[derive(PartialEq, Drop)]
+#[derive(Debug, PartialEq, Drop)]
 pub struct Attribute {
     pub oid: ObjectIdentifier,
     pub values: SetOfVec<Any>,

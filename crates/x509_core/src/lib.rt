@@ -9,10 +9,6 @@ mod general_name;
 mod kinds;
 mod laws;
 mod other_name;
-#[cfg(test)]
-mod test_data;
-#[cfg(test)]
-mod tests;
 mod time;
 
 pub use algorithm::AlgorithmIdentifierOwned;

@@ -1,4 +1,3 @@
-mod Arcs
 mod Lists
 mod Made
 mod Once

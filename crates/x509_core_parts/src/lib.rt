@@ -5,7 +5,6 @@
 mod certificate;
 mod error;
 mod extension;
-mod identifier;
 mod laws;
 mod precert;
 mod read;

@@ -4,8 +4,7 @@ ghost use Rattle.der_core_parts.specs.Tlv.{tlv, tlv_at};
 ghost use Rattle.x509_core_parts.specs.Reading.{of_der, contents_at, encoded_at, oid_at, int_at, any_at, bits_of, bits_at, at_end, begins_with, before};
 
 use crate::error::X509Error;
-use crate::identifier::is_identifier;
-use der_core::{BitStringKind, DerError, IntKind, PrimitiveKind, Reader, Tlv};
+use der_core::{BitStringKind, DerError, IntKind, ObjectIdentifier, PrimitiveKind, Reader, Tlv};
 
 /// The value at the front, and what follows.
 pub fn value(bytes: &[u8]) -> Result<(Tlv, &[u8]), X509Error>
@@ -72,7 +71,7 @@ pub fn oid(bytes: &[u8]) -> Result<(&[u8], &[u8]), X509Error>
     ensures err { IfErr result (λ e. oid_at bytes.now ≡ Err e) }
 {
     let (octets, rest) = contents(6, bytes)?;
-    if !is_identifier(octets) {
+    if !ObjectIdentifier::is_contents(octets) {
         return Err(X509Error::Der(DerError::Value));
     }
     Ok((octets, rest))

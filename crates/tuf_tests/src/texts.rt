@@ -1,6 +1,6 @@
 // Display texts, and the encodings on outside values.
-use super::*;
 use foundation::{Duplicate, Sequence};
+use sigstore_types_parts::*;
 use std::test::Fail;
 
 #[test]

@@ -1,59 +1,28 @@
 // Thresholds and declared keys, judged by a provider and an armour of a few texts.
-ghost use Rattle.std.specs.Prelude.{[], ◌∷◌, ◌||◌, Some, bytes_eq, if◌then◌else◌};
+ghost use Rattle.std.specs.Prelude.{◌||◌, Some, bytes_eq, if◌then◌else◌};
 
-use super::*;
-use crate::tests::word_of;
+use crate::provider::{One, p256};
+use crate::refusals::word_of;
 use foundation::{Duplicate, NoMemory};
 use serde_json::Value;
-use sigstore_crypto::{CryptoProvider, SigningScheme};
+use sigstore_tuf_parts::*;
 use sigstore_types_parts::{Armor, Bytes, DerPublicKey, Form, FromValue, Text};
 use std::alloc::Global;
 use std::test::Fail;
 
-// A P-256 key whose raw key is 04 and 64 zero bytes.
-fn p256() -> &'static str {
-    "MFkwEwYHKoZIzj0CAQYIKoZIzj0DAQcDQgAEAAAAAAAAAAAAAAAAAAAAAAAAAAAAAAAAAAAAAAAAAAAAAAAAAAAAAAAAAAAAAAAAAAAAAAAAAAAAAAAAAAAAAA=="
-}
-
-// Accepts the signature 01 of everything.
-struct One;
-
-impl CryptoProvider for One {
-    ghost accepts = { λ _ scheme key subject signature. bytes_eq signature (1 ∷ []) };
-
-    fn verify_raw(
-        &self,
-        _scheme: SigningScheme,
-        _key: &[u8],
-        _message: &[u8],
-        signature: &[u8],
-    ) -> bool {
-        signature == [1].as_slice()
-    }
-
-    fn verify_prehashed(
-        &self,
-        _scheme: SigningScheme,
-        _key: &[u8],
-        _digest: &[u8],
-        signature: &[u8],
-    ) -> bool {
-        signature == [1].as_slice()
-    }
-}
-
-// Two texts are armoured: one holds a P-256 key, the other no bytes.
+// Two texts are armoured, each with bytes of its own.
 #[derive(Drop)]
 struct Two {
     known: Text,
     other: Text,
     key: Bytes,
+    other_key: Bytes,
 }
 
 impl Armor for Two {
     ghost armored = { λ a text. bytes_eq text a.known || bytes_eq text a.other };
 
-    ghost key_in = { λ a text. if bytes_eq text a.known then Some a.key else Some [] };
+    ghost key_in = { λ a text. if bytes_eq text a.known then Some a.key else Some a.other_key };
 
     ghost certificate_in = { λ _ text. Some text };
 
@@ -65,7 +34,7 @@ impl Armor for Two {
         if text == self.known.as_str().as_bytes() {
             Ok(Some(self.key.duplicate(alloc)?))
         } else {
-            Ok(Some(Bytes::new(alloc, &[])?))
+            Ok(Some(self.other_key.duplicate(alloc)?))
         }
     }
 
@@ -78,17 +47,28 @@ impl Armor for Two {
     }
 }
 
-fn p256_bytes(alloc: Global) -> Result<Bytes, Fail> {
-    let key = DerPublicKey::from_base64(alloc, p256())?;
+// An Ed25519 key of 32 zero bytes (RFC 8410).
+fn ed25519() -> &'static str {
+    "MCowBQYDK2VwAyEAAAAAAAAAAAAAAAAAAAAAAAAAAAAAAAAAAAAAAAAAAAA="
+}
+
+fn key_bytes(alloc: Global, base64: &str) -> Result<Bytes, Fail> {
+    let key = DerPublicKey::from_base64(alloc, base64)?;
     Ok(Bytes::new(alloc, key.as_bytes())?)
 }
 
-fn toy_armor(alloc: Global) -> Result<Two, Fail> {
+fn armor_of(alloc: Global, other: &str) -> Result<Two, Fail> {
     Ok(Two {
         known: Text::new(alloc, "p")?,
         other: Text::new(alloc, "q")?,
-        key: p256_bytes(alloc)?,
+        key: key_bytes(alloc, p256())?,
+        other_key: key_bytes(alloc, other)?,
     })
+}
+
+// The text p holds a P-256 key, and q an Ed25519 key.
+fn toy_armor(alloc: Global) -> Result<Two, Fail> {
+    armor_of(alloc, ed25519())
 }
 
 fn key_text(alloc: Global, scheme: &str, public: &str) -> Result<String, Fail> {
@@ -291,8 +271,9 @@ fn declared(alloc: Global, scheme: &str, public: &str) -> Result<Key, Fail> {
     Ok(Key::from_value(alloc, &value)?)
 }
 
-fn fault_of(alloc: Global, key: &Key) -> Result<Option<KeyFault>, Fail> {
-    let armor = toy_armor(alloc)?;
+// The other text holds an Ed25519 key, or one byte that is no key.
+fn fault_of(alloc: Global, key: &Key, is_broken: bool) -> Result<Option<KeyFault>, Fail> {
+    let armor = armor_of(alloc, if is_broken { "AA==" } else { ed25519() })?;
     Ok(key.verification_key(alloc, &armor).err())
 }
 
@@ -310,19 +291,22 @@ fn word_for(fault: Option<KeyFault>) -> &'static str {
         Some(KeyFault::Unusable) => "unusable",
         Some(KeyFault::Unsupported) => "unsupported",
         Some(KeyFault::Unbuilt(form)) => form_word(form),
+        Some(KeyFault::Refused) => "refused",
         Some(_) => "another fault",
     }
 }
 
 fn fault_word(alloc: Global, scheme: &str, public: &str) -> Result<&'static str, Fail> {
+    let is_broken = public == "q";
     let key = declared(alloc, scheme, public)?;
-    let fault = fault_of(alloc, &key)?;
+    let fault = fault_of(alloc, &key, is_broken)?;
     Ok(word_for(fault))
 }
 
 fn key_rows() -> &'static [(&'static str, &'static str, &'static str)] {
     &[
         ("ecdsa-sha2-nistp256", "p", "a key"),
+        ("ecdsa-sha2-nistp256", "q", "refused"),
         ("ecdsa-sha2-nistp256", "r", "unusable"),
         ("ecdsa-sha2-nistp384", "p", "unbuilt"),
         (

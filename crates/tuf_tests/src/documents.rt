@@ -1,7 +1,7 @@
 // Documents of each kind, read and refused, and the checks of pins and of expiries.
-use super::*;
-use crate::tests::word_of;
+use crate::refusals::word_of;
 use foundation::Duplicate;
+use sigstore_tuf_parts::*;
 use sigstore_types_parts::instant;
 use std::alloc::Global;
 use std::process::Abort;

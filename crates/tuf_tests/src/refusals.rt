@@ -1,7 +1,7 @@
 // Names and numbers of refusals, canonical texts, names of files, and members that are kept.
-use super::*;
 use foundation::Duplicate;
 use serde_json::Value;
+use sigstore_tuf_parts::*;
 use sigstore_types_parts::{Bytes, Form, FromValue, Text, parse_json};
 use std::alloc::Global;
 use std::process::Abort;

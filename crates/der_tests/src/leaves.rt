@@ -1,5 +1,5 @@
 // Encodings worked out from X.690 by hand, read and written with ample memory.
-use crate::*;
+use der_core::*;
 use foundation::{Duplicate, Sequence};
 use jiff::Timestamp;
 use std::alloc::Global;
@@ -194,6 +194,9 @@ fn identifiers(rt: HostRuntime) -> Result<(), Fail> {
     assert!(rt; ObjectIdentifier::new("1.3")?.parent().is_none());
     let joint = ObjectIdentifier::from_arcs(&[2, 999, 3])?;
     assert_eq!(rt; joint.as_bytes(), [0x88u8, 0x37, 0x03].as_slice());
+    assert!(rt;
+        ObjectIdentifier::is_contents(&[0x2a, 3]) && !ObjectIdentifier::is_contents(&[0x80, 1])
+    );
     Ok(())
 }
 

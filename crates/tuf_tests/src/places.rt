@@ -1,6 +1,5 @@
 // Each object of the outside once, at its type and through its trait.
-use super::*;
-use crate::name::is_bad_name;
+use sigstore_tuf::*;
 use sigstore_types_parts::{Bytes, FailList, Text};
 use std::alloc::Global;
 use std::fs;
@@ -24,28 +23,6 @@ fn faults_print_their_names(rt: HostRuntime) -> Result<(), Fail> {
         assert_eq!(rt; format!(in alloc; "{fault}")?.as_str(), name);
     }
     Ok(())
-}
-
-#[test]
-fn names(rt: HostRuntime) {
-    for (name, bad) in [
-        ("", false),
-        ("root.json", false),
-        ("a/b", false),
-        ("a//b", false),
-        ("./a", false),
-        ("...", false),
-        ("..a/b..", false),
-        ("/", true),
-        ("/a", true),
-        ("..", true),
-        ("../a", true),
-        ("a/..", true),
-        ("a/../b", true),
-        ("a/b/../..c", true),
-    ] {
-        assert_eq!(rt; is_bad_name(name), bad, "{name}");
-    }
 }
 
 fn document<R: Repository>(
@@ -81,6 +58,30 @@ fn keep<S: MetadataStore>(
     bytes: &[u8],
 ) -> Result<(), StoreFault> {
     store.store(alloc, name, bytes)
+}
+
+#[test]
+fn names(rt: HostRuntime) {
+    let alloc = rt.alloc();
+    for (name, bad) in [
+        ("", false),
+        ("root.json", false),
+        ("a/b", false),
+        ("a//b", false),
+        ("./a", false),
+        ("...", false),
+        ("..a/b..", false),
+        ("/", true),
+        ("/a", true),
+        ("..", true),
+        ("../a", true),
+        ("a/..", true),
+        ("a/../b", true),
+        ("a/b/../..c", true),
+    ] {
+        let refused = kept(&mut NoStore, alloc, name).err() == Some(StoreFault::BadName);
+        assert_eq!(rt; refused, bad, "{name}");
+    }
 }
 
 fn is_text(found: &Option<Bytes>, text: &str) -> bool {

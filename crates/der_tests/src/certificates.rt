@@ -1,10 +1,10 @@
 // Certificates that OpenSSL made, changes of them, and encodings worked out by hand.
-use crate::test_data::{ISSUER, LOG, ed25519, listed, p256, p384, rsa, signed};
-use crate::*;
+use crate::certificate_data::{ISSUER, LOG, ed25519, listed, p256, p384, rsa, signed};
 use der_core::{Civil, Der, DerError, ObjectIdentifier, Tag};
 use foundation::Duplicate;
 use std::alloc::Global;
 use std::test::Fail;
+use x509_core::*;
 
 /// Where a part begins and ends.
 type Place = (usize, usize);

@@ -2,7 +2,6 @@
 ghost use Rattle.std.specs.Prelude.{bytes_eq, Some, None, false};
 ghost use Rattle.sigstore_crypto.specs.Good.{subject_of};
 
-use super::*;
 use foundation::NoMemory;
 use jiff::Timestamp;
 use sigstore_crypto::{
@@ -13,6 +12,7 @@ use sigstore_types::{
     MessageDigest, MessageSignature, SignatureBytes, SignatureContent, Text, TrustedRoot,
     VerificationMaterial, VerificationMaterialContent,
 };
+use sigstore_verify::*;
 use std::alloc::Global;
 use std::fmt;
 use std::num::NonZeroU32;
@@ -212,6 +212,12 @@ fn refusals_of_parts_have_their_names(rt: HostRuntime) -> Result<(), Fail> {
 const KEY: &str =
     "MFkwEwYHKoZIzj0CAQYIKoZIzj0DAQcDQgAEAAAAAAAAAAAAAAAAAAAAAAAAAAAAAAAAAAAAAAAAAAAAAAAAAAAAAAAAAAAAAAAAAAAAAAAAAAAAAAAAAAAAAA==";
 
+// The same with one unused bit, and an Ed25519 key of 32 zero bytes (RFC 8410).
+const UNUSED_BITS: &str =
+    "MFkwEwYHKoZIzj0CAQYIKoZIzj0DAQcDQgEEAAAAAAAAAAAAAAAAAAAAAAAAAAAAAAAAAAAAAAAAAAAAAAAAAAAAAAAAAAAAAAAAAAAAAAAAAAAAAAAAAAAAAA==";
+
+const ED25519: &str = "MCowBQYDK2VwAyEAAAAAAAAAAAAAAAAAAAAAAAAAAAAAAAAAAAAAAAAAAAA=";
+
 // A bundle over the SHA-256 values of what it tells and of what is signed.
 fn bundle(
     alloc: Global,
@@ -277,8 +283,10 @@ fn bundles_are_refused(rt: HostRuntime) -> Result<(), Fail> {
     let good = bundle(alloc, d256, "hello", "hello")?;
     assert!(rt; answer(alloc, &policy, &good, 5, false)? == 0);
     assert!(rt; answer(alloc, &key_policy(alloc, KEY)?, &good, 5, false)? == 27);
-    let other = key_policy(alloc, "MA==")?.skip_tlog_unsafe();
-    assert!(rt; answer(alloc, &other, &good, 5, false)? == 90);
+    for (key, number) in [("MA==", 26), (UNUSED_BITS, 26), (ED25519, 90)] {
+        let other = key_policy(alloc, key)?.skip_tlog_unsafe();
+        assert!(rt; answer(alloc, &other, &good, 5, false)? == number, "{key}");
+    }
     assert!(rt; answer(alloc, &policy, &good, 4, false)? == 30);
     assert!(rt; answer(alloc, &policy, &good, 5, true)? == 30);
     let untold = bundle(alloc, None, "", "hello")?;

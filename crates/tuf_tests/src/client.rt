@@ -1,40 +1,14 @@
-// The client over a repository in memory, and a provider that accepts the signature 01 of everything.
-ghost use Rattle.std.specs.Prelude.{[], ◌∷◌, Some, true, bytes_eq};
+// The client over a repository in memory.
+ghost use Rattle.std.specs.Prelude.{Some, true};
 
-use super::*;
+use crate::provider::{One, p256};
 use foundation::{Duplicate, NoMemory};
 use jiff::Timestamp;
-use sigstore_crypto::{CryptoProvider, SigningScheme};
+use sigstore_tuf::*;
 use sigstore_tuf_parts::{Error, TransportFault};
 use sigstore_types_parts::{Armor, Bytes, DerPublicKey, FailList};
 use std::alloc::Global;
 use std::test::Fail;
-
-struct One;
-
-impl CryptoProvider for One {
-    ghost accepts = { λ _ scheme key subject signature. bytes_eq signature (1 ∷ []) };
-
-    fn verify_raw(
-        &self,
-        _scheme: SigningScheme,
-        _key: &[u8],
-        _message: &[u8],
-        signature: &[u8],
-    ) -> bool {
-        signature == [1].as_slice()
-    }
-
-    fn verify_prehashed(
-        &self,
-        _scheme: SigningScheme,
-        _key: &[u8],
-        _digest: &[u8],
-        signature: &[u8],
-    ) -> bool {
-        signature == [1].as_slice()
-    }
-}
 
 // Every text holds the same key.
 #[derive(Drop)]
@@ -66,10 +40,6 @@ impl Armor for OneKey {
     }
 }
 
-// A P-256 key whose raw key is 04 and 64 zero bytes.
-const P256: &str =
-    "MFkwEwYHKoZIzj0CAQYIKoZIzj0DAQcDQgAEAAAAAAAAAAAAAAAAAAAAAAAAAAAAAAAAAAAAAAAAAAAAAAAAAAAAAAAAAAAAAAAAAAAAAAAAAAAAAAAAAAAAAA==";
-
 const ROOT: &str =
     r#"{"signatures":[{"keyid":"k","sig":"01"}],"signed":{"_type":"root","spec_version":"1.0.0","version":1,"expires":"2031-01-01T00:00:00Z","keys":{"k":{"keytype":"ecdsa","scheme":"ecdsa-sha2-nistp256","keyval":{"public":"p"}}},"roles":{"root":{"keyids":["k"],"threshold":1},"timestamp":{"keyids":["k"],"threshold":1},"snapshot":{"keyids":["k"],"threshold":1},"targets":{"keyids":["k"],"threshold":1}}}}"#;
 
@@ -83,7 +53,7 @@ const TARGETS: &str =
     r#"{"signatures":[{"keyid":"k","sig":"01"}],"signed":{"_type":"targets","spec_version":"1.0.0","version":4,"expires":"2031-01-01T00:00:00Z","targets":{"a":{"length":2,"hashes":{"sha256":"44136fa355b3678a1146ad16f7e8649e94fb4fc21fe77e8310c060f61caaff8a"}}}}}"#;
 
 fn armor(alloc: Global) -> Result<OneKey, Fail> {
-    let key = DerPublicKey::from_base64(alloc, P256)?;
+    let key = DerPublicKey::from_base64(alloc, p256())?;
     Ok(OneKey {
         key: Bytes::new(alloc, key.as_bytes())?,
     })

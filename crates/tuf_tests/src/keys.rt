@@ -2,11 +2,12 @@
 ghost use Rattle.std.specs.Prelude.{bytes_eq};
 ghost use Rattle.sigstore_crypto.specs.Good.{subject_of};
 
-use super::*;
 use foundation::Duplicate;
+use sigstore_crypto::*;
 use sigstore_types_parts::{
     Bytes, DerPublicKey, FailList, Form, HashAlgorithm, SignatureBytes, Text,
 };
+use std::alloc::Global;
 use std::fs;
 use std::num::NonZeroU32;
 use std::test::Fail;
@@ -243,6 +244,47 @@ fn keys_verify(rt: HostRuntime) -> Result<(), Fail> {
         key.verify(&Echo, digest.as_bytes(), &signature)
             == Err(Error::Verification(VerificationFault::Refused))
     );
+    Ok(())
+}
+
+fn key_word(alloc: Global, base64: &str) -> Result<&'static str, Fail> {
+    let der = DerPublicKey::from_base64(alloc, base64)?;
+    match VerificationKey::from_spki(alloc, &der) {
+        Ok(_) => Ok("a key"),
+        Err(Error::InvalidKey(KeyRule::Encoding)) => Ok("no SubjectPublicKeyInfo"),
+        Err(Error::InvalidKey(KeyRule::UnusedBits)) => Ok("unused bits"),
+        Err(Error::Unbuilt(_)) => Ok("unbuilt"),
+        Err(_) => Ok("another refusal"),
+    }
+}
+
+// Keys in base64: P-256 with 65, with one and with no key bytes, with an unused bit, and with a byte
+// behind it; on the curve P-384; Ed25519; no bytes, and a byte.
+fn key_rows() -> &'static [(&'static str, &'static str)] {
+    &[
+        (SPKI, "a key"),
+        ("MBkwEwYHKoZIzj0CAQYIKoZIzj0DAQcDAgAF", "a key"),
+        ("MBgwEwYHKoZIzj0CAQYIKoZIzj0DAQcDAQA=", "a key"),
+        ("MBkwEwYHKoZIzj0CAQYIKoZIzj0DAQcDAgEE", "unused bits"),
+        (
+            "MBkwEwYHKoZIzj0CAQYIKoZIzj0DAQcDAgAFAA==",
+            "no SubjectPublicKeyInfo",
+        ),
+        ("MBYwEAYHKoZIzj0CAQYFK4EEACIDAgAE", "unbuilt"),
+        (
+            "MCowBQYDK2VwAyEAAAAAAAAAAAAAAAAAAAAAAAAAAAAAAAAAAAAAAAAAAAA=",
+            "unbuilt",
+        ),
+        ("", "no SubjectPublicKeyInfo"),
+        ("AA==", "no SubjectPublicKeyInfo"),
+    ]
+}
+
+#[test]
+fn keys_are_told_apart(rt: HostRuntime) -> Result<(), Fail> {
+    for &(base64, word) in key_rows() {
+        assert_eq!(rt; key_word(rt.alloc(), base64)?, word);
+    }
     Ok(())
 }
 

@@ -1,5 +1,5 @@
 // Display texts, and words, files and lines on outside values.
-use super::*;
+use sigstore_app_parts::*;
 use sigstore_crypto::{CryptoProvider, SigningScheme, sha256};
 use sigstore_types_parts::{Armor, Bytes, FailList, Text};
 use std::alloc::Global;

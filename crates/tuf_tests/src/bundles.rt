@@ -1,6 +1,6 @@
 // The refusal of each text, worked out by hand from the order of the members.
-use super::*;
 use foundation::Duplicate;
+use sigstore_types::*;
 use std::test::Fail;
 
 const MEDIA_TYPE: &str = "application/vnd.dev.sigstore.bundle.v0.3+json";

@@ -1,0 +1,9 @@
+//! Tests of the crates of DER and of certificates.
+#![tactic(auto)]
+
+#[cfg(test)]
+mod certificate_data;
+#[cfg(test)]
+mod certificates;
+#[cfg(test)]
+mod leaves;

@@ -1,0 +1,21 @@
+//! Tests of the crates from the values of Sigstore to the client of The Update Framework.
+#![tactic(auto)]
+
+#[cfg(test)]
+mod bundles;
+#[cfg(test)]
+mod client;
+#[cfg(test)]
+mod documents;
+#[cfg(test)]
+mod keys;
+#[cfg(test)]
+mod places;
+#[cfg(test)]
+mod provider;
+#[cfg(test)]
+mod refusals;
+#[cfg(test)]
+mod texts;
+#[cfg(test)]
+mod thresholds;
