@@ -1,6 +1,7 @@
 // The refusal of each text, worked out by hand from the order of the members.
 use foundation::Duplicate;
 use sigstore_types::*;
+use std::alloc::Global;
 use std::test::Fail;
 
 const MEDIA_TYPE: &str = "application/vnd.dev.sigstore.bundle.v0.3+json";
@@ -128,8 +129,16 @@ fn verification_materials(rt: HostRuntime) -> Result<(), Fail> {
     Ok(())
 }
 
+// The refusal of a bundle with this content, if there is one.
+fn refusal_of(alloc: Global, content: &str) -> Result<Option<TypesError>, Fail> {
+    let text = format!(in alloc;
+        r#"{{"mediaType":"{MEDIA_TYPE}","verificationMaterial":{{"publicKey":{{}}}}{content}}}"#
+    )?;
+    Ok(Bundle::from_json(alloc, text.as_bytes()).err())
+}
+
 #[test]
-fn signed_contents(rt: HostRuntime) -> Result<(), Fail> {
+fn message_signatures(rt: HostRuntime) -> Result<(), Fail> {
     for (content, refusal) in [
         (r#""#, Some(TypesError::Json)),
         (r#","messageSignature":null"#, Some(TypesError::Json)),
@@ -146,6 +155,15 @@ fn signed_contents(rt: HostRuntime) -> Result<(), Fail> {
             r#","messageSignature":{"signature":"AQ="}"#,
             Some(TypesError::Base64),
         ),
+    ] {
+        assert_eq!(rt; refusal_of(rt.alloc(), content)?, refusal, "{content}");
+    }
+    Ok(())
+}
+
+#[test]
+fn message_digests(rt: HostRuntime) -> Result<(), Fail> {
+    for (content, refusal) in [
         (
             r#","messageSignature":{"signature":"AQ==","messageDigest":null}"#,
             None,
@@ -186,6 +204,15 @@ fn signed_contents(rt: HostRuntime) -> Result<(), Fail> {
             r#","messageSignature":{"messageDigest":{"algorithm":"SHA2_256","digest":"AQ=="}}"#,
             field(TypesMember::Signature),
         ),
+    ] {
+        assert_eq!(rt; refusal_of(rt.alloc(), content)?, refusal, "{content}");
+    }
+    Ok(())
+}
+
+#[test]
+fn envelopes(rt: HostRuntime) -> Result<(), Fail> {
+    for (content, refusal) in [
         (r#","dsseEnvelope":{}"#, unbuilt(Form::Envelope)),
         (
             r#","messageSignature":{"signature":"AQ=="},"dsseEnvelope":0"#,
@@ -200,14 +227,7 @@ fn signed_contents(rt: HostRuntime) -> Result<(), Fail> {
             None,
         ),
     ] {
-        let text = format!(in rt.alloc();
-            r#"{{"mediaType":"{MEDIA_TYPE}","verificationMaterial":{{"publicKey":{{}}}}{content}}}"#
-        )?;
-        assert_eq!(rt;
-            Bundle::from_json(rt.alloc(), text.as_bytes()).err(),
-            refusal,
-            "{content}"
-        );
+        assert_eq!(rt; refusal_of(rt.alloc(), content)?, refusal, "{content}");
     }
     Ok(())
 }
