@@ -26,20 +26,15 @@ fn part(bytes: &[u8], place: Place) -> &[u8] {
     part
 }
 
-fn stands_at(bytes: &[u8], places: &Places) -> bool {
-    match CertView::parse(bytes) {
-        Ok(cert) => {
-            cert.whole == bytes
-                && cert.version == 2
-                && cert.tbs == part(bytes, places.tbs)
-                && cert.serial == part(bytes, places.serial)
-                && cert.issuer == part(bytes, places.issuer)
-                && cert.subject == part(bytes, places.subject)
-                && cert.spki == part(bytes, places.spki)
-                && cert.signature == part(bytes, places.signature)
-        }
-        Err(_) => false,
-    }
+fn stands_at(cert: &CertView, bytes: &[u8], places: &Places) -> bool {
+    cert.whole == bytes
+        && cert.version == 2
+        && cert.tbs == part(bytes, places.tbs)
+        && cert.serial == part(bytes, places.serial)
+        && cert.issuer == part(bytes, places.issuer)
+        && cert.subject == part(bytes, places.subject)
+        && cert.spki == part(bytes, places.spki)
+        && cert.signature == part(bytes, places.signature)
 }
 
 fn place_rows() -> [(&'static str, Places); 4] {
@@ -97,7 +92,8 @@ fn parts_of_certificates(rt: HostRuntime) -> Result<(), Fail> {
     let rows = place_rows();
     for (text, places) in &rows {
         let bytes = hex::decode(alloc, text)?;
-        assert!(rt; stands_at(&bytes, places));
+        assert!(rt; stands_at(&CertView::parse(&bytes)?, &bytes, places));
+        assert!(rt; stands_at(&CertView::parse_in(alloc, &bytes)?, &bytes, places));
     }
     Ok(())
 }
@@ -219,15 +215,18 @@ fn unused_bits_of_keys(rt: HostRuntime) -> Result<(), Fail> {
     Ok(())
 }
 
-/// Why the P-256 certificate with one octet changed is refused.
-fn refusal_of(alloc: Global, at: usize, octet: u8) -> Result<Option<X509Error>, Fail> {
+/// Why the P-256 certificate with one octet changed is refused, without memory and with it.
+fn refusals_of(alloc: Global, at: usize, octet: u8) -> Result<[Option<X509Error>; 2], Fail> {
     let mut bytes = hex::decode(alloc, p256())?;
     if at < bytes.len() {
         bytes[at] = octet;
     } else {
         bytes.push(octet)?;
     }
-    Ok(CertView::parse(&bytes).err())
+    Ok([
+        CertView::parse(&bytes).err(),
+        CertView::parse_in(alloc, &bytes).err(),
+    ])
 }
 
 fn changes() -> [(usize, u8, X509Error); 16] {
@@ -256,9 +255,9 @@ fn changed_certificates(rt: HostRuntime) -> Result<(), Fail> {
     let alloc = rt.alloc();
     let rows = changes();
     for (at, octet, refusal) in &rows {
-        assert!(rt; refusal_of(alloc, *at, *octet)? == Some(*refusal));
+        assert!(rt; refusals_of(alloc, *at, *octet)? == [Some(*refusal); 2]);
     }
-    assert!(rt; refusal_of(alloc, 15, 0x7e)?.is_none());
+    assert!(rt; refusals_of(alloc, 15, 0x7e)? == [None; 2]);
     Ok(())
 }
 

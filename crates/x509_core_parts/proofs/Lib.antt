@@ -1,6 +1,8 @@
+mod Identifiers
 mod Lists
 mod Made
 mod Once
+mod Repeated
 mod SctLists
 mod Shorter
 mod Wholes

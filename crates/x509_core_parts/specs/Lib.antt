@@ -1,4 +1,5 @@
 pub mod Certificates
+pub mod Distinct
 pub mod Extensions
 pub mod Precertificates
 pub mod Reading

@@ -1,6 +1,8 @@
 // Certificates as parts of their bytes.
-ghost use Rattle.std.specs.Prelude.{◌≡◌, IfOk, IfErr, Ok, Err, is_ok, option_copied, option_map};
+ghost use Rattle.std.specs.Prelude.{◌≡◌, ◌≢◌, IfOk, IfErr, Ok, Err, is_ok, option_copied, option_map};
 ghost use Rattle.x509_core_parts.specs.Certificates.{signed_of, same_algorithm, full_octets, signature_at, parts_of, certificate_of};
+ghost use Rattle.x509_core_parts.specs.declared.error.X509Error.TheVariants.{NoMemory as Want};
+ghost use Rattle.x509_core_parts.specs.Distinct.{IsRefusal};
 ghost use Rattle.x509_core_parts.specs.Views.{signed_parts, certificate_parts, shown, extension_shown};
 ghost use Rattle.x509_core_parts.specs.Extensions.{found_in};
 
@@ -10,6 +12,7 @@ use crate::read;
 use crate::signed::{Front, Middle, Tail, read_front, read_middle, read_tail};
 use crate::spki::algorithm;
 use der_core::{Civil, DerError, ObjectIdentifier};
+use std::alloc::Global;
 
 /// A certificate (RFC 5280, 4.1), its parts as slices of the bytes that were read.
 #[derive(Clone, Copy)]
@@ -51,13 +54,13 @@ struct Signed<'a> {
 }
 
 #[tactic(auto, unfolding(crate::specs::Certificates::signed_of))]
-fn signed_in(contents: &[u8]) -> Result<Signed, X509Error>
+fn signed_in(memory: Option<Global>, contents: &[u8]) -> Result<Signed, X509Error>
     ensures ok { IfOk result (λ s. signed_of contents.now ≡ Ok (signed_parts s)) }
-    ensures err { IfErr result (λ e. signed_of contents.now ≡ Err e) }
+    ensures err { IfErr result (λ e. IsRefusal memory e → signed_of contents.now ≡ Err e) }
 {
     let (front, rest) = read_front(contents)?;
     let (middle, rest) = read_middle(rest)?;
-    let tail = read_tail(contents, rest)?;
+    let tail = read_tail(memory, contents, rest)?;
     Ok(Signed {
         front,
         middle,
@@ -97,13 +100,17 @@ fn signature(bytes: &[u8]) -> Result<(&[u8], &[u8]), X509Error>
 }
 
 #[tactic(auto, unfolding(crate::specs::Certificates::parts_of))]
-fn parts_in<'a>(whole: &'a [u8], contents: &'a [u8]) -> Result<CertView<'a>, X509Error>
+fn parts_in<'a>(
+    memory: Option<Global>,
+    whole: &'a [u8],
+    contents: &'a [u8],
+) -> Result<CertView<'a>, X509Error>
     ensures ok { IfOk result (λ v. parts_of contents.now ≡ Ok (certificate_parts v)) }
-    ensures err { IfErr result (λ e. parts_of contents.now ≡ Err e) }
+    ensures err { IfErr result (λ e. IsRefusal memory e → parts_of contents.now ≡ Err e) }
     ensures whole { IfOk result (λ v. v.whole.now ≡ whole.now) }
 {
     let (tbs, rest) = read::tagged(48, contents)?;
-    let signed = signed_in(tbs.value)?;
+    let signed = signed_in(memory, tbs.value)?;
     let (algorithm, rest) = algorithm(rest)?;
     compare_algorithms(signed.front.algorithm, algorithm.encoded)?;
     let (signature, rest) = signature(rest)?;
@@ -125,18 +132,37 @@ fn parts_in<'a>(whole: &'a [u8], contents: &'a [u8]) -> Result<CertView<'a>, X50
     })
 }
 
+/// The certificate that all the bytes encode.
+#[tactic(auto, unfolding(crate::specs::Certificates::certificate_of))]
+fn certificate_in(memory: Option<Global>, bytes: &[u8]) -> Result<CertView, X509Error>
+    ensures ok { IfOk result (λ v. certificate_of bytes.now ≡ Ok (certificate_parts v)) }
+    ensures err { IfErr result (λ e. IsRefusal memory e → certificate_of bytes.now ≡ Err e) }
+    ensures whole { IfOk result (λ v. v.whole.now ≡ bytes.now) }
+{
+    let (contents, rest) = read::contents(48, bytes)?;
+    let view = parts_in(memory, bytes, contents)?;
+    read::end(rest)?;
+    Ok(view)
+}
+
 impl<'a> CertView<'a> {
     /// The certificate that all the bytes encode, or the first refusal in reading order.
-    #[tactic(auto, unfolding(crate::specs::Certificates::certificate_of))]
     pub fn parse(bytes: &'a [u8]) -> Result<CertView<'a>, X509Error>
         ensures ok { IfOk result (λ v. certificate_of bytes.now ≡ Ok (certificate_parts v)) }
         ensures err { IfErr result (λ e. certificate_of bytes.now ≡ Err e) }
         ensures whole { IfOk result (λ v. v.whole.now ≡ bytes.now) }
     {
-        let (contents, rest) = read::contents(48, bytes)?;
-        let view = parts_in(bytes, contents)?;
-        read::end(rest)?;
-        Ok(view)
+        certificate_in(None, bytes)
+    }
+
+    /// The same as `parse`, over memory for the extensions' identifiers: a long list of them costs
+    /// little more than its reading.
+    pub fn parse_in(alloc: Global, bytes: &'a [u8]) -> Result<CertView<'a>, X509Error>
+        ensures ok { IfOk result (λ v. certificate_of bytes.now ≡ Ok (certificate_parts v)) }
+        ensures err { IfErr result (λ e. e ≢ Want → certificate_of bytes.now ≡ Err e) }
+        ensures whole { IfOk result (λ v. v.whole.now ≡ bytes.now) }
+    {
+        certificate_in(Some(alloc), bytes)
     }
 
     /// The extension with this identifier, of which a certificate has at most one.
@@ -160,5 +186,5 @@ impl<'a> CertView<'a> {
 pub fn is_certificate(contents: &[u8]) -> bool
     ensures { result ≡ is_ok (parts_of contents.now) }
 {
-    parts_in(contents, contents).is_ok()
+    parts_in(None, contents, contents).is_ok()
 }

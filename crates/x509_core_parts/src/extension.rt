@@ -67,7 +67,7 @@ fn extension_in(contents: &[u8]) -> Result<NamedExtension, X509Error>
 
 /// An Extension at the front (RFC 5280, 4.1).
 #[tactic(auto, unfolding(crate::specs::Extensions::extension_at))]
-fn extension(bytes: &[u8]) -> Result<(NamedExtension, &[u8]), X509Error>
+pub fn extension(bytes: &[u8]) -> Result<(NamedExtension, &[u8]), X509Error>
     ensures ok { IfOk result (λ x. extension_at bytes.now ≡ Ok (extension_parts x.0, x.1.now)) }
     ensures err { IfErr result (λ e. extension_at bytes.now ≡ Err e) }
     ensures shorter { IfOk result (λ x. length x.1.now < length bytes.now) }

@@ -3,6 +3,7 @@
 #![tactic(auto)]
 
 mod certificate;
+mod distinct;
 mod error;
 mod extension;
 mod laws;

@@ -2,13 +2,15 @@
 ghost use Rattle.std.specs.Prelude.{◌≡◌, ◌≤◌, IfOk, IfErr, Ok, Err, length, option_copied};
 ghost use Rattle.der_core_parts.specs.Outcome.{Outcome};
 ghost use Rattle.x509_core_parts.specs.Certificates.{written_version, version_of, version_at, serial_at, front_at, time_or, time_of, time_at, validity_of, middle_at, behind_identifier, list_of, list_at, tail_of};
+ghost use Rattle.x509_core_parts.specs.Distinct.{IsRefusal};
 ghost use Rattle.x509_core_parts.specs.Views.{front_parts, middle_parts, tail_parts};
 
+use crate::distinct::check_distinct;
 use crate::error::X509Error;
-use crate::extension::check_list;
 use crate::read;
 use crate::spki::{algorithm, spki_in};
 use der_core::{Civil, DerError, GeneralizedTimeKind, TimeKind, UtcTimeKind};
+use std::alloc::Global;
 
 /// Version, serial number, algorithm and issuer.
 #[derive(Clone, Copy)]
@@ -173,39 +175,43 @@ fn behind_identifier(tag: u8, bytes: &[u8]) -> Result<&[u8], X509Error>
 }
 
 #[tactic(auto, unfolding(crate::specs::Certificates::list_of))]
-fn list_in(contents: &[u8]) -> Result<&[u8], X509Error>
+fn list_in(memory: Option<Global>, contents: &[u8]) -> Result<&[u8], X509Error>
     ensures ok { IfOk result (λ list. list_of contents.now ≡ Ok list.now) }
-    ensures err { IfErr result (λ e. list_of contents.now ≡ Err e) }
+    ensures err { IfErr result (λ e. IsRefusal memory e → list_of contents.now ≡ Err e) }
 {
     let (list, rest) = read::contents(48, contents)?;
-    check_list(list)?;
+    check_distinct(memory, list)?;
     read::end(rest)?;
     Ok(list)
 }
 
 #[tactic(auto, unfolding(crate::specs::Certificates::list_at))]
-fn list(bytes: &[u8]) -> Result<(Option<&[u8]>, &[u8]), X509Error>
+fn list(memory: Option<Global>, bytes: &[u8]) -> Result<(Option<&[u8]>, &[u8]), X509Error>
     ensures ok { IfOk result (λ x. list_at bytes.now ≡ Ok (option_copied x.0, x.1.now)) }
-    ensures err { IfErr result (λ e. list_at bytes.now ≡ Err e) }
+    ensures err { IfErr result (λ e. IsRefusal memory e → list_at bytes.now ≡ Err e) }
 {
     if !read::is_next(163, bytes) {
         return Ok((None, bytes));
     }
     let (contents, rest) = read::contents(163, bytes)?;
-    let list = list_in(contents)?;
+    let list = list_in(memory, contents)?;
     Ok((Some(list), rest))
 }
 
 /// The last parts of these contents.
 #[tactic(auto, unfolding(crate::specs::Certificates::tail_of))]
-pub fn read_tail<'a>(contents: &'a [u8], bytes: &'a [u8]) -> Result<Tail<'a>, X509Error>
+pub fn read_tail<'a>(
+    memory: Option<Global>,
+    contents: &'a [u8],
+    bytes: &'a [u8],
+) -> Result<Tail<'a>, X509Error>
     ensures ok { IfOk result (λ t. tail_of contents.now bytes.now ≡ Ok (tail_parts t)) }
-    ensures err { IfErr result (λ e. tail_of contents.now bytes.now ≡ Err e) }
+    ensures err { IfErr result (λ e. IsRefusal memory e → tail_of contents.now bytes.now ≡ Err e) }
 {
     let rest = behind_identifier(129, bytes)?;
     let rest = behind_identifier(130, rest)?;
     let front = read::before(contents, rest);
-    let (extensions, rest) = list(rest)?;
+    let (extensions, rest) = list(memory, rest)?;
     read::end(rest)?;
     Ok(Tail { front, extensions })
 }
