@@ -1,7 +1,7 @@
 -- Signature schemes: their keys, names and digests (FIPS 186-5, RFC 8017, RFC 8032, FIPS 204).
 use Rattle.std.specs.Prelude.{ℕ, List, Bool, true, false, Option, Some, None, Result, Ok, Err, codes}
 use Rattle.sigstore_types_parts.specs.declared.hash_algorithm.HashAlgorithm.{HashAlgorithm}
-use Rattle.sigstore_types_parts.specs.declared.hash_algorithm.HashAlgorithm.TheVariants.{Sha2256, Sha2384, Sha2512, Sha3256, Sha3384}
+use Rattle.sigstore_types_parts.specs.declared.hash_algorithm.HashAlgorithm.TheVariants.{Sha2256, Sha2384, Sha2512}
 use Rattle.sigstore_types_parts.specs.HashAlgorithm.{digest_len_of}
 use Rattle.sigstore_crypto.specs.declared.error.Error.{Error}
 use Rattle.sigstore_crypto.specs.declared.error.Error.TheVariants.{UnsupportedAlgorithm}

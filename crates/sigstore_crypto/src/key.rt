@@ -106,10 +106,7 @@ impl VerificationKey {
             Ok(view) => view,
             Err(_) => return Err(Error::InvalidKey(KeyRule::Encoding)),
         };
-        match key_in(alloc, &view) {
-            Ok(key) => Ok(key),
-            Err(e) => Err(e),
-        }
+        Ok(key_in(alloc, &view)?)
     }
 
     /// The raw key.

@@ -47,10 +47,14 @@ abbrev pub or_spki_fault : Result VerificationKey crypto_error.Error → Result 
 or_spki_fault (Ok key) = Ok key
 or_spki_fault (Err e) = Err (spki_fault e)
 
--- the key of a SubjectPublicKeyInfo under a scheme; no other scheme is built yet
+-- a key under a scheme: the keys that are built are of P-256, and so of one of the nine
+abbrev pub under_scheme : SigningScheme → VerificationKey → Result VerificationKey KeyFault
+under_scheme EcdsaP256Sha256 key = Ok key
+under_scheme scheme key = Err Refused
+
+-- the key of a SubjectPublicKeyInfo under a scheme
 abbrev pub der_key_of : SigningScheme → List ℕ → Result VerificationKey KeyFault
-der_key_of EcdsaP256Sha256 der = or_spki_fault (spki_key_of der)
-der_key_of scheme der = Err (Unbuilt form.Key)
+der_key_of scheme der = or_spki_fault (spki_key_of der) >>= under_scheme scheme
 
 abbrev pub is_ed25519 : SigningScheme → Bool
 is_ed25519 Ed25519 = true

@@ -5,7 +5,7 @@ ghost use Rattle.std.specs.Char.{is_ascii_hexdigit};
 ghost use Rattle.std.specs.Str.{trim};
 ghost use Rattle.sigstore_crypto.specs.Key.{spki_key_of};
 ghost use Rattle.sigstore_tuf_parts.specs.declared.verification.KeyFault.TheVariants.{NoMemory as Want};
-ghost use Rattle.sigstore_tuf_parts.specs.Crypto.{scheme_named, spki_fault, der_key_of, or_spki_fault, is_bare_key, bare_key_of, text_key_of, key_of};
+ghost use Rattle.sigstore_tuf_parts.specs.Crypto.{scheme_named, spki_fault, der_key_of, under_scheme, or_spki_fault, is_bare_key, bare_key_of, text_key_of, key_of};
 
 use crate::keys::Key;
 use foundation::NoMemory;
@@ -137,9 +137,17 @@ fn der_key(alloc: Global, scheme: SigningScheme, der: Bytes) -> Result<Verificat
     ensures ok { IfOk result (λ v. der_key_of scheme der ≡ Ok v) }
     ensures err { IfErr result (λ e. e ≢ Want → der_key_of scheme der ≡ Err e) }
 {
+    let key = spki_key(alloc, der)?;
+    under_scheme(scheme, key)
+}
+
+// The keys that are built are of P-256, and so of one of the nine schemes.
+fn under_scheme(scheme: SigningScheme, key: VerificationKey) -> Result<VerificationKey, KeyFault>
+    ensures { result ≡ under_scheme scheme key }
+{
     match scheme {
-        SigningScheme::EcdsaP256Sha256 => spki_key(alloc, der),
-        _ => Err(KeyFault::Unbuilt(Form::Key)),
+        SigningScheme::EcdsaP256Sha256 => Ok(key),
+        _ => Err(KeyFault::Refused),
     }
 }
 

@@ -10,31 +10,37 @@ use sigstore_types_parts::{Armor, Bytes, DerPublicKey, Form, FromValue, Text};
 use std::alloc::Global;
 use std::test::Fail;
 
-// Two texts are armoured, each with bytes of its own.
+// Three texts are armoured, each with bytes of its own.
 #[derive(Drop)]
-struct Two {
+struct Three {
     known: Text,
     other: Text,
+    broken: Text,
     key: Bytes,
     other_key: Bytes,
+    no_key: Bytes,
 }
 
-impl Armor for Two {
-    ghost armored = { λ a text. bytes_eq text a.known || bytes_eq text a.other };
+impl Armor for Three {
+    ghost armored = { λ a text. bytes_eq text a.known || bytes_eq text a.other || bytes_eq text a.broken };
 
-    ghost key_in = { λ a text. if bytes_eq text a.known then Some a.key else Some a.other_key };
+    ghost key_in = { λ a text. if bytes_eq text a.known then Some a.key else if bytes_eq text a.other then Some a.other_key else Some a.no_key };
 
     ghost certificate_in = { λ _ text. Some text };
 
     fn is_armored(&self, text: &[u8]) -> bool {
-        text == self.known.as_str().as_bytes() || text == self.other.as_str().as_bytes()
+        text == self.known.as_str().as_bytes()
+            || text == self.other.as_str().as_bytes()
+            || text == self.broken.as_str().as_bytes()
     }
 
     fn read_key(&self, alloc: Global, text: &[u8]) -> Result<Option<Bytes>, NoMemory> {
         if text == self.known.as_str().as_bytes() {
             Ok(Some(self.key.duplicate(alloc)?))
-        } else {
+        } else if text == self.other.as_str().as_bytes() {
             Ok(Some(self.other_key.duplicate(alloc)?))
+        } else {
+            Ok(Some(self.no_key.duplicate(alloc)?))
         }
     }
 
@@ -57,18 +63,16 @@ fn key_bytes(alloc: Global, base64: &str) -> Result<Bytes, Fail> {
     Ok(Bytes::new(alloc, key.as_bytes())?)
 }
 
-fn armor_of(alloc: Global, other: &str) -> Result<Two, Fail> {
-    Ok(Two {
+// The text p holds a P-256 key, q an Ed25519 key, and b one byte that is no key.
+fn toy_armor(alloc: Global) -> Result<Three, Fail> {
+    Ok(Three {
         known: Text::new(alloc, "p")?,
         other: Text::new(alloc, "q")?,
+        broken: Text::new(alloc, "b")?,
         key: key_bytes(alloc, p256())?,
-        other_key: key_bytes(alloc, other)?,
+        other_key: key_bytes(alloc, ed25519())?,
+        no_key: key_bytes(alloc, "AA==")?,
     })
-}
-
-// The text p holds a P-256 key, and q an Ed25519 key.
-fn toy_armor(alloc: Global) -> Result<Two, Fail> {
-    armor_of(alloc, ed25519())
 }
 
 fn key_text(alloc: Global, scheme: &str, public: &str) -> Result<String, Fail> {
@@ -147,7 +151,7 @@ fn told(alloc: Global, answer: &Result<(), Error>) -> Result<String, Fail> {
 fn judged_by_name<T>(
     alloc: Global,
     document: &Metadata<T>,
-    armor: &Two,
+    armor: &Three,
     root: &Root,
     name: &str,
 ) -> Result<(), Error> {
@@ -157,7 +161,7 @@ fn judged_by_name<T>(
 fn judged_by_role(
     alloc: Global,
     document: &Metadata<Timestamp>,
-    armor: &Two,
+    armor: &Three,
     root: &Root,
     role: &RoleKeys,
 ) -> Result<(), Error> {
@@ -165,7 +169,7 @@ fn judged_by_role(
 }
 
 // Whether the document meets the role as it stands in the root.
-fn is_met(alloc: Global, document: &Metadata<Timestamp>, armor: &Two, root: &Root) -> bool {
+fn is_met(alloc: Global, document: &Metadata<Timestamp>, armor: &Three, root: &Root) -> bool {
     match root.role("timestamp") {
         Some(role) => judged_by_role(alloc, document, armor, root, role).is_ok(),
         None => false,
@@ -176,7 +180,7 @@ fn is_met(alloc: Global, document: &Metadata<Timestamp>, armor: &Two, root: &Roo
 fn told_of(
     alloc: Global,
     document: &Metadata<Timestamp>,
-    armor: &Two,
+    armor: &Three,
     root: &Root,
 ) -> Result<String, Fail> {
     let is_met = is_met(alloc, document, armor, root);
@@ -224,6 +228,7 @@ fn found_rows() -> &'static [Row] {
         ("1", "p", "m=01", "timestamp 0 of 1"),
         ("1", "p", "n=01", "timestamp 0 of 1"),
         ("1", "x", "k=01", "timestamp 0 of 1"),
+        ("1", "b", "k=01", "timestamp 0 of 1"),
         ("1", "q", "k=01", "Unbuilt"),
         ("1", "q", "k=zz", "timestamp 0 of 1"),
     ]
@@ -271,9 +276,8 @@ fn declared(alloc: Global, scheme: &str, public: &str) -> Result<Key, Fail> {
     Ok(Key::from_value(alloc, &value)?)
 }
 
-// The other text holds an Ed25519 key, or one byte that is no key.
-fn fault_of(alloc: Global, key: &Key, is_broken: bool) -> Result<Option<KeyFault>, Fail> {
-    let armor = armor_of(alloc, if is_broken { "AA==" } else { ed25519() })?;
+fn fault_of(alloc: Global, key: &Key) -> Result<Option<KeyFault>, Fail> {
+    let armor = toy_armor(alloc)?;
     Ok(key.verification_key(alloc, &armor).err())
 }
 
@@ -297,18 +301,20 @@ fn word_for(fault: Option<KeyFault>) -> &'static str {
 }
 
 fn fault_word(alloc: Global, scheme: &str, public: &str) -> Result<&'static str, Fail> {
-    let is_broken = public == "q";
     let key = declared(alloc, scheme, public)?;
-    let fault = fault_of(alloc, &key, is_broken)?;
+    let fault = fault_of(alloc, &key)?;
     Ok(word_for(fault))
 }
 
 fn key_rows() -> &'static [(&'static str, &'static str, &'static str)] {
     &[
         ("ecdsa-sha2-nistp256", "p", "a key"),
-        ("ecdsa-sha2-nistp256", "q", "refused"),
+        ("ecdsa-sha2-nistp256", "b", "refused"),
+        ("ecdsa-sha2-nistp256", "q", "unbuilt"),
         ("ecdsa-sha2-nistp256", "r", "unusable"),
-        ("ecdsa-sha2-nistp384", "p", "unbuilt"),
+        ("ecdsa-sha2-nistp384", "p", "refused"),
+        ("ed25519", "b", "refused"),
+        ("ed25519", "q", "unbuilt"),
         (
             "ed25519",
             "e3b0c44298fc1c149afbf4c8996fb92427ae41e4649b934ca495991b7852B855",

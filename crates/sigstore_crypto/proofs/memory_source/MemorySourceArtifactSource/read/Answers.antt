@@ -1,6 +1,6 @@
 use Rattle.std.proofs.Common.{rules, arith, ap, ◌≤◌, ◌+◌, length}
 use Rattle.std.proofs.lemmas.Grind.{common_steps}
-use Rattle.std.proofs.Common.{Some, length-drop, length-append}
+use Rattle.std.proofs.Common.{Some}
 use Rattle.std.proofs.lemmas.List.{drop_all}
 use Rattle.sigstore_crypto.proofs.Parts.{given_part}
 use Rattle.sigstore_crypto.proofs.memory_source.MemorySourceArtifactSource.read.Goals as goal
