@@ -29,7 +29,7 @@ use Rattle.sigstore_tuf.specs.declared.config.UpdaterConfig.{UpdaterConfig}
 use Rattle.sigstore_tuf.specs.declared.documents.Held.{Held}
 use Rattle.sigstore_tuf.specs.declared.documents.InForce.{InForce}
 use Rattle.sigstore_tuf.specs.Documents.{timestamp_document, snapshot_document, targets_document, content_of, targets_pin}
-use Rattle.sigstore_tuf.specs.Update.{first_root_of, newer_of, new_timestamp_of, snapshot_pin_of, kept_pins_of, snapshot_checks_of, new_snapshot_of, targets_pin_of, new_targets_of, with_snapshot, with_targets}
+use Rattle.sigstore_tuf.specs.Update.{first_root_of, newer_of, timestamp_checks_of, new_timestamp_of, snapshot_pin_of, kept_pins_of, snapshot_checks_of, new_snapshot_of, targets_pin_of, targets_checks_of, new_targets_of, with_snapshot, with_targets}
 use Rattle.sigstore_tuf.specs.Client.{after_timestamp, top_targets}
 use Rattle.sigstore_tuf.specs.Refresh.{TookTimestamp, RefreshesTimestamp, IsUnfetched, TookSnapshot, TakesTargets, TookTargets, RefreshesSnapshot, IsUnpinned, RefreshesPinned, RefreshesTargets, Refreshes, walk_refuses, root_refuses, timestamp_refuses, snapshot_refuses, targets_refuses, all_serve}
 use Rattle.sigstore_tuf.specs.Authorised.{IsSigned, IsPinnedBy, AreAuthorised}
@@ -86,15 +86,17 @@ module _ (crypto : Crypto) (set : InForce) (bytes : List ℕ) (now : jiff.Timest
   abbrev Signed : {T : Type 0} → (List ℕ → Result (Document T) Error) → List ℕ → Held T → Type 0
   Signed reads role held = IsSigned reads crypto (content_in set.root) role held
 
+  timestamp_met : (new : Document Timestamp) → timestamp_checks_of crypto set new now ≡ Ok tt → meets_role_of crypto (content_in set.root) (codes "timestamp") new ≡ Ok tt
+  unfolding timestamp_checks_of
+  timestamp_met new h = (step_ok (meets_role_of crypto (content_in set.root) (codes "timestamp") new) _ tt h).1
+
   timestamp_signed : (held : Held Timestamp) → new_timestamp_of crypto set bytes now ≡ Ok held → Signed timestamp_document (codes "timestamp") held
   unfolding new_timestamp_of
   timestamp_signed held h =
       let a = step_ok (timestamp_document bytes) _ held h in
-      let b = step_ok (meets_role_of crypto (content_in set.root) (codes "timestamp") a.0) _ held a.2 in
-      let c = step_ok (newer_of set.timestamp (content_in a.0)) _ held b.2 in
-      let d = step_ok (fresh_of (codes "timestamp") (content_in a.0).expires now) _ held c.2 in
-      subst (Signed timestamp_document (codes "timestamp")) (ok_same _ held d.2)
-      (record { read = a.1; met = role_met crypto (content_in set.root) (codes "timestamp") a.0 b.1 })
+      let b = step_ok (timestamp_checks_of crypto set a.0 now) _ held a.2 in
+      subst (Signed timestamp_document (codes "timestamp")) (ok_same _ held b.2)
+      (record { read = a.1; met = role_met crypto (content_in set.root) (codes "timestamp") a.0 (timestamp_met a.0 b.1) })
 
   -- the pin of a snapshot that is adopted, and what was checked of it
   pub record Snapshots (held : Held Snapshot) : Type 0 where
@@ -141,6 +143,14 @@ module _ (crypto : Crypto) (set : InForce) (bytes : List ℕ) (now : jiff.Timest
     pub pinned : IsPinnedBy set.snapshot held
     pub fresh : Fresh (content_of held).expires now
 
+  targets_checked : (pin : MetaFile) (new : Document Targets) → targets_checks_of crypto set pin new now ≡ Ok tt
+      → (version_of pin (content_in new).version ≡ Ok tt) × (meets_role_of crypto (content_in set.root) (codes "targets") new ≡ Ok tt) × (fresh_of (codes "targets") (content_in new).expires now ≡ Ok tt)
+  unfolding targets_checks_of
+  targets_checked pin new h =
+      let a = step_ok (version_of pin (content_in new).version) _ tt h in
+      let b = step_ok (meets_role_of crypto (content_in set.root) (codes "targets") new) _ tt a.2 in
+      (a.1, b.1, b.2)
+
   pub targets_adopted : (held : Held Targets) → new_targets_of crypto set bytes now ≡ Ok held → Adopts held
   unfolding new_targets_of targets_pin_of
   targets_adopted held h =
@@ -149,19 +159,18 @@ module _ (crypto : Crypto) (set : InForce) (bytes : List ℕ) (now : jiff.Timest
       let f = step_ok (fresh_of (codes "snapshot") (content_of s.0).expires now) _ p.0 s.2 in
       let b = step_ok (integrity_of p.0.length p.0.hashes bytes) _ held p.2 in
       let c = step_ok (targets_document bytes) _ held b.2 in
-      let v = step_ok (version_of p.0 (content_in c.0).version) _ held c.2 in
-      let m = step_ok (meets_role_of crypto (content_in set.root) (codes "targets") c.0) _ held v.2 in
-      let d = step_ok (fresh_of (codes "targets") (content_in c.0).expires now) _ held m.2 in
+      let d = step_ok (targets_checks_of crypto set p.0 c.0 now) _ held c.2 in
+      let is = targets_checked p.0 c.0 d.1 in
       subst Adopts (ok_same _ held d.2) (record {
-        signed = record { read = c.1; met = role_met crypto (content_in set.root) (codes "targets") c.0 m.1 };
+        signed = record { read = c.1; met = role_met crypto (content_in set.root) (codes "targets") c.0 is.1 };
         pinned = record {
           held = s.0;
           there = ok_some set.snapshot (Malformed rule.NoSnapshot) s.0 s.1;
           pin = p.0;
           pin_is = ok_some (targets_pin (content_of s.0)) (Malformed rule.Unpinned) p.0 f.2;
-          pinned = record { intact = (integrity_exactly p.0.length p.0.hashes bytes).0 b.1; version_is = same_version p.0 (content_in c.0).version v.1 };
+          pinned = record { intact = (integrity_exactly p.0.length p.0.hashes bytes).0 b.1; version_is = same_version p.0 (content_in c.0).version is.0 };
         };
-        fresh = fresh_from (codes "targets") (content_in c.0).expires now d.1;
+        fresh = fresh_from (codes "targets") (content_in c.0).expires now is.2;
       })
 
 -- ---- what each step keeps

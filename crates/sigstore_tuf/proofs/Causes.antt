@@ -41,7 +41,7 @@ use Rattle.sigstore_tuf.specs.Documents.{timestamp_document, snapshot_document, 
 use Rattle.sigstore_tuf.specs.Refresh.{TookTimestamp, IsUnfetched, RefreshesTimestamp, TookSnapshot, RefreshesSnapshot, TookTargets, IsUnpinned, RefreshesPinned, RefreshesTargets, Refreshes, walk_refuses, root_refuses, timestamp_refuses, snapshot_refuses, targets_refuses, all_serve}
 use Rattle.sigstore_tuf.specs.Repository.{Folders, metadata_files, target_files}
 use Rattle.sigstore_tuf.specs.Target.{unexpired_of, pinned_by_of, search_serves_of, entry_in, listed_in, entry_of, within_of, target_of, chain_in, TookFile, IsUnfetchedFile, FetchesTarget, chain_of, GetsTarget, unlisted, unfetched, unchained, found}
-use Rattle.sigstore_tuf.specs.Update.{first_root_of, newer_of, new_timestamp_of, snapshot_pin_of, kept_pins_of, snapshot_checks_of, new_snapshot_of, targets_pin_of, new_targets_of, with_timestamp, with_snapshot}
+use Rattle.sigstore_tuf.specs.Update.{first_root_of, newer_of, timestamp_checks_of, new_timestamp_of, snapshot_pin_of, kept_pins_of, snapshot_checks_of, new_snapshot_of, targets_pin_of, targets_checks_of, new_targets_of, with_timestamp, with_snapshot}
 use Rattle.sigstore_tuf.proofs.Authorised.{step_ok, ok_same, ok_some, some_same, where_some, top_inserted, first_root_authorised, refresh_authorised}
 use Rattle.sigstore_tuf.proofs.CauseNumbers.{had_before, by_read, by_role, by_expiry, by_pin, by_none, by_form, by_fetch, by_walk, wanting, unadopted, adopted}
 use Rattle.sigstore_tuf.proofs.Serving.{refresh_serves}
@@ -181,26 +181,28 @@ module _ (crypto : Crypto) (given : List ℕ) (config : UpdaterConfig) (path : L
   newer_none None doc e n h = cc
   newer_none (Some held) doc e n h = cc
 
+  timestamp_unchecked : (set : InForce) → Began set → (doc : Document Timestamp) → IsTimestamp old doc → (e : Error) → timestamp_checks_of crypto set doc now ≡ Err e → Cause e
+  unfolding timestamp_checks_of
+  timestamp_unchecked set b doc fetched e h =
+      refused_at (meets_role_of crypto (content_in {T = Root} set.root) (codes "timestamp") doc) _ e h
+      (λ q. unmet e (timestamp_unmet set.root doc b.root_is fetched (role_cause crypto (content_in {T = Root} set.root) (codes "timestamp") doc e q))) (λ u q k.
+      refused_at (newer_of set.timestamp (content_in {T = Timestamp} doc)) _ e k (λ q. newer_none set.timestamp (content_in {T = Timestamp} doc) e b.no_timestamp q) (λ u q l.
+      past e (timestamp_expired doc fetched (expiry_cause (codes "timestamp") (content_in {T = Timestamp} doc).expires now e l))))
+
   timestamp_unadopted : (set : InForce) → Began set → (bytes : List ℕ) → Has metadata_files old (codes "timestamp.json") bytes → (e : Error) → new_timestamp_of crypto set bytes now ≡ Err e → Cause e
   unfolding new_timestamp_of
   timestamp_unadopted set b bytes there e h =
       refused_at (timestamp_document bytes) _ e h
       (λ p. unread e (timestamp_unread (record { bytes = bytes; there = there; cause = timestamp_reads bytes e p }))) (λ doc p k.
       let fetched : IsTimestamp old doc = record { bytes = bytes; there = there; read = p } in
-      refused_at (meets_role_of crypto (content_in {T = Root} set.root) (codes "timestamp") doc) _ e k
-      (λ q. unmet e (timestamp_unmet set.root doc b.root_is fetched (role_cause crypto (content_in {T = Root} set.root) (codes "timestamp") doc e q))) (λ u q l.
-      refused_at (newer_of set.timestamp (content_in {T = Timestamp} doc)) _ e l (λ q. newer_none set.timestamp (content_in {T = Timestamp} doc) e b.no_timestamp q) (λ u q m.
-      refused_at (fresh_of (codes "timestamp") (content_in {T = Timestamp} doc).expires now) _ e m
-      (λ q. past e (timestamp_expired doc fetched (expiry_cause (codes "timestamp") (content_in {T = Timestamp} doc).expires now e q))) (λ u q n. cc))))
+      refused_at (timestamp_checks_of crypto set doc now) _ e k (timestamp_unchecked set b doc fetched e) (λ u q l. cc))
 
   timestamp_read : (set : InForce) (bytes : List ℕ) (held : Held Timestamp) → Has metadata_files old (codes "timestamp.json") bytes → new_timestamp_of crypto set bytes now ≡ Ok held → IsTimestamp old held.document
   unfolding new_timestamp_of
   timestamp_read set bytes held there h =
       let a = step_ok (timestamp_document bytes) _ held h in
-      let b = step_ok (meets_role_of crypto (content_in {T = Root} set.root) (codes "timestamp") a.0) _ held a.2 in
-      let c = step_ok (newer_of set.timestamp (content_in {T = Timestamp} a.0)) _ held b.2 in
-      let d = step_ok (fresh_of (codes "timestamp") (content_in {T = Timestamp} a.0).expires now) _ held c.2 in
-      record { bytes = bytes; there = there; read = a.1 ∙ ap Ok (ap (λ (x : Held Timestamp). x.document) (ok_same _ held d.2)) }
+      let b = step_ok (timestamp_checks_of crypto set a.0 now) _ held a.2 in
+      record { bytes = bytes; there = there; read = a.1 ∙ ap Ok (ap (λ (x : Held Timestamp). x.document) (ok_same _ held b.2)) }
 
   -- root and timestamp, as they were had
   record Timed (set : InForce) : Type 0 where
@@ -412,6 +414,14 @@ module _ (crypto : Crypto) (given : List ℕ) (config : UpdaterConfig) (path : L
       targets_pinless s.snapshot s.snapshot_had e
       (subst (λ o. (ok_or o (tuf.Malformed rule.NoSnapshot) >>= λ (x : Held Snapshot). fresh_of (codes "snapshot") (content_of x).expires now >>= λ _. ok_or (targets_pin (content_of x)) (tuf.Malformed rule.Unpinned)) ≡ Err e) s.snapshot_is h)
 
+  targets_unchecked : (set : InForce) → (s : Snapped set) → (pin : MetaFile) → PinsTargets old pin → (doc : Document Targets) → IsTargets old doc → (e : Error) → targets_checks_of crypto set pin doc now ≡ Err e → Cause e
+  unfolding targets_checks_of
+  targets_unchecked set s pin pinned doc fetched e h =
+      refused_at (version_of pin (content_in {T = Targets} doc).version) _ e h (λ r. differs e (targets_version pin doc pinned fetched (another_version pin (content_in {T = Targets} doc).version e r))) (λ u r k.
+      refused_at (meets_role_of crypto (content_in {T = Root} set.root) (codes "targets") doc) _ e k
+      (λ t. unmet e (targets_unmet set.root doc s.root_is fetched (role_cause crypto (content_in {T = Root} set.root) (codes "targets") doc e t))) (λ u t l.
+      past e (targets_expired doc fetched (expiry_cause (codes "targets") (content_in {T = Targets} doc).expires now e l))))
+
   targets_unadopted : (set : InForce) → (s : Snapped set) → (bytes : List ℕ) → Has metadata_files old (codes "targets.json") bytes → (e : Error) → new_targets_of crypto set bytes now ≡ Err e → Cause e
   unfolding new_targets_of
   targets_unadopted set s bytes there e h =
@@ -420,11 +430,7 @@ module _ (crypto : Crypto) (given : List ℕ) (config : UpdaterConfig) (path : L
       refused_at (integrity_of pin.length pin.hashes bytes) _ e k (λ q. differs e (targets_differ pin bytes pinned there (integrity_cause pin.length pin.hashes bytes e q))) (λ u q l.
       refused_at (targets_document bytes) _ e l (λ q. unread e (targets_unread (record { bytes = bytes; there = there; cause = targets_reads bytes e q }))) (λ doc q m.
       let fetched : IsTargets old doc = record { bytes = bytes; there = there; read = q } in
-      refused_at (version_of pin (content_in {T = Targets} doc).version) _ e m (λ r. differs e (targets_version pin doc pinned fetched (another_version pin (content_in {T = Targets} doc).version e r))) (λ u r n.
-      refused_at (meets_role_of crypto (content_in {T = Root} set.root) (codes "targets") doc) _ e n
-      (λ t. unmet e (targets_unmet set.root doc s.root_is fetched (role_cause crypto (content_in {T = Root} set.root) (codes "targets") doc e t))) (λ u t o.
-      refused_at (fresh_of (codes "targets") (content_in {T = Targets} doc).expires now) _ e o
-      (λ v. past e (targets_expired doc fetched (expiry_cause (codes "targets") (content_in {T = Targets} doc).expires now e v))) (λ u v w. cc))))))
+      refused_at (targets_checks_of crypto set pin doc now) _ e m (targets_unchecked set s pin pinned doc fetched e) (λ u r n. cc))))
 
   targets_read : (set : InForce) (bytes : List ℕ) (held : Held Targets) → Has metadata_files old (codes "targets.json") bytes → new_targets_of crypto set bytes now ≡ Ok held → IsTargets old held.document
   unfolding new_targets_of
@@ -432,10 +438,8 @@ module _ (crypto : Crypto) (given : List ℕ) (config : UpdaterConfig) (path : L
       let a = step_ok (targets_pin_of set now) _ held h in
       let b = step_ok (integrity_of a.0.length a.0.hashes bytes) _ held a.2 in
       let c = step_ok (targets_document bytes) _ held b.2 in
-      let d = step_ok (version_of a.0 (content_in {T = Targets} c.0).version) _ held c.2 in
-      let f = step_ok (meets_role_of crypto (content_in {T = Root} set.root) (codes "targets") c.0) _ held d.2 in
-      let g = step_ok (fresh_of (codes "targets") (content_in {T = Targets} c.0).expires now) _ held f.2 in
-      record { bytes = bytes; there = there; read = c.1 ∙ ap Ok (ap (λ (x : Held Targets). x.document) (ok_same _ held g.2)) }
+      let d = step_ok (targets_checks_of crypto set a.0 c.0 now) _ held c.2 in
+      record { bytes = bytes; there = there; read = c.1 ∙ ap Ok (ap (λ (x : Held Targets). x.document) (ok_same _ held d.2)) }
 
   none_kept : {C : Type 0} (a : Option (Held Snapshot)) (b : Option (Held Targets)) → b ≡ None → targets_kept_in a b now ≡ true → C
   none_kept None b n h = cc

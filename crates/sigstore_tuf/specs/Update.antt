@@ -54,12 +54,17 @@ abbrev pub newer_of : Option (Held Timestamp) → Timestamp → Result ⊤ Error
 newer_of None new = Ok tt
 newer_of (Some old) new = newer_than_of (content_of old) new
 
+-- the checks of a timestamp that was read
+unfoldable pub timestamp_checks_of : Crypto → InForce → Document Timestamp → jiff.Timestamp → Result ⊤ Error
+timestamp_checks_of crypto set new now = do
+  _ ← meets_role_of crypto (content_in set.root) (codes "timestamp") new
+  _ ← newer_of set.timestamp (content_in new)
+  fresh_of (codes "timestamp") (content_in new).expires now
+
 unfoldable pub new_timestamp_of : Crypto → InForce → List ℕ → jiff.Timestamp → Result (Held Timestamp) Error
 new_timestamp_of crypto set bytes now = do
   new ← timestamp_document bytes
-  _ ← meets_role_of crypto (content_in set.root) (codes "timestamp") new
-  _ ← newer_of set.timestamp (content_in new)
-  _ ← fresh_of (codes "timestamp") (content_in new).expires now
+  _ ← timestamp_checks_of crypto set new now
   Ok (record { bytes = bytes; document = new })
 
 -- ---- the snapshot
@@ -109,14 +114,19 @@ targets_pin_of set now = do
   _ ← fresh_of (codes "snapshot") (content_of snapshot).expires now
   ok_or (targets_pin (content_of snapshot)) (Malformed rule.Unpinned)
 
+-- the checks of a targets document that was read, for its pin
+unfoldable pub targets_checks_of : Crypto → InForce → MetaFile → Document Targets → jiff.Timestamp → Result ⊤ Error
+targets_checks_of crypto set pin new now = do
+  _ ← version_of pin (content_in new).version
+  _ ← meets_role_of crypto (content_in set.root) (codes "targets") new
+  fresh_of (codes "targets") (content_in new).expires now
+
 unfoldable pub new_targets_of : Crypto → InForce → List ℕ → jiff.Timestamp → Result (Held Targets) Error
 new_targets_of crypto set bytes now = do
   pin ← targets_pin_of set now
   _ ← integrity_of pin.length pin.hashes bytes
   new ← targets_document bytes
-  _ ← version_of pin (content_in new).version
-  _ ← meets_role_of crypto (content_in set.root) (codes "targets") new
-  _ ← fresh_of (codes "targets") (content_in new).expires now
+  _ ← targets_checks_of crypto set pin new now
   Ok (record { bytes = bytes; document = new })
 
 -- ---- the documents in force after an update

@@ -1,8 +1,8 @@
 // Each update of the documents in force: the document that is adopted, or the first check that fails.
-ghost use Rattle.std.specs.Prelude.{◌≡◌, ◌≢◌, Ok, Err, IfOk, IfErr, OnOk, option_copied};
+ghost use Rattle.std.specs.Prelude.{◌≡◌, ◌≢◌, [], ◌∷◌, Ok, Err, IfOk, IfErr, OnOk, option_copied};
 ghost use Rattle.sigstore_tuf_parts.specs.declared.error.Error.TheVariants.{NoMemory as Want};
 ghost use Rattle.sigstore_tuf_parts.specs.Crypto.{crypto_of};
-ghost use Rattle.sigstore_tuf.specs.Update.{first_root_of, not_below_of, other_of, newer_than_of, newer_of, pins_not_below_of, new_timestamp_of, snapshot_pin_of, kept_pin_of, kept_pins_in, kept_pins_of, snapshot_checks_of, new_snapshot_of, targets_pin_of, new_targets_of};
+ghost use Rattle.sigstore_tuf.specs.Update.{first_root_of, not_below_of, other_of, newer_than_of, newer_of, pins_not_below_of, timestamp_checks_of, new_timestamp_of, snapshot_pin_of, kept_pin_of, kept_pins_in, kept_pins_of, snapshot_checks_of, new_snapshot_of, targets_pin_of, targets_checks_of, new_targets_of};
 
 use crate::documents::{Held, InForce};
 use foundation::Sequence;
@@ -13,6 +13,16 @@ use sigstore_tuf_parts::{
 };
 use sigstore_types_parts::{Armor, Bytes, Text, TextMap};
 use std::alloc::Global;
+
+// A list of these bytes alone.
+fn alone(alloc: Global, bytes: &[u8]) -> Result<Sequence<Bytes>, Error>
+    ensures ok { IfOk result (λ list. list ≡ bytes.now ∷ []) }
+    ensures err { IfErr result (λ e. e ≡ Want) }
+{
+    let mut list = Sequence::new(alloc);
+    list.push(Bytes::new(alloc, bytes)?)?;
+    Ok(list)
+}
 
 /// The documents in force with a first root, which meets its own role. Errors: those of a document, then
 /// `UnknownRole`, then those of a threshold.
@@ -30,8 +40,7 @@ pub(crate) fn first_root<C: CryptoProvider, M: Armor>(
 {
     let root = Metadata::from_slice(alloc, bytes)?;
     root.verify_role(alloc, provider, armor, root.signed(), "root")?;
-    let mut roots = Sequence::new(alloc);
-    roots.push(Bytes::new(alloc, bytes)?)?;
+    let roots = alone(alloc, bytes)?;
     Ok(InForce {
         roots,
         root,
@@ -107,6 +116,28 @@ fn check_newer_in(
     }
 }
 
+// The checks of a timestamp that was read.
+#[tactic(auto, unfolding(crate::specs::Update::timestamp_checks_of))]
+fn check_timestamp<C: CryptoProvider, M: Armor>(
+    alloc: Global,
+    provider: &C,
+    armor: &M,
+    documents: &InForce,
+    document: &Metadata<Timestamp>,
+    now: jiff::Timestamp,
+) -> Result<(), Error>
+    ensures ok { OnOk result
+        (timestamp_checks_of (crypto_of (C.accepts provider.now) (M.armored armor.now) (M.key_in armor.now)) documents.now document.now now ≡ Ok tt) }
+    ensures err { IfErr result (λ e. e ≢ Want →
+        timestamp_checks_of (crypto_of (C.accepts provider.now) (M.armored armor.now) (M.key_in armor.now)) documents.now document.now now ≡ Err e) }
+{
+    let content = document.signed();
+    document.verify_role(alloc, provider, armor, documents.root.signed(), "timestamp")?;
+    check_newer_in(alloc, &documents.timestamp, content)?;
+    check_fresh(alloc, "timestamp", content.expires, now)?;
+    Ok(())
+}
+
 /// The timestamp of these bytes, where it may be adopted.
 #[tactic(auto, unfolding(crate::specs::Update::new_timestamp_of))]
 pub(crate) fn new_timestamp<C: CryptoProvider, M: Armor>(
@@ -123,9 +154,7 @@ pub(crate) fn new_timestamp<C: CryptoProvider, M: Armor>(
         new_timestamp_of (crypto_of (C.accepts provider.now) (M.armored armor.now) (M.key_in armor.now)) documents.now bytes now ≡ Err e) }
 {
     let document = Metadata::<Timestamp>::from_slice(alloc, bytes.as_bytes())?;
-    document.verify_role(alloc, provider, armor, documents.root.signed(), "timestamp")?;
-    check_newer_in(alloc, &documents.timestamp, document.signed())?;
-    check_fresh(alloc, "timestamp", document.signed().expires, now)?;
+    check_timestamp(alloc, provider, armor, documents, &document, now)?;
     Ok(Held { bytes, document })
 }
 
@@ -260,6 +289,28 @@ pub(crate) fn targets_pin<'d>(
     }
 }
 
+// The checks of a targets document that was read, for its pin.
+#[tactic(auto, unfolding(crate::specs::Update::targets_checks_of))]
+fn check_targets<C: CryptoProvider, M: Armor>(
+    alloc: Global,
+    provider: &C,
+    armor: &M,
+    documents: &InForce,
+    pin: &MetaFile,
+    document: &Metadata<Targets>,
+    now: jiff::Timestamp,
+) -> Result<(), Error>
+    ensures ok { OnOk result
+        (targets_checks_of (crypto_of (C.accepts provider.now) (M.armored armor.now) (M.key_in armor.now)) documents.now pin.now document.now now ≡ Ok tt) }
+    ensures err { IfErr result (λ e. e ≢ Want →
+        targets_checks_of (crypto_of (C.accepts provider.now) (M.armored armor.now) (M.key_in armor.now)) documents.now pin.now document.now now ≡ Err e) }
+{
+    check_version(pin, document.signed().version)?;
+    document.verify_role(alloc, provider, armor, documents.root.signed(), "targets")?;
+    check_fresh(alloc, "targets", document.signed().expires, now)?;
+    Ok(())
+}
+
 /// The top-level targets document of these bytes, where it may be adopted.
 #[tactic(auto, unfolding(crate::specs::Update::new_targets_of))]
 pub(crate) fn new_targets<C: CryptoProvider, M: Armor>(
@@ -278,8 +329,6 @@ pub(crate) fn new_targets<C: CryptoProvider, M: Armor>(
     let pin = targets_pin(alloc, documents, now)?;
     check_integrity(pin.length, pin.hashes.as_ref(), bytes.as_bytes())?;
     let document = Metadata::<Targets>::from_slice(alloc, bytes.as_bytes())?;
-    check_version(pin, document.signed().version)?;
-    document.verify_role(alloc, provider, armor, documents.root.signed(), "targets")?;
-    check_fresh(alloc, "targets", document.signed().expires, now)?;
+    check_targets(alloc, provider, armor, documents, pin, &document, now)?;
     Ok(Held { bytes, document })
 }
