@@ -1,6 +1,7 @@
 // The top call: from a pinned root down to one artifact.
-ghost use Rattle.std.specs.Prelude.{◌≡◌, ◌≢◌, Ok, Err, IfOk, IfErr};
+ghost use Rattle.std.specs.Prelude.{◌≡◌, ◌≢◌, ℕ, List, Ok, Err, IfOk, IfErr};
 ghost use Rattle.sigstore_tuf_parts.specs.Crypto.{crypto_of};
+ghost use Rattle.sigstore_tuf.specs.Update.{first_root_of};
 ghost use Rattle.sigstore_verify.specs.declared.error.Error.TheVariants.{NoMemory as Want};
 ghost use Rattle.sigstore_verify.specs.Root.{trust_fault, bundle_fault, trust_of, bundle_of, GivesChain, JudgesBundle, root_of_tuf, root_of_verify, Runs, IsAccepted};
 ghost use Rattle.sigstore_verify.specs.Cause.{RootCause};
@@ -13,8 +14,8 @@ use foundation::Sequence;
 use jiff::Timestamp;
 use sigstore_crypto::{ArtifactSource, CryptoProvider};
 use sigstore_tuf::{
-    MetadataStore, Repository, TrustChain, TrustedMetadataSet, UpdaterConfig, get_target_parts,
-    refresh_parts,
+    InForce, MetadataStore, Repository, TrustChain, TrustedMetadataSet, UpdaterConfig,
+    get_target_parts, refresh_parts,
 };
 use sigstore_types::{Bundle, TrustedRoot};
 use sigstore_types_parts::{Armor, ArtifactDigest, TypesError};
@@ -99,6 +100,30 @@ fn read_bundle(alloc: Global, bytes: &[u8]) -> Result<Bundle, Error>
     }
 }
 
+// The chain of documents that authorises the trust file, by a client that begins with these documents.
+fn chain_by<C: CryptoProvider, M: Armor, R: Repository, S: MetadataStore>(
+    alloc: Global,
+    provider: &C,
+    armor: &M,
+    documents: &mut InForce,
+    repo: &mut R,
+    store: &mut S,
+    config: &UpdaterConfig,
+    now: Timestamp,
+) -> Result<TrustChain, sigstore_tuf_parts::Error>
+    ensures gives { (root : List ℕ) → first_root_of (crypto_of (C.accepts provider.now) (M.armored armor.now) (M.key_in armor.now)) root ≡ Ok documents.old
+        → GivesChain (crypto_of (C.accepts provider.now) (M.armored armor.now) (M.key_in armor.now)) root config.now now (R.seen repo.old) (R.seen repo.new) result }
+    ensures store { S.seen store.new ≡ S.seen store.old }
+{
+    if let Err(e) = refresh_parts(alloc, provider, armor, documents, repo, store, config, now) {
+        return Err(e);
+    }
+    match get_target_parts(alloc, documents, repo, store, config, TRUST_PATH, now) {
+        Ok(chain) => Ok(chain),
+        Err(e) => Err(e),
+    }
+}
+
 // The chain of documents that authorises the trust file.
 fn trust_chain<C: CryptoProvider, M: Armor, R: Repository, S: MetadataStore>(
     alloc: Global,
@@ -114,25 +139,17 @@ fn trust_chain<C: CryptoProvider, M: Armor, R: Repository, S: MetadataStore>(
         root_bytes.now config.now now (R.seen repo.old) (R.seen repo.new) result }
     ensures store { S.seen store.new ≡ S.seen store.old }
 {
-    let set = match TrustedMetadataSet::from_root(alloc, provider, armor, root_bytes) {
-        Ok(set) => set,
-        Err(e) => return Err(e),
-    };
-    let TrustedMetadataSet { mut documents, .. } = set;
-    if let Err(e) = refresh_parts(
-        alloc,
-        provider,
-        armor,
-        &mut documents,
-        repo,
-        store,
-        config,
-        now,
-    ) {
-        return Err(e);
-    }
-    match get_target_parts(alloc, &documents, repo, store, config, TRUST_PATH, now) {
-        Ok(chain) => Ok(chain),
+    match TrustedMetadataSet::from_root(alloc, provider, armor, root_bytes) {
+        Ok(mut set) => chain_by(
+            alloc,
+            provider,
+            armor,
+            &mut set.documents,
+            repo,
+            store,
+            config,
+            now,
+        ),
         Err(e) => Err(e),
     }
 }
