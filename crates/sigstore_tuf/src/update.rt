@@ -1,7 +1,9 @@
 // Each update of the documents in force: the document that is adopted, or the first check that fails.
-ghost use Rattle.std.specs.Prelude.{◌≡◌, ◌≢◌, [], ◌∷◌, Ok, Err, IfOk, IfErr, OnOk, option_copied};
+ghost use Rattle.std.specs.Prelude.{◌≡◌, ◌≢◌, [], ◌∷◌, Ok, Err, IfOk, IfErr, OnOk, codes, option_copied};
 ghost use Rattle.sigstore_tuf_parts.specs.declared.error.Error.TheVariants.{NoMemory as Want};
 ghost use Rattle.sigstore_tuf_parts.specs.Crypto.{crypto_of};
+ghost use Rattle.sigstore_tuf_parts.specs.Document.{content_in};
+ghost use Rattle.sigstore_tuf_parts.specs.RootRoles.{root_document, meets_role_of};
 ghost use Rattle.sigstore_tuf.specs.Update.{first_root_of, not_below_of, other_of, newer_than_of, newer_of, pins_not_below_of, timestamp_checks_of, new_timestamp_of, snapshot_pin_of, kept_pin_of, kept_pins_in, kept_pins_of, snapshot_checks_of, new_snapshot_of, targets_pin_of, targets_checks_of, new_targets_of};
 
 use crate::documents::{Held, InForce};
@@ -24,6 +26,25 @@ fn alone(alloc: Global, bytes: &[u8]) -> Result<Sequence<Bytes>, Error>
     Ok(list)
 }
 
+// The root of these bytes, which meets its own role.
+#[tactic(auto, unfolding(crate::specs::Update::first_root_of))]
+fn own_root<C: CryptoProvider, M: Armor>(
+    alloc: Global,
+    provider: &C,
+    armor: &M,
+    bytes: &[u8],
+) -> Result<Metadata<Root>, Error>
+    ensures read { IfOk result (λ root. root_document bytes.now ≡ Ok root) }
+    ensures met { IfOk result (λ root.
+        meets_role_of (crypto_of (C.accepts provider.now) (M.armored armor.now) (M.key_in armor.now)) (content_in root) (codes "root") root ≡ Ok tt) }
+    ensures err { IfErr result (λ e. e ≢ Want →
+        first_root_of (crypto_of (C.accepts provider.now) (M.armored armor.now) (M.key_in armor.now)) bytes.now ≡ Err e) }
+{
+    let root = Metadata::from_slice(alloc, bytes)?;
+    root.verify_role(alloc, provider, armor, root.signed(), "root")?;
+    Ok(root)
+}
+
 /// The documents in force with a first root, which meets its own role. Errors: those of a document, then
 /// `UnknownRole`, then those of a threshold.
 #[tactic(auto, unfolding(crate::specs::Update::first_root_of))]
@@ -38,9 +59,8 @@ pub(crate) fn first_root<C: CryptoProvider, M: Armor>(
     ensures err { IfErr result (λ e. e ≢ Want →
         first_root_of (crypto_of (C.accepts provider.now) (M.armored armor.now) (M.key_in armor.now)) bytes.now ≡ Err e) }
 {
-    let root = Metadata::from_slice(alloc, bytes)?;
-    root.verify_role(alloc, provider, armor, root.signed(), "root")?;
     let roots = alone(alloc, bytes)?;
+    let root = own_root(alloc, provider, armor, bytes)?;
     Ok(InForce {
         roots,
         root,
