@@ -2,20 +2,19 @@
 ghost use Rattle.std.specs.Prelude.{bytes_eq, Some, None, false};
 ghost use Rattle.sigstore_crypto.specs.Good.{subject_of};
 
+use crate::values::source;
 use foundation::NoMemory;
 use jiff::Timestamp;
 use sigstore_crypto::{
     CryptoProvider, MemorySource, ReadError, SigningScheme, sha256, sha384, sha512,
 };
 use sigstore_types::{
-    Armor, Bundle, Bytes, DerPublicKey, DigestBytes, FailList, Form, HashAlgorithm, LogKeyId,
-    MessageDigest, MessageSignature, SignatureBytes, SignatureContent, Text, TrustedRoot,
-    VerificationMaterial, VerificationMaterialContent,
+    Armor, Bundle, Bytes, DerPublicKey, DigestBytes, Form, HashAlgorithm, LogKeyId, MessageDigest,
+    MessageSignature, SignatureBytes, SignatureContent, Text, TrustedRoot, VerificationMaterial,
+    VerificationMaterialContent,
 };
 use sigstore_verify::*;
 use std::alloc::Global;
-use std::fmt;
-use std::num::NonZeroU32;
 use std::test::Fail;
 
 struct Echo;
@@ -75,48 +74,52 @@ impl Armor for Bare {
     }
 }
 
-fn is_text<T: fmt::Display>(alloc: Global, value: &T, display: &str) -> Result<(), Fail> {
-    let text = format!(in alloc; "{value}")?;
-    if text.as_str() != display {
-        return Err("another text")?;
+// The refusals of a certificate.
+fn certificate(number: u8) -> CertificateError {
+    let time = Timestamp::UNIX_EPOCH;
+    match number {
+        6 => CertificateError::Malformed,
+        7 => CertificateError::ChainInvalid,
+        8 => CertificateError::NoValidAuthority { time },
+        9 => CertificateError::NotYetValid {
+            time,
+            not_before: time,
+        },
+        10 => CertificateError::Expired {
+            time,
+            not_after: time,
+        },
+        _ => CertificateError::Sct,
     }
-    Ok(())
 }
 
-// A refusal of each number.
-fn sample(alloc: Global, number: u8) -> Result<Error, Fail> {
+// The refusals of the log but for the one that names a log.
+fn log(number: u8) -> TransparencyLogError {
+    match number {
+        13 => TransparencyLogError::InclusionProof,
+        14 => TransparencyLogError::Checkpoint,
+        15 => TransparencyLogError::InclusionPromise,
+        16 => TransparencyLogError::EntryMismatch,
+        17 => TransparencyLogError::IntegratedTime,
+        _ => TransparencyLogError::MalformedEntry,
+    }
+}
+
+fn timestamp(number: u8) -> TimestampError {
     let time = Timestamp::UNIX_EPOCH;
-    let expected = Text::new(alloc, "a")?;
-    let log_id = LogKeyId::from_bytes(alloc, b"log")?;
-    let actual = None;
-    Ok(match number {
-        1 => Error::IdentityMismatch { expected, actual },
-        2 => Error::IssuerMismatch { expected, actual },
+    match number {
+        19 => TimestampError::Invalid,
+        20 => TimestampError::OutsideAuthorityValidity { time },
+        _ => TimestampError::NoVerifiedTimestamp,
+    }
+}
+
+// The refusals that hold no text.
+fn plain(number: u8) -> Error {
+    match number {
         3 => Error::SignatureInvalid,
         4 => Error::ArtifactMismatch,
         5 => Error::UnsupportedArtifact,
-        6 => Error::Certificate(CertificateError::Malformed),
-        7 => Error::Certificate(CertificateError::ChainInvalid),
-        8 => Error::Certificate(CertificateError::NoValidAuthority { time }),
-        9 => Error::Certificate(CertificateError::NotYetValid {
-            time,
-            not_before: time,
-        }),
-        10 => Error::Certificate(CertificateError::Expired {
-            time,
-            not_after: time,
-        }),
-        11 => Error::Certificate(CertificateError::Sct),
-        12 => Error::TransparencyLog(TransparencyLogError::UnknownLog { log_id }),
-        13 => Error::TransparencyLog(TransparencyLogError::InclusionProof),
-        14 => Error::TransparencyLog(TransparencyLogError::Checkpoint),
-        15 => Error::TransparencyLog(TransparencyLogError::InclusionPromise),
-        16 => Error::TransparencyLog(TransparencyLogError::EntryMismatch),
-        17 => Error::TransparencyLog(TransparencyLogError::IntegratedTime),
-        18 => Error::TransparencyLog(TransparencyLogError::MalformedEntry),
-        19 => Error::Timestamp(TimestampError::Invalid),
-        20 => Error::Timestamp(TimestampError::OutsideAuthorityValidity { time }),
-        21 => Error::Timestamp(TimestampError::NoVerifiedTimestamp),
         22 => Error::InvalidBundle,
         23 => Error::UnsupportedBundle,
         24 => Error::InvalidTrustRoot,
@@ -128,115 +131,121 @@ fn sample(alloc: Global, number: u8) -> Result<Error, Fail> {
         30 => Error::ArtifactRead(ReadError::Failed),
         31 => Error::NoMemory,
         _ => Error::Unbuilt(Form::Key),
-    })
+    }
 }
+
+// A refusal of each number.
+fn sample(alloc: Global, number: u8) -> Result<Error, Fail> {
+    match number {
+        1 => Ok(Error::IdentityMismatch {
+            expected: Text::new(alloc, "a")?,
+            actual: None,
+        }),
+        2 => Ok(Error::IssuerMismatch {
+            expected: Text::new(alloc, "a")?,
+            actual: None,
+        }),
+        6..=11 => Ok(Error::Certificate(certificate(number))),
+        12 => Ok(Error::TransparencyLog(TransparencyLogError::UnknownLog {
+            log_id: LogKeyId::from_bytes(alloc, b"log")?,
+        })),
+        13..=18 => Ok(Error::TransparencyLog(log(number))),
+        19..=21 => Ok(Error::Timestamp(timestamp(number))),
+        _ => Ok(plain(number)),
+    }
+}
+
+// The number and the name of a refusal, its display text, and that of its part.
+fn shown(alloc: Global, error: &Error) -> Result<String, Fail> {
+    let (number, name) = (error.number(), error.name());
+    match error {
+        Error::Certificate(part) => Ok(format!(in alloc; "{number} {name} {error} {part}")?),
+        Error::TransparencyLog(part) => Ok(format!(in alloc; "{number} {name} {error} {part}")?),
+        Error::Timestamp(part) => Ok(format!(in alloc; "{number} {name} {error} {part}")?),
+        _ => Ok(format!(in alloc; "{number} {name} {error}")?),
+    }
+}
+
+// A row: a refusal's number, its name, its display text, and that of its part.
+const REFUSALS: &str = "1 IdentityMismatch IdentityMismatch
+2 IssuerMismatch IssuerMismatch
+3 SignatureInvalid SignatureInvalid
+4 ArtifactMismatch ArtifactMismatch
+5 UnsupportedArtifact UnsupportedArtifact
+6 CertificateMalformed Certificate Malformed
+7 ChainInvalid Certificate ChainInvalid
+8 NoValidAuthority Certificate NoValidAuthority
+9 NotYetValid Certificate NotYetValid
+10 CertificateExpired Certificate Expired
+11 Sct Certificate Sct
+12 UnknownLog TransparencyLog UnknownLog
+13 InclusionProof TransparencyLog InclusionProof
+14 Checkpoint TransparencyLog Checkpoint
+15 InclusionPromise TransparencyLog InclusionPromise
+16 EntryMismatch TransparencyLog EntryMismatch
+17 IntegratedTime TransparencyLog IntegratedTime
+18 MalformedEntry TransparencyLog MalformedEntry
+19 TimestampInvalid Timestamp Invalid
+20 OutsideAuthorityValidity Timestamp OutsideAuthorityValidity
+21 NoVerifiedTimestamp Timestamp NoVerifiedTimestamp
+22 InvalidBundle InvalidBundle
+23 UnsupportedBundle UnsupportedBundle
+24 InvalidTrustRoot InvalidTrustRoot
+25 Types Types
+26 Crypto Crypto
+27 Bundle Bundle
+28 TrustRoot TrustRoot
+29 TrustedCertificate TrustedCertificate
+30 ArtifactRead ArtifactRead
+31 NoMemory NoMemory
+90 Unbuilt Unbuilt";
 
 #[test]
 fn refusals_have_their_names(rt: HostRuntime) -> Result<(), Fail> {
     let alloc = rt.alloc();
-    for (number, name) in [
-        (1, "IdentityMismatch"),
-        (2, "IssuerMismatch"),
-        (3, "SignatureInvalid"),
-        (4, "ArtifactMismatch"),
-        (5, "UnsupportedArtifact"),
-        (22, "InvalidBundle"),
-        (23, "UnsupportedBundle"),
-        (24, "InvalidTrustRoot"),
-        (25, "Types"),
-        (26, "Crypto"),
-        (27, "Bundle"),
-        (28, "TrustRoot"),
-        (29, "TrustedCertificate"),
-        (30, "ArtifactRead"),
-        (31, "NoMemory"),
-        (90, "Unbuilt"),
-    ] {
-        let error = sample(alloc, number)?;
-        is_text(alloc, &error, name)?;
-        assert!(rt; error.number() == number && error.name() == name);
+    for row in REFUSALS.lines() {
+        let (number, _) = row.split_once(' ').ok_or("a row")?;
+        let error = sample(alloc, number.parse::<u8>()?)?;
+        assert_eq!(rt; shown(alloc, &error)?.as_str(), row);
     }
     Ok(())
 }
 
-#[test]
-fn refusals_of_parts_have_their_names(rt: HostRuntime) -> Result<(), Fail> {
-    let alloc = rt.alloc();
-    for (number, part, display, name) in [
-        (6, "Certificate", "Malformed", "CertificateMalformed"),
-        (7, "Certificate", "ChainInvalid", "ChainInvalid"),
-        (8, "Certificate", "NoValidAuthority", "NoValidAuthority"),
-        (9, "Certificate", "NotYetValid", "NotYetValid"),
-        (10, "Certificate", "Expired", "CertificateExpired"),
-        (11, "Certificate", "Sct", "Sct"),
-        (12, "TransparencyLog", "UnknownLog", "UnknownLog"),
-        (13, "TransparencyLog", "InclusionProof", "InclusionProof"),
-        (14, "TransparencyLog", "Checkpoint", "Checkpoint"),
-        (
-            15,
-            "TransparencyLog",
-            "InclusionPromise",
-            "InclusionPromise",
-        ),
-        (16, "TransparencyLog", "EntryMismatch", "EntryMismatch"),
-        (17, "TransparencyLog", "IntegratedTime", "IntegratedTime"),
-        (18, "TransparencyLog", "MalformedEntry", "MalformedEntry"),
-        (19, "Timestamp", "Invalid", "TimestampInvalid"),
-        (
-            20,
-            "Timestamp",
-            "OutsideAuthorityValidity",
-            "OutsideAuthorityValidity",
-        ),
-        (
-            21,
-            "Timestamp",
-            "NoVerifiedTimestamp",
-            "NoVerifiedTimestamp",
-        ),
-    ] {
-        let error = sample(alloc, number)?;
-        is_text(alloc, &error, part)?;
-        match &error {
-            Error::Certificate(fault) => is_text(alloc, fault, display)?,
-            Error::TransparencyLog(fault) => is_text(alloc, fault, display)?,
-            Error::Timestamp(fault) => is_text(alloc, fault, display)?,
-            _ => return Err("no part")?,
-        }
-        assert!(rt; error.number() == number && error.name() == name);
+// A P-256 key in 91 bytes; the same with one unused bit; and an Ed25519 key of 32 zero bytes (RFC 8410).
+fn key(name: &str) -> &'static str {
+    match name {
+        "P-256" =>
+            "MFkwEwYHKoZIzj0CAQYIKoZIzj0DAQcDQgAEAAAAAAAAAAAAAAAAAAAAAAAAAAAAAAAAAAAAAAAAAAAAAAAAAAAAAAAAAAAAAAAAAAAAAAAAAAAAAAAAAAAAAA==",
+        "unused bit" =>
+            "MFkwEwYHKoZIzj0CAQYIKoZIzj0DAQcDQgEEAAAAAAAAAAAAAAAAAAAAAAAAAAAAAAAAAAAAAAAAAAAAAAAAAAAAAAAAAAAAAAAAAAAAAAAAAAAAAAAAAAAAAA==",
+        "Ed25519" => "MCowBQYDK2VwAyEAAAAAAAAAAAAAAAAAAAAAAAAAAAAAAAAAAAAAAAAAAAA=",
+        _ => "MA==",
     }
-    Ok(())
 }
 
-// A P-256 key in 91 bytes.
-const KEY: &str =
-    "MFkwEwYHKoZIzj0CAQYIKoZIzj0DAQcDQgAEAAAAAAAAAAAAAAAAAAAAAAAAAAAAAAAAAAAAAAAAAAAAAAAAAAAAAAAAAAAAAAAAAAAAAAAAAAAAAAAAAAAAAA==";
+fn policy(alloc: Global, name: &str) -> Result<PublicKeyVerificationPolicy, Fail> {
+    Ok(PublicKeyVerificationPolicy::new(DerPublicKey::from_base64(alloc, key(name))?))
+}
 
-// The same with one unused bit, and an Ed25519 key of 32 zero bytes (RFC 8410).
-const UNUSED_BITS: &str =
-    "MFkwEwYHKoZIzj0CAQYIKoZIzj0DAQcDQgEEAAAAAAAAAAAAAAAAAAAAAAAAAAAAAAAAAAAAAAAAAAAAAAAAAAAAAAAAAAAAAAAAAAAAAAAAAAAAAAAAAAAAAA==";
-
-const ED25519: &str = "MCowBQYDK2VwAyEAAAAAAAAAAAAAAAAAAAAAAAAAAAAAAAAAAAAAAAAAAAA=";
-
-// A bundle over the SHA-256 values of what it tells and of what is signed.
-fn bundle(
-    alloc: Global,
-    algorithm: Option<HashAlgorithm>,
-    told: &str,
-    signed: &str,
-) -> Result<Bundle, Fail> {
-    let message_digest = match algorithm {
-        None => None,
-        Some(algorithm) => Some(MessageDigest {
+// The SHA-256 value of a text, told under an algorithm; nothing is told under no algorithm.
+fn told(alloc: Global, algorithm: &str, text: &str) -> Result<Option<MessageDigest>, Fail> {
+    match HashAlgorithm::from_name(algorithm) {
+        None => Ok(None),
+        Some(algorithm) => Ok(Some(MessageDigest {
             algorithm,
-            digest: DigestBytes::from_bytes(alloc, sha256(told.as_bytes()).as_bytes())?,
-        }),
-    };
+            digest: DigestBytes::from_bytes(alloc, sha256(text.as_bytes()).as_bytes())?,
+        })),
+    }
+}
+
+// A bundle over what it tells and over the SHA-256 value of what is signed.
+fn bundle(alloc: Global, told: Option<MessageDigest>, signed: &str) -> Result<Bundle, Fail> {
+    let signature = SignatureBytes::from_bytes(alloc, sha256(signed.as_bytes()).as_bytes())?;
     Ok(Bundle {
-        media_type: Text::new(alloc, "bundle")?,
+        media_type: Text::from_string(String::new(alloc)),
         content: SignatureContent::MessageSignature(MessageSignature {
-            message_digest,
-            signature: SignatureBytes::from_bytes(alloc, sha256(signed.as_bytes()).as_bytes())?,
+            message_digest: told,
+            signature,
         }),
         verification_material: VerificationMaterial {
             content: VerificationMaterialContent::PublicKey { hint: None },
@@ -244,71 +253,73 @@ fn bundle(
     })
 }
 
-fn source(alloc: Global, artifact: &str, failing: bool) -> Result<MemorySource, Fail> {
-    let mut calls = vec![in alloc]?;
-    if failing {
-        calls.push(2)?;
-    }
-    let failures = FailList::new(calls).ok_or("a list")?;
-    let step = NonZeroU32::new(2).ok_or("a step")?;
-    Ok(MemorySource::new(Bytes::new(alloc, artifact.as_bytes())?, step, failures))
-}
-
-// The number of the refusal of the artifact `hello` under a policy, or 0.
-fn answer(
+// The refusal under a policy, as Debug prints it.
+fn judged(
     alloc: Global,
     policy: &PublicKeyVerificationPolicy,
     bundle: &Bundle,
     max: u64,
-    failing: bool,
-) -> Result<u8, Fail> {
-    let mut source = source(alloc, "hello", failing)?;
+    source: &mut MemorySource,
+) -> Result<String, Fail> {
     let verifier = Verifier::new(alloc, &Echo, &Bare, &TrustedRoot {})?;
     let now = Timestamp::UNIX_EPOCH;
-    match verifier.verify_reader(alloc, &mut source, max, bundle, policy, now) {
-        Ok(_) => Ok(0),
-        Err(e) => Ok(e.number()),
+    match verifier.verify_reader(alloc, source, max, bundle, policy, now) {
+        Ok(_) => Ok(String::from_str(alloc, "accepted")?),
+        Err(e) => Ok(format!(in alloc; "{e:?}")?),
     }
 }
 
-fn key_policy(alloc: Global, key: &str) -> Result<PublicKeyVerificationPolicy, Fail> {
-    Ok(PublicKeyVerificationPolicy::new(DerPublicKey::from_base64(alloc, key)?))
+// The refusal of the artifact `hello`.
+fn answer(alloc: Global, cells: &[&str]) -> Result<String, Fail> {
+    let [name, log, algorithm, text, signed, max, read] = cells else {
+        return Err("a row")?;
+    };
+    let told = told(alloc, algorithm, text)?;
+    let bundle = bundle(alloc, told, signed)?;
+    let policy = policy(alloc, name)?;
+    let policy = if *log == "unlogged" {
+        policy.skip_tlog_unsafe()
+    } else {
+        policy
+    };
+    let mut source = source(alloc, "hello", read)?;
+    judged(alloc, &policy, &bundle, max.parse::<u64>()?, &mut source)
 }
+
+// A row: the policy's key, whether it wants the log, the digest's algorithm, what it is told of, what is
+// signed, the artifact's greatest length, the read that fails, and the refusal.
+const JUDGED: &str = "P-256 | unlogged | SHA2_256 | hello | hello | 5 |  | accepted
+P-256 | logged | SHA2_256 | hello | hello | 5 |  | Bundle
+MA== | unlogged | SHA2_256 | hello | hello | 5 |  | Crypto
+unused bit | unlogged | SHA2_256 | hello | hello | 5 |  | Crypto
+Ed25519 | unlogged | SHA2_256 | hello | hello | 5 |  | Unbuilt(Key)
+P-256 | unlogged | SHA2_256 | hello | hello | 4 |  | ArtifactRead(TooLong { max: 4 })
+P-256 | unlogged | SHA2_256 | hello | hello | 5 | 2 | ArtifactRead(Failed)
+P-256 | unlogged |  |  | hello | 5 |  | accepted
+P-256 | unlogged | SHA2_384 | hello | hello | 5 |  | Unbuilt(Digest)
+P-256 | unlogged | SHA2_512 | hello | hello | 5 |  | Crypto
+P-256 | unlogged | SHA2_256 | jello | jello | 5 |  | ArtifactMismatch
+P-256 | unlogged | SHA2_256 | hello | jello | 5 |  | SignatureInvalid";
 
 #[test]
-fn bundles_are_refused(rt: HostRuntime) -> Result<(), Fail> {
+fn bundles_are_judged(rt: HostRuntime) -> Result<(), Fail> {
     let alloc = rt.alloc();
-    let policy = key_policy(alloc, KEY)?.skip_tlog_unsafe();
-    let d256 = Some(HashAlgorithm::Sha2256);
-    let good = bundle(alloc, d256, "hello", "hello")?;
-    assert!(rt; answer(alloc, &policy, &good, 5, false)? == 0);
-    assert!(rt; answer(alloc, &key_policy(alloc, KEY)?, &good, 5, false)? == 27);
-    for (key, number) in [("MA==", 26), (UNUSED_BITS, 26), (ED25519, 90)] {
-        let other = key_policy(alloc, key)?.skip_tlog_unsafe();
-        assert!(rt; answer(alloc, &other, &good, 5, false)? == number, "{key}");
+    for row in JUDGED.lines() {
+        let (row, wanted) = row.rsplit_once(" | ").ok_or("a row")?;
+        let cells: Vec<&str> = row.split(" | ").collect(alloc)?;
+        let found = answer(alloc, &cells)?;
+        assert_eq!(rt; found.as_str(), wanted, "{row}");
     }
-    assert!(rt; answer(alloc, &policy, &good, 4, false)? == 30);
-    assert!(rt; answer(alloc, &policy, &good, 5, true)? == 30);
-    let untold = bundle(alloc, None, "", "hello")?;
-    assert!(rt; answer(alloc, &policy, &untold, 5, false)? == 0);
-    let d384 = bundle(alloc, Some(HashAlgorithm::Sha2384), "hello", "hello")?;
-    assert!(rt; answer(alloc, &policy, &d384, 5, false)? == 90);
-    let d512 = bundle(alloc, Some(HashAlgorithm::Sha2512), "hello", "hello")?;
-    assert!(rt; answer(alloc, &policy, &d512, 5, false)? == 26);
-    let unbound = bundle(alloc, d256, "jello", "jello")?;
-    assert!(rt; answer(alloc, &policy, &unbound, 5, false)? == 4);
-    let unsigned = bundle(alloc, d256, "hello", "jello")?;
-    assert!(rt; answer(alloc, &policy, &unsigned, 5, false)? == 3);
     Ok(())
 }
 
 #[test]
 fn a_bundle_is_accepted(rt: HostRuntime) -> Result<(), Fail> {
     let alloc = rt.alloc();
-    let bundle = bundle(alloc, Some(HashAlgorithm::Sha2256), "hello", "hello")?;
-    let mut source = source(alloc, "hello", false)?;
+    let bundle = bundle(alloc, told(alloc, "SHA2_256", "hello")?, "hello")?;
+    let mut source = source(alloc, "hello", "")?;
     let verifier = Verifier::new(alloc, &Echo, &Bare, &TrustedRoot {})?;
-    let policy = key_policy(alloc, KEY)?.skip_tlog_unsafe();
+    let policy = policy(alloc, "P-256")?.skip_tlog_unsafe();
     assert!(rt; policy.public_key().as_bytes().len() == 91 && !policy.verifies_tlog());
     let now = Timestamp::UNIX_EPOCH;
     let kept = verifier.verify_reader_kept(alloc, &mut source, 5, &bundle, &policy, now)?;
