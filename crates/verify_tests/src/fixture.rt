@@ -1,11 +1,11 @@
 // A run of the program over objects in memory: the fixture, with one of its parts changed.
-use crate::values::{failures, source, words};
+use crate::tables::{Change, change_in, failures, source, words};
 use jiff::Timestamp;
 use sigstore_app_parts::{MemoryInputs, MemorySink, Which};
 use sigstore_crypto::sha256;
 use sigstore_run::{Status, run};
 use sigstore_tuf::{MemoryRepository, MemoryStore};
-use sigstore_types_parts::{Bytes, DigestBytes};
+use sigstore_types_parts::{Bytes, DigestBytes, Text};
 use std::alloc::Global;
 use std::test::Fail;
 
@@ -36,19 +36,32 @@ const EMPTY_MESSAGE: &str =
 const WORDS: &str =
     "verify --root=a --repository=b --store=c --bundle=d --artifact=e --policy=f --provider=g --now=2025-01-01T00:00:00Z";
 
-// One part of the fixture, and the text in its place.
-#[derive(Clone, Copy)]
-pub(crate) struct Change<'a> {
-    pub(crate) part: &'a str,
-    pub(crate) text: &'a str,
-}
-
-impl<'a> Change<'a> {
-    // The text of a part: that of the change, or else the fixture's.
-    fn of(self, part: &str, text: &'a str) -> &'a str {
-        if self.part == part { self.text } else { text }
-    }
-}
+// The parts of the fixture that a change names; nothing is unchanged.
+const PARTS: &str = "nothing
+words
+consistent
+scheme
+declared key
+next root
+timestamp
+unsigned
+trust
+listed
+delegations
+file
+key
+skip
+bundle
+bundle of blanks
+material
+content
+signed artifact
+artifact
+repository fails
+inputs fail
+artifact fails
+sink fails
+room";
 
 fn root(alloc: Global, change: Change) -> Result<String, Fail> {
     let consistent = change.of("consistent", "false");
@@ -89,45 +102,77 @@ fn put(alloc: Global, repo: &mut MemoryRepository, name: &str, signed: &str) -> 
     Ok(())
 }
 
-fn repository(alloc: Global, change: Change, targets: &str) -> Result<MemoryRepository, Fail> {
-    let failures = failures(alloc, change.of("repository fails", ""))?;
-    let mut repo = MemoryRepository::new(alloc, failures);
-    for (name, signed) in [
-        ("2.root.json", change.of("next root", "")),
-        ("timestamp.json", change.of("timestamp", TIMESTAMP)),
-        ("snapshot.json", SNAPSHOT),
-        ("targets.json", targets),
-    ] {
-        put(alloc, &mut repo, name, signed)?;
-    }
+fn fill(
+    alloc: Global,
+    change: Change,
+    targets: &str,
+    repo: &mut MemoryRepository,
+) -> Result<(), Fail> {
+    put(alloc, repo, "2.root.json", change.of("next root", ""))?;
+    put(
+        alloc,
+        repo,
+        "timestamp.json",
+        change.of("timestamp", TIMESTAMP),
+    )?;
+    put(alloc, repo, "snapshot.json", SNAPSHOT)?;
+    put(alloc, repo, "targets.json", targets)?;
     let trust = change.of("file", change.of("trust", "{}"));
     repo.put_target(alloc, "trusted_root.json", trust.as_bytes())?;
-    Ok(repo)
-}
-
-// The provider's row for what is signed.
-fn push_row(alloc: Global, rows: &mut String, subject: &str) -> Result<(), Fail> {
-    let digest = DigestBytes::from_bytes(alloc, sha256(subject.as_bytes()).as_bytes())?;
-    let digest = digest.to_base64(alloc)?;
-    let digest = digest.as_str();
-    write!(rows, "accept ECDSA_P256_SHA256 {RAW_KEY} {digest} AQ==\n")?;
     Ok(())
 }
 
-// The rows of all that is signed, but for the one that the change leaves out.
+fn repository(alloc: Global, change: Change, targets: &str) -> Result<MemoryRepository, Fail> {
+    let failures = failures(alloc, change.of("repository fails", ""))?;
+    let mut repo = MemoryRepository::new(alloc, failures);
+    fill(alloc, change, targets, &mut repo)?;
+    Ok(repo)
+}
+
+fn digest(alloc: Global, subject: &str) -> Result<Text, Fail> {
+    let digest = DigestBytes::from_bytes(alloc, sha256(subject.as_bytes()).as_bytes())?;
+    Ok(digest.to_base64(alloc)?)
+}
+
+// Adds the provider's row for what is signed, unless the change leaves it out.
+fn sign(
+    alloc: Global,
+    change: Change,
+    rows: &mut String,
+    name: &str,
+    subject: &str,
+) -> Result<(), Fail> {
+    if change.of("unsigned", "") != name {
+        let digest = digest(alloc, subject)?;
+        let digest = digest.as_str();
+        write!(rows, "accept ECDSA_P256_SHA256 {RAW_KEY} {digest} AQ==\n")?;
+    }
+    Ok(())
+}
+
+fn sign_all(
+    alloc: Global,
+    change: Change,
+    rows: &mut String,
+    root: &str,
+    targets: &str,
+) -> Result<(), Fail> {
+    sign(alloc, change, rows, "root", root)?;
+    sign(alloc, change, rows, "timestamp", TIMESTAMP)?;
+    sign(alloc, change, rows, "snapshot", SNAPSHOT)?;
+    sign(alloc, change, rows, "targets", targets)?;
+    sign(
+        alloc,
+        change,
+        rows,
+        "hello",
+        change.of("signed artifact", "hello"),
+    )
+}
+
 fn provider(alloc: Global, change: Change, root: &str, targets: &str) -> Result<Bytes, Fail> {
     let mut rows = String::new(alloc);
-    for (name, subject) in [
-        ("root", root),
-        ("timestamp", TIMESTAMP),
-        ("snapshot", SNAPSHOT),
-        ("targets", targets),
-        ("hello", change.of("signed artifact", "hello")),
-    ] {
-        if change.of("unsigned", "") != name {
-            push_row(alloc, &mut rows, subject)?;
-        }
-    }
+    sign_all(alloc, change, &mut rows, root, targets)?;
     Ok(Bytes::from_vec(rows.into_bytes()))
 }
 
@@ -142,30 +187,48 @@ fn blanks(alloc: Global, count: usize) -> Result<Bytes, Fail> {
     Ok(Bytes::from_vec(vec![in alloc; b' '; count]?))
 }
 
-fn bundle(alloc: Global, change: Change) -> Result<Bytes, Fail> {
-    if change.part == "bundle of blanks" {
-        return blanks(alloc, change.text.parse::<usize>()?);
+fn message(change: Change) -> &str {
+    if change.part == "signed artifact" {
+        return EMPTY_MESSAGE;
     }
+    change.of("content", MESSAGE)
+}
+
+fn made_bundle(alloc: Global, change: Change) -> Result<Bytes, Fail> {
     let material = change.of("material", r#""publicKey":{"hint":"k"}"#);
-    let message = if change.part == "signed artifact" {
-        EMPTY_MESSAGE
-    } else {
-        MESSAGE
-    };
-    let content = change.of("content", message);
+    let content = message(change);
     let text = format!(in alloc;
         r#"{{"mediaType":"application/vnd.dev.sigstore.bundle.v0.3+json","verificationMaterial":{{{material}}},{content}}}"#
     )?;
-    Ok(Bytes::new(alloc, change.of("bundle", text.as_str()).as_bytes())?)
+    Ok(Bytes::from_vec(text.into_bytes()))
+}
+
+fn bundle(alloc: Global, change: Change) -> Result<Bytes, Fail> {
+    match change.part {
+        "bundle" => Ok(Bytes::new(alloc, change.text.as_bytes())?),
+        "bundle of blanks" => blanks(alloc, change.text.parse::<usize>()?),
+        _ => made_bundle(alloc, change),
+    }
+}
+
+fn put_inputs(
+    alloc: Global,
+    change: Change,
+    root: &str,
+    targets: &str,
+    inputs: &mut MemoryInputs,
+) -> Result<(), Fail> {
+    let root_document = document(alloc, root)?;
+    inputs.put(Which::Root, Bytes::from_vec(root_document.into_bytes()));
+    inputs.put(Which::Policy, policy(alloc, change)?);
+    inputs.put(Which::Provider, provider(alloc, change, root, targets)?);
+    inputs.put(Which::Bundle, bundle(alloc, change)?);
+    Ok(())
 }
 
 fn inputs(alloc: Global, change: Change, root: &str, targets: &str) -> Result<MemoryInputs, Fail> {
     let mut inputs = MemoryInputs::new(failures(alloc, change.of("inputs fail", ""))?);
-    inputs.put(Which::Policy, policy(alloc, change)?);
-    inputs.put(Which::Provider, provider(alloc, change, root, targets)?);
-    let root = document(alloc, root)?;
-    inputs.put(Which::Root, Bytes::from_vec(root.into_bytes()));
-    inputs.put(Which::Bundle, bundle(alloc, change)?);
+    put_inputs(alloc, change, root, targets, &mut inputs)?;
     Ok(inputs)
 }
 
@@ -177,28 +240,47 @@ fn ended(
     repo: &mut MemoryRepository,
     sink: &mut MemorySink,
 ) -> Result<Status, Fail> {
+    let words = words(alloc, change.of("words", WORDS))?;
     let artifact = change.of("artifact", change.of("signed artifact", "hello"));
     let mut artifact = source(alloc, artifact, change.of("artifact fails", ""))?;
-    let words = words(alloc, change.of("words", WORDS))?;
     let mut store = MemoryStore::new(alloc);
     let clock = Timestamp::UNIX_EPOCH;
-    Ok(run(alloc, &words, clock, inputs, repo, &mut store, &mut artifact, sink))
+    Ok(run(
+        alloc,
+        &words,
+        clock,
+        inputs,
+        repo,
+        &mut store,
+        &mut artifact,
+        sink,
+    ))
+}
+
+fn run_over(
+    alloc: Global,
+    change: Change,
+    root: &str,
+    targets: &str,
+    sink: &mut MemorySink,
+) -> Result<Status, Fail> {
+    let mut repo = repository(alloc, change, targets)?;
+    let mut inputs = inputs(alloc, change, root, targets)?;
+    ended(alloc, change, &mut inputs, &mut repo, sink)
 }
 
 // How a run over the changed fixture ends.
 fn run_with(alloc: Global, change: Change, sink: &mut MemorySink) -> Result<Status, Fail> {
     let root = root(alloc, change)?;
     let targets = targets(alloc, change)?;
-    let mut inputs = inputs(alloc, change, root.as_str(), targets.as_str())?;
-    let mut repo = repository(alloc, change, targets.as_str())?;
-    ended(alloc, change, &mut inputs, &mut repo, sink)
+    run_over(alloc, change, root.as_str(), targets.as_str(), sink)
 }
 
 // The status of a run over the changed fixture, and what the sink took, as Debug prints them.
-pub(crate) fn said(alloc: Global, part: &str, text: &str) -> Result<String, Fail> {
-    let change = Change { part, text };
-    let failures = failures(alloc, change.of("sink fails", ""))?;
+pub(crate) fn said(alloc: Global, row: &str) -> Result<String, Fail> {
+    let change = change_in(row, PARTS)?;
     let room = change.of("room", "1024").parse::<u32>()?;
+    let failures = failures(alloc, change.of("sink fails", ""))?;
     let mut sink = MemorySink::new(alloc, room, failures)?;
     let status = run_with(alloc, change, &mut sink)?;
     let taken = str::from_utf8(sink.bytes())?;

@@ -1,67 +1,93 @@
 // Display texts, and words, files and lines on outside values.
-use crate::values::{failures, words};
+use crate::tables::{debug, display, failures, hold, words};
+use foundation::NoMemory;
 use sigstore_app_parts::*;
 use sigstore_crypto::{CryptoProvider, SigningScheme, sha256};
 use sigstore_types_parts::{Armor, Bytes, Text};
 use std::alloc::Global;
-use std::fmt;
 use std::fs;
+use std::rt::Files;
 use std::test::Fail;
 
-fn debug<T: fmt::Debug>(alloc: Global, value: &T) -> Result<String, Fail> {
-    Ok(format!(in alloc; "{value:?}")?)
+fn name(alloc: Global, fault: &str) -> Result<String, Fail> {
+    match fault {
+        "InputFault::Failed" => display(alloc, &InputFault::Failed),
+        "InputFault::Absent" => display(alloc, &InputFault::Absent),
+        "InputFault::TooLong" => display(alloc, &InputFault::TooLong { seen: 1 }),
+        "InputFault::NoMemory" => display(alloc, &InputFault::NoMemory),
+        "UsageFault::Usage" => display(alloc, &UsageFault::Usage),
+        "UsageFault::NoMemory" => display(alloc, &UsageFault::NoMemory),
+        "Stop::Words" => display(alloc, &Stop::Words),
+        "Stop::Form" => display(alloc, &Stop::Form(Which::Policy)),
+        "Stop::Input" => display(alloc, &Stop::Input(Which::Root)),
+        "Stop::Memory" => display(alloc, &Stop::Memory),
+        "SinkFault::Failed" => display(alloc, &SinkFault::Failed),
+        _ => Err("no fault")?,
+    }
 }
 
-fn push_name<T: fmt::Display>(names: &mut String, fault: &T) -> Result<(), Fail> {
-    write!(names, "{fault} ")?;
-    Ok(())
-}
+const NAMES: &str = "InputFault::Failed | Failed
+InputFault::Absent | Absent
+InputFault::TooLong | TooLong
+InputFault::NoMemory | NoMemory
+UsageFault::Usage | Usage
+UsageFault::NoMemory | NoMemory
+Stop::Words | Words
+Stop::Form | Form
+Stop::Input | Input
+Stop::Memory | Memory
+SinkFault::Failed | Failed";
 
 #[test]
 fn errors_print_their_names(rt: HostRuntime) -> Result<(), Fail> {
-    let mut names = String::new(rt.alloc());
-    push_name(&mut names, &InputFault::Failed)?;
-    push_name(&mut names, &InputFault::Absent)?;
-    push_name(&mut names, &InputFault::TooLong { seen: 1 })?;
-    push_name(&mut names, &InputFault::NoMemory)?;
-    push_name(&mut names, &UsageFault::Usage)?;
-    push_name(&mut names, &UsageFault::NoMemory)?;
-    push_name(&mut names, &Stop::Words)?;
-    push_name(&mut names, &Stop::Form(Which::Policy))?;
-    push_name(&mut names, &Stop::Input(Which::Root))?;
-    push_name(&mut names, &Stop::Memory)?;
-    push_name(&mut names, &SinkFault::Failed)?;
-    assert_eq!(rt;
-        names.as_str(),
-        "Failed Absent TooLong NoMemory Usage NoMemory Words Form Input Memory Failed "
-    );
-    Ok(())
+    hold(&rt, NAMES, name)
 }
 
 const WHOLE: &str =
     "verify --root=a --repository=b --store=c --bundle=d --artifact=e --policy=f=g --provider=h";
 
+fn shown(alloc: Global, layout: &Layout) -> Result<String, Fail> {
+    let (root, policy, now) = (layout.root.as_str(), layout.policy.as_str(), layout.now);
+    Ok(format!(in alloc; "{root} {policy} {now:?}")?)
+}
+
 // The layout's root, policy and instant.
 fn layout(alloc: Global, line: &str) -> Result<String, Fail> {
     let words = words(alloc, line)?;
     match read_layout(alloc, &words)? {
-        Some(Layout {
-            root, policy, now, ..
-        }) => {
-            let (root, policy) = (root.as_str(), policy.as_str());
-            Ok(format!(in alloc; "{root} {policy} {now:?}")?)
-        }
-        None => Ok(String::from_str(alloc, "none")?),
+        Some(layout) => shown(alloc, &layout),
+        None => display(alloc, &"none"),
+    }
+}
+
+fn whole_layout(alloc: Global, more: &str) -> Result<String, Fail> {
+    layout(alloc, format!(in alloc; "{WHOLE} {more}")?.as_str())
+}
+
+fn policy(alloc: Global, text: &str) -> Result<String, Fail> {
+    debug(
+        alloc,
+        &read_policy(alloc, text.replace(alloc, ';', "\n")?.as_str().as_bytes()),
+    )
+}
+
+fn provider(alloc: Global, text: &str) -> Result<String, Fail> {
+    let text = text.replace(alloc, ';', "\n")?;
+    match read_provider(alloc, text.as_str().as_bytes()) {
+        Ok(_) => display(alloc, &"tables"),
+        Err(fault) => debug(alloc, &fault),
     }
 }
 
 // What is read of words, of words after a whole layout, of a policy file and of a provider file.
-fn read(alloc: Global, call: &str, text: &str) -> Result<String, Fail> {
+fn read(alloc: Global, row: &str) -> Result<String, Fail> {
+    let (call, text) = row.split_once(" | ").ok_or("a call and a text")?;
     match call {
         "words" => layout(alloc, text),
-        "more words" => layout(alloc, format!(in alloc; "{WHOLE} {text}")?.as_str()),
-        "policy" => debug(alloc, &read_policy(alloc, text.as_bytes())),
-        "provider" => debug(alloc, &read_provider(alloc, text.as_bytes()).map(|_| ())),
+        "more words" => whole_layout(alloc, text),
+        "policy" => policy(alloc, text),
+        "policy of byte ff" => debug(alloc, &read_policy(alloc, b"key AQI=\n#\xff\n")),
+        "provider" => provider(alloc, text),
         _ => Err("no call")?,
     }
 }
@@ -93,133 +119,132 @@ policy | key AQI=;skip tlog;skip tlog; | Err(Usage)
 policy | key AQI=;key AQI=; | Err(Usage)
 policy | key AQI=\r; | Err(Usage)
 policy | key AQI=; skip tlog; | Err(Usage)
-provider |  | Ok(())
-provider | # none;; | Ok(())
-provider | accept ECDSA_P256_SHA256 BAA= LPJNul+wow4m6DsqxbninhsWHlwfp0JecwQzYpOLmCQ= AQ==; | Ok(())
-provider | accept ED25519 AQ== AQ== AQ== | Err(Usage)
-provider | accept NO_SCHEME AQ== AQ== AQ==; | Err(Usage)
-provider | accept ECDSA_P256_SHA256 AQ== AQ== AQ==; | Err(Usage)
-provider | accept ED25519 AQ== AQ==; | Err(Usage)
-provider | accept ED25519  AQ== AQ==; | Err(Usage)
-provider | accept ED25519 AQ== AQ== AQ== ; | Err(Usage)
-provider | armor key YQ== AQ==;armor key YQ== Ag==; | Err(Usage)
-provider | armor key YQ== AQ==;armor certificate YQ== Ag==; | Ok(())
-provider | armor key ZGVyOg== AQ==; | Err(Usage)
-provider | armor other YQ== AQ==; | Err(Usage)
-provider | refuse; | Err(Usage)";
+policy of byte ff |  | Err(Usage)
+provider |  | tables
+provider | # none;; | tables
+provider | accept ECDSA_P256_SHA256 BAA= LPJNul+wow4m6DsqxbninhsWHlwfp0JecwQzYpOLmCQ= AQ==; | tables
+provider | accept ED25519 AQ== AQ== AQ== | Usage
+provider | accept NO_SCHEME AQ== AQ== AQ==; | Usage
+provider | accept ECDSA_P256_SHA256 AQ== AQ== AQ==; | Usage
+provider | accept ED25519 AQ== AQ==; | Usage
+provider | accept ED25519  AQ== AQ==; | Usage
+provider | accept ED25519 AQ== AQ== AQ== ; | Usage
+provider | armor key YQ== AQ==;armor key YQ== Ag==; | Usage
+provider | armor key YQ== AQ==;armor certificate YQ== Ag==; | tables
+provider | armor key ZGVyOg== AQ==; | Usage
+provider | armor other YQ== AQ==; | Usage
+provider | refuse; | Usage";
 
 #[test]
 fn words_and_files_are_read(rt: HostRuntime) -> Result<(), Fail> {
-    let alloc = rt.alloc();
-    for row in READINGS.lines() {
-        let (call, row) = row.split_once(" | ").ok_or("a row")?;
-        let (text, wanted) = row.split_once(" | ").ok_or("a row")?;
-        let text = text.replace(alloc, ';', "\n")?;
-        let found = read(alloc, call, text.as_str())?;
-        assert_eq!(rt; found.as_str(), wanted, "{call} {text}");
-    }
-    assert!(rt; read_policy(alloc, b"key AQI=\n#\xff\n").is_err());
-    Ok(())
+    hold(&rt, READINGS, read)
 }
 
-const PROVIDER: &str = "accept ECDSA_P256_SHA256 BAA= LPJNul+wow4m6DsqxbninhsWHlwfp0JecwQzYpOLmCQ= AQ==
+const PROVIDER: &str =
+    "accept ECDSA_P256_SHA256 BAA= LPJNul+wow4m6DsqxbninhsWHlwfp0JecwQzYpOLmCQ= AQ==
 accept ED25519 - aGVsbG8= -
 armor key a2V5 AQI=
 armor certificate Y2VydA== Aw==
 ";
 
-fn scheme(name: &str) -> SigningScheme {
-    match name {
-        "ECDSA_P256_SHA256" => SigningScheme::EcdsaP256Sha256,
-        "RSA_PSS_SHA256" => SigningScheme::RsaPssSha256,
-        _ => SigningScheme::Ed25519,
+// Whether the provider accepts a signature over a message, or over the message's digest.
+fn is_accepted(provider: &TableProvider, call: &str, text: &str) -> Result<bool, Fail> {
+    let (key, text) = text.split_once('/').ok_or("a key")?;
+    let (message, signature) = text.split_once('/').ok_or("a message")?;
+    let (key, message, signature) = (key.as_bytes(), message.as_bytes(), signature.as_bytes());
+    let scheme = match call {
+        "digest" => {
+            let digest = sha256(message);
+            let scheme = SigningScheme::EcdsaP256Sha256;
+            return Ok(provider.verify_prehashed(scheme, key, digest.as_bytes(), signature));
+        }
+        "EcdsaP256Sha256" => SigningScheme::EcdsaP256Sha256,
+        "RsaPssSha256" => SigningScheme::RsaPssSha256,
+        "Ed25519" => SigningScheme::Ed25519,
+        _ => return Err("no call")?,
+    };
+    Ok(provider.verify_raw(scheme, key, message, signature))
+}
+
+fn text(alloc: Global, bytes: &[u8]) -> Result<String, Fail> {
+    display(alloc, &str::from_utf8(bytes)?)
+}
+
+// What a table answers.
+fn answer(alloc: Global, tables: &Tables, call: &str, asked: &str) -> Result<String, Fail> {
+    let (armor, bytes) = (&tables.armor, asked.as_bytes());
+    match call {
+        "is_armored" => debug(alloc, &armor.is_armored(bytes)),
+        "read_key" => debug(alloc, &armor.read_key(alloc, bytes)?.is_some()),
+        "read_certificate" => debug(alloc, &armor.read_certificate(alloc, bytes)?.is_some()),
+        "write_certificate" => text(alloc, armor.write_certificate(alloc, bytes)?.as_bytes()),
+        _ => debug(alloc, &is_accepted(&tables.provider, call, asked)?),
     }
 }
 
-// Whether the provider accepts a signature, or the armour reads a text.
-fn is_good(alloc: Global, tables: &Tables, cells: &[&str]) -> Result<bool, Fail> {
-    let Tables { provider, armor } = tables;
-    match cells {
-        ["raw", name, key, message, signature] => Ok(provider.verify_raw(
-            scheme(name),
-            key.as_bytes(),
-            message.as_bytes(),
-            signature.as_bytes(),
-        )),
-        ["prehashed", name, key, message, signature] => Ok(provider.verify_prehashed(
-            scheme(name),
-            key.as_bytes(),
-            sha256(message.as_bytes()).as_bytes(),
-            signature.as_bytes(),
-        )),
-        ["armored", text] => Ok(armor.is_armored(text.as_bytes())),
-        ["key", text] => Ok(armor.read_key(alloc, text.as_bytes())?.is_some()),
-        ["certificate", text] => Ok(armor.read_certificate(alloc, text.as_bytes())?.is_some()),
-        _ => Err("no call")?,
-    }
+fn table(alloc: Global, row: &str) -> Result<String, Fail> {
+    let (call, asked) = row.split_once(" | ").ok_or("a call and a text")?;
+    let tables = read_provider(alloc, PROVIDER.as_bytes())?;
+    answer(alloc, &tables, call, asked)
 }
 
-// A row: a signature's scheme, key, message and bytes, or an armoured text, and the answer.
-const TABLES: &str = "raw | ECDSA_P256_SHA256 | \u{4}\0 | hello | \u{1} | true
-raw | ECDSA_P256_SHA256 | \u{4}\0 | jello | \u{1} | false
-raw | ECDSA_P256_SHA256 | \u{4}\0 | hello | \u{2} | false
-raw | RSA_PSS_SHA256 | \u{4}\0 | hello | \u{1} | false
-raw | ED25519 |  | hello |  | true
-prehashed | ECDSA_P256_SHA256 | \u{4}\0 | hello | \u{1} | true
-armored | key | true
-key | key | true
-certificate | key | false
-armored | cert | true
-key | cert | false
-certificate | cert | true
-armored | der:AQI= | true
-key | der:AQI= | true
-certificate | der:AQI= | true
-armored | der:AQI | true
-key | der:AQI | false
-certificate | der:AQI | false
-armored | other | false
-key | other | false
-certificate | other | false";
+// A row: a scheme, or the digest under ECDSA, with a key, a message and a signature; or a call of the
+// armour and its text; and the answer.
+const TABLES: &str = "EcdsaP256Sha256 | \u{4}\0/hello/\u{1} | true
+EcdsaP256Sha256 | \u{4}\0/jello/\u{1} | false
+EcdsaP256Sha256 | \u{4}\0/hello/\u{2} | false
+RsaPssSha256 | \u{4}\0/hello/\u{1} | false
+Ed25519 | /hello/ | true
+digest | \u{4}\0/hello/\u{1} | true
+is_armored | key | true
+read_key | key | true
+read_certificate | key | false
+is_armored | cert | true
+read_key | cert | false
+read_certificate | cert | true
+is_armored | der:AQI= | true
+read_key | der:AQI= | true
+read_certificate | der:AQI= | true
+is_armored | der:AQI | true
+read_key | der:AQI | false
+read_certificate | der:AQI | false
+is_armored | other | false
+read_key | other | false
+read_certificate | other | false
+write_certificate | \u{1}\u{2} | der:AQI=";
 
 #[test]
 fn tables_answer_by_their_rows(rt: HostRuntime) -> Result<(), Fail> {
-    let alloc = rt.alloc();
-    let tables = read_provider(alloc, PROVIDER.as_bytes())?;
-    for row in TABLES.lines() {
-        let (row, wanted) = row.rsplit_once(" | ").ok_or("a row")?;
-        let cells: Vec<&str> = row.split(" | ").collect(alloc)?;
-        let good = is_good(alloc, &tables, &cells)?;
-        assert_eq!(rt; good, wanted == "true", "{row}");
+    hold(&rt, TABLES, table)
+}
+
+fn write_texts(sink: &mut MemorySink, texts: &str, answers: &mut String) -> Result<(), Fail> {
+    for text in texts.split_whitespace() {
+        let answer = write_all(sink, text.as_bytes());
+        write!(answers, "{answer:?} ")?;
     }
-    let written = tables.armor.write_certificate(alloc, b"\x01\x02")?;
-    assert_eq!(rt; written.as_bytes(), "der:AQI=".as_bytes());
+    let taken = str::from_utf8(sink.bytes())?;
+    write!(answers, "{taken:?}")?;
     Ok(())
 }
 
-// The answers of a sink to texts, and what it holds then.
-fn taken(alloc: Global, room: u32, call: &str, texts: &str) -> Result<String, Fail> {
-    let mut sink = MemorySink::new(alloc, room, failures(alloc, call)?)?;
+// The answers of a sink with room for seven bytes, and what it took.
+fn taken(alloc: Global, row: &str) -> Result<String, Fail> {
+    let (texts, call) = row.split_once(" | ").ok_or("texts and a call")?;
+    let mut sink = MemorySink::new(alloc, 7, failures(alloc, call)?)?;
     let mut answers = String::new(alloc);
-    for text in texts.split_whitespace() {
-        let answer = write_all(&mut sink, text.as_bytes());
-        write!(answers, "{answer:?} ")?;
-    }
-    answers.push_str(str::from_utf8(sink.bytes())?)?;
+    write_texts(&mut sink, texts, &mut answers)?;
     Ok(answers)
 }
 
+// A row: texts, the call that fails, and the answers with what was taken.
+const TAKEN: &str = r#"hello hello |  | Ok(()) Err(Failed) "hellohe"
+hello | 1 | Err(Failed) """#;
+
 #[test]
 fn sinks_take_texts(rt: HostRuntime) -> Result<(), Fail> {
-    let alloc = rt.alloc();
-    for (call, texts, wanted) in [
-        ("", "hello hello", "Ok(()) Err(Failed) hellohe"),
-        ("1", "hello", "Err(Failed) "),
-    ] {
-        assert_eq!(rt; taken(alloc, 7, call, texts)?.as_str(), wanted);
-    }
     assert!(rt; write_all(&mut StdoutSink::new(&rt), b"").is_ok());
-    Ok(())
+    hold(&rt, TAKEN, taken)
 }
 
 fn which(name: &str) -> Which {
@@ -232,54 +257,56 @@ fn which(name: &str) -> Which {
 }
 
 // What an input of at most that many bytes reads as.
-fn input<I: Inputs>(alloc: Global, inputs: &mut I, name: &str, max: &str) -> Result<String, Fail> {
+fn input<I: Inputs>(alloc: Global, inputs: &mut I, row: &str) -> Result<String, Fail> {
+    let (name, max) = row.split_once(" | ").ok_or("an input and a length")?;
     match inputs.read(alloc, which(name), max.parse::<u64>()?) {
-        Ok(bytes) => Ok(String::from_str(alloc, str::from_utf8(bytes.as_bytes())?)?),
+        Ok(bytes) => text(alloc, bytes.as_bytes()),
         Err(fault) => debug(alloc, &fault),
     }
 }
 
-// A row: the input, its greatest length, and what is read.
+// A row: an input, its greatest length, and what is read. The fourth call fails.
 const MEMORY: &str = "Root | 5 | hello
 Root | 4 | TooLong { seen: 5 }
 Policy | 4 | Absent
 Root | 5 | Failed";
+
+#[test]
+fn inputs_are_read(rt: HostRuntime) -> Result<(), Fail> {
+    let mut inputs = MemoryInputs::new(failures(rt.alloc(), "4")?);
+    inputs.put(Which::Root, Bytes::new(rt.alloc(), b"hello")?);
+    hold(&rt, MEMORY, |alloc, row| input(alloc, &mut inputs, row))
+}
+
+// The root is a file, the bundle is no file, and the policy is a folder.
+fn file_inputs<'r, X: Files>(rt: &'r X, alloc: Global) -> Result<FileInputs<'r, X>, Fail> {
+    let root = Text::new(alloc, "an_input")?;
+    let bundle = Text::new(alloc, "no_such_input")?;
+    let policy = Text::new(alloc, "/")?;
+    let provider = Text::from_string(String::new(alloc));
+    Ok(FileInputs::new(rt, root, bundle, policy, provider))
+}
 
 const FILES: &str = "Root | 5 | hello
 Root | 4 | TooLong { seen: 5 }
 Bundle | 4 | Absent
 Policy | 4 | Failed";
 
-fn are_read<I: Inputs>(alloc: Global, inputs: &mut I, rows: &str) -> Result<(), Fail> {
-    for row in rows.lines() {
-        let (name, row) = row.split_once(" | ").ok_or("a row")?;
-        let (max, wanted) = row.split_once(" | ").ok_or("a row")?;
-        if input(alloc, inputs, name, max)?.as_str() != wanted {
-            return Err("another input")?;
-        }
-    }
-    Ok(())
-}
-
-#[test]
-fn inputs_are_read(rt: HostRuntime) -> Result<(), Fail> {
-    let alloc = rt.alloc();
-    let mut inputs = MemoryInputs::new(failures(alloc, "4")?);
-    inputs.put(Which::Root, Bytes::new(alloc, b"hello")?);
-    are_read(alloc, &mut inputs, MEMORY)
-}
-
 #[test]
 fn files_are_inputs(rt: HostRuntime) -> Result<(), Fail> {
-    let alloc = rt.alloc();
     fs::write(&rt, "an_input", "hello")?;
-    let path = Text::new(alloc, "an_input")?;
-    let absent = Text::new(alloc, "no_such_input")?;
-    let folder = Text::new(alloc, "/")?;
-    let other = Text::new(alloc, "no_such_input")?;
-    are_read(alloc, &mut FileInputs::new(&rt, path, absent, folder, other), FILES)?;
+    let mut inputs = file_inputs(&rt, rt.alloc())?;
+    hold(&rt, FILES, |alloc, row| input(alloc, &mut inputs, row))?;
     fs::remove_file(&rt, "an_input")?;
     Ok(())
+}
+
+// Puts an input, and says why the inputs aren't gathered then.
+fn gathered(alloc: Global, inputs: &mut MemoryInputs, row: &str) -> Result<String, Fail> {
+    let (name, text) = row.split_once(" | ").ok_or("an input and a text")?;
+    let text = text.replace(alloc, ';', "\n")?;
+    inputs.put(which(name), Bytes::from_vec(text.into_bytes()));
+    debug(alloc, &gather_inputs(alloc, inputs).err())
 }
 
 // A row: an input that is put, its text with `;` for the end of a line, and why the inputs aren't gathered.
@@ -292,67 +319,53 @@ Root | {} | None";
 
 #[test]
 fn inputs_are_gathered(rt: HostRuntime) -> Result<(), Fail> {
-    let alloc = rt.alloc();
-    let mut inputs = MemoryInputs::new(failures(alloc, "")?);
-    for row in GATHERED.lines() {
-        let (name, row) = row.split_once(" | ").ok_or("a row")?;
-        let (text, wanted) = row.split_once(" | ").ok_or("a row")?;
-        let text = text.replace(alloc, ';', "\n")?;
-        inputs.put(which(name), Bytes::from_vec(text.into_bytes()));
-        let stop = debug(alloc, &gather_inputs(alloc, &mut inputs).err())?;
-        assert_eq!(rt; stop.as_str(), wanted, "{row}");
-    }
-    Ok(())
+    let mut inputs = MemoryInputs::new(failures(rt.alloc(), "")?);
+    hold(
+        &rt,
+        GATHERED,
+        |alloc, row| gathered(alloc, &mut inputs, row),
+    )
 }
 
-// Adds what a call writes of its arguments.
-fn push(alloc: Global, text: &mut String, cells: &[&str]) -> Result<(), Fail> {
-    match cells {
-        ["line", word] => push_line(text, word)?,
-        ["number", word, number] => push_number_line(text, word, number.parse::<u64>()?)?,
-        ["named", word, name, number] => {
-            push_named_line(text, word, name.as_bytes(), number.parse::<u64>()?)?
-        }
-        ["hex", word, name] => push_hex_line(alloc, text, word, name, b"\x2c\xf2")?,
-        ["text", word, other] => push_text_line(text, word, other.as_bytes())?,
-        ["answer", word, answer] => push_answer_line(text, word, *answer == "true")?,
-        ["pair", word, other] => push_pair_line(text, word, other)?,
-        ["refused", layer, number, name] => {
-            push_refused_line(text, layer, number.parse::<u8>()?, name)?
-        }
-        ["printed", bytes] => push_printed(text, bytes.as_bytes())?,
-        ["decimal", number] => push_decimal(text, number.parse::<u64>()?)?,
-        _ => Err("no call")?,
+// Adds what a call writes.
+fn push(alloc: Global, text: &mut String, call: &str) -> Result<(), NoMemory> {
+    match call {
+        "line" => push_line(text, "accepted"),
+        "number" => push_number_line(text, "root", 18_446_744_073_709_551_615),
+        "named" => push_named_line(text, "role", b"a\\\n~", 10),
+        "hex" => push_hex_line(alloc, text, "artifact", "sha256", b"\x2c\xf2"),
+        "text" => push_text_line(text, "issuer", b"\x1f \x7f"),
+        "yes" => push_answer_line(text, "tlog", true),
+        "no" => push_answer_line(text, "sct", false),
+        "pair" => push_pair_line(text, "input", "root"),
+        "refused" => push_refused_line(text, "tuf", 90, "Unbuilt"),
+        "printed" => push_printed(text, b"a"),
+        "decimal" => push_decimal(text, 0),
+        _ => Ok(()),
     }
-    Ok(())
 }
 
-// A row: the call, its arguments, and what it adds to the text; `;` stands for the end of a line. The
-// bytes 2c and f2 are written in hex.
-const LINES: &str = "line | accepted | accepted;
-number | root | 18446744073709551615 | root 18446744073709551615;
-named | role | a\\;~ | 10 | role a\\x5c\\x0a~ 10;
-hex | artifact | sha256 | artifact sha256 2cf2;
-text | issuer | \u{1f} \u{7f} | issuer \\x1f \\x7f;
-answer | tlog | true | tlog yes;
-answer | sct | false | sct no;
-pair | input | root | input root;
-refused | tuf | 90 | Unbuilt | refused tuf 90 Unbuilt;
-printed | a | a
-decimal | 0 | 0";
+// What a call adds to a text, as Debug prints it.
+fn pushed(alloc: Global, call: &str) -> Result<String, Fail> {
+    let mut text = display(alloc, &"> ")?;
+    push(alloc, &mut text, call)?;
+    debug(alloc, &text.as_str())
+}
+
+// A row: a call, and the text `> ` after it.
+const LINES: &str = r#"line | "> accepted\n"
+number | "> root 18446744073709551615\n"
+named | "> role a\\x5c\\x0a~ 10\n"
+hex | "> artifact sha256 2cf2\n"
+text | "> issuer \\x1f \\x7f\n"
+yes | "> tlog yes\n"
+no | "> sct no\n"
+pair | "> input root\n"
+refused | "> refused tuf 90 Unbuilt\n"
+printed | "> a"
+decimal | "> 0""#;
 
 #[test]
-fn lines_are_added(rt: HostRuntime) -> Result<(), Fail> {
-    let alloc = rt.alloc();
-    let mut text = String::new(alloc);
-    let mut wanted = String::new(alloc);
-    for row in LINES.lines() {
-        let row = row.replace(alloc, ';', "\n")?;
-        let (row, line) = row.rsplit_once(" | ").ok_or("a row")?;
-        let cells: Vec<&str> = row.split(" | ").collect(alloc)?;
-        push(alloc, &mut text, &cells)?;
-        wanted.push_str(line)?;
-        assert_eq!(rt; text.as_str(), wanted.as_str(), "{row}");
-    }
-    Ok(())
+fn lines_are_written(rt: HostRuntime) -> Result<(), Fail> {
+    hold(&rt, LINES, pushed)
 }

@@ -8,6 +8,6 @@ mod inputs;
 #[cfg(test)]
 mod runs;
 #[cfg(test)]
-mod values;
+mod tables;
 #[cfg(test)]
 mod verification;

@@ -2,7 +2,7 @@
 ghost use Rattle.std.specs.Prelude.{bytes_eq, Some, None, false};
 ghost use Rattle.sigstore_crypto.specs.Good.{subject_of};
 
-use crate::values::source;
+use crate::tables::{Change, change_in, debug, display, hold, source};
 use foundation::NoMemory;
 use jiff::Timestamp;
 use sigstore_crypto::{
@@ -166,85 +166,94 @@ fn shown(alloc: Global, error: &Error) -> Result<String, Fail> {
     }
 }
 
-// A row: a refusal's number, its name, its display text, and that of its part.
-const REFUSALS: &str = "1 IdentityMismatch IdentityMismatch
-2 IssuerMismatch IssuerMismatch
-3 SignatureInvalid SignatureInvalid
-4 ArtifactMismatch ArtifactMismatch
-5 UnsupportedArtifact UnsupportedArtifact
-6 CertificateMalformed Certificate Malformed
-7 ChainInvalid Certificate ChainInvalid
-8 NoValidAuthority Certificate NoValidAuthority
-9 NotYetValid Certificate NotYetValid
-10 CertificateExpired Certificate Expired
-11 Sct Certificate Sct
-12 UnknownLog TransparencyLog UnknownLog
-13 InclusionProof TransparencyLog InclusionProof
-14 Checkpoint TransparencyLog Checkpoint
-15 InclusionPromise TransparencyLog InclusionPromise
-16 EntryMismatch TransparencyLog EntryMismatch
-17 IntegratedTime TransparencyLog IntegratedTime
-18 MalformedEntry TransparencyLog MalformedEntry
-19 TimestampInvalid Timestamp Invalid
-20 OutsideAuthorityValidity Timestamp OutsideAuthorityValidity
-21 NoVerifiedTimestamp Timestamp NoVerifiedTimestamp
-22 InvalidBundle InvalidBundle
-23 UnsupportedBundle UnsupportedBundle
-24 InvalidTrustRoot InvalidTrustRoot
-25 Types Types
-26 Crypto Crypto
-27 Bundle Bundle
-28 TrustRoot TrustRoot
-29 TrustedCertificate TrustedCertificate
-30 ArtifactRead ArtifactRead
-31 NoMemory NoMemory
-90 Unbuilt Unbuilt";
+fn named(alloc: Global, number: &str) -> Result<String, Fail> {
+    let error = sample(alloc, number.parse::<u8>()?)?;
+    shown(alloc, &error)
+}
+
+// A row: which refusal, and its number, its name, its display text and that of its part.
+const REFUSALS: &str = "1 | 1 IdentityMismatch IdentityMismatch
+2 | 2 IssuerMismatch IssuerMismatch
+3 | 3 SignatureInvalid SignatureInvalid
+4 | 4 ArtifactMismatch ArtifactMismatch
+5 | 5 UnsupportedArtifact UnsupportedArtifact
+6 | 6 CertificateMalformed Certificate Malformed
+7 | 7 ChainInvalid Certificate ChainInvalid
+8 | 8 NoValidAuthority Certificate NoValidAuthority
+9 | 9 NotYetValid Certificate NotYetValid
+10 | 10 CertificateExpired Certificate Expired
+11 | 11 Sct Certificate Sct
+12 | 12 UnknownLog TransparencyLog UnknownLog
+13 | 13 InclusionProof TransparencyLog InclusionProof
+14 | 14 Checkpoint TransparencyLog Checkpoint
+15 | 15 InclusionPromise TransparencyLog InclusionPromise
+16 | 16 EntryMismatch TransparencyLog EntryMismatch
+17 | 17 IntegratedTime TransparencyLog IntegratedTime
+18 | 18 MalformedEntry TransparencyLog MalformedEntry
+19 | 19 TimestampInvalid Timestamp Invalid
+20 | 20 OutsideAuthorityValidity Timestamp OutsideAuthorityValidity
+21 | 21 NoVerifiedTimestamp Timestamp NoVerifiedTimestamp
+22 | 22 InvalidBundle InvalidBundle
+23 | 23 UnsupportedBundle UnsupportedBundle
+24 | 24 InvalidTrustRoot InvalidTrustRoot
+25 | 25 Types Types
+26 | 26 Crypto Crypto
+27 | 27 Bundle Bundle
+28 | 28 TrustRoot TrustRoot
+29 | 29 TrustedCertificate TrustedCertificate
+30 | 30 ArtifactRead ArtifactRead
+31 | 31 NoMemory NoMemory
+90 | 90 Unbuilt Unbuilt";
 
 #[test]
 fn refusals_have_their_names(rt: HostRuntime) -> Result<(), Fail> {
-    let alloc = rt.alloc();
-    for row in REFUSALS.lines() {
-        let (number, _) = row.split_once(' ').ok_or("a row")?;
-        let error = sample(alloc, number.parse::<u8>()?)?;
-        assert_eq!(rt; shown(alloc, &error)?.as_str(), row);
+    hold(&rt, REFUSALS, named)
+}
+
+// The parts of a verification that a change names; nothing is unchanged.
+const PARTS: &str = "nothing
+key
+log
+algorithm
+signed
+told and signed
+greatest length
+failing read";
+
+// A P-256 key in 91 bytes.
+const KEY: &str =
+    "MFkwEwYHKoZIzj0CAQYIKoZIzj0DAQcDQgAEAAAAAAAAAAAAAAAAAAAAAAAAAAAAAAAAAAAAAAAAAAAAAAAAAAAAAAAAAAAAAAAAAAAAAAAAAAAAAAAAAAAAAA==";
+
+fn policy(alloc: Global, change: Change) -> Result<PublicKeyVerificationPolicy, Fail> {
+    let key = DerPublicKey::from_base64(alloc, change.of("key", KEY))?;
+    let policy = PublicKeyVerificationPolicy::new(key);
+    if change.part == "log" {
+        return Ok(policy);
     }
-    Ok(())
+    Ok(policy.skip_tlog_unsafe())
 }
 
-// A P-256 key in 91 bytes; the same with one unused bit; and an Ed25519 key of 32 zero bytes (RFC 8410).
-fn key(name: &str) -> &'static str {
-    match name {
-        "P-256" =>
-            "MFkwEwYHKoZIzj0CAQYIKoZIzj0DAQcDQgAEAAAAAAAAAAAAAAAAAAAAAAAAAAAAAAAAAAAAAAAAAAAAAAAAAAAAAAAAAAAAAAAAAAAAAAAAAAAAAAAAAAAAAA==",
-        "unused bit" =>
-            "MFkwEwYHKoZIzj0CAQYIKoZIzj0DAQcDQgEEAAAAAAAAAAAAAAAAAAAAAAAAAAAAAAAAAAAAAAAAAAAAAAAAAAAAAAAAAAAAAAAAAAAAAAAAAAAAAAAAAAAAAA==",
-        "Ed25519" => "MCowBQYDK2VwAyEAAAAAAAAAAAAAAAAAAAAAAAAAAAAAAAAAAAAAAAAAAAA=",
-        _ => "MA==",
-    }
-}
-
-fn policy(alloc: Global, name: &str) -> Result<PublicKeyVerificationPolicy, Fail> {
-    Ok(PublicKeyVerificationPolicy::new(DerPublicKey::from_base64(alloc, key(name))?))
-}
-
-// The SHA-256 value of a text, told under an algorithm; nothing is told under no algorithm.
-fn told(alloc: Global, algorithm: &str, text: &str) -> Result<Option<MessageDigest>, Fail> {
-    match HashAlgorithm::from_name(algorithm) {
+// The SHA-256 value that a bundle tells under an algorithm; under no algorithm it tells none.
+fn told(alloc: Global, change: Change) -> Result<Option<MessageDigest>, Fail> {
+    let digest = sha256(change.of("told and signed", "hello").as_bytes());
+    match HashAlgorithm::from_name(change.of("algorithm", "SHA2_256")) {
         None => Ok(None),
         Some(algorithm) => Ok(Some(MessageDigest {
             algorithm,
-            digest: DigestBytes::from_bytes(alloc, sha256(text.as_bytes()).as_bytes())?,
+            digest: DigestBytes::from_bytes(alloc, digest.as_bytes())?,
         })),
     }
 }
 
 // A bundle over what it tells and over the SHA-256 value of what is signed.
-fn bundle(alloc: Global, told: Option<MessageDigest>, signed: &str) -> Result<Bundle, Fail> {
+fn bundle(alloc: Global, change: Change) -> Result<Bundle, Fail> {
+    let signed = change.of("signed", change.of("told and signed", "hello"));
+    let message_digest = told(alloc, change)?;
     let signature = SignatureBytes::from_bytes(alloc, sha256(signed.as_bytes()).as_bytes())?;
     Ok(Bundle {
         media_type: Text::from_string(String::new(alloc)),
         content: SignatureContent::MessageSignature(MessageSignature {
-            message_digest: told,
+            message_digest,
             signature,
         }),
         verification_material: VerificationMaterial {
@@ -253,8 +262,8 @@ fn bundle(alloc: Global, told: Option<MessageDigest>, signed: &str) -> Result<Bu
     })
 }
 
-// The refusal under a policy, as Debug prints it.
-fn judged(
+// The refusal under a policy.
+fn refusal(
     alloc: Global,
     policy: &PublicKeyVerificationPolicy,
     bundle: &Bundle,
@@ -264,69 +273,76 @@ fn judged(
     let verifier = Verifier::new(alloc, &Echo, &Bare, &TrustedRoot {})?;
     let now = Timestamp::UNIX_EPOCH;
     match verifier.verify_reader(alloc, source, max, bundle, policy, now) {
-        Ok(_) => Ok(String::from_str(alloc, "accepted")?),
-        Err(e) => Ok(format!(in alloc; "{e:?}")?),
+        Ok(_) => display(alloc, &"accepted"),
+        Err(e) => debug(alloc, &e),
     }
 }
 
-// The refusal of the artifact `hello`.
-fn answer(alloc: Global, cells: &[&str]) -> Result<String, Fail> {
-    let [name, log, algorithm, text, signed, max, read] = cells else {
-        return Err("a row")?;
-    };
-    let told = told(alloc, algorithm, text)?;
-    let bundle = bundle(alloc, told, signed)?;
-    let policy = policy(alloc, name)?;
-    let policy = if *log == "unlogged" {
-        policy.skip_tlog_unsafe()
-    } else {
-        policy
-    };
-    let mut source = source(alloc, "hello", read)?;
-    judged(alloc, &policy, &bundle, max.parse::<u64>()?, &mut source)
+fn refusal_of(
+    alloc: Global,
+    change: Change,
+    policy: &PublicKeyVerificationPolicy,
+    bundle: &Bundle,
+) -> Result<String, Fail> {
+    let max = change.of("greatest length", "5").parse::<u64>()?;
+    let mut source = source(alloc, "hello", change.of("failing read", ""))?;
+    refusal(alloc, policy, bundle, max, &mut source)
 }
 
-// A row: the policy's key, whether it wants the log, the digest's algorithm, what it is told of, what is
-// signed, the artifact's greatest length, the read that fails, and the refusal.
-const JUDGED: &str = "P-256 | unlogged | SHA2_256 | hello | hello | 5 |  | accepted
-P-256 | logged | SHA2_256 | hello | hello | 5 |  | Bundle
-MA== | unlogged | SHA2_256 | hello | hello | 5 |  | Crypto
-unused bit | unlogged | SHA2_256 | hello | hello | 5 |  | Crypto
-Ed25519 | unlogged | SHA2_256 | hello | hello | 5 |  | Unbuilt(Key)
-P-256 | unlogged | SHA2_256 | hello | hello | 4 |  | ArtifactRead(TooLong { max: 4 })
-P-256 | unlogged | SHA2_256 | hello | hello | 5 | 2 | ArtifactRead(Failed)
-P-256 | unlogged |  |  | hello | 5 |  | accepted
-P-256 | unlogged | SHA2_384 | hello | hello | 5 |  | Unbuilt(Digest)
-P-256 | unlogged | SHA2_512 | hello | hello | 5 |  | Crypto
-P-256 | unlogged | SHA2_256 | jello | jello | 5 |  | ArtifactMismatch
-P-256 | unlogged | SHA2_256 | hello | jello | 5 |  | SignatureInvalid";
+// The refusal of the changed bundle over the artifact `hello`.
+fn judged(alloc: Global, row: &str) -> Result<String, Fail> {
+    let change = change_in(row, PARTS)?;
+    let policy = policy(alloc, change)?;
+    let bundle = bundle(alloc, change)?;
+    refusal_of(alloc, change, &policy, &bundle)
+}
+
+// A row: the part, the text in its place, and the refusal. The keys are no key, the P-256 key with one
+// unused bit, and an Ed25519 key of 32 zero bytes (RFC 8410).
+const JUDGED: &str = "nothing |  | accepted
+log | wanted | Bundle
+key | MA== | Crypto
+key | MFkwEwYHKoZIzj0CAQYIKoZIzj0DAQcDQgEEAAAAAAAAAAAAAAAAAAAAAAAAAAAAAAAAAAAAAAAAAAAAAAAAAAAAAAAAAAAAAAAAAAAAAAAAAAAAAAAAAAAAAA== | Crypto
+key | MCowBQYDK2VwAyEAAAAAAAAAAAAAAAAAAAAAAAAAAAAAAAAAAAAAAAAAAAA= | Unbuilt(Key)
+greatest length | 4 | ArtifactRead(TooLong { max: 4 })
+failing read | 2 | ArtifactRead(Failed)
+algorithm | none | accepted
+algorithm | SHA2_384 | Unbuilt(Digest)
+algorithm | SHA2_512 | Crypto
+told and signed | jello | ArtifactMismatch
+signed | jello | SignatureInvalid";
 
 #[test]
 fn bundles_are_judged(rt: HostRuntime) -> Result<(), Fail> {
-    let alloc = rt.alloc();
-    for row in JUDGED.lines() {
-        let (row, wanted) = row.rsplit_once(" | ").ok_or("a row")?;
-        let cells: Vec<&str> = row.split(" | ").collect(alloc)?;
-        let found = answer(alloc, &cells)?;
-        assert_eq!(rt; found.as_str(), wanted, "{row}");
-    }
-    Ok(())
+    hold(&rt, JUDGED, judged)
+}
+
+fn kept(
+    alloc: Global,
+    policy: &PublicKeyVerificationPolicy,
+    bundle: &Bundle,
+) -> Result<Kept, Fail> {
+    let mut source = source(alloc, "hello", "")?;
+    let verifier = Verifier::new(alloc, &Echo, &Bare, &TrustedRoot {})?;
+    let now = Timestamp::UNIX_EPOCH;
+    Ok(verifier.verify_reader_kept(alloc, &mut source, 5, bundle, policy, now)?)
 }
 
 #[test]
-fn a_bundle_is_accepted(rt: HostRuntime) -> Result<(), Fail> {
+fn an_acceptance_is_shown(rt: HostRuntime) -> Result<(), Fail> {
     let alloc = rt.alloc();
-    let bundle = bundle(alloc, told(alloc, "SHA2_256", "hello")?, "hello")?;
-    let mut source = source(alloc, "hello", "")?;
-    let verifier = Verifier::new(alloc, &Echo, &Bare, &TrustedRoot {})?;
-    let policy = policy(alloc, "P-256")?.skip_tlog_unsafe();
+    let unchanged = Change {
+        part: "nothing",
+        text: "",
+    };
+    let policy = policy(alloc, unchanged)?;
     assert!(rt; policy.public_key().as_bytes().len() == 91 && !policy.verifies_tlog());
-    let now = Timestamp::UNIX_EPOCH;
-    let kept = verifier.verify_reader_kept(alloc, &mut source, 5, &bundle, &policy, now)?;
+    let bundle = bundle(alloc, unchanged)?;
+    let kept = kept(alloc, &policy, &bundle)?;
     let digest = kept.digests.as_slice().first().ok_or("a digest")?;
     assert!(rt; kept.digests.len() == 1 && digest.algorithm() == HashAlgorithm::Sha2256);
     assert!(rt; digest.as_bytes() == sha256(b"hello").as_bytes());
-    let result = kept.result;
+    let result = &kept.result;
     assert!(rt; result.issuer().is_none() && result.integrated_time().is_none());
     assert!(rt; !result.certificate_verified() && !result.sct_verified());
     assert!(rt; !result.tlog_verified() && !result.identity_policy_checked());
