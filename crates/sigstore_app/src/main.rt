@@ -2,20 +2,11 @@
 //! the refusal goes to standard output; the exit status says which.
 #![tactic(auto)]
 
-mod answer;
-#[cfg(test)]
-mod failure_tests;
-mod report;
-mod run;
-#[cfg(test)]
-mod tests;
-
-use crate::answer::Status;
-use crate::run::run;
 use foundation::NoMemory;
 use jiff::Timestamp;
 use sigstore_app_parts::{FileInputs, Layout, StdoutSink, read_layout};
 use sigstore_crypto::FileSource;
+use sigstore_run::{Status, run};
 use sigstore_tuf::{FileRepository, FileStore};
 use sigstore_types_parts::Text;
 use std::alloc::Global;

@@ -1,332 +1,371 @@
 // Display texts, and words, files and lines on outside values.
+use crate::tables::{debug, display, failures, hold, words};
+use foundation::NoMemory;
 use sigstore_app_parts::*;
 use sigstore_crypto::{CryptoProvider, SigningScheme, sha256};
-use sigstore_types_parts::{Armor, Bytes, FailList, Text};
+use sigstore_types_parts::{Armor, Bytes, Text};
 use std::alloc::Global;
 use std::fs;
+use std::rt::Files;
 use std::test::Fail;
 
-fn no_failures(alloc: Global) -> Option<FailList> {
-    FailList::new(Vec::new(alloc))
+fn name(alloc: Global, fault: &str) -> Result<String, Fail> {
+    match fault {
+        "InputFault::Failed" => display(alloc, &InputFault::Failed),
+        "InputFault::Absent" => display(alloc, &InputFault::Absent),
+        "InputFault::TooLong" => display(alloc, &InputFault::TooLong { seen: 1 }),
+        "InputFault::NoMemory" => display(alloc, &InputFault::NoMemory),
+        "UsageFault::Usage" => display(alloc, &UsageFault::Usage),
+        "UsageFault::NoMemory" => display(alloc, &UsageFault::NoMemory),
+        "Stop::Words" => display(alloc, &Stop::Words),
+        "Stop::Form" => display(alloc, &Stop::Form(Which::Policy)),
+        "Stop::Input" => display(alloc, &Stop::Input(Which::Root)),
+        "Stop::Memory" => display(alloc, &Stop::Memory),
+        "SinkFault::Failed" => display(alloc, &SinkFault::Failed),
+        _ => Err("no fault")?,
+    }
 }
 
-fn words(alloc: Global, line: &str) -> Result<Vec<Text>, Fail> {
-    let mut words = Vec::new(alloc);
-    for word in line.split_whitespace() {
-        words.push(Text::new(alloc, word)?).ok().ok_or("room")?;
-    }
-    Ok(words)
-}
+const NAMES: &str = "InputFault::Failed | Failed
+InputFault::Absent | Absent
+InputFault::TooLong | TooLong
+InputFault::NoMemory | NoMemory
+UsageFault::Usage | Usage
+UsageFault::NoMemory | NoMemory
+Stop::Words | Words
+Stop::Form | Form
+Stop::Input | Input
+Stop::Memory | Memory
+SinkFault::Failed | Failed";
 
 #[test]
 fn errors_print_their_names(rt: HostRuntime) -> Result<(), Fail> {
-    let alloc = rt.alloc();
-    for (fault, name) in [
-        (InputFault::Failed, "Failed"),
-        (InputFault::Absent, "Absent"),
-        (InputFault::TooLong { seen: 1 }, "TooLong"),
-        (InputFault::NoMemory, "NoMemory"),
-    ] {
-        assert_eq!(rt; format!(in alloc; "{fault}")?.as_str(), name);
-    }
-    for (fault, name) in [
-        (UsageFault::Usage, "Usage"),
-        (UsageFault::NoMemory, "NoMemory"),
-    ] {
-        assert_eq!(rt; format!(in alloc; "{fault}")?.as_str(), name);
-    }
-    for (stop, name) in [
-        (Stop::Words, "Words"),
-        (Stop::Form(Which::Policy), "Form"),
-        (Stop::Input(Which::Root), "Input"),
-        (Stop::Memory, "Memory"),
-    ] {
-        assert_eq!(rt; format!(in alloc; "{stop}")?.as_str(), name);
-    }
-    let failed = SinkFault::Failed;
-    assert_eq!(rt; format!(in alloc; "{failed}")?.as_str(), "Failed");
-    Ok(())
+    hold(&rt, NAMES, name)
 }
 
 const WHOLE: &str =
     "verify --root=a --repository=b --store=c --bundle=d --artifact=e --policy=f=g --provider=h";
 
-fn is_layout(alloc: Global, line: &str, more: &str) -> Result<bool, Fail> {
-    let line = format!(in alloc; "{line} {more}")?;
-    let words = words(alloc, line.as_str())?;
-    Ok(read_layout(alloc, &words)?.is_some())
+fn shown(alloc: Global, layout: &Layout) -> Result<String, Fail> {
+    let (root, policy, now) = (layout.root.as_str(), layout.policy.as_str(), layout.now);
+    Ok(format!(in alloc; "{root} {policy} {now:?}")?)
 }
 
-#[test]
-fn words_are_judged(rt: HostRuntime) -> Result<(), Fail> {
-    let alloc = rt.alloc();
-    for (line, more, good) in [
-        (WHOLE, "", true),
-        (WHOLE, "--now=2025-01-01T00:00:00Z", true),
-        (WHOLE, "--now=x", false),
-        (WHOLE, "--root=a", false),
-        (WHOLE, "--now=", false),
-        (WHOLE, "now=2025-01-01T00:00:00Z", false),
-        (WHOLE, "--name=a", false),
-        (WHOLE, "--now", false),
-        ("", "", false),
-        ("verify", "", false),
-        ("verify", "--root=a", false),
-        ("generate", "--root=a", false),
-    ] {
-        assert_eq!(rt; is_layout(alloc, line, more)?, good, "{line} {more}");
+// The layout's root, policy and instant.
+fn layout(alloc: Global, line: &str) -> Result<String, Fail> {
+    let words = words(alloc, line)?;
+    match read_layout(alloc, &words)? {
+        Some(layout) => shown(alloc, &layout),
+        None => display(alloc, &"none"),
     }
+}
+
+fn whole_layout(alloc: Global, more: &str) -> Result<String, Fail> {
+    layout(alloc, format!(in alloc; "{WHOLE} {more}")?.as_str())
+}
+
+fn policy(alloc: Global, text: &str) -> Result<String, Fail> {
+    debug(
+        alloc,
+        &read_policy(alloc, text.replace(alloc, ';', "\n")?.as_str().as_bytes()),
+    )
+}
+
+fn provider(alloc: Global, text: &str) -> Result<String, Fail> {
+    let text = text.replace(alloc, ';', "\n")?;
+    match read_provider(alloc, text.as_str().as_bytes()) {
+        Ok(_) => display(alloc, &"tables"),
+        Err(fault) => debug(alloc, &fault),
+    }
+}
+
+// What is read of words, of words after a whole layout, of a policy file and of a provider file.
+fn read(alloc: Global, row: &str) -> Result<String, Fail> {
+    let (call, text) = row.split_once(" | ").ok_or("a call and a text")?;
+    match call {
+        "words" => layout(alloc, text),
+        "more words" => whole_layout(alloc, text),
+        "policy" => policy(alloc, text),
+        "policy of byte ff" => debug(alloc, &read_policy(alloc, b"key AQI=\n#\xff\n")),
+        "provider" => provider(alloc, text),
+        _ => Err("no call")?,
+    }
+}
+
+// A row: what is read, its text with `;` for the end of a line, and what is read of it.
+const READINGS: &str = "more words |  | a f=g None
+more words | --now=2025-01-01T00:00:00Z | a f=g Some(2025-01-01T00:00:00Z)
+more words | --now=x | none
+more words | --root=a | none
+more words | --now= | none
+more words | now=2025-01-01T00:00:00Z | none
+more words | --name=a | none
+more words | --now | none
+words |  | none
+words | verify | none
+words | verify --root=a | none
+words | generate --root=a | none
+policy | key AQI=;skip tlog; | Ok(PolicyFile { key: [1, 2], skip_tlog: true })
+policy | ;# a key;key AQI=; | Ok(PolicyFile { key: [1, 2], skip_tlog: false })
+policy | key ; | Ok(PolicyFile { key: [], skip_tlog: false })
+policy |  | Err(Usage)
+policy | # none; | Err(Usage)
+policy | key AQI= | Err(Usage)
+policy | key AQI; | Err(Usage)
+policy | key; | Err(Usage)
+policy | keyless; | Err(Usage)
+policy | skip tlog;key AQI=; | Err(Usage)
+policy | key AQI=;skip tlog;skip tlog; | Err(Usage)
+policy | key AQI=;key AQI=; | Err(Usage)
+policy | key AQI=\r; | Err(Usage)
+policy | key AQI=; skip tlog; | Err(Usage)
+policy of byte ff |  | Err(Usage)
+provider |  | tables
+provider | # none;; | tables
+provider | accept ECDSA_P256_SHA256 BAA= LPJNul+wow4m6DsqxbninhsWHlwfp0JecwQzYpOLmCQ= AQ==; | tables
+provider | accept ED25519 AQ== AQ== AQ== | Usage
+provider | accept NO_SCHEME AQ== AQ== AQ==; | Usage
+provider | accept ECDSA_P256_SHA256 AQ== AQ== AQ==; | Usage
+provider | accept ED25519 AQ== AQ==; | Usage
+provider | accept ED25519  AQ== AQ==; | Usage
+provider | accept ED25519 AQ== AQ== AQ== ; | Usage
+provider | armor key YQ== AQ==;armor key YQ== Ag==; | Usage
+provider | armor key YQ== AQ==;armor certificate YQ== Ag==; | tables
+provider | armor key ZGVyOg== AQ==; | Usage
+provider | armor other YQ== AQ==; | Usage
+provider | refuse; | Usage";
+
+#[test]
+fn words_and_files_are_read(rt: HostRuntime) -> Result<(), Fail> {
+    hold(&rt, READINGS, read)
+}
+
+const PROVIDER: &str =
+    "accept ECDSA_P256_SHA256 BAA= LPJNul+wow4m6DsqxbninhsWHlwfp0JecwQzYpOLmCQ= AQ==
+accept ED25519 - aGVsbG8= -
+armor key a2V5 AQI=
+armor certificate Y2VydA== Aw==
+";
+
+// Whether the provider accepts a signature over a message, or over the message's digest.
+fn is_accepted(provider: &TableProvider, call: &str, text: &str) -> Result<bool, Fail> {
+    let (key, text) = text.split_once('/').ok_or("a key")?;
+    let (message, signature) = text.split_once('/').ok_or("a message")?;
+    let (key, message, signature) = (key.as_bytes(), message.as_bytes(), signature.as_bytes());
+    let scheme = match call {
+        "digest" => {
+            let digest = sha256(message);
+            let scheme = SigningScheme::EcdsaP256Sha256;
+            return Ok(provider.verify_prehashed(scheme, key, digest.as_bytes(), signature));
+        }
+        "EcdsaP256Sha256" => SigningScheme::EcdsaP256Sha256,
+        "RsaPssSha256" => SigningScheme::RsaPssSha256,
+        "Ed25519" => SigningScheme::Ed25519,
+        _ => return Err("no call")?,
+    };
+    Ok(provider.verify_raw(scheme, key, message, signature))
+}
+
+fn text(alloc: Global, bytes: &[u8]) -> Result<String, Fail> {
+    display(alloc, &str::from_utf8(bytes)?)
+}
+
+// What a table answers.
+fn answer(alloc: Global, tables: &Tables, call: &str, asked: &str) -> Result<String, Fail> {
+    let (armor, bytes) = (&tables.armor, asked.as_bytes());
+    match call {
+        "is_armored" => debug(alloc, &armor.is_armored(bytes)),
+        "read_key" => debug(alloc, &armor.read_key(alloc, bytes)?.is_some()),
+        "read_certificate" => debug(alloc, &armor.read_certificate(alloc, bytes)?.is_some()),
+        "write_certificate" => text(alloc, armor.write_certificate(alloc, bytes)?.as_bytes()),
+        _ => debug(alloc, &is_accepted(&tables.provider, call, asked)?),
+    }
+}
+
+fn table(alloc: Global, row: &str) -> Result<String, Fail> {
+    let (call, asked) = row.split_once(" | ").ok_or("a call and a text")?;
+    let tables = read_provider(alloc, PROVIDER.as_bytes())?;
+    answer(alloc, &tables, call, asked)
+}
+
+// A row: a scheme, or the digest under ECDSA, with a key, a message and a signature; or a call of the
+// armour and its text; and the answer.
+const TABLES: &str = "EcdsaP256Sha256 | \u{4}\0/hello/\u{1} | true
+EcdsaP256Sha256 | \u{4}\0/jello/\u{1} | false
+EcdsaP256Sha256 | \u{4}\0/hello/\u{2} | false
+RsaPssSha256 | \u{4}\0/hello/\u{1} | false
+Ed25519 | /hello/ | true
+digest | \u{4}\0/hello/\u{1} | true
+is_armored | key | true
+read_key | key | true
+read_certificate | key | false
+is_armored | cert | true
+read_key | cert | false
+read_certificate | cert | true
+is_armored | der:AQI= | true
+read_key | der:AQI= | true
+read_certificate | der:AQI= | true
+is_armored | der:AQI | true
+read_key | der:AQI | false
+read_certificate | der:AQI | false
+is_armored | other | false
+read_key | other | false
+read_certificate | other | false
+write_certificate | \u{1}\u{2} | der:AQI=";
+
+#[test]
+fn tables_answer_by_their_rows(rt: HostRuntime) -> Result<(), Fail> {
+    hold(&rt, TABLES, table)
+}
+
+fn write_texts(sink: &mut MemorySink, texts: &str, answers: &mut String) -> Result<(), Fail> {
+    for text in texts.split_whitespace() {
+        let answer = write_all(sink, text.as_bytes());
+        write!(answers, "{answer:?} ")?;
+    }
+    let taken = str::from_utf8(sink.bytes())?;
+    write!(answers, "{taken:?}")?;
     Ok(())
 }
 
-#[test]
-fn words_give_a_layout(rt: HostRuntime) -> Result<(), Fail> {
-    let words = words(rt.alloc(), WHOLE)?;
-    let read = read_layout(rt.alloc(), &words)?.ok_or("a layout")?;
-    assert_eq!(rt; read.root.as_str(), "a");
-    assert_eq!(rt; read.policy.as_str(), "f=g");
-    assert!(rt; read.now.is_none());
-    Ok(())
+// The answers of a sink with room for seven bytes, and what it took.
+fn taken(alloc: Global, row: &str) -> Result<String, Fail> {
+    let (texts, call) = row.split_once(" | ").ok_or("texts and a call")?;
+    let mut sink = MemorySink::new(alloc, 7, failures(alloc, call)?)?;
+    let mut answers = String::new(alloc);
+    write_texts(&mut sink, texts, &mut answers)?;
+    Ok(answers)
 }
 
-#[test]
-fn policies_are_read(rt: HostRuntime) -> Result<(), Fail> {
-    let alloc = rt.alloc();
-    for (text, key, skip) in [
-        ("key AQI=\nskip tlog\n", "\u{1}\u{2}", true),
-        ("\n# a key\nkey AQI=\n", "\u{1}\u{2}", false),
-        ("key \n", "", false),
-    ] {
-        let policy = read_policy(alloc, text.as_bytes())?;
-        assert_eq!(rt; policy.key.as_bytes(), key.as_bytes(), "{text}");
-        assert_eq!(rt; policy.skip_tlog, skip, "{text}");
-    }
-    for text in [
-        "",
-        "# none\n",
-        "key AQI=",
-        "key AQI\n",
-        "key\n",
-        "keyless\n",
-        "skip tlog\nkey AQI=\n",
-        "key AQI=\nskip tlog\nskip tlog\n",
-        "key AQI=\nkey AQI=\n",
-        "key AQI=\r\n",
-        "key AQI=\n skip tlog\n",
-    ] {
-        assert!(rt;
-            read_policy(alloc, text.as_bytes()).err() == Some(UsageFault::Usage),
-            "{text}"
-        );
-    }
-    assert!(rt; read_policy(alloc, b"key AQI=\n#\xff\n").is_err());
-    Ok(())
-}
-
-const HELLO: &str =
-    "accept ECDSA_P256_SHA256 BAA= LPJNul+wow4m6DsqxbninhsWHlwfp0JecwQzYpOLmCQ= AQ==\n";
-
-const ROWS: &str =
-    "accept ED25519 - aGVsbG8= -\narmor key a2V5 AQI=\narmor certificate Y2VydA== Aw==\n";
-
-fn tables(alloc: Global) -> Result<Tables, Fail> {
-    let text = format!(in alloc; "{HELLO}{ROWS}")?;
-    Ok(read_provider(alloc, text.as_bytes())?)
-}
-
-#[test]
-fn a_table_accepts_its_rows(rt: HostRuntime) -> Result<(), Fail> {
-    let provider = tables(rt.alloc())?.provider;
-    for (scheme, key, message, signature, good) in [
-        (
-            SigningScheme::EcdsaP256Sha256,
-            "\u{4}\0",
-            "hello",
-            "\u{1}",
-            true,
-        ),
-        (
-            SigningScheme::EcdsaP256Sha256,
-            "\u{4}\0",
-            "jello",
-            "\u{1}",
-            false,
-        ),
-        (
-            SigningScheme::EcdsaP256Sha256,
-            "\u{4}\0",
-            "hello",
-            "\u{2}",
-            false,
-        ),
-        (
-            SigningScheme::RsaPssSha256,
-            "\u{4}\0",
-            "hello",
-            "\u{1}",
-            false,
-        ),
-        (SigningScheme::Ed25519, "", "hello", "", true),
-    ] {
-        let (key, message) = (key.as_bytes(), message.as_bytes());
-        assert_eq!(rt;
-            provider.verify_raw(scheme, key, message, signature.as_bytes()),
-            good
-        );
-    }
-    let digest = sha256(b"hello");
-    let scheme = SigningScheme::EcdsaP256Sha256;
-    assert!(rt; provider.verify_prehashed(scheme, b"\x04\0", digest.as_bytes(), b"\x01"));
-    Ok(())
-}
-
-#[test]
-fn a_table_reads_armour(rt: HostRuntime) -> Result<(), Fail> {
-    let alloc = rt.alloc();
-    let armor = tables(alloc)?.armor;
-    for (text, armored, key, certificate) in [
-        ("key", true, true, false),
-        ("cert", true, false, true),
-        ("der:AQI=", true, true, true),
-        ("der:AQI", true, false, false),
-        ("other", false, false, false),
-    ] {
-        let text = text.as_bytes();
-        assert_eq!(rt; armor.is_armored(text), armored);
-        assert_eq!(rt; armor.read_key(alloc, text)?.is_some(), key);
-        assert_eq!(rt; armor.read_certificate(alloc, text)?.is_some(), certificate);
-    }
-    let written = armor.write_certificate(alloc, b"\x01\x02")?;
-    assert_eq!(rt; written.as_bytes(), "der:AQI=".as_bytes());
-    Ok(())
-}
-
-#[test]
-fn provider_files_are_judged(rt: HostRuntime) -> Result<(), Fail> {
-    let alloc = rt.alloc();
-    for (text, good) in [
-        ("", true),
-        ("# none\n\n", true),
-        (HELLO, true),
-        ("accept ED25519 AQ== AQ== AQ==", false),
-        ("accept NO_SCHEME AQ== AQ== AQ==\n", false),
-        ("accept ECDSA_P256_SHA256 AQ== AQ== AQ==\n", false),
-        ("accept ED25519 AQ== AQ==\n", false),
-        ("accept ED25519  AQ== AQ==\n", false),
-        ("accept ED25519 AQ== AQ== AQ== \n", false),
-        ("armor key YQ== AQ==\narmor key YQ== Ag==\n", false),
-        ("armor key YQ== AQ==\narmor certificate YQ== Ag==\n", true),
-        ("armor key ZGVyOg== AQ==\n", false),
-        ("armor other YQ== AQ==\n", false),
-        ("refuse\n", false),
-    ] {
-        assert_eq!(rt;
-            read_provider(alloc, text.as_bytes()).is_ok(),
-            good,
-            "{text}"
-        );
-    }
-    Ok(())
-}
+// A row: texts, the call that fails, and the answers with what was taken.
+const TAKEN: &str = r#"hello hello |  | Ok(()) Err(Failed) "hellohe"
+hello | 1 | Err(Failed) """#;
 
 #[test]
 fn sinks_take_texts(rt: HostRuntime) -> Result<(), Fail> {
-    let alloc = rt.alloc();
-    let mut sink = MemorySink::new(alloc, 7, no_failures(alloc).ok_or("a list")?)?;
-    assert!(rt; write_all(&mut sink, b"hello").is_ok());
-    assert!(rt; write_all(&mut sink, b"hello").is_err());
-    assert_eq!(rt; sink.bytes(), "hellohe".as_bytes());
-    let list = FailList::new(vec![in alloc; 1u64]?).ok_or("a list")?;
-    let mut failing = MemorySink::new(alloc, 7, list)?;
-    assert!(rt; write_all(&mut failing, b"hello") == Err(SinkFault::Failed));
-    assert!(rt; failing.bytes().is_empty());
     assert!(rt; write_all(&mut StdoutSink::new(&rt), b"").is_ok());
-    Ok(())
+    hold(&rt, TAKEN, taken)
 }
+
+fn which(name: &str) -> Which {
+    match name {
+        "Root" => Which::Root,
+        "Bundle" => Which::Bundle,
+        "Policy" => Which::Policy,
+        _ => Which::Provider,
+    }
+}
+
+// What an input of at most that many bytes reads as.
+fn input<I: Inputs>(alloc: Global, inputs: &mut I, row: &str) -> Result<String, Fail> {
+    let (name, max) = row.split_once(" | ").ok_or("an input and a length")?;
+    match inputs.read(alloc, which(name), max.parse::<u64>()?) {
+        Ok(bytes) => text(alloc, bytes.as_bytes()),
+        Err(fault) => debug(alloc, &fault),
+    }
+}
+
+// A row: an input, its greatest length, and what is read. The fourth call fails.
+const MEMORY: &str = "Root | 5 | hello
+Root | 4 | TooLong { seen: 5 }
+Policy | 4 | Absent
+Root | 5 | Failed";
 
 #[test]
 fn inputs_are_read(rt: HostRuntime) -> Result<(), Fail> {
-    let alloc = rt.alloc();
-    let mut inputs = MemoryInputs::new(FailList::new(vec![in alloc; 4u64]?).ok_or("a list")?);
-    inputs.put(Which::Root, Bytes::new(alloc, b"hello")?);
-    assert_eq!(rt;
-        inputs.read(alloc, Which::Root, 5)?.as_bytes(),
-        "hello".as_bytes()
-    );
-    assert!(rt; inputs.read(alloc, Which::Root, 4).err() == Some(InputFault::TooLong { seen: 5 }));
-    assert!(rt; inputs.read(alloc, Which::Policy, 4).err() == Some(InputFault::Absent));
-    assert!(rt; inputs.read(alloc, Which::Root, 5).err() == Some(InputFault::Failed));
-    Ok(())
+    let mut inputs = MemoryInputs::new(failures(rt.alloc(), "4")?);
+    inputs.put(Which::Root, Bytes::new(rt.alloc(), b"hello")?);
+    hold(&rt, MEMORY, |alloc, row| input(alloc, &mut inputs, row))
 }
 
-#[test]
-fn inputs_are_gathered(rt: HostRuntime) -> Result<(), Fail> {
-    let alloc = rt.alloc();
-    let mut inputs = MemoryInputs::new(no_failures(alloc).ok_or("a list")?);
-    for (which, text, stop) in [
-        (Which::Bundle, "{}", Some(Stop::Input(Which::Policy))),
-        (Which::Policy, "key AQI=", Some(Stop::Form(Which::Policy))),
-        (
-            Which::Policy,
-            "key AQI=\n",
-            Some(Stop::Input(Which::Provider)),
-        ),
-        (
-            Which::Provider,
-            "refuse\n",
-            Some(Stop::Form(Which::Provider)),
-        ),
-        (Which::Provider, "", Some(Stop::Input(Which::Root))),
-        (Which::Root, "{}", None),
-    ] {
-        inputs.put(which, Bytes::new(alloc, text.as_bytes())?);
-        assert_eq!(rt; gather_inputs(alloc, &mut inputs).err(), stop, "{text}");
-    }
-    Ok(())
+// The root is a file, the bundle is no file, and the policy is a folder.
+fn file_inputs<'r, X: Files>(rt: &'r X, alloc: Global) -> Result<FileInputs<'r, X>, Fail> {
+    let root = Text::new(alloc, "an_input")?;
+    let bundle = Text::new(alloc, "no_such_input")?;
+    let policy = Text::new(alloc, "/")?;
+    let provider = Text::from_string(String::new(alloc));
+    Ok(FileInputs::new(rt, root, bundle, policy, provider))
 }
+
+const FILES: &str = "Root | 5 | hello
+Root | 4 | TooLong { seen: 5 }
+Bundle | 4 | Absent
+Policy | 4 | Failed";
 
 #[test]
 fn files_are_inputs(rt: HostRuntime) -> Result<(), Fail> {
-    let alloc = rt.alloc();
     fs::write(&rt, "an_input", "hello")?;
-    let path = Text::new(alloc, "an_input")?;
-    let absent = Text::new(alloc, "no_such_input")?;
-    let folder = Text::new(alloc, "/")?;
-    let other = Text::new(alloc, "no_such_input")?;
-    let mut inputs = FileInputs::new(&rt, path, absent, folder, other);
-    assert_eq!(rt;
-        inputs.read(alloc, Which::Root, 5)?.as_bytes(),
-        "hello".as_bytes()
-    );
-    assert!(rt; inputs.read(alloc, Which::Root, 4).err() == Some(InputFault::TooLong { seen: 5 }));
-    assert!(rt; inputs.read(alloc, Which::Bundle, 4).err() == Some(InputFault::Absent));
-    assert!(rt; inputs.read(alloc, Which::Policy, 4).err() == Some(InputFault::Failed));
+    let mut inputs = file_inputs(&rt, rt.alloc())?;
+    hold(&rt, FILES, |alloc, row| input(alloc, &mut inputs, row))?;
     fs::remove_file(&rt, "an_input")?;
     Ok(())
 }
 
-fn report(alloc: Global) -> Result<String, foundation::NoMemory> {
-    let mut text = String::new(alloc);
-    push_line(&mut text, "accepted")?;
-    push_number_line(&mut text, "root", 18_446_744_073_709_551_615)?;
-    push_named_line(&mut text, "role", b"a\\\n~", 10)?;
-    push_hex_line(alloc, &mut text, "artifact", "sha256", b"\x2c\xf2")?;
-    push_text_line(&mut text, "issuer", b"\x1f \x7f")?;
-    push_answer_line(&mut text, "tlog", true)?;
-    push_answer_line(&mut text, "sct", false)?;
-    push_pair_line(&mut text, "input", "root")?;
-    push_refused_line(&mut text, "tuf", 90, "Unbuilt")?;
-    push_printed(&mut text, b"a")?;
-    push_decimal(&mut text, 0)?;
-    Ok(text)
+// Puts an input, and says why the inputs aren't gathered then.
+fn gathered(alloc: Global, inputs: &mut MemoryInputs, row: &str) -> Result<String, Fail> {
+    let (name, text) = row.split_once(" | ").ok_or("an input and a text")?;
+    let text = text.replace(alloc, ';', "\n")?;
+    inputs.put(which(name), Bytes::from_vec(text.into_bytes()));
+    debug(alloc, &gather_inputs(alloc, inputs).err())
 }
+
+// A row: an input that is put, its text with `;` for the end of a line, and why the inputs aren't gathered.
+const GATHERED: &str = "Bundle | {} | Some(Input(Policy))
+Policy | key AQI= | Some(Form(Policy))
+Policy | key AQI=; | Some(Input(Provider))
+Provider | refuse; | Some(Form(Provider))
+Provider |  | Some(Input(Root))
+Root | {} | None";
+
+#[test]
+fn inputs_are_gathered(rt: HostRuntime) -> Result<(), Fail> {
+    let mut inputs = MemoryInputs::new(failures(rt.alloc(), "")?);
+    hold(
+        &rt,
+        GATHERED,
+        |alloc, row| gathered(alloc, &mut inputs, row),
+    )
+}
+
+// Adds what a call writes.
+fn push(alloc: Global, text: &mut String, call: &str) -> Result<(), NoMemory> {
+    match call {
+        "line" => push_line(text, "accepted"),
+        "number" => push_number_line(text, "root", 18_446_744_073_709_551_615),
+        "named" => push_named_line(text, "role", b"a\\\n~", 10),
+        "hex" => push_hex_line(alloc, text, "artifact", "sha256", b"\x2c\xf2"),
+        "text" => push_text_line(text, "issuer", b"\x1f \x7f"),
+        "yes" => push_answer_line(text, "tlog", true),
+        "no" => push_answer_line(text, "sct", false),
+        "pair" => push_pair_line(text, "input", "root"),
+        "refused" => push_refused_line(text, "tuf", 90, "Unbuilt"),
+        "printed" => push_printed(text, b"a"),
+        "decimal" => push_decimal(text, 0),
+        _ => Ok(()),
+    }
+}
+
+// What a call adds to a text, as Debug prints it.
+fn pushed(alloc: Global, call: &str) -> Result<String, Fail> {
+    let mut text = display(alloc, &"> ")?;
+    push(alloc, &mut text, call)?;
+    debug(alloc, &text.as_str())
+}
+
+// A row: a call, and the text `> ` after it.
+const LINES: &str = r#"line | "> accepted\n"
+number | "> root 18446744073709551615\n"
+named | "> role a\\x5c\\x0a~ 10\n"
+hex | "> artifact sha256 2cf2\n"
+text | "> issuer \\x1f \\x7f\n"
+yes | "> tlog yes\n"
+no | "> sct no\n"
+pair | "> input root\n"
+refused | "> refused tuf 90 Unbuilt\n"
+printed | "> a"
+decimal | "> 0""#;
 
 #[test]
 fn lines_are_written(rt: HostRuntime) -> Result<(), Fail> {
-    let text = report(rt.alloc())?;
-    assert_eq!(rt;
-        text.as_str(),
-        "accepted\nroot 18446744073709551615\nrole a\\x5c\\x0a~ 10\nartifact sha256 2cf2\nissuer \\x1f \\x7f\ntlog yes\nsct no\ninput root\nrefused tuf 90 Unbuilt\na0"
-    );
-    Ok(())
+    hold(&rt, LINES, pushed)
 }

@@ -1,7 +1,13 @@
-//! Tests of the verifier, and of the parts of the program.
+//! Tests of the verifier, of the parts of the program and of its runs.
 #![tactic(auto)]
 
 #[cfg(test)]
+mod fixture;
+#[cfg(test)]
 mod inputs;
+#[cfg(test)]
+mod runs;
+#[cfg(test)]
+mod tables;
 #[cfg(test)]
 mod verification;

@@ -2,20 +2,19 @@
 ghost use Rattle.std.specs.Prelude.{bytes_eq, Some, None, false};
 ghost use Rattle.sigstore_crypto.specs.Good.{subject_of};
 
+use crate::tables::{Change, change_in, debug, display, hold, source};
 use foundation::NoMemory;
 use jiff::Timestamp;
 use sigstore_crypto::{
     CryptoProvider, MemorySource, ReadError, SigningScheme, sha256, sha384, sha512,
 };
 use sigstore_types::{
-    Armor, Bundle, Bytes, DerPublicKey, DigestBytes, FailList, Form, HashAlgorithm, LogKeyId,
-    MessageDigest, MessageSignature, SignatureBytes, SignatureContent, Text, TrustedRoot,
-    VerificationMaterial, VerificationMaterialContent,
+    Armor, Bundle, Bytes, DerPublicKey, DigestBytes, Form, HashAlgorithm, LogKeyId, MessageDigest,
+    MessageSignature, SignatureBytes, SignatureContent, Text, TrustedRoot, VerificationMaterial,
+    VerificationMaterialContent,
 };
 use sigstore_verify::*;
 use std::alloc::Global;
-use std::fmt;
-use std::num::NonZeroU32;
 use std::test::Fail;
 
 struct Echo;
@@ -75,48 +74,52 @@ impl Armor for Bare {
     }
 }
 
-fn is_text<T: fmt::Display>(alloc: Global, value: &T, display: &str) -> Result<(), Fail> {
-    let text = format!(in alloc; "{value}")?;
-    if text.as_str() != display {
-        return Err("another text")?;
+// The refusals of a certificate.
+fn certificate(number: u8) -> CertificateError {
+    let time = Timestamp::UNIX_EPOCH;
+    match number {
+        6 => CertificateError::Malformed,
+        7 => CertificateError::ChainInvalid,
+        8 => CertificateError::NoValidAuthority { time },
+        9 => CertificateError::NotYetValid {
+            time,
+            not_before: time,
+        },
+        10 => CertificateError::Expired {
+            time,
+            not_after: time,
+        },
+        _ => CertificateError::Sct,
     }
-    Ok(())
 }
 
-// A refusal of each number.
-fn sample(alloc: Global, number: u8) -> Result<Error, Fail> {
+// The refusals of the log but for the one that names a log.
+fn log(number: u8) -> TransparencyLogError {
+    match number {
+        13 => TransparencyLogError::InclusionProof,
+        14 => TransparencyLogError::Checkpoint,
+        15 => TransparencyLogError::InclusionPromise,
+        16 => TransparencyLogError::EntryMismatch,
+        17 => TransparencyLogError::IntegratedTime,
+        _ => TransparencyLogError::MalformedEntry,
+    }
+}
+
+fn timestamp(number: u8) -> TimestampError {
     let time = Timestamp::UNIX_EPOCH;
-    let expected = Text::new(alloc, "a")?;
-    let log_id = LogKeyId::from_bytes(alloc, b"log")?;
-    let actual = None;
-    Ok(match number {
-        1 => Error::IdentityMismatch { expected, actual },
-        2 => Error::IssuerMismatch { expected, actual },
+    match number {
+        19 => TimestampError::Invalid,
+        20 => TimestampError::OutsideAuthorityValidity { time },
+        _ => TimestampError::NoVerifiedTimestamp,
+    }
+}
+
+// The refusals that hold no text.
+fn plain(number: u8) -> Error {
+    match number {
         3 => Error::SignatureInvalid,
         4 => Error::ArtifactMismatch,
         5 => Error::UnsupportedArtifact,
-        6 => Error::Certificate(CertificateError::Malformed),
-        7 => Error::Certificate(CertificateError::ChainInvalid),
-        8 => Error::Certificate(CertificateError::NoValidAuthority { time }),
-        9 => Error::Certificate(CertificateError::NotYetValid {
-            time,
-            not_before: time,
-        }),
-        10 => Error::Certificate(CertificateError::Expired {
-            time,
-            not_after: time,
-        }),
-        11 => Error::Certificate(CertificateError::Sct),
-        12 => Error::TransparencyLog(TransparencyLogError::UnknownLog { log_id }),
-        13 => Error::TransparencyLog(TransparencyLogError::InclusionProof),
-        14 => Error::TransparencyLog(TransparencyLogError::Checkpoint),
-        15 => Error::TransparencyLog(TransparencyLogError::InclusionPromise),
-        16 => Error::TransparencyLog(TransparencyLogError::EntryMismatch),
-        17 => Error::TransparencyLog(TransparencyLogError::IntegratedTime),
-        18 => Error::TransparencyLog(TransparencyLogError::MalformedEntry),
-        19 => Error::Timestamp(TimestampError::Invalid),
-        20 => Error::Timestamp(TimestampError::OutsideAuthorityValidity { time }),
-        21 => Error::Timestamp(TimestampError::NoVerifiedTimestamp),
         22 => Error::InvalidBundle,
         23 => Error::UnsupportedBundle,
         24 => Error::InvalidTrustRoot,
@@ -128,115 +131,130 @@ fn sample(alloc: Global, number: u8) -> Result<Error, Fail> {
         30 => Error::ArtifactRead(ReadError::Failed),
         31 => Error::NoMemory,
         _ => Error::Unbuilt(Form::Key),
-    })
+    }
 }
+
+// A refusal of each number.
+fn sample(alloc: Global, number: u8) -> Result<Error, Fail> {
+    match number {
+        1 => Ok(Error::IdentityMismatch {
+            expected: Text::new(alloc, "a")?,
+            actual: None,
+        }),
+        2 => Ok(Error::IssuerMismatch {
+            expected: Text::new(alloc, "a")?,
+            actual: None,
+        }),
+        6..=11 => Ok(Error::Certificate(certificate(number))),
+        12 => Ok(Error::TransparencyLog(TransparencyLogError::UnknownLog {
+            log_id: LogKeyId::from_bytes(alloc, b"log")?,
+        })),
+        13..=18 => Ok(Error::TransparencyLog(log(number))),
+        19..=21 => Ok(Error::Timestamp(timestamp(number))),
+        _ => Ok(plain(number)),
+    }
+}
+
+// The number and the name of a refusal, its display text, and that of its part.
+fn shown(alloc: Global, error: &Error) -> Result<String, Fail> {
+    let (number, name) = (error.number(), error.name());
+    match error {
+        Error::Certificate(part) => Ok(format!(in alloc; "{number} {name} {error} {part}")?),
+        Error::TransparencyLog(part) => Ok(format!(in alloc; "{number} {name} {error} {part}")?),
+        Error::Timestamp(part) => Ok(format!(in alloc; "{number} {name} {error} {part}")?),
+        _ => Ok(format!(in alloc; "{number} {name} {error}")?),
+    }
+}
+
+fn named(alloc: Global, number: &str) -> Result<String, Fail> {
+    let error = sample(alloc, number.parse::<u8>()?)?;
+    shown(alloc, &error)
+}
+
+// A row: which refusal, and its number, its name, its display text and that of its part.
+const REFUSALS: &str = "1 | 1 IdentityMismatch IdentityMismatch
+2 | 2 IssuerMismatch IssuerMismatch
+3 | 3 SignatureInvalid SignatureInvalid
+4 | 4 ArtifactMismatch ArtifactMismatch
+5 | 5 UnsupportedArtifact UnsupportedArtifact
+6 | 6 CertificateMalformed Certificate Malformed
+7 | 7 ChainInvalid Certificate ChainInvalid
+8 | 8 NoValidAuthority Certificate NoValidAuthority
+9 | 9 NotYetValid Certificate NotYetValid
+10 | 10 CertificateExpired Certificate Expired
+11 | 11 Sct Certificate Sct
+12 | 12 UnknownLog TransparencyLog UnknownLog
+13 | 13 InclusionProof TransparencyLog InclusionProof
+14 | 14 Checkpoint TransparencyLog Checkpoint
+15 | 15 InclusionPromise TransparencyLog InclusionPromise
+16 | 16 EntryMismatch TransparencyLog EntryMismatch
+17 | 17 IntegratedTime TransparencyLog IntegratedTime
+18 | 18 MalformedEntry TransparencyLog MalformedEntry
+19 | 19 TimestampInvalid Timestamp Invalid
+20 | 20 OutsideAuthorityValidity Timestamp OutsideAuthorityValidity
+21 | 21 NoVerifiedTimestamp Timestamp NoVerifiedTimestamp
+22 | 22 InvalidBundle InvalidBundle
+23 | 23 UnsupportedBundle UnsupportedBundle
+24 | 24 InvalidTrustRoot InvalidTrustRoot
+25 | 25 Types Types
+26 | 26 Crypto Crypto
+27 | 27 Bundle Bundle
+28 | 28 TrustRoot TrustRoot
+29 | 29 TrustedCertificate TrustedCertificate
+30 | 30 ArtifactRead ArtifactRead
+31 | 31 NoMemory NoMemory
+90 | 90 Unbuilt Unbuilt";
 
 #[test]
 fn refusals_have_their_names(rt: HostRuntime) -> Result<(), Fail> {
-    let alloc = rt.alloc();
-    for (number, name) in [
-        (1, "IdentityMismatch"),
-        (2, "IssuerMismatch"),
-        (3, "SignatureInvalid"),
-        (4, "ArtifactMismatch"),
-        (5, "UnsupportedArtifact"),
-        (22, "InvalidBundle"),
-        (23, "UnsupportedBundle"),
-        (24, "InvalidTrustRoot"),
-        (25, "Types"),
-        (26, "Crypto"),
-        (27, "Bundle"),
-        (28, "TrustRoot"),
-        (29, "TrustedCertificate"),
-        (30, "ArtifactRead"),
-        (31, "NoMemory"),
-        (90, "Unbuilt"),
-    ] {
-        let error = sample(alloc, number)?;
-        is_text(alloc, &error, name)?;
-        assert!(rt; error.number() == number && error.name() == name);
-    }
-    Ok(())
+    hold(&rt, REFUSALS, named)
 }
 
-#[test]
-fn refusals_of_parts_have_their_names(rt: HostRuntime) -> Result<(), Fail> {
-    let alloc = rt.alloc();
-    for (number, part, display, name) in [
-        (6, "Certificate", "Malformed", "CertificateMalformed"),
-        (7, "Certificate", "ChainInvalid", "ChainInvalid"),
-        (8, "Certificate", "NoValidAuthority", "NoValidAuthority"),
-        (9, "Certificate", "NotYetValid", "NotYetValid"),
-        (10, "Certificate", "Expired", "CertificateExpired"),
-        (11, "Certificate", "Sct", "Sct"),
-        (12, "TransparencyLog", "UnknownLog", "UnknownLog"),
-        (13, "TransparencyLog", "InclusionProof", "InclusionProof"),
-        (14, "TransparencyLog", "Checkpoint", "Checkpoint"),
-        (
-            15,
-            "TransparencyLog",
-            "InclusionPromise",
-            "InclusionPromise",
-        ),
-        (16, "TransparencyLog", "EntryMismatch", "EntryMismatch"),
-        (17, "TransparencyLog", "IntegratedTime", "IntegratedTime"),
-        (18, "TransparencyLog", "MalformedEntry", "MalformedEntry"),
-        (19, "Timestamp", "Invalid", "TimestampInvalid"),
-        (
-            20,
-            "Timestamp",
-            "OutsideAuthorityValidity",
-            "OutsideAuthorityValidity",
-        ),
-        (
-            21,
-            "Timestamp",
-            "NoVerifiedTimestamp",
-            "NoVerifiedTimestamp",
-        ),
-    ] {
-        let error = sample(alloc, number)?;
-        is_text(alloc, &error, part)?;
-        match &error {
-            Error::Certificate(fault) => is_text(alloc, fault, display)?,
-            Error::TransparencyLog(fault) => is_text(alloc, fault, display)?,
-            Error::Timestamp(fault) => is_text(alloc, fault, display)?,
-            _ => return Err("no part")?,
-        }
-        assert!(rt; error.number() == number && error.name() == name);
-    }
-    Ok(())
-}
+// The parts of a verification that a change names; nothing is unchanged.
+const PARTS: &str = "nothing
+key
+log
+algorithm
+signed
+told and signed
+greatest length
+failing read";
 
 // A P-256 key in 91 bytes.
 const KEY: &str =
     "MFkwEwYHKoZIzj0CAQYIKoZIzj0DAQcDQgAEAAAAAAAAAAAAAAAAAAAAAAAAAAAAAAAAAAAAAAAAAAAAAAAAAAAAAAAAAAAAAAAAAAAAAAAAAAAAAAAAAAAAAA==";
 
-// The same with one unused bit, and an Ed25519 key of 32 zero bytes (RFC 8410).
-const UNUSED_BITS: &str =
-    "MFkwEwYHKoZIzj0CAQYIKoZIzj0DAQcDQgEEAAAAAAAAAAAAAAAAAAAAAAAAAAAAAAAAAAAAAAAAAAAAAAAAAAAAAAAAAAAAAAAAAAAAAAAAAAAAAAAAAAAAAA==";
+fn policy(alloc: Global, change: Change) -> Result<PublicKeyVerificationPolicy, Fail> {
+    let key = DerPublicKey::from_base64(alloc, change.of("key", KEY))?;
+    let policy = PublicKeyVerificationPolicy::new(key);
+    if change.part == "log" {
+        return Ok(policy);
+    }
+    Ok(policy.skip_tlog_unsafe())
+}
 
-const ED25519: &str = "MCowBQYDK2VwAyEAAAAAAAAAAAAAAAAAAAAAAAAAAAAAAAAAAAAAAAAAAAA=";
-
-// A bundle over the SHA-256 values of what it tells and of what is signed.
-fn bundle(
-    alloc: Global,
-    algorithm: Option<HashAlgorithm>,
-    told: &str,
-    signed: &str,
-) -> Result<Bundle, Fail> {
-    let message_digest = match algorithm {
-        None => None,
-        Some(algorithm) => Some(MessageDigest {
+// The SHA-256 value that a bundle tells under an algorithm; under no algorithm it tells none.
+fn told(alloc: Global, change: Change) -> Result<Option<MessageDigest>, Fail> {
+    let digest = sha256(change.of("told and signed", "hello").as_bytes());
+    match HashAlgorithm::from_name(change.of("algorithm", "SHA2_256")) {
+        None => Ok(None),
+        Some(algorithm) => Ok(Some(MessageDigest {
             algorithm,
-            digest: DigestBytes::from_bytes(alloc, sha256(told.as_bytes()).as_bytes())?,
-        }),
-    };
+            digest: DigestBytes::from_bytes(alloc, digest.as_bytes())?,
+        })),
+    }
+}
+
+// A bundle over what it tells and over the SHA-256 value of what is signed.
+fn bundle(alloc: Global, change: Change) -> Result<Bundle, Fail> {
+    let signed = change.of("signed", change.of("told and signed", "hello"));
+    let message_digest = told(alloc, change)?;
+    let signature = SignatureBytes::from_bytes(alloc, sha256(signed.as_bytes()).as_bytes())?;
     Ok(Bundle {
-        media_type: Text::new(alloc, "bundle")?,
+        media_type: Text::from_string(String::new(alloc)),
         content: SignatureContent::MessageSignature(MessageSignature {
             message_digest,
-            signature: SignatureBytes::from_bytes(alloc, sha256(signed.as_bytes()).as_bytes())?,
+            signature,
         }),
         verification_material: VerificationMaterial {
             content: VerificationMaterialContent::PublicKey { hint: None },
@@ -244,78 +262,87 @@ fn bundle(
     })
 }
 
-fn source(alloc: Global, artifact: &str, failing: bool) -> Result<MemorySource, Fail> {
-    let mut calls = vec![in alloc]?;
-    if failing {
-        calls.push(2)?;
-    }
-    let failures = FailList::new(calls).ok_or("a list")?;
-    let step = NonZeroU32::new(2).ok_or("a step")?;
-    Ok(MemorySource::new(Bytes::new(alloc, artifact.as_bytes())?, step, failures))
-}
-
-// The number of the refusal of the artifact `hello` under a policy, or 0.
-fn answer(
+// The refusal under a policy.
+fn refusal(
     alloc: Global,
     policy: &PublicKeyVerificationPolicy,
     bundle: &Bundle,
     max: u64,
-    failing: bool,
-) -> Result<u8, Fail> {
-    let mut source = source(alloc, "hello", failing)?;
+    source: &mut MemorySource,
+) -> Result<String, Fail> {
     let verifier = Verifier::new(alloc, &Echo, &Bare, &TrustedRoot {})?;
     let now = Timestamp::UNIX_EPOCH;
-    match verifier.verify_reader(alloc, &mut source, max, bundle, policy, now) {
-        Ok(_) => Ok(0),
-        Err(e) => Ok(e.number()),
+    match verifier.verify_reader(alloc, source, max, bundle, policy, now) {
+        Ok(_) => display(alloc, &"accepted"),
+        Err(e) => debug(alloc, &e),
     }
 }
 
-fn key_policy(alloc: Global, key: &str) -> Result<PublicKeyVerificationPolicy, Fail> {
-    Ok(PublicKeyVerificationPolicy::new(DerPublicKey::from_base64(alloc, key)?))
+fn refusal_of(
+    alloc: Global,
+    change: Change,
+    policy: &PublicKeyVerificationPolicy,
+    bundle: &Bundle,
+) -> Result<String, Fail> {
+    let max = change.of("greatest length", "5").parse::<u64>()?;
+    let mut source = source(alloc, "hello", change.of("failing read", ""))?;
+    refusal(alloc, policy, bundle, max, &mut source)
 }
 
-#[test]
-fn bundles_are_refused(rt: HostRuntime) -> Result<(), Fail> {
-    let alloc = rt.alloc();
-    let policy = key_policy(alloc, KEY)?.skip_tlog_unsafe();
-    let d256 = Some(HashAlgorithm::Sha2256);
-    let good = bundle(alloc, d256, "hello", "hello")?;
-    assert!(rt; answer(alloc, &policy, &good, 5, false)? == 0);
-    assert!(rt; answer(alloc, &key_policy(alloc, KEY)?, &good, 5, false)? == 27);
-    for (key, number) in [("MA==", 26), (UNUSED_BITS, 26), (ED25519, 90)] {
-        let other = key_policy(alloc, key)?.skip_tlog_unsafe();
-        assert!(rt; answer(alloc, &other, &good, 5, false)? == number, "{key}");
-    }
-    assert!(rt; answer(alloc, &policy, &good, 4, false)? == 30);
-    assert!(rt; answer(alloc, &policy, &good, 5, true)? == 30);
-    let untold = bundle(alloc, None, "", "hello")?;
-    assert!(rt; answer(alloc, &policy, &untold, 5, false)? == 0);
-    let d384 = bundle(alloc, Some(HashAlgorithm::Sha2384), "hello", "hello")?;
-    assert!(rt; answer(alloc, &policy, &d384, 5, false)? == 90);
-    let d512 = bundle(alloc, Some(HashAlgorithm::Sha2512), "hello", "hello")?;
-    assert!(rt; answer(alloc, &policy, &d512, 5, false)? == 26);
-    let unbound = bundle(alloc, d256, "jello", "jello")?;
-    assert!(rt; answer(alloc, &policy, &unbound, 5, false)? == 4);
-    let unsigned = bundle(alloc, d256, "hello", "jello")?;
-    assert!(rt; answer(alloc, &policy, &unsigned, 5, false)? == 3);
-    Ok(())
+// The refusal of the changed bundle over the artifact `hello`.
+fn judged(alloc: Global, row: &str) -> Result<String, Fail> {
+    let change = change_in(row, PARTS)?;
+    let policy = policy(alloc, change)?;
+    let bundle = bundle(alloc, change)?;
+    refusal_of(alloc, change, &policy, &bundle)
 }
 
+// A row: the part, the text in its place, and the refusal. The keys are no key, the P-256 key with one
+// unused bit, and an Ed25519 key of 32 zero bytes (RFC 8410).
+const JUDGED: &str = "nothing |  | accepted
+log | wanted | Bundle
+key | MA== | Crypto
+key | MFkwEwYHKoZIzj0CAQYIKoZIzj0DAQcDQgEEAAAAAAAAAAAAAAAAAAAAAAAAAAAAAAAAAAAAAAAAAAAAAAAAAAAAAAAAAAAAAAAAAAAAAAAAAAAAAAAAAAAAAA== | Crypto
+key | MCowBQYDK2VwAyEAAAAAAAAAAAAAAAAAAAAAAAAAAAAAAAAAAAAAAAAAAAA= | Unbuilt(Key)
+greatest length | 4 | ArtifactRead(TooLong { max: 4 })
+failing read | 2 | ArtifactRead(Failed)
+algorithm | none | accepted
+algorithm | SHA2_384 | Unbuilt(Digest)
+algorithm | SHA2_512 | Crypto
+told and signed | jello | ArtifactMismatch
+signed | jello | SignatureInvalid";
+
 #[test]
-fn a_bundle_is_accepted(rt: HostRuntime) -> Result<(), Fail> {
-    let alloc = rt.alloc();
-    let bundle = bundle(alloc, Some(HashAlgorithm::Sha2256), "hello", "hello")?;
-    let mut source = source(alloc, "hello", false)?;
+fn bundles_are_judged(rt: HostRuntime) -> Result<(), Fail> {
+    hold(&rt, JUDGED, judged)
+}
+
+fn kept(
+    alloc: Global,
+    policy: &PublicKeyVerificationPolicy,
+    bundle: &Bundle,
+) -> Result<Kept, Fail> {
+    let mut source = source(alloc, "hello", "")?;
     let verifier = Verifier::new(alloc, &Echo, &Bare, &TrustedRoot {})?;
-    let policy = key_policy(alloc, KEY)?.skip_tlog_unsafe();
+    let now = Timestamp::UNIX_EPOCH;
+    Ok(verifier.verify_reader_kept(alloc, &mut source, 5, bundle, policy, now)?)
+}
+
+#[test]
+fn an_acceptance_is_shown(rt: HostRuntime) -> Result<(), Fail> {
+    let alloc = rt.alloc();
+    let unchanged = Change {
+        part: "nothing",
+        text: "",
+    };
+    let policy = policy(alloc, unchanged)?;
     assert!(rt; policy.public_key().as_bytes().len() == 91 && !policy.verifies_tlog());
-    let now = Timestamp::UNIX_EPOCH;
-    let kept = verifier.verify_reader_kept(alloc, &mut source, 5, &bundle, &policy, now)?;
+    let bundle = bundle(alloc, unchanged)?;
+    let kept = kept(alloc, &policy, &bundle)?;
     let digest = kept.digests.as_slice().first().ok_or("a digest")?;
     assert!(rt; kept.digests.len() == 1 && digest.algorithm() == HashAlgorithm::Sha2256);
     assert!(rt; digest.as_bytes() == sha256(b"hello").as_bytes());
-    let result = kept.result;
+    let result = &kept.result;
     assert!(rt; result.issuer().is_none() && result.integrated_time().is_none());
     assert!(rt; !result.certificate_verified() && !result.sct_verified());
     assert!(rt; !result.tlog_verified() && !result.identity_policy_checked());

@@ -1,9 +1,0 @@
-use Rattle.sigstore_app.specs.Run.{judged}
-use Rattle.sigstore_app.proofs.RunFacts.{proceeds_stopped}
-use Rattle.sigstore_app.proofs.run.proceed.Goals as goal
-
-pub returns-in-Ok : goal.returns-in-Ok
-returns-in-Ok g c = judged c.in-Ok.gathered c.in-Ok.ensures c.judge.ensures
-
-pub returns-in-Err : goal.returns-in-Err
-returns-in-Err g c = proceeds_stopped _ _ _ _ _ _ _ c.in-Err.stop c.stopped.result c.in-Err.ensures c.stopped.ensures

@@ -1,0 +1,113 @@
+-- The report of an accepted bundle.
+use Rattle.std.specs.Prelude.{ℕ, ◌-◌, pos, int_div, List, [], ◌∷◌, ◌++◌, length, slice_get, codes, Option, Some, None, Result, Ok, ok_or}
+use Rattle.std.specs.Fmt.{signed_decimal}
+use Rattle.serde_json.specs.Data.{Data}
+use Rattle.jiff_core.specs.declared.timestamp.Timestamp as jiff
+use Rattle.foundation.specs.Steps.{◌>>=◌}
+use Rattle.sigstore_types_parts.specs.declared.hash_algorithm.HashAlgorithm.{HashAlgorithm}
+use Rattle.sigstore_types_parts.specs.HashAlgorithm.{rekor_name_of}
+use Rattle.sigstore_tuf_parts.specs.declared.error.Error.{Error}
+use Rattle.sigstore_tuf_parts.specs.declared.error.Error.TheVariants.{NotRefreshed}
+use Rattle.sigstore_tuf_parts.specs.declared.root.Root.{Root}
+use Rattle.sigstore_tuf_parts.specs.declared.timestamp.Timestamp.{Timestamp}
+use Rattle.sigstore_tuf_parts.specs.declared.snapshot.Snapshot.{Snapshot}
+use Rattle.sigstore_tuf_parts.specs.declared.targets.Targets.{Targets}
+use Rattle.sigstore_tuf_parts.specs.Document.{document_of, content_in}
+use Rattle.sigstore_tuf_parts.specs.Root.{root_of}
+use Rattle.sigstore_tuf_parts.specs.Timestamp.{timestamp_of}
+use Rattle.sigstore_tuf_parts.specs.Snapshot.{snapshot_of}
+use Rattle.sigstore_tuf_parts.specs.Targets.{targets_of}
+use Rattle.sigstore_tuf.specs.declared.chain.TrustChain.{TrustChain}
+use Rattle.sigstore_tuf.specs.declared.chain.RoleDoc.{RoleDoc}
+use Rattle.sigstore_verify.specs.declared.report.VerificationResult.{VerificationResult}
+use Rattle.sigstore_app_parts.specs.Printed.{line_of, pair_line, number_line, text_line, named_line, hex_line, answer_line}
+use Rattle.sigstore_run.specs.declared.report.Versions.{Versions}
+
+-- the version of the document that bytes read as
+unfoldable pub version_of : {T : Type 0} → List ℕ → (Data → Result T Error) → (T → ℕ) → List ℕ → Result ℕ Error
+version_of kind reads version_in bytes = document_of kind reads bytes >>= λ document. Ok (version_in (content_in document))
+
+unfoldable pub root_version : List ℕ → Result ℕ Error
+root_version bytes = version_of (codes "root") root_of (λ (d : Root). d.version) bytes
+
+unfoldable pub timestamp_version : List ℕ → Result ℕ Error
+timestamp_version bytes = version_of (codes "timestamp") timestamp_of (λ (d : Timestamp). d.version) bytes
+
+unfoldable pub snapshot_version : List ℕ → Result ℕ Error
+snapshot_version bytes = version_of (codes "snapshot") snapshot_of (λ (d : Snapshot). d.version) bytes
+
+unfoldable pub targets_version : List ℕ → Result ℕ Error
+targets_version bytes = version_of (codes "targets") targets_of (λ (d : Targets). d.version) bytes
+
+-- the root in force is the last
+abbrev pub last_root : TrustChain → Option (List ℕ)
+last_root chain = slice_get chain.roots (length chain.roots - 1)
+
+-- the versions in force
+unfoldable pub versions_of : TrustChain → Result Versions Error
+versions_of chain = do
+  bytes ← ok_or (last_root chain) NotRefreshed
+  root ← root_version bytes
+  timestamp ← timestamp_version chain.timestamp
+  snapshot ← snapshot_version chain.snapshot
+  Ok (record { root = root; timestamp = timestamp; snapshot = snapshot })
+
+abbrev pub versions_text : Versions → List ℕ
+versions_text versions = number_line (codes "root") versions.root ++ number_line (codes "timestamp") versions.timestamp ++ number_line (codes "snapshot") versions.snapshot
+
+-- the line of a visit whose document is there
+abbrev pub role_added : List ℕ → List ℕ → Option (List ℕ) → Result (List ℕ) Error
+role_added text name None = Ok text
+role_added text name (Some bytes) = targets_version bytes >>= λ version. Ok (text ++ named_line (codes "role") name version)
+
+-- the lines of the visits in turn
+abbrev pub roles_added : List ℕ → List RoleDoc → Result (List ℕ) Error
+roles_added text [] = Ok text
+roles_added text (role ∷ roles) = role_added text role.name role.bytes >>= λ next. roles_added next roles
+
+abbrev pub digests_added : List ℕ → List (HashAlgorithm × List ℕ) → List ℕ
+digests_added text [] = text
+digests_added text (digest ∷ digests) = digests_added (text ++ hex_line (codes "artifact") (rekor_name_of digest.0) digest.1) digests
+
+-- the whole seconds since the start of 1970
+abbrev pub seconds_of : jiff.Timestamp → List ℕ
+seconds_of time = signed_decimal (int_div time.nanosecond (pos 1_000_000_000))
+
+abbrev pub times_added : List ℕ → List jiff.Timestamp → List ℕ
+times_added text [] = text
+times_added text (time ∷ times) = times_added (text ++ pair_line (codes "time") (seconds_of time)) times
+
+abbrev pub issuer_text : Option (List ℕ) → List ℕ
+issuer_text None = pair_line (codes "issuer") (codes "none")
+issuer_text (Some issuer) = text_line (codes "issuer") issuer
+
+abbrev pub integrated_text : Option jiff.Timestamp → List ℕ
+integrated_text None = pair_line (codes "integrated") (codes "none")
+integrated_text (Some time) = pair_line (codes "integrated") (seconds_of time)
+
+-- no identity is compared yet
+abbrev pub identity_text : VerificationResult → List ℕ
+identity_text result = pair_line (codes "identity") (codes "none") ++ issuer_text result.issuer
+
+abbrev pub answers_text : VerificationResult → List ℕ
+answers_text result =
+    answer_line (codes "certificate") result.certificate_verified ++ answer_line (codes "sct") result.sct_verified
+    ++ answer_line (codes "tlog") result.tlog_verified ++ answer_line (codes "policy") result.identity_policy_checked
+
+abbrev pub times_text : List ℕ → VerificationResult → List ℕ
+times_text text result =
+    times_added (text ++ integrated_text result.integrated_time ++ number_line (codes "times") (length result.verified_timestamps)) result.verified_timestamps
+
+-- what stands behind the roles
+abbrev pub result_added : List ℕ → VerificationResult → List ℕ
+result_added text result = times_text (text ++ identity_text result ++ answers_text result) result
+
+abbrev pub tail_added : List ℕ → TrustChain → List (HashAlgorithm × List ℕ) → VerificationResult → List ℕ
+tail_added text chain digests result = result_added (digests_added (text ++ number_line (codes "target") chain.target.length) digests) result
+
+-- the report of a chain, the artifact's digests and a result
+unfoldable pub report_of : TrustChain → List (HashAlgorithm × List ℕ) → VerificationResult → Result (List ℕ) Error
+report_of chain digests result = do
+  versions ← versions_of chain
+  text ← roles_added (line_of (codes "accepted") ++ versions_text versions) chain.roles
+  Ok (tail_added text chain digests result)

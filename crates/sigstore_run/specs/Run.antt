@@ -1,0 +1,201 @@
+-- A run of the program: what it reads, what it says, and what it writes.
+use Rattle.std.specs.Prelude.{◌≡◌, ◌⊎◌, ℕ, ◌^◌, List, codes, not, unwrap_or, ⊤, Option, Some, None, Result, Ok, Err}
+use Rattle.std.specs.Result.{result_ok}
+use Rattle.jiff_core.specs.declared.timestamp.Timestamp as jiff
+use Rattle.foundation.specs.Watched.{Watched, Rose}
+use Rattle.foundation.specs.declared.no_memory.NoMemory.{NoMemory}
+use Rattle.sigstore_crypto.specs.Good.{Judge}
+use Rattle.sigstore_tuf_parts.specs.declared.error.Error.{Error as TufError}
+use Rattle.sigstore_tuf_parts.specs.Error as tuf
+use Rattle.sigstore_tuf_parts.specs.Crypto.{Crypto, crypto_of}
+use Rattle.sigstore_tuf.specs.Repository.{Folders}
+use Rattle.sigstore_tuf.specs.Config.{default_config}
+use Rattle.sigstore_verify.specs.declared.error.Error.{Error as VerifyError}
+use Rattle.sigstore_verify.specs.Error as verify
+use Rattle.sigstore_verify.specs.declared.policy.PublicKeyVerificationPolicy.{PublicKeyVerificationPolicy}
+use Rattle.sigstore_verify.specs.Policy.{PublicKey}
+use Rattle.sigstore_verify.specs.declared.root.Rooted.{Rooted}
+use Rattle.sigstore_verify.specs.declared.root.RootFault.{RootFault}
+use Rattle.sigstore_verify.specs.declared.root.RootFault.TheVariants as root
+use Rattle.sigstore_verify.specs.Root.{Runs, IsAccepted}
+use Rattle.sigstore_verify.specs.Cause.{RootCause}
+use Rattle.sigstore_app_parts.specs.Inputs.{Held}
+use Rattle.sigstore_app_parts.specs.Sink.{WritesText}
+use Rattle.sigstore_app_parts.specs.Rows.{accepts_of}
+use Rattle.sigstore_app_parts.specs.Tables.{is_armored_by, armor_content}
+use Rattle.sigstore_app_parts.specs.Layout.{layout_of}
+use Rattle.sigstore_app_parts.specs.Gather.{word_of, gathered_of, FormCause, StopCause, ReadsAs}
+use Rattle.sigstore_app_parts.specs.declared.inputs.Which.{Which}
+use Rattle.sigstore_app_parts.specs.Printed.{line_of, pair_line, refused_line}
+use Rattle.sigstore_app_parts.specs.declared.layout.Layout.{Layout}
+use Rattle.sigstore_app_parts.specs.declared.gather.Gathered.{Gathered}
+use Rattle.sigstore_app_parts.specs.declared.gather.Stop.{Stop}
+use Rattle.sigstore_app_parts.specs.declared.gather.Stop.TheVariants.{Words, Form, Input, Memory}
+use Rattle.sigstore_app_parts.specs.declared.policy.PolicyFile.{PolicyFile}
+use Rattle.sigstore_app_parts.specs.declared.sink.SinkFault.{SinkFault}
+use Rattle.sigstore_run.specs.declared.answer.Status.{Status}
+use Rattle.sigstore_run.specs.declared.answer.Status.TheVariants as status
+use Rattle.sigstore_run.specs.declared.answer.Answer.{Answer}
+use Rattle.sigstore_run.specs.Report.{report_of}
+
+abbrev pub code_of : Status → ℕ
+code_of status.Accepted = 0
+code_of status.Refused = 1
+code_of status.Usage = 2
+code_of status.Input = 3
+code_of status.Output = 4
+code_of status.Memory = 5
+
+abbrev pub answer : Status → List ℕ → Answer
+answer status text = record { status = status; text = text }
+
+-- what is said where the run ends before the verification; nothing where memory is wanting
+unfoldable pub stop_answer : Stop → Option Answer
+stop_answer Words = Some (answer status.Usage (line_of (codes "usage")))
+stop_answer (Form which) = Some (answer status.Usage (pair_line (codes "usage") (word_of which)))
+stop_answer (Input which) = Some (answer status.Input (pair_line (codes "input") (word_of which)))
+stop_answer Memory = None
+
+unfoldable pub tuf_answer : TufError → Answer
+tuf_answer e = answer status.Refused (refused_line (codes "tuf") (tuf.number_of e) (tuf.name_of e))
+
+unfoldable pub verify_answer : VerifyError → Answer
+verify_answer e = answer status.Refused (refused_line (codes "verify") (verify.number_of e) (verify.name_of e))
+
+-- what is said of a refusal; nothing where memory is wanting
+unfoldable pub refusal_answer : RootFault → Option Answer
+refusal_answer (root.Tuf e) = Some (tuf_answer e)
+refusal_answer (root.Verify fault chain) = Some (verify_answer fault)
+refusal_answer root.NoMemory = None
+
+-- the policy of a file
+abbrev pub policy_meant : PolicyFile → PublicKeyVerificationPolicy
+policy_meant file = record { key = file.key; verify_tlog = not file.skip_tlog }
+
+abbrev pub max_artifact : ℕ
+max_artifact = 2 ^ 40
+
+abbrev pub judge_of : Gathered → Judge
+judge_of gathered = accepts_of gathered.tables.provider.rows
+
+-- the tables' provider and armour
+abbrev pub crypto_in : Gathered → Crypto
+crypto_in gathered = crypto_of (judge_of gathered) (is_armored_by gathered.tables.armor) (armor_content gathered.tables.armor.keys)
+
+-- the instant of the words, else the clock's
+abbrev pub now_of : Layout → jiff.Timestamp → jiff.Timestamp
+now_of layout clock = unwrap_or layout.now clock
+
+-- the verification from the root, over the inputs
+abbrev pub VerifiesInputs : Gathered → jiff.Timestamp → Watched Folders → Watched Folders → Watched (List ℕ) → Watched (List ℕ) → Result Rooted RootFault → Type 0
+VerifiesInputs gathered now repo repo' source source' result =
+    Runs (crypto_in gathered) (PublicKey (policy_meant gathered.policy)) gathered.root gathered.bundle default_config now repo repo' source source' max_artifact result
+
+-- what an acceptance means, over the inputs
+abbrev pub AcceptsInputs : Gathered → jiff.Timestamp → Watched (List ℕ) → Watched (List ℕ) → Rooted → Type 0
+AcceptsInputs gathered now source source' rooted =
+    IsAccepted (crypto_in gathered) (PublicKey (policy_meant gathered.policy)) gathered.root gathered.bundle default_config now source source' max_artifact rooted
+
+-- the cause of a refusal, over the inputs
+abbrev pub RefusesInputs : Gathered → jiff.Timestamp → Watched Folders → Watched Folders → Watched (List ℕ) → Watched (List ℕ) → RootFault → Type 0
+RefusesInputs gathered now repo repo' source source' fault =
+    RootCause (crypto_in gathered) (PublicKey (policy_meant gathered.policy)) gathered.root gathered.bundle default_config now repo repo' source source' max_artifact fault
+
+-- what is said of an acceptance: its report, or the refusal of a document of its chain that isn't read
+abbrev pub said_of : Result (List ℕ) TufError → Option Answer
+said_of (Ok text) = Some (answer status.Accepted text)
+said_of (Err e) = Some (tuf_answer e)
+
+abbrev pub Reports : Rooted → Answer → Type 0
+Reports rooted said = said_of (report_of rooted.chain rooted.digests rooted.result) ≡ Some said
+
+-- the report is said
+pub record SaysReport (rooted : Rooted) (said : Answer) : Type 0 where
+  pub text : List ℕ
+  pub reported : report_of rooted.chain rooted.digests rooted.result ≡ Ok text
+  pub said_is : said ≡ answer status.Accepted text
+
+-- What the verification makes the program say: the report of what was accepted, or the refusal.
+pub data Judges (gathered : Gathered) (now : jiff.Timestamp) (repo repo' : Watched Folders) (source source' : Watched (List ℕ)) (result : Result Answer NoMemory) : Type 0 where
+  want_judging : (e : NoMemory) → result ≡ Err e → Judges gathered now repo repo' source source' result
+  refused : (fault : RootFault) (said : Answer) → VerifiesInputs gathered now repo repo' source source' (Err fault) → refusal_answer fault ≡ Some said → result ≡ Ok said
+      → Judges gathered now repo repo' source source' result
+  reported : (rooted : Rooted) (said : Answer) → VerifiesInputs gathered now repo repo' source source' (Ok rooted) → AcceptsInputs gathered now source source' rooted
+      → SaysReport rooted said → result ≡ Ok said → Judges gathered now repo repo' source source' result
+
+-- What the program says once its words are read: its inputs first, then the verification.
+pub data Proceeds (now : jiff.Timestamp) (inputs inputs' : Watched Held) (repo repo' : Watched Folders) (source source' : Watched (List ℕ)) (result : Result Answer NoMemory) : Type 0 where
+  want_inputs : (e : NoMemory) → result ≡ Err e → Proceeds now inputs inputs' repo repo' source source' result
+  stopped : (stop : Stop) (said : Answer) → ReadsAs gathered_of inputs inputs' (Err stop) → stop_answer stop ≡ Some said → result ≡ Ok said
+      → Proceeds now inputs inputs' repo repo' source source' result
+  judged : (gathered : Gathered) → ReadsAs gathered_of inputs inputs' (Ok gathered) → Judges gathered now repo repo' source source' result
+      → Proceeds now inputs inputs' repo repo' source source' result
+
+-- What the program says: its words first, then its inputs, then the verification; the first that refuses answers.
+pub data Decides (words : List (List ℕ)) (clock : jiff.Timestamp) (inputs inputs' : Watched Held) (repo repo' : Watched Folders) (source source' : Watched (List ℕ)) (result : Result Answer NoMemory) : Type 0 where
+  want_words : (e : NoMemory) → result ≡ Err e → Decides words clock inputs inputs' repo repo' source source' result
+  misworded : (said : Answer) → result_ok (layout_of words) ≡ None → stop_answer Words ≡ Some said → result ≡ Ok said → Decides words clock inputs inputs' repo repo' source source' result
+  worded : (layout : Layout) → layout_of words ≡ Ok layout → Proceeds (now_of layout clock) inputs inputs' repo repo' source source' result
+      → Decides words clock inputs inputs' repo repo' source source' result
+
+-- A run: what is said is written; nothing is where memory is wanting, and a part of the text where a write failed.
+pub data RunsTo (words : List (List ℕ)) (clock : jiff.Timestamp) (inputs inputs' : Watched Held) (repo repo' : Watched Folders) (source source' out out' : Watched (List ℕ)) (ended : Status) : Type 0 where
+  unwritten : (e : NoMemory) → Decides words clock inputs inputs' repo repo' source source' (Err e) → out' ≡ out → ended ≡ status.Memory
+      → RunsTo words clock inputs inputs' repo repo' source source' out out' ended
+  cut : (said : Answer) (fault : SinkFault) → Decides words clock inputs inputs' repo repo' source source' (Ok said) → WritesText out out' said.text (Err fault) → ended ≡ status.Output
+      → RunsTo words clock inputs inputs' repo repo' source source' out out' ended
+  written : (said : Answer) → Decides words clock inputs inputs' repo repo' source source' (Ok said) → WritesText {E = SinkFault} out out' said.text (Ok tt) → ended ≡ said.status
+      → RunsTo words clock inputs inputs' repo repo' source source' out out' ended
+
+-- What status 0 means: the words give a layout, the inputs were read, the verification from the root accepted, and the sink took
+-- exactly the report's text.
+pub record Accepts (words : List (List ℕ)) (clock : jiff.Timestamp) (inputs inputs' : Watched Held) (repo repo' : Watched Folders) (source source' out out' : Watched (List ℕ)) : Type 0 where
+  pub layout : Layout
+  pub worded : layout_of words ≡ Ok layout
+  pub gathered : Gathered
+  pub read : ReadsAs gathered_of inputs inputs' (Ok gathered)
+  pub rooted : Rooted
+  pub verified : VerifiesInputs gathered (now_of layout clock) repo repo' source source' (Ok rooted)
+  pub accepted : AcceptsInputs gathered (now_of layout clock) source source' rooted
+  pub text : List ℕ
+  pub reported : report_of rooted.chain rooted.digests rooted.result ≡ Ok text
+  pub written : WritesText {E = SinkFault} out out' text (Ok tt)
+
+-- the sink took exactly the text
+abbrev pub TakesAll : Watched (List ℕ) → Watched (List ℕ) → List ℕ → Type 0
+TakesAll out out' text = WritesText {E = SinkFault} out out' text (Ok tt)
+
+-- What status 1 means: the words give a layout, the inputs were read, the verification from the root refused, for its cause, and
+-- the sink took exactly the refusal's line.
+pub record Refuses (words : List (List ℕ)) (clock : jiff.Timestamp) (inputs inputs' : Watched Held) (repo repo' : Watched Folders) (source source' out out' : Watched (List ℕ)) : Type 0 where
+  pub layout : Layout
+  pub worded : layout_of words ≡ Ok layout
+  pub gathered : Gathered
+  pub read : ReadsAs gathered_of inputs inputs' (Ok gathered)
+  pub fault : RootFault
+  pub verified : VerifiesInputs gathered (now_of layout clock) repo repo' source source' (Err fault)
+  pub cause : RefusesInputs gathered (now_of layout clock) repo repo' source source' fault
+  pub said : Answer
+  pub line : refusal_answer fault ≡ Some said
+  pub written : TakesAll out out' said.text
+
+-- What status 2 means: the words are outside their grammar, or the policy or the provider's file is, and the sink took exactly
+-- the line that says so.
+abbrev pub Misuses : List (List ℕ) → Watched Held → Watched (List ℕ) → Watched (List ℕ) → Type 0
+Misuses words inputs out out' =
+    ((result_ok (layout_of words) ≡ None) × TakesAll out out' (line_of (codes "usage")))
+    ⊎ ((which : Which) × FormCause which inputs × TakesAll out out' (pair_line (codes "usage") (word_of which)))
+
+-- What status 3 means: the count of the inputs' faults rose, or told inputs lack this one or hold it longer than its limit; and
+-- the sink took exactly the line that names it.
+abbrev pub LacksInput : Watched Held → Watched Held → Watched (List ℕ) → Watched (List ℕ) → Type 0
+LacksInput inputs inputs' out out' = (which : Which) × StopCause inputs inputs' (Input which) × TakesAll out out' (pair_line (codes "input") (word_of which))
+
+-- What each status means. 4: the count of the sink's faults rose. 5: nothing was written.
+abbrev pub Means : List (List ℕ) → jiff.Timestamp → Watched Held → Watched Held → Watched Folders → Watched Folders → Watched (List ℕ) → Watched (List ℕ) → Watched (List ℕ) → Watched (List ℕ) → Status → Type 0
+Means words clock inputs inputs' repo repo' source source' out out' status.Accepted = Accepts words clock inputs inputs' repo repo' source source' out out'
+Means words clock inputs inputs' repo repo' source source' out out' status.Refused = Refuses words clock inputs inputs' repo repo' source source' out out'
+Means words clock inputs inputs' repo repo' source source' out out' status.Usage = Misuses words inputs out out'
+Means words clock inputs inputs' repo repo' source source' out out' status.Input = LacksInput inputs inputs' out out'
+Means words clock inputs inputs' repo repo' source source' out out' status.Output = Rose out.faults out'.faults
+Means words clock inputs inputs' repo repo' source source' out out' status.Memory = out' ≡ out

@@ -1,0 +1,10 @@
+//! A run of the program: what it reads, what it says and the status it ends with, over its words, its
+//! clock and the objects of the outside.
+#![tactic(auto)]
+
+mod answer;
+mod program;
+mod report;
+
+pub use answer::Status;
+pub use program::run;

@@ -1,0 +1,154 @@
+// A run of the program.
+ghost use Rattle.std.specs.Prelude.{◌≡◌, IfOk};
+ghost use Rattle.sigstore_app_parts.specs.Sink.{WritesText};
+ghost use Rattle.sigstore_run.specs.Run.{policy_meant, Reports, Judges, Proceeds, Decides, RunsTo, Means};
+
+use crate::answer::{Answer, Status, refused, refused_tuf, stopped};
+use crate::report::report;
+use foundation::NoMemory;
+use jiff::Timestamp;
+use sigstore_app_parts::{
+    Gathered, Inputs, Layout, PolicyFile, Sink, Stop, gather_inputs, read_layout, write_all,
+};
+use sigstore_crypto::ArtifactSource;
+use sigstore_tuf::{MetadataStore, Repository, UpdaterConfig};
+use sigstore_types_parts::Text;
+use sigstore_verify::{PublicKeyVerificationPolicy, Rooted, verify_from_root};
+use std::alloc::Global;
+
+// The greatest length of the artifact in bytes.
+const MAX_ARTIFACT: u64 = 1_099_511_627_776;
+
+fn policy_meant(file: PolicyFile) -> PublicKeyVerificationPolicy
+    ensures { result ≡ policy_meant file }
+{
+    let PolicyFile { key, skip_tlog } = file;
+    PublicKeyVerificationPolicy {
+        key,
+        verify_tlog: !skip_tlog,
+    }
+}
+
+// The report of an acceptance, or the refusal of a document of its chain that isn't read.
+fn reported(alloc: Global, rooted: &Rooted) -> Result<Answer, NoMemory>
+    ensures { IfOk result (λ said. Reports rooted.now said) }
+{
+    match report(
+        alloc,
+        &rooted.chain,
+        rooted.digests.as_slice(),
+        &rooted.result,
+    ) {
+        Ok(text) => Ok(Answer {
+            status: Status::Accepted,
+            text: Text::from_string(text),
+        }),
+        Err(sigstore_tuf_parts::Error::NoMemory) => Err(NoMemory),
+        Err(e) => Ok(refused_tuf(alloc, &e)?),
+    }
+}
+
+// The verification from the root, and what is said of it.
+fn judge<R: Repository, S: MetadataStore, A: ArtifactSource>(
+    alloc: Global,
+    gathered: Gathered,
+    now: Timestamp,
+    repo: &mut R,
+    store: &mut S,
+    artifact: &mut A,
+) -> Result<Answer, NoMemory>
+    ensures { Judges gathered now (R.seen repo.old) (R.seen repo.new) (A.seen artifact.old) (A.seen artifact.new) result }
+{
+    let Gathered {
+        policy,
+        tables,
+        root,
+        bundle,
+    } = gathered;
+    let policy = policy_meant(policy);
+    match verify_from_root(
+        alloc,
+        &tables.provider,
+        &tables.armor,
+        root.as_bytes(),
+        repo,
+        store,
+        UpdaterConfig::default(),
+        now,
+        bundle.as_bytes(),
+        artifact,
+        MAX_ARTIFACT,
+        &policy,
+    ) {
+        Ok(rooted) => reported(alloc, &rooted),
+        Err(fault) => refused(alloc, fault),
+    }
+}
+
+// The inputs, then the verification.
+fn proceed<I: Inputs, R: Repository, S: MetadataStore, A: ArtifactSource>(
+    alloc: Global,
+    now: Timestamp,
+    inputs: &mut I,
+    repo: &mut R,
+    store: &mut S,
+    artifact: &mut A,
+) -> Result<Answer, NoMemory>
+    ensures { Proceeds now (I.seen inputs.old) (I.seen inputs.new) (R.seen repo.old) (R.seen repo.new) (A.seen artifact.old) (A.seen artifact.new) result }
+{
+    match gather_inputs(alloc, inputs) {
+        Ok(gathered) => judge(alloc, gathered, now, repo, store, artifact),
+        Err(stop) => stopped(alloc, stop),
+    }
+}
+
+// The words, then the inputs and the verification.
+fn decide<I: Inputs, R: Repository, S: MetadataStore, A: ArtifactSource>(
+    alloc: Global,
+    words: &[Text],
+    clock: Timestamp,
+    inputs: &mut I,
+    repo: &mut R,
+    store: &mut S,
+    artifact: &mut A,
+) -> Result<Answer, NoMemory>
+    ensures { Decides words.now clock (I.seen inputs.old) (I.seen inputs.new) (R.seen repo.old) (R.seen repo.new) (A.seen artifact.old) (A.seen artifact.new) result }
+{
+    let found = match read_layout(alloc, words) {
+        Ok(found) => found,
+        Err(e) => return Err(e),
+    };
+    match found {
+        Some(layout) => {
+            let now = layout.now.unwrap_or(clock);
+            proceed(alloc, now, inputs, repo, store, artifact)
+        }
+        None => stopped(alloc, Stop::Words),
+    }
+}
+
+/// Runs the program over its words, its clock and the objects of the outside: reads the words, then the
+/// inputs policy, provider, root and bundle, verifies from the root, and writes one text. Status 4 where
+/// a write failed, 5 where memory was wanting; then nothing was written.
+pub fn run<I: Inputs, R: Repository, S: MetadataStore, A: ArtifactSource, K: Sink>(
+    alloc: Global,
+    words: &[Text],
+    clock: Timestamp,
+    inputs: &mut I,
+    repo: &mut R,
+    store: &mut S,
+    artifact: &mut A,
+    out: &mut K,
+) -> Status
+    ensures runs { RunsTo words.now clock (I.seen inputs.old) (I.seen inputs.new) (R.seen repo.old) (R.seen repo.new) (A.seen artifact.old) (A.seen artifact.new) (K.seen out.old) (K.seen out.new) result }
+    ensures means { Means words.now clock (I.seen inputs.old) (I.seen inputs.new) (R.seen repo.old) (R.seen repo.new) (A.seen artifact.old) (A.seen artifact.new) (K.seen out.old) (K.seen out.new) result }
+{
+    let said = match decide(alloc, words, clock, inputs, repo, store, artifact) {
+        Ok(said) => said,
+        Err(_) => return Status::Memory,
+    };
+    match write_all(out, said.text.as_str().as_bytes()) {
+        Ok(()) => said.status,
+        Err(_) => Status::Output,
+    }
+}

@@ -1,0 +1,80 @@
+// Runs of the program over the fixture, and over the fixture with one part changed.
+use crate::fixture::said;
+use crate::tables::hold;
+use std::test::Fail;
+
+// A row: the part, the text in its place, and the status with what is written. The second of the
+// timestamp's expiry is in time; of each object, the call after the last one that is made fails.
+const ACCEPTED: &str =
+    r#"nothing |  | Accepted "accepted\nroot 1\ntimestamp 1\nsnapshot 1\nrole targets 1\ntarget 2\nartifact sha256 2cf24dba5fb0a30e26e83b2ac5b9e29e1b161e5c1fa7425e73043362938b9824\nidentity none\nissuer none\ncertificate no\nsct no\ntlog no\npolicy no\nintegrated none\ntimes 0\n"
+signed artifact |  | Accepted "accepted\nroot 1\ntimestamp 1\nsnapshot 1\nrole targets 1\ntarget 2\nartifact sha256 e3b0c44298fc1c149afbf4c8996fb92427ae41e4649b934ca495991b7852b855\nidentity none\nissuer none\ncertificate no\nsct no\ntlog no\npolicy no\nintegrated none\ntimes 0\n"
+words | verify --root=a --repository=b --store=c --bundle=d --artifact=e --policy=f --provider=g --now=2030-01-01T00:00:00Z | Accepted "accepted\nroot 1\ntimestamp 1\nsnapshot 1\nrole targets 1\ntarget 2\nartifact sha256 2cf24dba5fb0a30e26e83b2ac5b9e29e1b161e5c1fa7425e73043362938b9824\nidentity none\nissuer none\ncertificate no\nsct no\ntlog no\npolicy no\nintegrated none\ntimes 0\n"
+repository fails | 6 | Accepted "accepted\nroot 1\ntimestamp 1\nsnapshot 1\nrole targets 1\ntarget 2\nartifact sha256 2cf24dba5fb0a30e26e83b2ac5b9e29e1b161e5c1fa7425e73043362938b9824\nidentity none\nissuer none\ncertificate no\nsct no\ntlog no\npolicy no\nintegrated none\ntimes 0\n"
+inputs fail | 5 | Accepted "accepted\nroot 1\ntimestamp 1\nsnapshot 1\nrole targets 1\ntarget 2\nartifact sha256 2cf24dba5fb0a30e26e83b2ac5b9e29e1b161e5c1fa7425e73043362938b9824\nidentity none\nissuer none\ncertificate no\nsct no\ntlog no\npolicy no\nintegrated none\ntimes 0\n"
+artifact fails | 5 | Accepted "accepted\nroot 1\ntimestamp 1\nsnapshot 1\nrole targets 1\ntarget 2\nartifact sha256 2cf24dba5fb0a30e26e83b2ac5b9e29e1b161e5c1fa7425e73043362938b9824\nidentity none\nissuer none\ncertificate no\nsct no\ntlog no\npolicy no\nintegrated none\ntimes 0\n"
+sink fails | 2 | Accepted "accepted\nroot 1\ntimestamp 1\nsnapshot 1\nrole targets 1\ntarget 2\nartifact sha256 2cf24dba5fb0a30e26e83b2ac5b9e29e1b161e5c1fa7425e73043362938b9824\nidentity none\nissuer none\ncertificate no\nsct no\ntlog no\npolicy no\nintegrated none\ntimes 0\n""#;
+
+#[test]
+fn the_fixture_is_accepted(rt: HostRuntime) -> Result<(), Fail> {
+    hold(&rt, ACCEPTED, said)
+}
+
+// A row: the part, the text in its place, and the status with what is written.
+const REFUSED: &str = r#"# Words outside their grammar, and the second after the timestamp's expiry.
+words |  | Usage "usage\n"
+words | verify --root=a --repository=b --store=c --bundle=d --artifact=e --policy=f --provider=g --now=x | Usage "usage\n"
+words | verify --root=a --root=a --repository=b --store=c --bundle=d --artifact=e --policy=f --provider=g | Usage "usage\n"
+words | verify --root=a --repository=b --store=c --bundle=d --artifact=e --policy=f | Usage "usage\n"
+words | verify --root=a --repository=b --store=c --bundle=d --artifact=e --policy=f --provider=g --now=2030-01-01T00:00:01Z | Refused "refused tuf 12 Expired\n"
+# The chain of documents. The root's key is of P-256, and so no key under ed25519.
+unsigned | root | Refused "refused tuf 8 ThresholdNotMet\n"
+unsigned | timestamp | Refused "refused tuf 8 ThresholdNotMet\n"
+unsigned | snapshot | Refused "refused tuf 8 ThresholdNotMet\n"
+unsigned | targets | Refused "refused tuf 8 ThresholdNotMet\n"
+file | {] | Refused "refused tuf 13 IntegrityMismatch\n"
+listed |  | Refused "refused tuf 16 TargetNotFound\n"
+timestamp |  | Refused "refused tuf 18 Transport\n"
+next root | {} | Refused "refused tuf 90 Unbuilt\n"
+consistent | true | Refused "refused tuf 90 Unbuilt\n"
+delegations | "delegations":{"keys":{},"roles":[{"keyids":["k"],"name":"d","paths":["x"],"terminating":false,"threshold":1}]}, | Refused "refused tuf 90 Unbuilt\n"
+scheme | ed25519 | Refused "refused tuf 8 ThresholdNotMet\n"
+declared key | MCowBQYDK2VwAyEAAAAAAAAAAAAAAAAAAAAAAAAAAAAAAAAAAAAAAAAAAAA= | Refused "refused tuf 90 Unbuilt\n"
+# The bundle, the policy's key and the trust file.
+unsigned | hello | Refused "refused verify 3 SignatureInvalid\n"
+artifact | jello | Refused "refused verify 4 ArtifactMismatch\n"
+bundle | {"mediaType" | Refused "refused verify 22 InvalidBundle\n"
+skip |  | Refused "refused verify 27 Bundle\n"
+key | AA== | Refused "refused verify 26 Crypto\n"
+key | MCowBQYDK2VwAyEAAAAAAAAAAAAAAAAAAAAAAAAAAAAAAAAAAAAAAAAAAAA= | Refused "refused verify 90 Unbuilt\n"
+trust | {"tlogs":[{}]} | Refused "refused verify 90 Unbuilt\n"
+content | "messageSignature":{"messageDigest":{"algorithm":"SHA2_384","digest":"AQ=="},"signature":"AQ=="} | Refused "refused verify 90 Unbuilt\n"
+content | "dsseEnvelope":{"payload":"","payloadType":"t","signatures":[{"sig":"AQ=="}]} | Refused "refused verify 90 Unbuilt\n"
+material | "publicKey":{},"timestampVerificationData":{"rfc3161Timestamps":[{"signedTimestamp":"AQ=="}]} | Refused "refused verify 90 Unbuilt\n"
+material | "publicKey":{},"tlogEntries":[{}] | Refused "refused verify 90 Unbuilt\n"
+material | "certificate":{"rawBytes":"AQ=="} | Refused "refused verify 90 Unbuilt\n"
+# A bundle one byte longer than the limit, and one of the limit, which isn't JSON.
+bundle of blanks | 16777217 | Input "input bundle\n"
+bundle of blanks | 16777216 | Refused "refused verify 22 InvalidBundle\n"
+# The next root, the timestamp, the snapshot, the targets document and the trust file are fetched.
+repository fails | 1 | Refused "refused tuf 18 Transport\n"
+repository fails | 2 | Refused "refused tuf 18 Transport\n"
+repository fails | 3 | Refused "refused tuf 18 Transport\n"
+repository fails | 4 | Refused "refused tuf 18 Transport\n"
+repository fails | 5 | Refused "refused tuf 18 Transport\n"
+inputs fail | 1 | Input "input policy\n"
+inputs fail | 2 | Input "input provider\n"
+inputs fail | 3 | Input "input root\n"
+inputs fail | 4 | Input "input bundle\n"
+# Five bytes are read in three calls, and a fourth finds the end.
+artifact fails | 1 | Refused "refused verify 30 ArtifactRead\n"
+artifact fails | 2 | Refused "refused verify 30 ArtifactRead\n"
+artifact fails | 3 | Refused "refused verify 30 ArtifactRead\n"
+artifact fails | 4 | Refused "refused verify 30 ArtifactRead\n"
+# The sink takes the whole text in one call; one with little room takes a part of it.
+sink fails | 1 | Output ""
+room | 3 | Output "acc""#;
+
+#[test]
+fn other_runs_say_why(rt: HostRuntime) -> Result<(), Fail> {
+    hold(&rt, REFUSED, said)
+}
