@@ -1,511 +1,297 @@
 // Certificates that OpenSSL made, changes of them, and encodings worked out by hand.
-use crate::certificate_data::{ISSUER, LOG, ed25519, listed, p256, p384, rsa, signed};
-use der_core::{Civil, Der, DerError, ObjectIdentifier, Tag};
+use crate::certificate_data::{ISSUER, LOG};
+use crate::tables::{Hexadecimal, check_rows, encoded, in_hexadecimal, number, shown};
+use der_core::{Civil, DerError, ObjectIdentifier, OctetString, Tag};
 use foundation::Duplicate;
-use std::alloc::Global;
+use std::alloc::{AllocError, Global};
 use std::test::Fail;
 use x509_core::*;
 
-/// Where a part begins and ends.
-type Place = (usize, usize);
-
-/// Where OpenSSL finds the parts of a certificate.
-#[derive(Clone, Copy)]
-struct Places {
-    tbs: Place,
-    serial: Place,
-    issuer: Place,
-    subject: Place,
-    spki: Place,
-    signature: Place,
+/// The answer of a call that is given octets and words behind them, if any.
+pub fn answer(alloc: Global, name: &str, bytes: &[u8], words: &str) -> Result<String, AllocError> {
+    match name {
+        "part" => shown(alloc, stands_at(alloc, bytes, words)),
+        "extension" => shown(alloc, extension_of(bytes, words)),
+        "validity" => shown(alloc, validity_of(bytes)),
+        "key" => shown(alloc, key_of(bytes)),
+        "SpkiView" => shown(alloc, key_in(bytes)),
+        "changed" => shown(alloc, refusal_of(alloc, bytes, words)),
+        "sct_list" => shown(alloc, timestamps_in(alloc, bytes)),
+        "timestamp" => shown(alloc, last_timestamp(alloc, bytes)),
+        "precert_tbs" => shown(alloc, is_signed_part(alloc, bytes)),
+        "sct_signed_bytes" => in_hexadecimal(alloc, signed_for(alloc, bytes)),
+        "sct_signed_bytes_of_zeros" => in_hexadecimal(alloc, signed_zeros(alloc, bytes, words)),
+        "OtherName::new" => encoded(alloc, other_name(alloc, bytes)),
+        "OtherName::tag_byte" => shown(alloc, tag_of(alloc, bytes)),
+        _ => shown::<u8, DerError>(alloc, Err(DerError::NoMemory)),
+    }
 }
 
-fn part(bytes: &[u8], place: Place) -> &[u8] {
-    let (front, _) = bytes.split_at(place.1.min(bytes.len()));
-    let (_, part) = front.split_at(place.0.min(front.len()));
+// Where OpenSSL finds the parts of a certificate.
+const PLACES: &str = "\
+part p256 tbs 4 330 => true
+part p256 serial 15 17 => true
+part p256 issuer 29 46 => true
+part p256 subject 78 95 => true
+part p256 spki 95 186 => true
+part p256 signature 345 416 => true
+part p384 tbs 4 285 => true
+part p384 serial 15 20 => true
+part p384 issuer 32 47 => true
+part p384 subject 79 94 => true
+part p384 spki 94 214 => true
+part p384 signature 300 402 => true
+part rsa tbs 4 318 => true
+part rsa serial 15 16 => true
+part rsa issuer 31 47 => true
+part rsa subject 79 95 => true
+part rsa spki 95 257 => true
+part rsa signature 337 465 => true
+part ed25519 tbs 4 197 => true
+part ed25519 serial 14 35 => true
+part ed25519 issuer 42 57 => true
+part ed25519 subject 89 104 => true
+part ed25519 spki 104 148 => true
+part ed25519 signature 207 271 => true";
+
+/// Whether the part with a name begins and ends at two places, read without memory and with it.
+fn stands_at(alloc: Global, bytes: &[u8], words: &str) -> Result<bool, X509Error> {
+    let (name, places) = words.split_once(' ').unwrap_or((words, ""));
+    let cert = CertView::parse(bytes)?;
+    let in_memory = CertView::parse_in(alloc, bytes)?;
+    let wanted = between(bytes, places);
+    Ok(has_part(&cert, bytes, name, wanted) && has_part(&in_memory, bytes, name, wanted))
+}
+
+/// The octets between two places.
+fn between<'a>(bytes: &'a [u8], places: &str) -> &'a [u8] {
+    let (begin, end) = places.split_once(' ').unwrap_or((places, ""));
+    let (front, _) = bytes.split_at(number(end).min(bytes.len()));
+    let (_, part) = front.split_at(number(begin).min(front.len()));
     part
 }
 
-fn stands_at(cert: &CertView, bytes: &[u8], places: &Places) -> bool {
-    cert.whole == bytes
-        && cert.version == 2
-        && cert.tbs == part(bytes, places.tbs)
-        && cert.serial == part(bytes, places.serial)
-        && cert.issuer == part(bytes, places.issuer)
-        && cert.subject == part(bytes, places.subject)
-        && cert.spki == part(bytes, places.spki)
-        && cert.signature == part(bytes, places.signature)
+fn has_part(cert: &CertView, bytes: &[u8], name: &str, part: &[u8]) -> bool {
+    cert.whole == bytes && cert.version == 2 && part_named(cert, name) == part
 }
 
-fn place_rows() -> [(&'static str, Places); 4] {
-    [
-        (
-            p256(),
-            Places {
-                tbs: (4, 330),
-                serial: (15, 17),
-                issuer: (29, 46),
-                subject: (78, 95),
-                spki: (95, 186),
-                signature: (345, 416),
-            },
-        ),
-        (
-            p384(),
-            Places {
-                tbs: (4, 285),
-                serial: (15, 20),
-                issuer: (32, 47),
-                subject: (79, 94),
-                spki: (94, 214),
-                signature: (300, 402),
-            },
-        ),
-        (
-            rsa(),
-            Places {
-                tbs: (4, 318),
-                serial: (15, 16),
-                issuer: (31, 47),
-                subject: (79, 95),
-                spki: (95, 257),
-                signature: (337, 465),
-            },
-        ),
-        (
-            ed25519(),
-            Places {
-                tbs: (4, 197),
-                serial: (14, 35),
-                issuer: (42, 57),
-                subject: (89, 104),
-                spki: (104, 148),
-                signature: (207, 271),
-            },
-        ),
-    ]
-}
-
-#[test]
-fn parts_of_certificates(rt: HostRuntime) -> Result<(), Fail> {
-    let alloc = rt.alloc();
-    let rows = place_rows();
-    for (text, places) in &rows {
-        let bytes = hex::decode(alloc, text)?;
-        assert!(rt; stands_at(&CertView::parse(&bytes)?, &bytes, places));
-        assert!(rt; stands_at(&CertView::parse_in(alloc, &bytes)?, &bytes, places));
+fn part_named<'a>(cert: &CertView<'a>, name: &str) -> &'a [u8] {
+    match name {
+        "tbs" => cert.tbs,
+        "serial" => cert.serial,
+        "issuer" => cert.issuer,
+        "subject" => cert.subject,
+        "spki" => cert.spki,
+        "signature" => cert.signature,
+        _ => &[],
     }
-    Ok(())
 }
 
-/// The critical mark and the value of an extension.
-fn extension_of(alloc: Global, text: &str, oid: &str) -> Result<Option<(bool, String)>, Fail> {
-    let bytes = hex::decode(alloc, text)?;
-    let cert = CertView::parse(&bytes)?;
-    match cert.extension(&ObjectIdentifier::new(oid)?) {
-        Some(extension) => Ok(Some((extension.critical, hex::encode(alloc, extension.value)?))),
+// The critical mark and the value of an extension; the start and the end of the validity.
+const EXTENSIONS: &str = "\
+extension p256 2.5.29.15 => Some((true, 03020780))
+extension p256 2.5.29.37 => Some((false, 300a06082b06010505070303))
+extension p256 2.5.29.17 => Some((true, 3015861368747470733a2f2f612e6578616d706c652f77))
+extension p256 1.3.6.1.4.1.57264.1.8 => Some((false, 0c1168747470733a2f2f692e6578616d706c65))
+extension p384 2.5.29.19 => Some((true, 30060101ff020101))
+extension rsa 2.5.29.17 => Some((false, 300f810d62406578616d706c652e6f7267))
+extension ed25519 2.5.29.19 => Some((true, 3000))
+extension p256 2.5.29.19 => None
+validity p384 => (Civil { year: 2026, month: 11, day: 27, hour: 6, minute: 38, second: 59 }, Civil { year: 2036, month: 11, day: 24, hour: 6, minute: 38, second: 59 })";
+
+fn extension_of<'a>(
+    bytes: &'a [u8],
+    oid: &str,
+) -> Result<Option<(bool, Hexadecimal<'a>)>, X509Error> {
+    let oid = ObjectIdentifier::new(oid)?;
+    let cert = CertView::parse(bytes)?;
+    match cert.extension(&oid) {
+        Some(extension) => Ok(Some((extension.critical, Hexadecimal(extension.value)))),
         None => Ok(None),
     }
 }
 
-fn extensions() -> [(&'static str, &'static str, bool, &'static str); 7] {
-    [
-        (p256(), "2.5.29.15", true, "03020780"),
-        (p256(), "2.5.29.37", false, "300a06082b06010505070303"),
-        (
-            p256(),
-            "2.5.29.17",
-            true,
-            "3015861368747470733a2f2f612e6578616d706c652f77",
-        ),
-        (
-            p256(),
-            "1.3.6.1.4.1.57264.1.8",
-            false,
-            "0c1168747470733a2f2f692e6578616d706c65",
-        ),
-        (p384(), "2.5.29.19", true, "30060101ff020101"),
-        (
-            rsa(),
-            "2.5.29.17",
-            false,
-            "300f810d62406578616d706c652e6f7267",
-        ),
-        (ed25519(), "2.5.29.19", true, "3000"),
-    ]
+fn validity_of(bytes: &[u8]) -> Result<(Civil, Civil), X509Error> {
+    let cert = CertView::parse(bytes)?;
+    Ok((cert.not_before, cert.not_after))
 }
 
-#[test]
-fn extensions_and_times(rt: HostRuntime) -> Result<(), Fail> {
-    let alloc = rt.alloc();
-    let rows = extensions();
-    for (text, oid, critical, value) in &rows {
-        match extension_of(alloc, text, oid)? {
-            Some(found) => assert!(rt; found.0 == *critical && found.1.as_str() == *value),
-            None => assert!(rt; false),
-        }
-    }
-    assert!(rt; extension_of(alloc, p256(), "2.5.29.19")?.is_none());
-    let bytes = hex::decode(alloc, p384())?;
-    let cert = CertView::parse(&bytes)?;
-    let start = Civil {
-        year: 2026,
-        month: 11,
-        day: 27,
-        hour: 6,
-        minute: 38,
-        second: 59,
-    };
-    assert_eq!(rt; cert.not_before, start);
-    assert_eq!(rt; cert.not_after.year, 2036);
-    assert_eq!(rt; cert.not_after.day, 24);
-    Ok(())
+// The identifier and the parameters of a key, and the number of unused bits, the length and the last
+// octet of its bits.
+const KEYS: &str = "\
+key p256 => (2a8648ce3d0201, 06082a8648ce3d030107, 0, 65, Some(83))
+key p384 => (2a8648ce3d0201, 06052b81040022, 0, 97, Some(218))
+key rsa => (2a864886f70d010101, 0500, 0, 140, Some(1))
+key ed25519 => (2b6570, , 0, 32, Some(86))
+SpkiView 3009300306012a030204f0 => (2a, , 4, 1, Some(240))
+SpkiView  => Der(Truncated)
+SpkiView 3000 => Der(Truncated)
+SpkiView 3009300306012a040204f0 => Der(Tag)
+SpkiView 3009300306018003020400 => Der(Value)
+SpkiView 3009300306012a030204f1 => Der(Value)
+SpkiView 300b300306012a030204f00500 => Der(Trailing)
+SpkiView 300d300706012a05000500030204f0 => Der(Trailing)
+SpkiView 3009300306012a030204f000 => Der(Trailing)";
+
+type KeyParts<'a> = (Hexadecimal<'a>, Hexadecimal<'a>, u8, usize, Option<&'a u8>);
+
+fn key_in(bytes: &[u8]) -> Result<KeyParts, X509Error> {
+    let key = SpkiView::parse(bytes)?;
+    Ok((
+        Hexadecimal(key.oid),
+        Hexadecimal(key.parameters.unwrap_or(&[])),
+        key.unused_bits,
+        key.key.len(),
+        key.key.last(),
+    ))
 }
 
-fn key_rows() -> [(&'static str, &'static str, &'static str, usize); 4] {
-    [
-        (p256(), "2a8648ce3d0201", "06082a8648ce3d030107", 65),
-        (p384(), "2a8648ce3d0201", "06052b81040022", 97),
-        (rsa(), "2a864886f70d010101", "0500", 140),
-        (ed25519(), "2b6570", "", 32),
-    ]
+fn key_of(bytes: &[u8]) -> Result<KeyParts, X509Error> {
+    let cert = CertView::parse(bytes)?;
+    key_in(cert.spki)
 }
 
-#[test]
-fn keys(rt: HostRuntime) -> Result<(), Fail> {
-    let alloc = rt.alloc();
-    let rows = key_rows();
-    for (text, oid, parameters, length) in &rows {
-        let bytes = hex::decode(alloc, text)?;
-        let key = SpkiView::parse(CertView::parse(&bytes)?.spki)?;
-        assert_eq!(rt; hex::encode(alloc, key.oid)?.as_str(), *oid);
-        assert_eq!(rt;
-            hex::encode(alloc, key.parameters.unwrap_or(&[]))?.as_str(),
-            *parameters
-        );
-        assert!(rt; key.unused_bits == 0 && key.key.len() == *length);
-    }
-    Ok(())
-}
+// Why the P-256 certificate with the octet at a place changed, or one more behind it, is refused.
+const CHANGES: &str = "\
+changed p256 0 31 => Some(Der(Tag))
+changed p256 1 80 => Some(Der(Length))
+changed p256 3 9d => Some(Der(Truncated))
+changed p256 12 00 => Some(Version)
+changed p256 12 03 => Some(Version)
+changed p256 15 00 => Some(Der(Value))
+changed p256 28 03 => Some(Algorithms)
+changed p256 29 31 => Some(Der(Tag))
+changed p256 48 16 => Some(Time)
+changed p256 52 32 => Some(Time)
+changed p256 120 08 => Some(Der(Value))
+changed p256 186 a1 => Some(Der(Trailing))
+changed p256 201 00 => Some(Der(Value))
+changed p256 235 0f => Some(Extension)
+changed p256 344 01 => Some(Der(Value))
+changed p256 416 00 => Some(Der(Trailing))
+changed p256 15 7e => None";
 
-fn bad_keys() -> [(&'static str, DerError); 8] {
-    [
-        ("", DerError::Truncated),
-        ("3000", DerError::Truncated),
-        ("3009300306012a040204f0", DerError::Tag),
-        ("3009300306018003020400", DerError::Value),
-        ("3009300306012a030204f1", DerError::Value),
-        ("300b300306012a030204f00500", DerError::Trailing),
-        ("300d300706012a05000500030204f0", DerError::Trailing),
-        ("3009300306012a030204f000", DerError::Trailing),
-    ]
-}
-
-#[test]
-fn unused_bits_of_keys(rt: HostRuntime) -> Result<(), Fail> {
-    let alloc = rt.alloc();
-    let bytes = hex::decode(alloc, "3009300306012a030204f0")?;
-    let key = SpkiView::parse(&bytes)?;
-    assert!(rt; key.unused_bits == 4 && key.key == [0xf0u8].as_slice());
-    let rows = bad_keys();
-    for (text, refusal) in &rows {
-        let bytes = hex::decode(alloc, text)?;
-        assert!(rt; SpkiView::parse(&bytes).err() == Some(X509Error::Der(*refusal)));
-    }
-    Ok(())
-}
-
-/// Why the P-256 certificate with one octet changed is refused, without memory and with it.
-fn refusals_of(alloc: Global, at: usize, octet: u8) -> Result<[Option<X509Error>; 2], Fail> {
-    let mut bytes = hex::decode(alloc, p256())?;
-    if at < bytes.len() {
-        bytes[at] = octet;
+/// The refusal, without memory and with it; NoMemory where the two differ.
+fn refusal_of(alloc: Global, bytes: &[u8], words: &str) -> Result<Option<X509Error>, X509Error> {
+    let changed = changed(alloc, bytes, words)?;
+    let refusal = CertView::parse(&changed).err();
+    if CertView::parse_in(alloc, &changed).err() == refusal {
+        Ok(refusal)
     } else {
-        bytes.push(octet)?;
+        Err(X509Error::NoMemory)
     }
-    Ok([
-        CertView::parse(&bytes).err(),
-        CertView::parse_in(alloc, &bytes).err(),
-    ])
 }
 
-fn changes() -> [(usize, u8, X509Error); 16] {
-    [
-        (0, 0x31, X509Error::Der(DerError::Tag)),
-        (1, 0x80, X509Error::Der(DerError::Length)),
-        (3, 0x9d, X509Error::Der(DerError::Truncated)),
-        (12, 0x00, X509Error::Version),
-        (12, 0x03, X509Error::Version),
-        (15, 0x00, X509Error::Der(DerError::Value)),
-        (28, 0x03, X509Error::Algorithms),
-        (29, 0x31, X509Error::Der(DerError::Tag)),
-        (48, 0x16, X509Error::Time),
-        (52, 0x32, X509Error::Time),
-        (120, 0x08, X509Error::Der(DerError::Value)),
-        (186, 0xa1, X509Error::Der(DerError::Trailing)),
-        (201, 0x00, X509Error::Der(DerError::Value)),
-        (235, 0x0f, X509Error::Extension),
-        (344, 0x01, X509Error::Der(DerError::Value)),
-        (416, 0x00, X509Error::Der(DerError::Trailing)),
-    ]
-}
-
-#[test]
-fn changed_certificates(rt: HostRuntime) -> Result<(), Fail> {
-    let alloc = rt.alloc();
-    let rows = changes();
-    for (at, octet, refusal) in &rows {
-        assert!(rt; refusals_of(alloc, *at, *octet)? == [Some(*refusal); 2]);
+fn changed(alloc: Global, bytes: &[u8], words: &str) -> Result<Vec<u8>, X509Error> {
+    let (at, octet) = place_and_octet(words).ok_or(X509Error::NoMemory)?;
+    let mut changed = bytes.to_vec(alloc)?;
+    if at < changed.len() {
+        changed[at] = octet;
+    } else {
+        changed.push(octet)?;
     }
-    assert!(rt; refusals_of(alloc, 15, 0x7e)? == [None; 2]);
-    Ok(())
+    Ok(changed)
 }
 
-fn zeros(alloc: Global, count: usize) -> Result<Vec<u8>, Fail> {
-    Ok(vec![in alloc; 0u8; count]?)
+fn place_and_octet(words: &str) -> Option<(usize, u8)> {
+    let (place, octet) = words.split_once(' ')?;
+    Some((place.parse().ok()?, u8::from_str_radix(octet, 16).ok()?))
 }
 
-/// The last timestamp in a certificate's list.
-fn last_sct(alloc: Global, cert: &CertView) -> Result<Option<Sct>, Fail> {
+// The last timestamp in a certificate's list, whether its log is the one, its milliseconds, its
+// extensions, its algorithms and the length of its signature, and whether its copy equals it.
+const TIMESTAMPS: &str = "\
+timestamp listed => (true, 1764225540123, 0, [4, 3], 70, true)
+precert_tbs p256 => true
+sct_signed_bytes listed => signed
+sct_signed_bytes_of_zeros listed 16777216 => SctList
+sct_list 04020000 => 0
+sct_list  => SctList
+sct_list 0400 => SctList
+sct_list 04020001 => SctList
+sct_list 0403000000 => SctList
+sct_list 0402000000 => SctList
+sct_list 05020000 => SctList
+sct_list 040400020000 => SctList
+sct_list 04050003000100 => SctList";
+
+/// The timestamps in a certificate's list.
+fn scts_of(alloc: Global, cert: &CertView) -> Result<Vec<Sct>, X509Error> {
     let oid = ObjectIdentifier::new("1.3.6.1.4.1.11129.2.4.2")?;
     match cert.extension(&oid) {
-        Some(extension) => {
-            let mut scts = sct_list(alloc, extension.value)?;
-            Ok(scts.pop())
-        }
-        None => Ok(None),
+        Some(extension) => sct_list(alloc, extension.value),
+        None => Err(X509Error::Extension),
     }
 }
 
-fn has_wanted_parts(sct: &Sct) -> bool {
-    sct.log_id() == &LOG
-        && sct.milliseconds() == 1764225540123
-        && sct.extensions().is_empty()
-        && sct.algorithm() == [4, 3]
-        && sct.signature().len() == 70
+type TimestampParts = (bool, u64, usize, [u8; 2], usize, bool);
+
+fn last_timestamp(alloc: Global, bytes: &[u8]) -> Result<TimestampParts, X509Error> {
+    let cert = CertView::parse(bytes)?;
+    let scts = scts_of(alloc, &cert)?;
+    let sct = scts.last().ok_or(X509Error::SctList)?;
+    let copy = sct.duplicate(alloc)?;
+    Ok((
+        sct.log_id() == &LOG,
+        sct.milliseconds(),
+        sct.extensions().len(),
+        sct.algorithm(),
+        sct.signature().len(),
+        copy == *sct,
+    ))
 }
 
-#[test]
-fn timestamps(rt: HostRuntime) -> Result<(), Fail> {
-    let alloc = rt.alloc();
-    let bytes = hex::decode(alloc, listed())?;
-    let cert = CertView::parse(&bytes)?;
-    match last_sct(alloc, &cert)? {
-        Some(sct) => {
-            let copy = sct.duplicate(alloc)?;
-            assert!(rt; has_wanted_parts(&sct) && copy == sct);
-        }
-        None => assert!(rt; false),
-    }
-    Ok(())
+/// The number of timestamps in a list.
+fn timestamps_in(alloc: Global, bytes: &[u8]) -> Result<usize, X509Error> {
+    Ok(sct_list(alloc, bytes)?.len())
 }
 
-/// What the log signed for a certificate, in hexadecimal.
-fn signed_for(alloc: Global, cert: &CertView, sct: &Sct) -> Result<String, Fail> {
-    let tbs = precert_tbs(alloc, cert)?;
-    let bytes = sct_signed_bytes(alloc, sct, &ISSUER, tbs.as_bytes())?;
-    Ok(hex::encode(alloc, bytes.as_bytes())?)
+/// Whether what a log signs for a certificate without timestamps is its signed part.
+fn is_signed_part(alloc: Global, bytes: &[u8]) -> Result<bool, X509Error> {
+    let cert = CertView::parse(bytes)?;
+    Ok(precert_tbs(alloc, &cert)?.as_bytes() == cert.tbs)
 }
 
-#[test]
-fn signed_bytes(rt: HostRuntime) -> Result<(), Fail> {
-    let alloc = rt.alloc();
-    let bytes = hex::decode(alloc, listed())?;
-    let cert = CertView::parse(&bytes)?;
-    match last_sct(alloc, &cert)? {
-        Some(sct) => {
-            assert_eq!(rt; signed_for(alloc, &cert, &sct)?.as_str(), signed());
-            let long = zeros(alloc, 16777216)?;
-            let refused = sct_signed_bytes(alloc, &sct, &ISSUER, &long).err();
-            assert!(rt; refused == Some(X509Error::SctList));
-        }
-        None => assert!(rt; false),
-    }
-    Ok(())
+/// What the log of a certificate's last timestamp signs with it for a signed part.
+fn signed_with(alloc: Global, cert: &CertView, tbs: &[u8]) -> Result<OctetString, X509Error> {
+    let scts = scts_of(alloc, cert)?;
+    let sct = scts.last().ok_or(X509Error::SctList)?;
+    sct_signed_bytes(alloc, sct, &ISSUER, tbs)
 }
 
-#[test]
-fn signed_part_without_timestamps(rt: HostRuntime) -> Result<(), Fail> {
-    let alloc = rt.alloc();
-    let bytes = hex::decode(alloc, p256())?;
-    let cert = CertView::parse(&bytes)?;
-    assert_eq!(rt; precert_tbs(alloc, &cert)?.as_bytes(), cert.tbs);
-    Ok(())
+/// What the log signed for a certificate.
+fn signed_for(alloc: Global, bytes: &[u8]) -> Result<OctetString, X509Error> {
+    let cert = CertView::parse(bytes)?;
+    let tbs = precert_tbs(alloc, &cert)?;
+    signed_with(alloc, &cert, tbs.as_bytes())
 }
 
-fn bad_lists() -> [&'static str; 8] {
-    [
-        "",
-        "0400",
-        "04020001",
-        "0403000000",
-        "0402000000",
-        "05020000",
-        "040400020000",
-        "04050003000100",
-    ]
+/// The same for so many octets 0 in place of the signed part.
+fn signed_zeros(alloc: Global, bytes: &[u8], count: &str) -> Result<OctetString, X509Error> {
+    let cert = CertView::parse(bytes)?;
+    let zeros = vec![in alloc; 0u8; number(count)]?;
+    signed_with(alloc, &cert, &zeros)
 }
 
-#[test]
-fn lists_of_timestamps(rt: HostRuntime) -> Result<(), Fail> {
-    let alloc = rt.alloc();
-    let empty = hex::decode(alloc, "04020000")?;
-    assert!(rt; sct_list(alloc, &empty)?.is_empty());
-    let rows = bad_lists();
-    for text in &rows {
-        let bytes = hex::decode(alloc, text)?;
-        assert!(rt; sct_list(alloc, &bytes).err() == Some(X509Error::SctList));
-    }
-    Ok(())
-}
+// Names of other forms; the first octet is the tag.
+const OTHER_NAMES: &str = "\
+OtherName::new 826162 => 82026162
+OtherName::tag_byte 826162 => Tag(130)
+OtherName::new 8161 => Value";
 
-/// Why the bytes of a hexadecimal text are refused as a value; None where they are read, are equal
-/// to a copy and are written again.
-fn owned_refusal<T: Der + Duplicate + PartialEq>(
-    alloc: Global,
-    text: &str,
-) -> Result<Option<DerError>, Fail> {
-    let bytes = hex::decode(alloc, text)?;
-    match T::from_der(alloc, &bytes) {
-        Ok(value) => {
-            let copy = value.duplicate(alloc)?;
-            if copy == value && copy.to_der(alloc)?.as_bytes() == bytes.as_slice() {
-                Ok(None)
-            } else {
-                Ok(Some(DerError::Oid))
-            }
-        }
-        Err(refusal) => Ok(Some(refusal)),
+fn other_name(alloc: Global, bytes: &[u8]) -> Result<OtherName, DerError> {
+    match bytes {
+        [tag, contents @ ..] => OtherName::new(alloc, Tag(*tag), contents),
+        [] => Err(DerError::Truncated),
     }
 }
 
-fn answers<T: Der + Duplicate + PartialEq>(
-    alloc: Global,
-    rows: &[(&str, Option<DerError>)],
-) -> Result<bool, Fail> {
-    for (text, refusal) in rows {
-        if owned_refusal::<T>(alloc, text)? != *refusal {
-            return Ok(false);
-        }
-    }
-    Ok(true)
-}
-
-fn reads_algorithms(alloc: Global) -> Result<bool, Fail> {
-    let rows = [
-        ("300d06092a864886f70d01010b0500", None),
-        ("300506032b6570", None),
-        ("300706032b65700500ff", Some(DerError::Trailing)),
-        ("300906032b657005000500", Some(DerError::Trailing)),
-    ];
-    answers::<AlgorithmIdentifierOwned>(alloc, &rows)
-}
-
-fn reads_attributes(alloc: Global) -> Result<bool, Fail> {
-    let rows = [
-        ("310c300a06032b65703103020101", None),
-        ("3100", None),
-        (
-            "310f300d06032b65703106020101020101",
-            Some(DerError::SetDuplicate),
-        ),
-    ];
-    answers::<Attributes>(alloc, &rows)
-}
-
-fn reads_extensions(alloc: Global) -> Result<bool, Fail> {
-    let rows = [
-        ("300e0603551d0f0101ff040403020780", None),
-        ("300b0603551d0f040403020780", None),
-        ("300e0603551d0f010100040403020780", Some(DerError::Value)),
-    ];
-    answers::<Extension>(alloc, &rows)
-}
-
-fn reads_names(alloc: Global) -> Result<bool, Fail> {
-    let rows = [
-        ("8103614062", None),
-        ("8603613a62", None),
-        ("a000", None),
-        ("8704c0000201", None),
-        ("8101ff", Some(DerError::Value)),
-        ("a100", Some(DerError::Tag)),
-    ];
-    answers::<GeneralName>(alloc, &rows)
-}
-
-fn reads_times(alloc: Global) -> Result<bool, Fail> {
-    let rows = [
-        ("170d3236313132373036333835395a", None),
-        ("180f32303236313132373036333835395a", None),
-        ("170d3236313332373036333835395a", Some(DerError::Value)),
-        ("160100", Some(DerError::Tag)),
-    ];
-    answers::<Time>(alloc, &rows)
+fn tag_of(alloc: Global, bytes: &[u8]) -> Result<Tag, DerError> {
+    Ok(other_name(alloc, bytes)?.tag_byte())
 }
 
 #[test]
-fn owned_types(rt: HostRuntime) -> Result<(), Fail> {
-    let alloc = rt.alloc();
-    assert!(rt; reads_algorithms(alloc)?);
-    assert!(rt; reads_attributes(alloc)?);
-    assert!(rt; reads_extensions(alloc)?);
-    assert!(rt; reads_names(alloc)?);
-    assert!(rt; reads_times(alloc)?);
-    Ok(())
-}
-
-fn reads_serial_numbers(alloc: Global) -> Result<bool, Fail> {
-    let rows = [
-        ("0215008000000000000000000000000000000000000001", None),
-        (
-            "021600800000000000000000000000000000000000000001",
-            Some(DerError::Value),
-        ),
-        ("0200", Some(DerError::Value)),
-    ];
-    answers::<SerialNumber>(alloc, &rows)
-}
-
-fn reads_certificate_lists(alloc: Global) -> Result<bool, Fail> {
-    let rows = [
-        ("3006300005000500", None),
-        ("300430000500", Some(DerError::Value)),
-        ("3008300005000500", Some(DerError::Truncated)),
-        ("3008300005000500ff00", Some(DerError::Value)),
-    ];
-    answers::<CertificateList>(alloc, &rows)
-}
-
-fn reads_certificates(alloc: Global) -> Result<bool, Fail> {
-    let rows = [
-        (p256(), None),
-        (ed25519(), None),
-        ("3000", Some(DerError::Value)),
-    ];
-    answers::<Certificate>(alloc, &rows)
-}
-
-#[test]
-fn kept_types(rt: HostRuntime) -> Result<(), Fail> {
-    let alloc = rt.alloc();
-    assert!(rt; answers::<Name>(alloc, &[("3000", None), ("3002ffff", None)])?);
-    assert!(rt; answers::<SubjectKeyIdentifier>(alloc, &[("0400", None)])?);
-    assert!(rt; reads_serial_numbers(alloc)?);
-    assert!(rt; reads_certificate_lists(alloc)?);
-    assert!(rt; reads_certificates(alloc)?);
-    Ok(())
-}
-
-#[test]
-fn other_names(rt: HostRuntime) -> Result<(), Fail> {
-    let alloc = rt.alloc();
-    let other = OtherName::new(alloc, Tag(0x82), &[0x61, 0x62])?;
-    assert_eq!(rt; other.tag_byte().0, 0x82);
-    assert_eq!(rt;
-        other.to_der(alloc)?.as_bytes(),
-        [0x82u8, 0x02, 0x61, 0x62].as_slice()
-    );
-    assert!(rt; OtherName::new(alloc, Tag(0x81), &[0x61]).is_err());
-    Ok(())
+fn certificates(rt: HostRuntime) -> Result<(), Fail> {
+    let tables = [PLACES, EXTENSIONS, KEYS, CHANGES, TIMESTAMPS, OTHER_NAMES];
+    check_rows(&rt, rt.alloc(), &tables)
 }

@@ -6,4 +6,8 @@ mod certificate_data;
 #[cfg(test)]
 mod certificates;
 #[cfg(test)]
+mod encodings;
+#[cfg(test)]
 mod leaves;
+#[cfg(test)]
+mod tables;
