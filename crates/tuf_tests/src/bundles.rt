@@ -1,251 +1,127 @@
 // The refusal of each text, worked out by hand from the order of the members.
+use crate::words::{filled, printed, word};
 use foundation::Duplicate;
 use sigstore_types::*;
 use std::alloc::Global;
+use std::process::Abort;
 use std::test::Fail;
 
-const MEDIA_TYPE: &str = "application/vnd.dev.sigstore.bundle.v0.3+json";
-
-fn field(member: TypesMember) -> Option<TypesError> {
-    Some(TypesError::Field { member })
+// The word for a text of this kind.
+fn read(alloc: Global, kind: &str, bytes: &[u8]) -> Result<String, Fail> {
+    match kind {
+        "bundle" => word(alloc, &Bundle::from_json(alloc, bytes)),
+        "trust file" => word(alloc, &TrustedRoot::from_json(alloc, bytes)),
+        _ => Err(Fail::from("no such kind")),
+    }
 }
 
-fn unbuilt(form: Form) -> Option<TypesError> {
-    Some(TypesError::Unbuilt(form))
+// Each row has what stands in the text for its star, and the word for the text.
+fn check(rt: &impl Abort, alloc: Global, kind: &str, text: &str, rows: &str) -> Result<(), Fail> {
+    for row in rows.lines() {
+        let (part, wanted) = row.split_once(" => ").ok_or("a row")?;
+        let text = filled(alloc, text, part)?;
+        assert_eq!(rt;
+            read(alloc, kind, text.as_bytes())?.as_str(),
+            wanted,
+            "{row}"
+        );
+    }
+    Ok(())
 }
 
 #[test]
 fn texts_and_media_types(rt: HostRuntime) -> Result<(), Fail> {
-    for (text, refusal) in [
-        (r#"{"#, Some(TypesError::Json)),
-        (r#"{"mediaType":1.5}"#, Some(TypesError::Float)),
-        (r#"{"other":[1e0]}"#, Some(TypesError::Float)),
-        (r#"[]"#, Some(TypesError::Json)),
-        (r#"{}"#, field(TypesMember::MediaType)),
-        (r#"{"mediaType":null}"#, field(TypesMember::MediaType)),
-        (r#"{"mediaType":["x"]}"#, field(TypesMember::MediaType)),
-        (
-            r#"{"mediaType":"application/vnd.dev.sigstore.bundle+json;version=0.4"}"#,
-            Some(TypesError::MediaType),
-        ),
-        (
-            r#"{"mediaType":"application/vnd.dev.sigstore.bundle.v0.2+json"}"#,
-            Some(TypesError::MediaType),
-        ),
-        (
-            r#"{"mediaType":"application/vnd.dev.sigstore.bundle+json;version=0.1"}"#,
-            field(TypesMember::VerificationMaterial),
-        ),
-        (
-            r#"{"mediaType":"application/vnd.dev.sigstore.bundle+json;version=0.2"}"#,
-            field(TypesMember::VerificationMaterial),
-        ),
-        (
-            r#"{"mediaType":"application/vnd.dev.sigstore.bundle+json;version=0.3"}"#,
-            field(TypesMember::VerificationMaterial),
-        ),
-        (
-            r#"{"mediaType":"application/vnd.dev.sigstore.bundle.v0.3+json"}"#,
-            field(TypesMember::VerificationMaterial),
-        ),
-    ] {
-        assert_eq!(rt;
-            Bundle::from_json(rt.alloc(), text.as_bytes()).err(),
-            refusal,
-            "{text}"
-        );
-    }
-    assert_eq!(rt;
-        Bundle::from_json(rt.alloc(), &[0xff]).err(),
-        Some(TypesError::Json)
-    );
+    let alloc = rt.alloc();
+    let rows = r#"{ => Json
+{"mediaType":1.5} => Float
+{"other":[1e0]} => Float
+[] => Json
+{} => Field { member: MediaType }
+{"mediaType":null} => Field { member: MediaType }
+{"mediaType":["x"]} => Field { member: MediaType }
+{"mediaType":"application/vnd.dev.sigstore.bundle+json;version=0.4"} => MediaType
+{"mediaType":"application/vnd.dev.sigstore.bundle.v0.2+json"} => MediaType
+{"mediaType":"application/vnd.dev.sigstore.bundle+json;version=0.1"} => Field { member: VerificationMaterial }
+{"mediaType":"application/vnd.dev.sigstore.bundle+json;version=0.2"} => Field { member: VerificationMaterial }
+{"mediaType":"application/vnd.dev.sigstore.bundle+json;version=0.3"} => Field { member: VerificationMaterial }
+{"mediaType":"application/vnd.dev.sigstore.bundle.v0.3+json"} => Field { member: VerificationMaterial }"#;
+    check(&rt, alloc, "bundle", "*", rows)?;
+    assert_eq!(rt; read(alloc, "bundle", &[0xff])?.as_str(), "Json");
     Ok(())
 }
 
 #[test]
 fn verification_materials(rt: HostRuntime) -> Result<(), Fail> {
-    for (material, refusal) in [
-        (r#"null"#, field(TypesMember::VerificationMaterial)),
-        (r#"[]"#, field(TypesMember::VerificationMaterial)),
-        (r#"{}"#, field(TypesMember::VerificationMaterial)),
-        (
-            r#"{"publicKey":null,"tlogEntries":0}"#,
-            field(TypesMember::VerificationMaterial),
-        ),
-        (
-            r#"{"certificate":{"rawBytes":"AA=="},"publicKey":0}"#,
-            unbuilt(Form::Certificate),
-        ),
-        (r#"{"certificate":0}"#, unbuilt(Form::Certificate)),
-        (r#"{"x509CertificateChain":{}}"#, unbuilt(Form::Certificate)),
-        (
-            r#"{"publicKey":{},"certificate":null,"x509CertificateChain":null}"#,
-            None,
-        ),
-        (r#"{"publicKey":"k"}"#, field(TypesMember::PublicKey)),
-        (
-            r#"{"publicKey":{"hint":0},"tlogEntries":0}"#,
-            field(TypesMember::Hint),
-        ),
-        (r#"{"publicKey":{"hint":null}}"#, None),
-        (
-            r#"{"publicKey":{},"tlogEntries":{}}"#,
-            field(TypesMember::TlogEntries),
-        ),
-        (
-            r#"{"publicKey":{},"tlogEntries":[0],"timestampVerificationData":0}"#,
-            unbuilt(Form::Entries),
-        ),
-        (r#"{"publicKey":{},"tlogEntries":[]}"#, None),
-        (r#"{"publicKey":{},"tlogEntries":null}"#, None),
-        (
-            r#"{"publicKey":{},"timestampVerificationData":[]}"#,
-            field(TypesMember::TimestampVerificationData),
-        ),
-        (r#"{"publicKey":{},"timestampVerificationData":null}"#, None),
-        (r#"{"publicKey":{},"timestampVerificationData":{}}"#, None),
-        (
-            r#"{"publicKey":{},"timestampVerificationData":{"rfc3161Timestamps":0}}"#,
-            field(TypesMember::Rfc3161Timestamps),
-        ),
-        (
-            r#"{"publicKey":{},"timestampVerificationData":{"rfc3161Timestamps":[]}}"#,
-            None,
-        ),
-        (
-            r#"{"publicKey":{},"timestampVerificationData":{"rfc3161Timestamps":[0]}}"#,
-            unbuilt(Form::Tokens),
-        ),
-    ] {
-        let text = format!(in rt.alloc();
-            r#"{{"messageSignature":{{"signature":"AQ=="}},"mediaType":"{MEDIA_TYPE}","verificationMaterial":{material}}}"#
-        )?;
-        assert_eq!(rt;
-            Bundle::from_json(rt.alloc(), text.as_bytes()).err(),
-            refusal,
-            "{material}"
-        );
-    }
-    Ok(())
+    let alloc = rt.alloc();
+    let text =
+        r#"{"messageSignature":{"signature":"AQ=="},"mediaType":"application/vnd.dev.sigstore.bundle.v0.3+json","verificationMaterial":*}"#;
+    let rows = r#"null => Field { member: VerificationMaterial }
+[] => Field { member: VerificationMaterial }
+{} => Field { member: VerificationMaterial }
+{"publicKey":null,"tlogEntries":0} => Field { member: VerificationMaterial }
+{"certificate":{"rawBytes":"AA=="},"publicKey":0} => Unbuilt(Certificate)
+{"certificate":0} => Unbuilt(Certificate)
+{"x509CertificateChain":{}} => Unbuilt(Certificate)
+{"publicKey":{},"certificate":null,"x509CertificateChain":null} => Ok
+{"publicKey":"k"} => Field { member: PublicKey }
+{"publicKey":{"hint":0},"tlogEntries":0} => Field { member: Hint }
+{"publicKey":{"hint":null}} => Ok
+{"publicKey":{},"tlogEntries":{}} => Field { member: TlogEntries }
+{"publicKey":{},"tlogEntries":[0],"timestampVerificationData":0} => Unbuilt(Entries)
+{"publicKey":{},"tlogEntries":[]} => Ok
+{"publicKey":{},"tlogEntries":null} => Ok
+{"publicKey":{},"timestampVerificationData":[]} => Field { member: TimestampVerificationData }
+{"publicKey":{},"timestampVerificationData":null} => Ok
+{"publicKey":{},"timestampVerificationData":{}} => Ok
+{"publicKey":{},"timestampVerificationData":{"rfc3161Timestamps":0}} => Field { member: Rfc3161Timestamps }
+{"publicKey":{},"timestampVerificationData":{"rfc3161Timestamps":[]}} => Ok
+{"publicKey":{},"timestampVerificationData":{"rfc3161Timestamps":[0]}} => Unbuilt(Tokens)"#;
+    check(&rt, alloc, "bundle", text, rows)
 }
 
-// The refusal of a bundle with this content, if there is one.
-fn refusal_of(alloc: Global, content: &str) -> Result<Option<TypesError>, Fail> {
-    let text = format!(in alloc;
-        r#"{{"mediaType":"{MEDIA_TYPE}","verificationMaterial":{{"publicKey":{{}}}}{content}}}"#
-    )?;
-    Ok(Bundle::from_json(alloc, text.as_bytes()).err())
-}
-
+// Message signatures, their digests, and envelopes.
 #[test]
-fn message_signatures(rt: HostRuntime) -> Result<(), Fail> {
-    for (content, refusal) in [
-        (r#""#, Some(TypesError::Json)),
-        (r#","messageSignature":null"#, Some(TypesError::Json)),
-        (
-            r#","messageSignature":0"#,
-            field(TypesMember::MessageSignature),
-        ),
-        (r#","messageSignature":{}"#, field(TypesMember::Signature)),
-        (
-            r#","messageSignature":{"signature":0}"#,
-            field(TypesMember::Signature),
-        ),
-        (
-            r#","messageSignature":{"signature":"AQ="}"#,
-            Some(TypesError::Base64),
-        ),
-    ] {
-        assert_eq!(rt; refusal_of(rt.alloc(), content)?, refusal, "{content}");
-    }
-    Ok(())
+fn contents(rt: HostRuntime) -> Result<(), Fail> {
+    let alloc = rt.alloc();
+    let text =
+        r#"{"mediaType":"application/vnd.dev.sigstore.bundle.v0.3+json","verificationMaterial":{"publicKey":{}}*}"#;
+    let rows = r#" => Json
+,"messageSignature":null => Json
+,"messageSignature":0 => Field { member: MessageSignature }
+,"messageSignature":{} => Field { member: Signature }
+,"messageSignature":{"signature":0} => Field { member: Signature }
+,"messageSignature":{"signature":"AQ="} => Base64
+,"messageSignature":{"signature":"AQ==","messageDigest":null} => Ok
+,"messageSignature":{"messageDigest":0} => Field { member: MessageDigest }
+,"messageSignature":{"messageDigest":{}} => Field { member: Algorithm }
+,"messageSignature":{"messageDigest":{"algorithm":0}} => Field { member: Algorithm }
+,"messageSignature":{"messageDigest":{"algorithm":"md5"}} => Field { member: Algorithm }
+,"messageSignature":{"messageDigest":{"algorithm":"SHA2_384"}} => Unbuilt(Digest)
+,"messageSignature":{"messageDigest":{"algorithm":"sha256"}} => Unbuilt(Digest)
+,"messageSignature":{"messageDigest":{"algorithm":"SHA2_256"}} => Field { member: Digest }
+,"messageSignature":{"messageDigest":{"algorithm":"SHA2_256","digest":"?"},"signature":0} => Base64
+,"messageSignature":{"messageDigest":{"algorithm":"SHA2_256","digest":"AQ=="}} => Field { member: Signature }
+,"dsseEnvelope":{} => Unbuilt(Envelope)
+,"messageSignature":{"signature":"AQ=="},"dsseEnvelope":0 => Unbuilt(Envelope)
+,"messageSignature":{},"dsseEnvelope":{} => Field { member: Signature }
+,"messageSignature":{"signature":"AQ=="},"dsseEnvelope":null => Ok"#;
+    check(&rt, alloc, "bundle", text, rows)
 }
 
-#[test]
-fn message_digests(rt: HostRuntime) -> Result<(), Fail> {
-    for (content, refusal) in [
-        (
-            r#","messageSignature":{"signature":"AQ==","messageDigest":null}"#,
-            None,
-        ),
-        (
-            r#","messageSignature":{"messageDigest":0}"#,
-            field(TypesMember::MessageDigest),
-        ),
-        (
-            r#","messageSignature":{"messageDigest":{}}"#,
-            field(TypesMember::Algorithm),
-        ),
-        (
-            r#","messageSignature":{"messageDigest":{"algorithm":0}}"#,
-            field(TypesMember::Algorithm),
-        ),
-        (
-            r#","messageSignature":{"messageDigest":{"algorithm":"md5"}}"#,
-            field(TypesMember::Algorithm),
-        ),
-        (
-            r#","messageSignature":{"messageDigest":{"algorithm":"SHA2_384"}}"#,
-            unbuilt(Form::Digest),
-        ),
-        (
-            r#","messageSignature":{"messageDigest":{"algorithm":"sha256"}}"#,
-            unbuilt(Form::Digest),
-        ),
-        (
-            r#","messageSignature":{"messageDigest":{"algorithm":"SHA2_256"}}"#,
-            field(TypesMember::Digest),
-        ),
-        (
-            r#","messageSignature":{"messageDigest":{"algorithm":"SHA2_256","digest":"?"},"signature":0}"#,
-            Some(TypesError::Base64),
-        ),
-        (
-            r#","messageSignature":{"messageDigest":{"algorithm":"SHA2_256","digest":"AQ=="}}"#,
-            field(TypesMember::Signature),
-        ),
-    ] {
-        assert_eq!(rt; refusal_of(rt.alloc(), content)?, refusal, "{content}");
-    }
-    Ok(())
-}
-
-#[test]
-fn envelopes(rt: HostRuntime) -> Result<(), Fail> {
-    for (content, refusal) in [
-        (r#","dsseEnvelope":{}"#, unbuilt(Form::Envelope)),
-        (
-            r#","messageSignature":{"signature":"AQ=="},"dsseEnvelope":0"#,
-            unbuilt(Form::Envelope),
-        ),
-        (
-            r#","messageSignature":{},"dsseEnvelope":{}"#,
-            field(TypesMember::Signature),
-        ),
-        (
-            r#","messageSignature":{"signature":"AQ=="},"dsseEnvelope":null"#,
-            None,
-        ),
-    ] {
-        assert_eq!(rt; refusal_of(rt.alloc(), content)?, refusal, "{content}");
-    }
-    Ok(())
+fn bundle_copied(alloc: Global, text: &str) -> Result<Bundle, TypesError> {
+    Ok(Bundle::from_json(alloc, text.as_bytes())?.duplicate(alloc)?)
 }
 
 #[test]
 fn a_bundle_over_hello(rt: HostRuntime) -> Result<(), Fail> {
+    let alloc = rt.alloc();
     let text =
         r#"{"mediaType":"application/vnd.dev.sigstore.bundle.v0.3+json","verificationMaterial":{"publicKey":{"hint":"k"}},"messageSignature":{"messageDigest":{"algorithm":"SHA2_256","digest":"LPJNul+wow4m6DsqxbninhsWHlwfp0JecwQzYpOLmCQ="},"signature":"AQ=="}}"#;
-    let bundle = Bundle::from_json(rt.alloc(), text.as_bytes())?.duplicate(rt.alloc())?;
-    assert_eq!(rt; bundle.media_type.as_str(), MEDIA_TYPE);
-    let VerificationMaterialContent::PublicKey { hint } = &bundle.verification_material.content;
-    assert_eq!(rt; hint.as_ref().ok_or("a hint")?.as_str(), "k");
-    let SignatureContent::MessageSignature(message) = &bundle.content;
-    assert_eq!(rt; message.signature.as_bytes(), [1].as_slice());
-    let digest = message.message_digest.as_ref().ok_or("a digest")?;
-    assert_eq!(rt; digest.algorithm, HashAlgorithm::Sha2256);
-    let expected = "LPJNul+wow4m6DsqxbninhsWHlwfp0JecwQzYpOLmCQ=";
-    assert_eq!(rt; digest.digest.to_base64(rt.alloc())?.as_str(), expected);
+    let bundle = bundle_copied(alloc, text)?;
+    // The digest's bytes are those of the base64 text.
+    let wanted =
+        r#"Bundle { media_type: "application/vnd.dev.sigstore.bundle.v0.3+json", content: MessageSignature(MessageSignature { message_digest: Some(MessageDigest { algorithm: Sha2256, digest: [44, 242, 77, 186, 95, 176, 163, 14, 38, 232, 59, 42, 197, 185, 226, 158, 27, 22, 30, 92, 31, 167, 66, 94, 115, 4, 51, 98, 147, 139, 152, 36] }), signature: [1] }), verification_material: VerificationMaterial { content: PublicKey { hint: Some("k") } } }"#;
+    assert_eq!(rt; printed(alloc, &bundle)?.as_str(), wanted);
     assert_eq!(rt; validate_structure(&bundle, false), Ok(()));
     assert_eq!(rt; validate_structure(&bundle, true), Err(TypesError::NoEntry));
     Ok(())
@@ -253,40 +129,28 @@ fn a_bundle_over_hello(rt: HostRuntime) -> Result<(), Fail> {
 
 #[test]
 fn trust_files(rt: HostRuntime) -> Result<(), Fail> {
-    assert_eq!(rt;
-        TrustedRoot::from_json(rt.alloc(), b"{}")?.duplicate(rt.alloc())?,
-        TrustedRoot {}
-    );
-    assert_eq!(rt;
-        TrustedRoot::from_json(rt.alloc(), b"[]").err(),
-        Some(TypesError::Json)
-    );
-    assert_eq!(rt;
-        TrustedRoot::from_json(rt.alloc(), b"{").err(),
-        Some(TypesError::Json)
-    );
-    for (name, member) in [
-        ("tlogs", TypesMember::Tlogs),
-        ("ctlogs", TypesMember::Ctlogs),
-        (
-            "certificateAuthorities",
-            TypesMember::CertificateAuthorities,
-        ),
-        ("timestampAuthorities", TypesMember::TimestampAuthorities),
-    ] {
-        for (list, refusal) in [
-            ("[]", None),
-            ("null", None),
-            ("{}", field(member)),
-            ("[0]", unbuilt(Form::Trust)),
-        ] {
-            let text = format!(in rt.alloc(); r#"{{"{name}":{list}}}"#)?;
-            assert_eq!(rt;
-                TrustedRoot::from_json(rt.alloc(), text.as_bytes()).err(),
-                refusal,
-                "{text}"
-            );
-        }
-    }
+    let alloc = rt.alloc();
+    let rows = r#"{} => Ok
+[] => Json
+{ => Json
+{"tlogs":[]} => Ok
+{"tlogs":null} => Ok
+{"tlogs":{}} => Field { member: Tlogs }
+{"tlogs":[0]} => Unbuilt(Trust)
+{"ctlogs":[]} => Ok
+{"ctlogs":null} => Ok
+{"ctlogs":{}} => Field { member: Ctlogs }
+{"ctlogs":[0]} => Unbuilt(Trust)
+{"certificateAuthorities":[]} => Ok
+{"certificateAuthorities":null} => Ok
+{"certificateAuthorities":{}} => Field { member: CertificateAuthorities }
+{"certificateAuthorities":[0]} => Unbuilt(Trust)
+{"timestampAuthorities":[]} => Ok
+{"timestampAuthorities":null} => Ok
+{"timestampAuthorities":{}} => Field { member: TimestampAuthorities }
+{"timestampAuthorities":[0]} => Unbuilt(Trust)"#;
+    check(&rt, alloc, "trust file", "*", rows)?;
+    let file = TrustedRoot::from_json(alloc, b"{}")?.duplicate(alloc)?;
+    assert_eq!(rt; file, TrustedRoot {});
     Ok(())
 }

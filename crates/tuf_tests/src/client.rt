@@ -2,10 +2,12 @@
 ghost use Rattle.std.specs.Prelude.{Some, true};
 
 use crate::provider::{One, p256};
+use crate::words::{hold, word};
 use foundation::{Duplicate, NoMemory};
 use jiff::Timestamp;
+use sigstore_crypto::CryptoProvider;
 use sigstore_tuf::*;
-use sigstore_tuf_parts::{Error, TransportFault};
+use sigstore_tuf_parts::Error;
 use sigstore_types_parts::{Armor, Bytes, DerPublicKey, FailList};
 use std::alloc::Global;
 use std::test::Fail;
@@ -59,16 +61,21 @@ fn armor(alloc: Global) -> Result<OneKey, Fail> {
     })
 }
 
-// A repository with these documents, of which the timestamp may be absent.
-fn repository(alloc: Global, timestamp: Option<&str>) -> Result<MemoryRepository, Fail> {
-    let failures = FailList::new(Vec::new(alloc)).ok_or("a list")?;
-    let mut repo = MemoryRepository::new(alloc, failures);
-    if let Some(timestamp) = timestamp {
-        repo.put_metadata(alloc, "timestamp.json", timestamp.as_bytes())?;
+// Puts the documents, of which the timestamp may be absent.
+fn fill(alloc: Global, repo: &mut MemoryRepository, timestamp: &str) -> Result<(), Fail> {
+    if timestamp == "there" {
+        repo.put_metadata(alloc, "timestamp.json", TIMESTAMP.as_bytes())?;
     }
     repo.put_metadata(alloc, "snapshot.json", SNAPSHOT.as_bytes())?;
     repo.put_metadata(alloc, "targets.json", TARGETS.as_bytes())?;
     repo.put_target(alloc, "a", b"{}")?;
+    Ok(())
+}
+
+fn repository(alloc: Global, timestamp: &str) -> Result<MemoryRepository, Fail> {
+    let failures = FailList::new(Vec::new(alloc)).ok_or("a list")?;
+    let mut repo = MemoryRepository::new(alloc, failures);
+    fill(alloc, &mut repo, timestamp)?;
     Ok(repo)
 }
 
@@ -82,13 +89,24 @@ fn client<'a>(
 }
 
 #[test]
-fn limits_by_default(rt: HostRuntime) {
-    let config = UpdaterConfig::default();
-    assert!(rt; config.root_max_length == 512_000 && config.timestamp_max_length == 16_384);
-    assert!(rt; config.snapshot_max_length == 2_000_000);
-    assert!(rt; config.targets_max_length == 5_000_000);
-    assert!(rt; config.target_max_length == 50_000_000);
-    assert!(rt; config.max_root_rotations == 32 && config.max_delegations == 32);
+fn limits_by_default(rt: HostRuntime) -> Result<(), Fail> {
+    let limits = format!(in rt.alloc(); "{:?}", UpdaterConfig::default())?;
+    let wanted =
+        "UpdaterConfig { root_max_length: 512000, timestamp_max_length: 16384, snapshot_max_length: 2000000, targets_max_length: 5000000, target_max_length: 50000000, max_root_rotations: 32, max_delegations: 32 }";
+    assert_eq!(rt; limits.as_str(), wanted);
+    Ok(())
+}
+
+// The versions of the documents that are there.
+fn versions<C: CryptoProvider, M: Armor>(
+    alloc: Global,
+    set: &TrustedMetadataSet<C, M>,
+) -> Result<String, Fail> {
+    let root = set.root().version;
+    let timestamp = set.timestamp().map(|it| it.version);
+    let snapshot = set.snapshot().map(|it| it.version);
+    let targets = set.targets_role("targets").map(|it| it.version);
+    Ok(format!(in alloc; "{root} {timestamp:?} {snapshot:?} {targets:?}")?)
 }
 
 #[test]
@@ -96,72 +114,102 @@ fn a_set_of_a_root(rt: HostRuntime) -> Result<(), Fail> {
     let alloc = rt.alloc();
     let armor = armor(alloc)?;
     let set = TrustedMetadataSet::from_root(alloc, &One, &armor, ROOT.as_bytes())?;
-    assert_eq!(rt; set.root().version, 1);
-    assert!(rt; set.timestamp().is_none() && set.snapshot().is_none());
-    assert!(rt; set.targets_role("targets").is_none());
+    assert_eq!(rt; versions(alloc, &set)?.as_str(), "1 None None None");
     Ok(())
 }
+
+// How many roots and roles a chain has, whether its documents are those of the repository, the length of
+// its target, and its file.
+fn shown(alloc: Global, chain: &TrustChain) -> Result<String, Fail> {
+    let (roots, roles, length) = (chain.roots.len(), chain.roles.len(), chain.target.length);
+    let timestamp = chain.timestamp.as_bytes() == TIMESTAMP.as_bytes();
+    let snapshot = chain.snapshot.as_bytes() == SNAPSHOT.as_bytes();
+    let file = &chain.file;
+    Ok(format!(in alloc; "{roots} {roles} {timestamp} {snapshot} {length} {file:?}")?)
+}
+
+fn chain_shown(
+    alloc: Global,
+    client: &Updater<One, OneKey, MemoryRepository, NoStore>,
+) -> Result<String, Fail> {
+    match client.chain(alloc)? {
+        Some(chain) => shown(alloc, &chain),
+        None => Ok(String::from_str(alloc, "none")?),
+    }
+}
+
+fn told(
+    alloc: Global,
+    client: &mut Updater<One, OneKey, MemoryRepository, NoStore>,
+    call: &str,
+    now: Timestamp,
+) -> Result<String, Fail> {
+    match call {
+        "chain" => chain_shown(alloc, client),
+        "refresh" => word(alloc, &client.refresh(alloc, now)),
+        "versions" => versions(alloc, client.trusted()),
+        path => Ok(format!(in alloc; "{:?}", client.get_target(alloc, path, now))?),
+    }
+}
+
+// Calls of one client, one after the other. The file `a` is `{}`.
+const CALLS: &str = "chain => none
+refresh => Ok
+versions => 1 Some(2) Some(3) Some(4)
+a => Ok([123, 125])
+chain => 1 1 true true 2 [123, 125]";
 
 #[test]
 fn a_client_gets_a_target(rt: HostRuntime) -> Result<(), Fail> {
     let alloc = rt.alloc();
     let armor = armor(alloc)?;
     let now: Timestamp = "2025-01-01T00:00:00Z".parse()?;
-    let mut repo = repository(alloc, Some(TIMESTAMP))?;
+    let mut repo = repository(alloc, "there")?;
     let mut client = client(alloc, &armor, &mut repo)?;
-    assert!(rt; client.chain(alloc)?.is_none());
-    client.refresh(alloc, now)?;
-    let set = client.trusted();
-    assert_eq!(rt; set.timestamp().ok_or("a timestamp")?.version, 2);
-    assert_eq!(rt; set.snapshot().ok_or("a snapshot")?.version, 3);
-    assert_eq!(rt; set.targets_role("targets").ok_or("targets")?.version, 4);
-    let file = client.get_target(alloc, "a", now)?;
-    assert_eq!(rt; file.as_bytes(), "{}".as_bytes());
-    let chain = client.chain(alloc)?.ok_or("a chain")?;
-    assert!(rt; chain.roots.len() == 1 && chain.roles.len() == 1);
-    assert_eq!(rt; chain.timestamp.as_bytes(), TIMESTAMP.as_bytes());
-    assert_eq!(rt; chain.snapshot.as_bytes(), SNAPSHOT.as_bytes());
-    assert!(rt; chain.target.length == 2 && chain.file == file);
-    Ok(())
+    hold(
+        &rt,
+        CALLS,
+        |alloc, call| told(alloc, &mut client, call, now),
+    )
 }
 
-fn word_of(answer: &Result<(), Error>) -> &'static str {
-    match answer {
-        Ok(()) => "Ok",
-        Err(Error::Transport(TransportFault::Absent)) => "Absent",
-        Err(Error::Transport(TransportFault::Rotations { .. })) => "Rotations",
-        Err(error) => error.name(),
-    }
-}
-
-// What a refresh answers at a moment, with so many next roots at most.
+// What a refresh at a moment answers, with so many next roots at most.
 fn refreshed(
     alloc: Global,
-    timestamp: Option<&str>,
-    moment: &str,
+    armor: &OneKey,
+    repo: &mut MemoryRepository,
+    now: Timestamp,
     max_root_rotations: u32,
-) -> Result<&'static str, Fail> {
-    let armor = armor(alloc)?;
-    let now: Timestamp = moment.parse()?;
+) -> Result<String, Fail> {
     let config = UpdaterConfig {
         max_root_rotations,
         ..UpdaterConfig::default()
     };
-    let mut repo = repository(alloc, timestamp)?;
-    let mut client = client(alloc, &armor, &mut repo)?.with_config(config);
-    Ok(word_of(&client.refresh(alloc, now)))
+    let mut client = client(alloc, armor, repo)?.with_config(config);
+    word(alloc, &client.refresh(alloc, now))
 }
+
+// A row: whether the timestamp is there, the moment, how many next roots at most, and the answer.
+fn refresh(alloc: Global, row: &str) -> Result<String, Fail> {
+    let (timestamp, asked) = row.split_once(' ').ok_or("a timestamp")?;
+    let (moment, rotations) = asked.split_once(' ').ok_or("a moment")?;
+    let armor = armor(alloc)?;
+    let mut repo = repository(alloc, timestamp)?;
+    refreshed(
+        alloc,
+        &armor,
+        &mut repo,
+        moment.parse()?,
+        rotations.parse::<u32>()?,
+    )
+}
+
+const REFRESHES: &str = r#"there 2030-01-01T00:00:00Z 32 => Ok
+there 2030-01-01T00:00:01Z 32 => Expired { role: "timestamp", expires: 2030-01-01T00:00:00Z }
+there 2025-01-01T00:00:00Z 0 => Transport(Rotations { max: 0 })
+absent 2025-01-01T00:00:00Z 32 => Transport(Absent)"#;
 
 #[test]
 fn refreshes_are_judged(rt: HostRuntime) -> Result<(), Fail> {
-    let alloc = rt.alloc();
-    for (timestamp, moment, rotations, word) in [
-        (Some(TIMESTAMP), "2030-01-01T00:00:00Z", 32, "Ok"),
-        (Some(TIMESTAMP), "2030-01-01T00:00:01Z", 32, "Expired"),
-        (Some(TIMESTAMP), "2025-01-01T00:00:00Z", 0, "Rotations"),
-        (None, "2025-01-01T00:00:00Z", 32, "Absent"),
-    ] {
-        assert_eq!(rt; refreshed(alloc, timestamp, moment, rotations)?, word);
-    }
-    Ok(())
+    hold(&rt, REFRESHES, refresh)
 }

@@ -19,3 +19,5 @@ mod refusals;
 mod texts;
 #[cfg(test)]
 mod thresholds;
+#[cfg(test)]
+mod words;

@@ -1,190 +1,184 @@
-// Each object of the outside once, at its type and through its trait.
+// Each object of the outside, at its type and through its trait.
+use crate::words::{hold, printed, text_of};
 use sigstore_tuf::*;
 use sigstore_types_parts::{Bytes, FailList, Text};
 use std::alloc::Global;
+use std::fmt::{Debug, Display};
 use std::fs;
 use std::test::Fail;
 
+fn display<T: Display>(alloc: Global, value: &T) -> Result<String, Fail> {
+    Ok(format!(in alloc; "{value}")?)
+}
+
+fn named(alloc: Global, fault: &str) -> Result<String, Fail> {
+    match fault {
+        "FetchFault::Failed" => display(alloc, &FetchFault::Failed),
+        "FetchFault::TooLong" => display(alloc, &FetchFault::TooLong { seen: 1 }),
+        "FetchFault::NoMemory" => display(alloc, &FetchFault::NoMemory),
+        "StoreFault::Failed" => display(alloc, &StoreFault::Failed),
+        "StoreFault::BadName" => display(alloc, &StoreFault::BadName),
+        "StoreFault::NoMemory" => display(alloc, &StoreFault::NoMemory),
+        _ => Err("no fault")?,
+    }
+}
+
+const NAMES: &str = "FetchFault::Failed => Failed
+FetchFault::TooLong => TooLong
+FetchFault::NoMemory => NoMemory
+StoreFault::Failed => Failed
+StoreFault::BadName => BadName
+StoreFault::NoMemory => NoMemory";
+
 #[test]
 fn faults_print_their_names(rt: HostRuntime) -> Result<(), Fail> {
-    let alloc = rt.alloc();
-    for (fault, name) in [
-        (FetchFault::Failed, "Failed"),
-        (FetchFault::TooLong { seen: 1 }, "TooLong"),
-        (FetchFault::NoMemory, "NoMemory"),
-    ] {
-        assert_eq!(rt; format!(in alloc; "{fault}")?.as_str(), name);
-    }
-    for (fault, name) in [
-        (StoreFault::Failed, "Failed"),
-        (StoreFault::BadName, "BadName"),
-        (StoreFault::NoMemory, "NoMemory"),
-    ] {
-        assert_eq!(rt; format!(in alloc; "{fault}")?.as_str(), name);
-    }
-    Ok(())
+    hold(&rt, NAMES, named)
 }
 
-fn document<R: Repository>(
-    repo: &mut R,
-    alloc: Global,
-    name: &str,
-    max: u64,
-) -> Result<Option<Bytes>, FetchFault> {
-    repo.fetch_metadata(alloc, name, max)
-}
-
-fn target<R: Repository>(
-    repo: &mut R,
-    alloc: Global,
-    path: &str,
-    max: u64,
-) -> Result<Option<Bytes>, FetchFault> {
-    repo.fetch_target(alloc, path, max)
-}
-
-fn kept<S: MetadataStore>(
-    store: &mut S,
-    alloc: Global,
-    name: &str,
-) -> Result<Option<Bytes>, StoreFault> {
-    store.load(alloc, name)
-}
-
-fn keep<S: MetadataStore>(
-    store: &mut S,
-    alloc: Global,
-    name: &str,
-    bytes: &[u8],
-) -> Result<(), StoreFault> {
-    store.store(alloc, name, bytes)
-}
-
-#[test]
-fn names(rt: HostRuntime) {
-    let alloc = rt.alloc();
-    for (name, bad) in [
-        ("", false),
-        ("root.json", false),
-        ("a/b", false),
-        ("a//b", false),
-        ("./a", false),
-        ("...", false),
-        ("..a/b..", false),
-        ("/", true),
-        ("/a", true),
-        ("..", true),
-        ("../a", true),
-        ("a/..", true),
-        ("a/../b", true),
-        ("a/b/../..c", true),
-    ] {
-        let refused = kept(&mut NoStore, alloc, name).err() == Some(StoreFault::BadName);
-        assert_eq!(rt; refused, bad, "{name}");
+// What was found: the text of a short file, the length of a long one, none, or the fault.
+fn found<E: Debug + Drop>(alloc: Global, answer: Result<Option<Bytes>, E>) -> Result<String, Fail> {
+    match answer {
+        Ok(Some(bytes)) if bytes.as_bytes().len() < 100 => text_of(alloc, bytes.as_bytes()),
+        Ok(Some(bytes)) => Ok(printed(alloc, &bytes.as_bytes().len())?),
+        Ok(None) => Ok(String::from_str(alloc, "none")?),
+        Err(fault) => Ok(printed(alloc, &fault)?),
     }
 }
 
-fn is_text(found: &Option<Bytes>, text: &str) -> bool {
-    match found {
-        Some(bytes) => bytes.as_bytes() == text.as_bytes(),
-        None => false,
+// A fetch of a document or of a target, of at most so many bytes.
+fn fetched<R: Repository>(alloc: Global, repo: &mut R, row: &str) -> Result<String, Fail> {
+    let (call, asked) = row.split_once(' ').ok_or("a call")?;
+    let (max, name) = asked.split_once(' ').ok_or("a length and a name")?;
+    let max = max.parse::<u64>()?;
+    match call {
+        "metadata" => found(alloc, repo.fetch_metadata(alloc, name, max)),
+        _ => found(alloc, repo.fetch_target(alloc, name, max)),
     }
 }
 
-#[test]
-fn a_repository_in_memory(rt: HostRuntime) -> Result<(), Fail> {
-    let alloc = rt.alloc();
-    let failures = FailList::new(Vec::from_slice(alloc, &[2])?).ok_or("ascending")?;
-    let mut repo = MemoryRepository::new(alloc, failures);
-    repo.put_metadata(alloc, "timestamp.json", b"old")?;
-    repo.put_metadata(alloc, "timestamp.json", b"ab")?;
-    repo.put_target(alloc, "a/b", b"file")?;
-    assert!(rt; is_text(&document(&mut repo, alloc, "timestamp.json", 2)?, "ab"));
-    let failed = document(&mut repo, alloc, "timestamp.json", 2);
-    assert_eq!(rt; failed.err(), Some(FetchFault::Failed));
-    let long = document(&mut repo, alloc, "timestamp.json", 1);
-    assert_eq!(rt; long.err(), Some(FetchFault::TooLong { seen: 2 }));
-    assert!(rt; document(&mut repo, alloc, "a/b", 9)?.is_none());
-    assert!(rt; is_text(&target(&mut repo, alloc, "a/b", 9)?, "file"));
-    assert!(rt; target(&mut repo, alloc, "timestamp.json", 9)?.is_none());
-    Ok(())
+// A load, or the store of a text under a name.
+fn stored<S: MetadataStore>(alloc: Global, store: &mut S, row: &str) -> Result<String, Fail> {
+    let (call, asked) = row.split_once(' ').ok_or("a call")?;
+    match call {
+        "load" => found(alloc, store.load(alloc, asked)),
+        _ => {
+            let (name, text) = asked.split_once(' ').ok_or("a name and a text")?;
+            Ok(printed(alloc, &store.store(alloc, name, text.as_bytes()))?)
+        }
+    }
 }
 
-#[test]
-fn a_store_in_memory(rt: HostRuntime) -> Result<(), Fail> {
-    let alloc = rt.alloc();
-    let failures = FailList::new(Vec::from_slice(alloc, &[2])?).ok_or("ascending")?;
-    let mut store = MemoryStore::with_failures(alloc, failures);
-    keep(&mut store, alloc, "root.json", b"old")?;
-    let failed = keep(&mut store, alloc, "root.json", b"ab");
-    assert_eq!(rt; failed.err(), Some(StoreFault::Failed));
-    assert!(rt; is_text(&kept(&mut store, alloc, "root.json")?, "old"));
-    keep(&mut store, alloc, "root.json", b"ab")?;
-    assert!(rt; is_text(&kept(&mut store, alloc, "root.json")?, "ab"));
-    let mut other = MemoryStore::new(alloc);
-    assert!(rt; kept(&mut other, alloc, "root.json")?.is_none());
-    assert_eq!(rt;
-        keep(&mut other, alloc, "../a", b"").err(),
-        Some(StoreFault::BadName)
-    );
-    Ok(())
-}
+// Without a store nothing is there; names that are absolute or have a component `..` are bad.
+const NOTHING: &str = "store root.json ab => Ok(())
+load root.json => none
+load  => none
+load a/b => none
+load a//b => none
+load ./a => none
+load ... => none
+load ..a/b.. => none
+load / => BadName
+load /a => BadName
+load .. => BadName
+load ../a => BadName
+load a/.. => BadName
+load a/../b => BadName
+load a/b/../..c => BadName";
 
 #[test]
 fn no_store_at_all(rt: HostRuntime) -> Result<(), Fail> {
-    let alloc = rt.alloc();
-    let mut store = NoStore;
-    keep(&mut store, alloc, "root.json", b"ab")?;
-    assert!(rt; kept(&mut store, alloc, "root.json")?.is_none());
-    assert_eq!(rt;
-        kept(&mut store, alloc, "/a").err(),
-        Some(StoreFault::BadName)
-    );
-    Ok(())
+    hold(&rt, NOTHING, |alloc, row| stored(alloc, &mut NoStore, row))
 }
+
+fn second_fails(alloc: Global) -> Result<FailList, Fail> {
+    Ok(FailList::new(Vec::from_slice(alloc, &[2])?).ok_or("ascending")?)
+}
+
+fn repository(alloc: Global) -> Result<MemoryRepository, Fail> {
+    let mut repo = MemoryRepository::new(alloc, second_fails(alloc)?);
+    repo.put_metadata(alloc, "timestamp.json", b"old")?;
+    repo.put_metadata(alloc, "timestamp.json", b"ab")?;
+    repo.put_target(alloc, "a/b", b"file")?;
+    Ok(repo)
+}
+
+// The second call fails.
+const IN_MEMORY: &str = "metadata 2 timestamp.json => ab
+metadata 2 timestamp.json => Failed
+metadata 1 timestamp.json => TooLong { seen: 2 }
+metadata 9 a/b => none
+target 9 a/b => file
+target 9 timestamp.json => none";
+
+#[test]
+fn a_repository_in_memory(rt: HostRuntime) -> Result<(), Fail> {
+    let mut repo = repository(rt.alloc())?;
+    hold(&rt, IN_MEMORY, |alloc, row| fetched(alloc, &mut repo, row))
+}
+
+// The second call fails.
+const STORED: &str = "store root.json old => Ok(())
+store root.json ab => Err(Failed)
+load root.json => old
+store root.json ab => Ok(())
+load root.json => ab";
+
+const STORED_ELSEWHERE: &str = "load root.json => none
+store ../a  => Err(BadName)";
+
+#[test]
+fn stores_in_memory(rt: HostRuntime) -> Result<(), Fail> {
+    let mut store = MemoryStore::with_failures(rt.alloc(), second_fails(rt.alloc())?);
+    hold(&rt, STORED, |alloc, row| stored(alloc, &mut store, row))?;
+    let mut other = MemoryStore::new(rt.alloc());
+    hold(
+        &rt,
+        STORED_ELSEWHERE,
+        |alloc, row| stored(alloc, &mut other, row),
+    )
+}
+
+const IN_A_FOLDER: &str = "metadata 2 1.root.json => ab
+metadata 1 1.root.json => TooLong { seen: 2 }
+metadata 2 2.root.json => none
+metadata 2 targets/../1.root.json => none
+metadata 2 targets => Failed
+target 70000 a/b => 70000
+target 69999 a/b => TooLong { seen: 70000 }";
 
 #[test]
 fn a_repository_in_a_folder(rt: HostRuntime) -> Result<(), Fail> {
     let alloc = rt.alloc();
-    let long = vec![in alloc; 7u8; 70_000]?;
+    let long = vec![in alloc; b'7'; 70_000]?;
     fs::create_dir_all(&rt, "repo/targets/a")?;
     fs::write(&rt, "repo/1.root.json", "ab")?;
     fs::write(&rt, "repo/targets/a/b", long.as_slice())?;
     let mut repo = FileRepository::new(&rt, Text::new(alloc, "repo")?);
-    assert!(rt; is_text(&document(&mut repo, alloc, "1.root.json", 2)?, "ab"));
-    let refused = document(&mut repo, alloc, "1.root.json", 1);
-    assert_eq!(rt; refused.err(), Some(FetchFault::TooLong { seen: 2 }));
-    assert!(rt; document(&mut repo, alloc, "2.root.json", 2)?.is_none());
-    assert!(rt; document(&mut repo, alloc, "targets/../1.root.json", 2)?.is_none());
-    let folder = document(&mut repo, alloc, "targets", 2);
-    assert_eq!(rt; folder.err(), Some(FetchFault::Failed));
-    let found = target(&mut repo, alloc, "a/b", 70_000)?.ok_or("a file")?;
-    assert!(rt; found.as_bytes() == long.as_slice());
-    let refused = target(&mut repo, alloc, "a/b", 69_999);
-    assert_eq!(rt; refused.err(), Some(FetchFault::TooLong { seen: 70_000 }));
-    Ok(())
+    hold(
+        &rt,
+        IN_A_FOLDER,
+        |alloc, row| fetched(alloc, &mut repo, row),
+    )
 }
+
+const STORED_IN_A_FOLDER: &str = "load root_history/1.root.json => none
+store root_history/1.root.json a longer one => Ok(())
+store root_history/1.root.json ab => Ok(())
+load root_history/1.root.json => ab
+store root_history ab => Err(Failed)
+load a/../b => BadName";
 
 #[test]
 fn a_store_in_a_folder(rt: HostRuntime) -> Result<(), Fail> {
-    let alloc = rt.alloc();
-    let mut store = FileStore::new(&rt, Text::new(alloc, "store")?);
-    let name = "root_history/1.root.json";
-    assert!(rt; kept(&mut store, alloc, name)?.is_none());
-    keep(&mut store, alloc, name, b"a longer one")?;
-    keep(&mut store, alloc, name, b"ab")?;
-    assert!(rt; is_text(&kept(&mut store, alloc, name)?, "ab"));
-    assert_eq!(rt;
-        fs::read_to_string(&rt, "store/root_history/1.root.json")?.as_str(),
-        "ab"
-    );
+    let mut store = FileStore::new(&rt, Text::new(rt.alloc(), "store")?);
+    hold(
+        &rt,
+        STORED_IN_A_FOLDER,
+        |alloc, row| stored(alloc, &mut store, row),
+    )?;
+    let written = fs::read_to_string(&rt, "store/root_history/1.root.json")?;
+    assert_eq!(rt; written.as_str(), "ab");
     assert!(rt; !fs::exists(&rt, "store/root_history/1.root.json.new~")?);
-    let folder = keep(&mut store, alloc, "root_history", b"ab");
-    assert_eq!(rt; folder.err(), Some(StoreFault::Failed));
     assert!(rt; !fs::exists(&rt, "store/root_history.new~")?);
-    assert_eq!(rt;
-        kept(&mut store, alloc, "a/../b").err(),
-        Some(StoreFault::BadName)
-    );
     Ok(())
 }

@@ -1,208 +1,184 @@
 // Names and numbers of refusals, canonical texts, names of files, and members that are kept.
+use crate::words::{hold, printed, text_of};
 use foundation::Duplicate;
 use serde_json::Value;
 use sigstore_tuf_parts::*;
-use sigstore_types_parts::{Bytes, Form, FromValue, Text, parse_json};
+use sigstore_types_parts::{Form, FromValue, Json, Text, TextMap, parse_json};
 use std::alloc::Global;
-use std::process::Abort;
 use std::test::Fail;
 
-// A refusal that holds two texts, by its number.
-fn with_texts(alloc: Global, number: u8, first: Text) -> Result<Error, Fail> {
-    let second = Text::new(alloc, "k")?;
+// The refusals that hold no text.
+fn plain(number: u8) -> Error {
     match number {
-        5 => Ok(Error::UnsupportedScheme {
-            keytype: first,
-            scheme: second,
-        }),
-        7 => Ok(Error::DuplicateSignature {
-            role: first,
-            key_id: second,
-        }),
-        _ => Err(Fail::from("no such number")),
+        1 => Error::Json,
+        2 => Error::Malformed(Rule::Frame),
+        3 => Error::NonIntegerNumber,
+        11 => Error::BadRootVersion { trusted: 1, new: 3 },
+        13 => Error::IntegrityMismatch(Mismatch::TooLong),
+        14 => Error::Crypto,
+        15 => Error::NotRefreshed,
+        18 => Error::Transport(TransportFault::Rotations { max: 0 }),
+        19 => Error::NoMemory,
+        _ => Error::Unbuilt(Form::Rotation),
     }
 }
 
-// A refusal that holds a text, by its number.
-fn with_text(alloc: Global, number: u8) -> Result<Error, Fail> {
-    let text = Text::new(alloc, "r")?;
+// The refusals that hold one text.
+fn with_text(number: u8, text: Text) -> Error {
     match number {
-        4 => Ok(Error::UnusableKey { key_id: text }),
-        6 => Ok(Error::UnknownRole { name: text }),
-        8 => Ok(Error::ThresholdNotMet {
+        4 => Error::UnusableKey { key_id: text },
+        6 => Error::UnknownRole { name: text },
+        8 => Error::ThresholdNotMet {
             role: text,
             found: 0,
             threshold: 1,
-        }),
-        9 => Ok(Error::Rollback {
+        },
+        9 => Error::Rollback {
             role: text,
             trusted: 2,
             new: 1,
-        }),
-        10 => Ok(Error::EqualVersion {
+        },
+        10 => Error::EqualVersion {
             role: text,
             version: 1,
-        }),
-        12 => Ok(Error::Expired {
+        },
+        12 => Error::Expired {
             role: text,
             expires: jiff::Timestamp::UNIX_EPOCH,
-        }),
-        16 => Ok(Error::TargetNotFound { path: text }),
-        _ => with_texts(alloc, number, text),
+        },
+        _ => Error::TargetNotFound { path: text },
     }
 }
 
-// A refusal by its number.
-fn numbered(alloc: Global, number: u8) -> Result<Error, Fail> {
+// The refusals that hold two texts.
+fn with_texts(number: u8, first: Text, second: Text) -> Error {
     match number {
-        1 => Ok(Error::Json),
-        2 => Ok(Error::Malformed(Rule::Frame)),
-        3 => Ok(Error::NonIntegerNumber),
-        11 => Ok(Error::BadRootVersion { trusted: 1, new: 3 }),
-        13 => Ok(Error::IntegrityMismatch(Mismatch::TooLong)),
-        14 => Ok(Error::Crypto),
-        15 => Ok(Error::NotRefreshed),
-        18 => Ok(Error::Transport(TransportFault::Rotations { max: 0 })),
-        19 => Ok(Error::NoMemory),
-        90 => Ok(Error::Unbuilt(Form::Rotation)),
-        _ => with_text(alloc, number),
+        5 => Error::UnsupportedScheme {
+            keytype: first,
+            scheme: second,
+        },
+        _ => Error::DuplicateSignature {
+            role: first,
+            key_id: second,
+        },
     }
 }
 
-fn names() -> &'static [(u8, &'static str)] {
-    &[
-        (1, "Json"),
-        (2, "Malformed"),
-        (3, "NonIntegerNumber"),
-        (4, "UnusableKey"),
-        (5, "UnsupportedScheme"),
-        (6, "UnknownRole"),
-        (7, "DuplicateSignature"),
-        (8, "ThresholdNotMet"),
-        (9, "Rollback"),
-        (10, "EqualVersion"),
-        (11, "BadRootVersion"),
-        (12, "Expired"),
-        (13, "IntegrityMismatch"),
-        (14, "Crypto"),
-        (15, "NotRefreshed"),
-        (16, "TargetNotFound"),
-        (18, "Transport"),
-        (19, "NoMemory"),
-        (90, "Unbuilt"),
-    ]
+// A refusal of each number.
+fn sample(alloc: Global, number: u8) -> Result<Error, Fail> {
+    match number {
+        5 | 7 => Ok(with_texts(number, Text::new(alloc, "r")?, Text::new(alloc, "k")?)),
+        4 | 6 | 8 | 9 | 10 | 12 | 16 => Ok(with_text(number, Text::new(alloc, "r")?)),
+        _ => Ok(plain(number)),
+    }
 }
 
-fn prints(alloc: Global, error: &Error, text: &str) -> Result<bool, Fail> {
-    Ok(format!(in alloc; "{error}")?.as_str() == text)
+fn shown(alloc: Global, error: &Error) -> Result<String, Fail> {
+    let (number, name) = (error.number(), error.name());
+    Ok(format!(in alloc; "{number} {name} {error}")?)
 }
 
-fn check_error(
-    rt: &impl Abort,
-    alloc: Global,
-    error: &Error,
-    name: &str,
-    number: u8,
-) -> Result<(), Fail> {
-    assert!(rt; prints(alloc, error, name)?, "at {name}");
-    assert_eq!(rt; error.name(), name);
-    assert_eq!(rt; error.number(), number);
-    Ok(())
+fn named(alloc: Global, number: &str) -> Result<String, Fail> {
+    let error = sample(alloc, number.parse::<u8>()?)?;
+    shown(alloc, &error)
 }
+
+// A row: which refusal, and its number, its name and its display text.
+const REFUSALS: &str = "1 => 1 Json Json
+2 => 2 Malformed Malformed
+3 => 3 NonIntegerNumber NonIntegerNumber
+4 => 4 UnusableKey UnusableKey
+5 => 5 UnsupportedScheme UnsupportedScheme
+6 => 6 UnknownRole UnknownRole
+7 => 7 DuplicateSignature DuplicateSignature
+8 => 8 ThresholdNotMet ThresholdNotMet
+9 => 9 Rollback Rollback
+10 => 10 EqualVersion EqualVersion
+11 => 11 BadRootVersion BadRootVersion
+12 => 12 Expired Expired
+13 => 13 IntegrityMismatch IntegrityMismatch
+14 => 14 Crypto Crypto
+15 => 15 NotRefreshed NotRefreshed
+16 => 16 TargetNotFound TargetNotFound
+18 => 18 Transport Transport
+19 => 19 NoMemory NoMemory
+90 => 90 Unbuilt Unbuilt";
 
 #[test]
-fn errors_print_their_names(rt: HostRuntime) -> Result<(), Fail> {
-    let alloc = rt.alloc();
-    for &(number, name) in names() {
-        let error = numbered(alloc, number)?;
-        check_error(&rt, alloc, &error, name, number)?;
-    }
-    Ok(())
+fn refusals_have_their_names(rt: HostRuntime) -> Result<(), Fail> {
+    hold(&rt, REFUSALS, named)
 }
 
-// The word for an answer.
-pub(crate) fn word_of<T: Drop>(answer: &Result<T, Error>) -> &'static str {
-    match answer {
-        Ok(_) => "Ok",
-        Err(Error::Malformed(Rule::Frame)) => "Frame",
-        Err(Error::Malformed(Rule::Kind)) => "Kind",
-        Err(Error::Malformed(Rule::SpecVersion)) => "SpecVersion",
-        Err(Error::Malformed(Rule::Threshold)) => "Threshold",
-        Err(error) => error.name(),
-    }
-}
-
-fn canonical_text(alloc: Global, text: &str) -> Result<Result<Bytes, Error>, Fail> {
+fn canonical(alloc: Global, text: &str) -> Result<String, Fail> {
     let value = Value::from_str(alloc, text)?;
-    Ok(to_canonical_bytes(alloc, &value))
+    match to_canonical_bytes(alloc, &value) {
+        Ok(bytes) => text_of(alloc, bytes.as_bytes()),
+        Err(refusal) => Ok(printed(alloc, &refusal)?),
+    }
 }
 
-fn is_canonical(alloc: Global, text: &str, canonical: &str) -> Result<bool, Fail> {
-    let written = canonical_text(alloc, text)??;
-    Ok(written.as_bytes() == canonical.as_bytes())
-}
-
-fn canonical_word(alloc: Global, text: &str) -> Result<&'static str, Fail> {
-    Ok(word_of(&canonical_text(alloc, text)?))
-}
-
-fn canonical_rows() -> &'static [(&'static str, &'static str)] {
-    &[
-        (
-            r#"{"z":[3,2,1],"a":{"n":-5,"b":true}}"#,
-            r#"{"a":{"b":true,"n":-5},"z":[3,2,1]}"#,
-        ),
-        (r#""a\\b\"c""#, r#""a\\b\"c""#),
-    ]
-}
+const CANONICAL: &str =
+    r#"{"z":[3,2,1],"a":{"n":-5,"b":true}} => {"a":{"b":true,"n":-5},"z":[3,2,1]}
+"a\\b\"c" => "a\\b\"c"
+1.5 => NonIntegerNumber"#;
 
 #[test]
 fn canonical_texts(rt: HostRuntime) -> Result<(), Fail> {
-    let alloc = rt.alloc();
-    for &(text, canonical) in canonical_rows() {
-        assert!(rt; is_canonical(alloc, text, canonical)?, "at {text}");
+    hold(&rt, CANONICAL, canonical)
+}
+
+// The name of a root of a version, of the file of a pinned role, or the name that is meant by a word.
+fn file_name(alloc: Global, row: &str) -> Result<String, Fail> {
+    let (call, given) = row.split_once(' ').ok_or("a call")?;
+    match call {
+        "root" => text_of(
+            alloc,
+            root_name(alloc, given.parse::<u64>()?)?.as_str().as_bytes(),
+        ),
+        "pin" => text_of(alloc, pin_name(alloc, given)?.as_str().as_bytes()),
+        _ => match given {
+            "targets" => text_of(alloc, TARGETS_NAME.as_bytes()),
+            "snapshot" => text_of(alloc, SNAPSHOT_NAME.as_bytes()),
+            _ => text_of(alloc, TIMESTAMP_NAME.as_bytes()),
+        },
     }
-    assert_eq!(rt; canonical_word(alloc, "1.5")?, "NonIntegerNumber");
-    Ok(())
 }
 
-fn is_root_name(alloc: Global, version: u64, name: &str) -> Result<bool, Fail> {
-    Ok(root_name(alloc, version)?.as_str() == name)
-}
-
-fn is_pin_name(alloc: Global, role: &str, name: &str) -> Result<bool, Fail> {
-    Ok(pin_name(alloc, role)?.as_str() == name)
-}
+const FILES: &str = "root 12 => 12.root.json
+pin targets => targets.json
+pin snapshot => snapshot.json
+pin timestamp => timestamp.json
+name targets => targets.json
+name snapshot => snapshot.json
+name timestamp => timestamp.json";
 
 #[test]
 fn files_are_named(rt: HostRuntime) -> Result<(), Fail> {
-    let alloc = rt.alloc();
-    assert!(rt; is_root_name(alloc, 12, "12.root.json")?);
-    assert!(rt; is_pin_name(alloc, "targets", TARGETS_NAME)?);
-    assert!(rt; is_pin_name(alloc, "snapshot", SNAPSHOT_NAME)?);
-    assert!(rt; is_pin_name(alloc, "timestamp", TIMESTAMP_NAME)?);
-    Ok(())
+    hold(&rt, FILES, file_name)
 }
 
-fn noted_value(alloc: Global) -> Result<Value, Fail> {
-    Ok(parse_json(alloc, b"{\"public\":\"p\",\"x-note\":7}")?)
+// Which of the members `public` and `x-note` are there.
+fn members(alloc: Global, extra: &TextMap<Json>) -> Result<String, Fail> {
+    let (public, note) = (extra.get("public").is_some(), extra.get("x-note").is_some());
+    Ok(format!(in alloc; "{public} {note}")?)
 }
 
-fn others_keep(alloc: Global, value: &Value) -> Result<bool, Fail> {
-    let kept = others(alloc, value, &[DocumentMember::Public])?;
-    Ok(kept.get("x-note").is_some() && kept.get("public").is_none())
+// The other members of a key's value, as they are read and as they stand in a copy of the value.
+fn kept(alloc: Global, call: &str) -> Result<String, Fail> {
+    let value = parse_json(alloc, b"{\"public\":\"p\",\"x-note\":7}")?;
+    match call {
+        "others" => members(alloc, &others(alloc, &value, &[DocumentMember::Public])?),
+        _ => members(
+            alloc,
+            &KeyVal::from_value(alloc, &value)?.duplicate(alloc)?.extra,
+        ),
+    }
 }
 
-fn copy_keeps(alloc: Global, value: &Value) -> Result<bool, Fail> {
-    let value = KeyVal::from_value(alloc, value)?;
-    Ok(value.duplicate(alloc)?.extra.get("x-note").is_some())
-}
+const KEPT: &str = "others => false true
+copy => false true";
 
 #[test]
 fn others_are_kept(rt: HostRuntime) -> Result<(), Fail> {
-    let alloc = rt.alloc();
-    let value = noted_value(alloc)?;
-    assert!(rt; others_keep(alloc, &value)?);
-    assert!(rt; copy_keeps(alloc, &value)?);
-    Ok(())
+    hold(&rt, KEPT, kept)
 }

@@ -1,136 +1,237 @@
 // Display texts, and the encodings on outside values.
+use crate::words::{hold, printed};
 use foundation::{Duplicate, Sequence};
+use serde_json::Value;
 use sigstore_types_parts::*;
+use std::alloc::Global;
 use std::test::Fail;
+
+fn shown(alloc: Global, error: &TypesError) -> Result<String, Fail> {
+    let number = error.number();
+    Ok(format!(in alloc; "{number} {error}")?)
+}
+
+// The number and the display text of a refusal.
+fn named(alloc: Global, name: &str) -> Result<String, Fail> {
+    match name {
+        "Json" => shown(alloc, &TypesError::Json),
+        "Float" => shown(alloc, &TypesError::Float),
+        "Field" => {
+            let member = TypesMember::Hint;
+            shown(alloc, &TypesError::Field { member })
+        }
+        "Base64" => shown(alloc, &TypesError::Base64),
+        "Hex" => shown(alloc, &TypesError::Hex),
+        "Length" => {
+            let (expected, actual) = (32, 31);
+            shown(alloc, &TypesError::Length { expected, actual })
+        }
+        "MediaType" => shown(alloc, &TypesError::MediaType),
+        "Kind" => shown(alloc, &TypesError::Kind),
+        "Checkpoint" => shown(alloc, &TypesError::Checkpoint(CheckpointRule::Size)),
+        "NoEntry" => shown(alloc, &TypesError::NoEntry),
+        "NoProof" => shown(alloc, &TypesError::NoProof),
+        "NoMemory" => shown(alloc, &TypesError::NoMemory),
+        "Unbuilt" => shown(alloc, &TypesError::Unbuilt(Form::Key)),
+        _ => Err("no refusal")?,
+    }
+}
+
+const REFUSALS: &str = "Json => 1 Json
+Float => 2 Float
+Field => 3 Field
+Base64 => 4 Base64
+Hex => 5 Hex
+Length => 6 Length
+MediaType => 7 MediaType
+Kind => 8 Kind
+Checkpoint => 9 Checkpoint
+NoEntry => 10 NoEntry
+NoProof => 11 NoProof
+NoMemory => 12 NoMemory
+Unbuilt => 90 Unbuilt";
 
 #[test]
 fn errors_print_their_names(rt: HostRuntime) -> Result<(), Fail> {
-    let alloc = rt.alloc();
-    let length = TypesError::Length {
-        expected: 32,
-        actual: 31,
-    };
-    let field = TypesError::Field {
-        member: TypesMember::Hint,
-    };
-    for (error, name, number) in [
-        (TypesError::Json, "Json", 1),
-        (TypesError::Float, "Float", 2),
-        (field, "Field", 3),
-        (TypesError::Base64, "Base64", 4),
-        (TypesError::Hex, "Hex", 5),
-        (length, "Length", 6),
-        (TypesError::MediaType, "MediaType", 7),
-        (TypesError::Kind, "Kind", 8),
-        (
-            TypesError::Checkpoint(CheckpointRule::Size),
-            "Checkpoint",
-            9,
-        ),
-        (TypesError::NoEntry, "NoEntry", 10),
-        (TypesError::NoProof, "NoProof", 11),
-        (TypesError::NoMemory, "NoMemory", 12),
-        (TypesError::Unbuilt(Form::Key), "Unbuilt", 90),
-    ] {
-        assert_eq!(rt; format!(in alloc; "{error}")?.as_str(), name);
-        assert_eq!(rt; error.number(), number);
-    }
-    Ok(())
+    hold(&rt, REFUSALS, named)
 }
+
+// The length of an algorithm's digests, its name in log bodies, and the algorithm of that name.
+fn algorithm(alloc: Global, name: &str) -> Result<String, Fail> {
+    match HashAlgorithm::from_name(name) {
+        Some(algorithm) => {
+            let (length, rekor) = (algorithm.digest_len(), algorithm.as_rekor_str());
+            let again = HashAlgorithm::from_name(rekor);
+            Ok(format!(in alloc; "{length} {rekor} {again:?}")?)
+        }
+        None => Ok(printed(alloc, &HashAlgorithm::from_name(name))?),
+    }
+}
+
+const ALGORITHMS: &str = "SHA2_256 => 32 sha256 Some(Sha2256)
+SHA2_384 => 48 sha384 Some(Sha2384)
+SHA2_512 => 64 sha512 Some(Sha2512)
+SHA3_256 => 32 sha3-256 Some(Sha3256)
+SHA3_384 => 48 sha3-384 Some(Sha3384)
+md5 => None";
 
 #[test]
 fn algorithms_have_their_names(rt: HostRuntime) -> Result<(), Fail> {
-    for (name, length, rekor) in [
-        ("SHA2_256", 32, "sha256"),
-        ("SHA2_384", 48, "sha384"),
-        ("SHA2_512", 64, "sha512"),
-        ("SHA3_256", 32, "sha3-256"),
-        ("SHA3_384", 48, "sha3-384"),
-    ] {
-        let algorithm = HashAlgorithm::from_name(name).ok_or("a name")?;
-        assert_eq!(rt; algorithm.digest_len(), length, "{name}");
-        assert_eq!(rt; algorithm.as_rekor_str(), rekor);
-        assert_eq!(rt; HashAlgorithm::from_name(rekor), Some(algorithm));
-    }
-    assert_eq!(rt; HashAlgorithm::from_name("md5"), None);
-    Ok(())
+    hold(&rt, ALGORITHMS, algorithm)
 }
 
-// RFC 4648, section 10, and the first SHA-256 bytes of `hello`.
+// The bytes, their base64, and whether a copy equals them.
+fn bytes_shown(alloc: Global, bytes: &SignatureBytes) -> Result<String, Fail> {
+    let base64 = bytes.to_base64(alloc)?;
+    let is_copied = bytes.duplicate(alloc)? == *bytes;
+    Ok(format!(in alloc; "{bytes:?} {base64:?} {is_copied}")?)
+}
+
+fn encoding(alloc: Global, text: &str) -> Result<String, Fail> {
+    match SignatureBytes::from_base64(alloc, text) {
+        Ok(bytes) => bytes_shown(alloc, &bytes),
+        Err(refusal) => Ok(printed(alloc, &refusal)?),
+    }
+}
+
+// RFC 4648, section 10: the bytes of nothing, f, foo and fooba.
+const ENCODINGS: &str = r#" => [] "" true
+Zg== => [102] "Zg==" true
+Zm9v => [102, 111, 111] "Zm9v" true
+Zm9vYmE= => [102, 111, 111, 98, 97] "Zm9vYmE=" true
+Zg => Base64"#;
+
 #[test]
 fn encodings_agree(rt: HostRuntime) -> Result<(), Fail> {
+    hold(&rt, ENCODINGS, encoding)
+}
+
+// The first SHA-256 bytes of `hello`, and a hint of one byte.
+#[test]
+fn hints_have_four_bytes(rt: HostRuntime) -> Result<(), Fail> {
     let alloc = rt.alloc();
-    for (text, bytes) in [
-        ("", ""),
-        ("Zg==", "f"),
-        ("Zm9v", "foo"),
-        ("Zm9vYmE=", "fooba"),
-    ] {
-        let read = SignatureBytes::from_base64(alloc, text)?;
-        assert_eq!(rt; read.as_bytes(), bytes.as_bytes());
-        assert_eq!(rt; read.to_base64(alloc)?.as_str(), text);
-        assert!(rt; read.duplicate(alloc)? == read);
-    }
-    assert_eq!(rt;
-        SignatureBytes::from_base64(alloc, "Zg").err(),
-        Some(TypesError::Base64)
-    );
     let hint = KeyHint::from_slice(&[0x2c, 0xf2, 0x4d, 0xba])?;
     assert_eq!(rt; hint.to_hex(alloc)?.as_str(), "2cf24dba");
     assert_eq!(rt; hint.as_array().len(), 4);
-    let short = KeyHint::from_slice(&[0]).err();
-    assert_eq!(rt;
-        short,
-        Some(TypesError::Length {
-            expected: 4,
-            actual: 1
-        })
-    );
+    let short = printed(alloc, &KeyHint::from_slice(&[0]).err())?;
+    let wanted = "Some(Length { expected: 4, actual: 1 })";
+    assert_eq!(rt; short.as_str(), wanted);
     Ok(())
 }
 
-#[test]
-fn json_is_read(rt: HostRuntime) -> Result<(), Fail> {
-    let alloc = rt.alloc();
-    let faults = [("{", JsonFault::NotJson), ("[1.5]", JsonFault::Float)];
-    for (text, fault) in faults {
-        assert_eq!(rt;
-            parse_json(alloc, text.as_bytes()).err(),
-            Some(fault),
-            "{text}"
-        );
-    }
-    let value = parse_json(alloc, b"{\"hint\":\"k\",\"version\":7,\"sig\":\"AQ==\"}")?;
-    let hint: Text = required(alloc, &value, TypesMember::Hint)?;
-    let version: u64 = required(alloc, &value, TypesMember::Version)?;
-    let sig: Option<SignatureBytes> = optional(alloc, &value, TypesMember::Sig)?;
-    let start: Option<jiff::Timestamp> = optional(alloc, &value, TypesMember::Start)?;
-    let end: bool = defaulted(alloc, &value, TypesMember::End, true)?;
-    assert_eq!(rt; hint.as_str(), "k");
-    assert_eq!(rt; version, 7);
-    assert!(rt; sig.is_some() && start.is_none() && end);
-    let absent: Result<Sequence<Text>, TypesError> = required(alloc, &value, TypesMember::Subject);
-    let field = TypesError::Field {
-        member: TypesMember::Subject,
-    };
-    assert_eq!(rt; absent.err(), Some(field));
-    let all: TextMap<Json> = FromValue::<TypesError>::from_value(alloc, &value)?;
-    let copy = all.duplicate(alloc)?;
-    assert!(rt; copy.get("sig").is_some() && copy.get("start").is_none());
-    Ok(())
+fn fault(alloc: Global, text: &str) -> Result<String, Fail> {
+    Ok(printed(alloc, &parse_json(alloc, text.as_bytes()).err())?)
 }
+
+const FAULTS: &str = "{ => Some(NotJson)
+[1.5] => Some(Float)";
+
+#[test]
+fn texts_are_refused(rt: HostRuntime) -> Result<(), Fail> {
+    hold(&rt, FAULTS, fault)
+}
+
+// Which of the members `sig` and `start` stand in a copy of all members.
+fn all(alloc: Global, value: &Value) -> Result<String, Fail> {
+    let all: TextMap<Json> = FromValue::<TypesError>::from_value(alloc, value)?;
+    let copy = all.duplicate(alloc)?;
+    let (sig, start) = (copy.get("sig").is_some(), copy.get("start").is_some());
+    Ok(format!(in alloc; "{sig} {start}")?)
+}
+
+fn member_of(alloc: Global, value: &Value, name: &str) -> Result<String, Fail> {
+    match name {
+        "hint" => {
+            let read: Result<Text, TypesError> = required(alloc, value, TypesMember::Hint);
+            Ok(printed(alloc, &read)?)
+        }
+        "version" => {
+            let read: Result<u64, TypesError> = required(alloc, value, TypesMember::Version);
+            Ok(printed(alloc, &read)?)
+        }
+        "sig" => {
+            let read: Result<Option<SignatureBytes>, TypesError> = optional(
+                alloc,
+                value,
+                TypesMember::Sig,
+            );
+            Ok(printed(alloc, &read)?)
+        }
+        "start" => {
+            let read: Result<Option<jiff::Timestamp>, TypesError> = optional(
+                alloc,
+                value,
+                TypesMember::Start,
+            );
+            Ok(printed(alloc, &read)?)
+        }
+        "end" => {
+            let read: Result<bool, TypesError> = defaulted(alloc, value, TypesMember::End, true);
+            Ok(printed(alloc, &read)?)
+        }
+        "subject" => {
+            let read: Result<Sequence<Text>, TypesError> = required(
+                alloc,
+                value,
+                TypesMember::Subject,
+            );
+            Ok(printed(alloc, &read.err())?)
+        }
+        _ => all(alloc, value),
+    }
+}
+
+fn member(alloc: Global, name: &str) -> Result<String, Fail> {
+    let value = parse_json(alloc, b"{\"hint\":\"k\",\"version\":7,\"sig\":\"AQ==\"}")?;
+    member_of(alloc, &value, name)
+}
+
+const MEMBERS: &str = r#"hint => Ok("k")
+version => Ok(7)
+sig => Ok(Some([1]))
+start => Ok(None)
+end => Ok(true)
+subject => Some(Field { member: Subject })
+all => true false"#;
+
+#[test]
+fn members_are_read(rt: HostRuntime) -> Result<(), Fail> {
+    hold(&rt, MEMBERS, member)
+}
+
+// The answers of four calls, and the count of faults.
+fn four_calls(alloc: Global, list: FailList) -> Result<String, Fail> {
+    let mut calls = Calls::new(list);
+    let first = calls.next_fails();
+    let second = calls.next_fails();
+    let third = calls.next_fails();
+    let fourth = calls.next_fails();
+    let faults = calls.faults;
+    Ok(format!(in alloc; "{first} {second} {third} {fourth} {faults}")?)
+}
+
+fn numbers(alloc: Global, words: &str) -> Result<Vec<u64>, Fail> {
+    let mut numbers = Vec::new(alloc);
+    for word in words.split_whitespace() {
+        numbers.push(word.parse::<u64>()?)?;
+    }
+    Ok(numbers)
+}
+
+fn listed(alloc: Global, words: &str) -> Result<String, Fail> {
+    match FailList::new(numbers(alloc, words)?) {
+        Some(list) => four_calls(alloc, list),
+        None => Ok(String::from_str(alloc, "no list")?),
+    }
+}
+
+// A row: the listed calls, and whether each of four calls fails, with the count.
+const LISTED: &str = "2 3 => false true true false 2
+0 1 => no list
+1 1 => no list
+2 1 => no list";
 
 #[test]
 fn listed_calls_fail(rt: HostRuntime) -> Result<(), Fail> {
-    let alloc = rt.alloc();
-    let mut calls = Calls::new(FailList::new(vec![in alloc; 2u64, 3]?).ok_or("a list")?);
-    for fails in [false, true, true, false] {
-        assert_eq!(rt; calls.next_fails(), fails);
-    }
-    assert_eq!(rt; calls.faults, 2);
-    for numbers in [[0u64, 1], [1, 1], [2, 1]] {
-        let list = numbers.to_vec(alloc)?;
-        assert!(rt; FailList::new(list).is_none());
-    }
-    Ok(())
+    hold(&rt, LISTED, listed)
 }
