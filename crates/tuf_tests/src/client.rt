@@ -7,9 +7,9 @@ use foundation::{Duplicate, NoMemory};
 use jiff::Timestamp;
 use sigstore_crypto::CryptoProvider;
 use sigstore_tuf::*;
-use sigstore_tuf_parts::Error;
 use sigstore_types_parts::{Armor, Bytes, DerPublicKey, FailList};
 use std::alloc::Global;
+use std::process::Abort;
 use std::test::Fail;
 
 // Every text holds the same key.
@@ -79,15 +79,6 @@ fn repository(alloc: Global, timestamp: &str) -> Result<MemoryRepository, Fail> 
     Ok(repo)
 }
 
-// A client of the root, without a store.
-fn client<'a>(
-    alloc: Global,
-    armor: &'a OneKey,
-    repo: &'a mut MemoryRepository,
-) -> Result<Updater<'a, One, OneKey, MemoryRepository, NoStore>, Error> {
-    Updater::new(alloc, &One, armor, repo, ROOT.as_bytes())
-}
-
 #[test]
 fn limits_by_default(rt: HostRuntime) -> Result<(), Fail> {
     let limits = format!(in rt.alloc(); "{:?}", UpdaterConfig::default())?;
@@ -152,7 +143,51 @@ fn told(
     }
 }
 
-// Calls of one client, one after the other. The file `a` is `{}`.
+// Tries calls of one client of the root, one after the other, with so many next roots at most.
+fn called<X: AllocGlobal + Abort>(
+    rt: &X,
+    armor: &OneKey,
+    repo: &mut MemoryRepository,
+    now: Timestamp,
+    max_root_rotations: u32,
+    rows: &str,
+) -> Result<(), Fail> {
+    let config = UpdaterConfig {
+        max_root_rotations,
+        ..UpdaterConfig::default()
+    };
+    match Updater::new(rt.alloc(), &One, armor, repo, ROOT.as_bytes()) {
+        Ok(client) => {
+            let mut client: Updater<One, OneKey, MemoryRepository, NoStore> = client.with_config(
+                config,
+            );
+            hold(rt, rows, |alloc, call| told(alloc, &mut client, call, now))
+        }
+        Err(refusal) => Err(refusal)?,
+    }
+}
+
+// The same at a moment, over a repository in which the timestamp is there or absent.
+fn called_over<X: AllocGlobal + Abort>(
+    rt: &X,
+    timestamp: &str,
+    now: &str,
+    max_root_rotations: u32,
+    rows: &str,
+) -> Result<(), Fail> {
+    let armor = armor(rt.alloc())?;
+    let mut repo = repository(rt.alloc(), timestamp)?;
+    called(
+        rt,
+        &armor,
+        &mut repo,
+        now.parse()?,
+        max_root_rotations,
+        rows,
+    )
+}
+
+// The file `a` is `{}`.
 const CALLS: &str = "chain => none
 refresh => Ok
 versions => 1 Some(2) Some(3) Some(4)
@@ -161,55 +196,16 @@ chain => 1 1 true true 2 [123, 125]";
 
 #[test]
 fn a_client_gets_a_target(rt: HostRuntime) -> Result<(), Fail> {
-    let alloc = rt.alloc();
-    let armor = armor(alloc)?;
-    let now: Timestamp = "2025-01-01T00:00:00Z".parse()?;
-    let mut repo = repository(alloc, "there")?;
-    let mut client = client(alloc, &armor, &mut repo)?;
-    hold(
-        &rt,
-        CALLS,
-        |alloc, call| told(alloc, &mut client, call, now),
-    )
+    called_over(&rt, "there", "2025-01-01T00:00:00Z", 32, CALLS)
 }
-
-// What a refresh at a moment answers, with so many next roots at most.
-fn refreshed(
-    alloc: Global,
-    armor: &OneKey,
-    repo: &mut MemoryRepository,
-    now: Timestamp,
-    max_root_rotations: u32,
-) -> Result<String, Fail> {
-    let config = UpdaterConfig {
-        max_root_rotations,
-        ..UpdaterConfig::default()
-    };
-    let mut client = client(alloc, armor, repo)?.with_config(config);
-    word(alloc, &client.refresh(alloc, now))
-}
-
-// A row: whether the timestamp is there, the moment, how many next roots at most, and the answer.
-fn refresh(alloc: Global, row: &str) -> Result<String, Fail> {
-    let (timestamp, asked) = row.split_once(' ').ok_or("a timestamp")?;
-    let (moment, rotations) = asked.split_once(' ').ok_or("a moment")?;
-    let armor = armor(alloc)?;
-    let mut repo = repository(alloc, timestamp)?;
-    refreshed(
-        alloc,
-        &armor,
-        &mut repo,
-        moment.parse()?,
-        rotations.parse::<u32>()?,
-    )
-}
-
-const REFRESHES: &str = r#"there 2030-01-01T00:00:00Z 32 => Ok
-there 2030-01-01T00:00:01Z 32 => Expired { role: "timestamp", expires: 2030-01-01T00:00:00Z }
-there 2025-01-01T00:00:00Z 0 => Transport(Rotations { max: 0 })
-absent 2025-01-01T00:00:00Z 32 => Transport(Absent)"#;
 
 #[test]
 fn refreshes_are_judged(rt: HostRuntime) -> Result<(), Fail> {
-    hold(&rt, REFRESHES, refresh)
+    let expired = r#"refresh => Expired { role: "timestamp", expires: 2030-01-01T00:00:00Z }"#;
+    let limited = "refresh => Transport(Rotations { max: 0 })";
+    let absent = "refresh => Transport(Absent)";
+    called_over(&rt, "there", "2030-01-01T00:00:00Z", 32, "refresh => Ok")?;
+    called_over(&rt, "there", "2030-01-01T00:00:01Z", 32, expired)?;
+    called_over(&rt, "there", "2025-01-01T00:00:00Z", 0, limited)?;
+    called_over(&rt, "absent", "2025-01-01T00:00:00Z", 32, absent)
 }
