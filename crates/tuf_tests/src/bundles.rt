@@ -1,5 +1,5 @@
 // The refusal of each text, worked out by hand from the order of the members.
-use crate::words::{filled, printed, word};
+use crate::words::{filled, hold, printed, word};
 use foundation::Duplicate;
 use sigstore_types::*;
 use std::alloc::Global;
@@ -16,17 +16,12 @@ fn read(alloc: Global, kind: &str, bytes: &[u8]) -> Result<String, Fail> {
 }
 
 // Each row has what stands in the text for its star, and the word for the text.
-fn check(rt: &impl Abort, alloc: Global, kind: &str, text: &str, rows: &str) -> Result<(), Fail> {
-    for row in rows.lines() {
-        let (part, wanted) = row.split_once(" => ").ok_or("a row")?;
-        let text = filled(alloc, text, part)?;
-        assert_eq!(rt;
-            read(alloc, kind, text.as_bytes())?.as_str(),
-            wanted,
-            "{row}"
-        );
-    }
-    Ok(())
+fn check<X: AllocGlobal + Abort>(rt: &X, kind: &str, text: &str, rows: &str) -> Result<(), Fail> {
+    hold(
+        rt,
+        rows,
+        |alloc, part| read(alloc, kind, filled(alloc, text, part)?.as_bytes()),
+    )
 }
 
 #[test]
@@ -45,14 +40,13 @@ fn texts_and_media_types(rt: HostRuntime) -> Result<(), Fail> {
 {"mediaType":"application/vnd.dev.sigstore.bundle+json;version=0.2"} => Field { member: VerificationMaterial }
 {"mediaType":"application/vnd.dev.sigstore.bundle+json;version=0.3"} => Field { member: VerificationMaterial }
 {"mediaType":"application/vnd.dev.sigstore.bundle.v0.3+json"} => Field { member: VerificationMaterial }"#;
-    check(&rt, alloc, "bundle", "*", rows)?;
+    check(&rt, "bundle", "*", rows)?;
     assert_eq!(rt; read(alloc, "bundle", &[0xff])?.as_str(), "Json");
     Ok(())
 }
 
 #[test]
 fn verification_materials(rt: HostRuntime) -> Result<(), Fail> {
-    let alloc = rt.alloc();
     let text =
         r#"{"messageSignature":{"signature":"AQ=="},"mediaType":"application/vnd.dev.sigstore.bundle.v0.3+json","verificationMaterial":*}"#;
     let rows = r#"null => Field { member: VerificationMaterial }
@@ -76,13 +70,12 @@ fn verification_materials(rt: HostRuntime) -> Result<(), Fail> {
 {"publicKey":{},"timestampVerificationData":{"rfc3161Timestamps":0}} => Field { member: Rfc3161Timestamps }
 {"publicKey":{},"timestampVerificationData":{"rfc3161Timestamps":[]}} => Ok
 {"publicKey":{},"timestampVerificationData":{"rfc3161Timestamps":[0]}} => Unbuilt(Tokens)"#;
-    check(&rt, alloc, "bundle", text, rows)
+    check(&rt, "bundle", text, rows)
 }
 
 // Message signatures, their digests, and envelopes.
 #[test]
 fn contents(rt: HostRuntime) -> Result<(), Fail> {
-    let alloc = rt.alloc();
     let text =
         r#"{"mediaType":"application/vnd.dev.sigstore.bundle.v0.3+json","verificationMaterial":{"publicKey":{}}*}"#;
     let rows = r#" => Json
@@ -105,7 +98,7 @@ fn contents(rt: HostRuntime) -> Result<(), Fail> {
 ,"messageSignature":{"signature":"AQ=="},"dsseEnvelope":0 => Unbuilt(Envelope)
 ,"messageSignature":{},"dsseEnvelope":{} => Field { member: Signature }
 ,"messageSignature":{"signature":"AQ=="},"dsseEnvelope":null => Ok"#;
-    check(&rt, alloc, "bundle", text, rows)
+    check(&rt, "bundle", text, rows)
 }
 
 fn bundle_copied(alloc: Global, text: &str) -> Result<Bundle, TypesError> {
@@ -149,7 +142,7 @@ fn trust_files(rt: HostRuntime) -> Result<(), Fail> {
 {"timestampAuthorities":null} => Ok
 {"timestampAuthorities":{}} => Field { member: TimestampAuthorities }
 {"timestampAuthorities":[0]} => Unbuilt(Trust)"#;
-    check(&rt, alloc, "trust file", "*", rows)?;
+    check(&rt, "trust file", "*", rows)?;
     let file = TrustedRoot::from_json(alloc, b"{}")?.duplicate(alloc)?;
     assert_eq!(rt; file, TrustedRoot {});
     Ok(())

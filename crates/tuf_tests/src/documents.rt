@@ -1,5 +1,5 @@
 // Documents of each kind, read and refused, and the checks of pins and of expiries.
-use crate::words::{filled, printed, word};
+use crate::words::{filled, hold, printed, word};
 use foundation::Duplicate;
 use sigstore_tuf_parts::*;
 use sigstore_types_parts::instant;
@@ -27,13 +27,12 @@ fn read(alloc: Global, kind: &str, text: &str) -> Result<String, Fail> {
 }
 
 // Each row has what stands in the text for its stars, and the word for the text.
-fn check(rt: &impl Abort, alloc: Global, kind: &str, text: &str, rows: &str) -> Result<(), Fail> {
-    for row in rows.lines() {
-        let (cells, wanted) = row.split_once(" => ").ok_or("a row")?;
-        let text = filled(alloc, text, cells)?;
-        assert_eq!(rt; read(alloc, kind, text.as_str())?.as_str(), wanted, "{row}");
-    }
-    Ok(())
+fn check<X: AllocGlobal + Abort>(rt: &X, kind: &str, text: &str, rows: &str) -> Result<(), Fail> {
+    hold(
+        rt,
+        rows,
+        |alloc, cells| read(alloc, kind, filled(alloc, text, cells)?.as_str()),
+    )
 }
 
 #[test]
@@ -44,7 +43,7 @@ fn frames_are_refused(rt: HostRuntime) -> Result<(), Fail> {
 {"signed":{}} => Malformed(Frame)
 {"signatures":[]} => Malformed(Frame)
 {"signatures":[],"signed":[]} => Json"#;
-    check(&rt, rt.alloc(), "timestamp", "*", rows)
+    check(&rt, "timestamp", "*", rows)
 }
 
 #[test]
@@ -54,13 +53,7 @@ fn headers_are_refused(rt: HostRuntime) -> Result<(), Fail> {
 {} | "_type":1,"spec_version":"10" => Malformed(SpecVersion)
 {} | "_type":"timestamp","spec_version":"1" => Json
 [] |  => Json"#;
-    check(
-        &rt,
-        rt.alloc(),
-        "timestamp",
-        r#"{"signatures":*,"signed":{*}}"#,
-        rows,
-    )
+    check(&rt, "timestamp", r#"{"signatures":*,"signed":{*}}"#, rows)
 }
 
 #[test]
@@ -70,7 +63,7 @@ fn signatures_then_members_are_refused(rt: HostRuntime) -> Result<(), Fail> {
     let rows = r#"[{"keyid":"k"}] | 1 => Json
 [] | 18446744073709551615 => Ok
 [] | 18446744073709551616 => NonIntegerNumber"#;
-    check(&rt, rt.alloc(), "timestamp", text, rows)
+    check(&rt, "timestamp", text, rows)
 }
 
 #[test]
@@ -85,7 +78,7 @@ fn null_and_absence(rt: HostRuntime) -> Result<(), Fail> {
 ,"delegations":{"keys":{},"roles":[{"name":"d","keyids":[],"threshold":1,"paths":null,"path_hash_prefixes":null}]} => Ok
 ,"delegations":{"keys":{},"roles":[{"name":"d","keyids":[],"threshold":1,"terminating":null}]} => Json
 ,"delegations":{"keys":{},"roles":[{"name":"d","keyids":[],"threshold":-1}]} => Json"#;
-    check(&rt, rt.alloc(), "targets", text, rows)
+    check(&rt, "targets", text, rows)
 }
 
 const ROOT: &str =
@@ -128,18 +121,26 @@ fn root_word(alloc: Global, root: &Metadata<Root>, part: &str) -> Result<String,
     }
 }
 
-// The version, or the length of the text that is signed.
-fn timestamp_word(alloc: Global, read: &Metadata<Timestamp>, part: &str) -> Result<String, Fail> {
-    match part {
-        "version" => printed(alloc, &read.signed().version()),
-        "length" => printed(alloc, &read.signed_canonical().len()),
-        _ => Err(Fail::from("no such part")),
+// The version, the length of the text that is signed, the word for a version of the snapshot that the
+// timestamp pins, or the word for it at a moment.
+fn timestamp_word(
+    alloc: Global,
+    read: &Metadata<Timestamp>,
+    what: &str,
+    value: &str,
+) -> Result<String, Fail> {
+    match what {
+        "pin" => pin_word(alloc, read.signed(), value.parse::<u64>()?),
+        "moment" => moment_word(alloc, read.signed(), instant(value).ok_or("a moment")?),
+        _ => match value {
+            "version" => printed(alloc, &read.signed().version()),
+            "length" => printed(alloc, &read.signed_canonical().len()),
+            _ => Err(Fail::from("no such part")),
+        },
     }
 }
 
-// The word for a version of the snapshot that the timestamp pins.
-fn pin_word(alloc: Global, timestamp: &Timestamp, version: &str) -> Result<String, Fail> {
-    let version = version.parse()?;
+fn pin_word(alloc: Global, timestamp: &Timestamp, version: u64) -> Result<String, Fail> {
     match timestamp.snapshot_meta() {
         Some(pin) => word(alloc, &check_version(pin, version)),
         None => Err(Fail::from("no pin")),
@@ -147,8 +148,7 @@ fn pin_word(alloc: Global, timestamp: &Timestamp, version: &str) -> Result<Strin
 }
 
 // The word for the timestamp at a moment, at which it has to be fresh exactly if it isn't expired.
-fn moment_word(alloc: Global, timestamp: &Timestamp, moment: &str) -> Result<String, Fail> {
-    let now = instant(moment).ok_or("a moment")?;
+fn moment_word(alloc: Global, timestamp: &Timestamp, now: jiff::Timestamp) -> Result<String, Fail> {
     let answer = check_fresh(alloc, Timestamp::kind(), timestamp.expires(), now);
     if answer.is_err() == timestamp.is_expired(now) {
         word(alloc, &answer)
@@ -169,17 +169,40 @@ fn file_word(alloc: Global, targets: &Targets, bytes: &str) -> Result<String, Fa
     }
 }
 
+fn root_told(alloc: Global, part: &str) -> Result<String, Fail> {
+    let root = document(alloc, ROOT)?;
+    let answer = root_word(alloc, &root, part);
+    drop(root);
+    answer
+}
+
+fn timestamp_told(alloc: Global, what: &str, value: &str) -> Result<String, Fail> {
+    let timestamp = document(alloc, TIMESTAMP)?;
+    let answer = timestamp_word(alloc, &timestamp, what, value);
+    drop(timestamp);
+    answer
+}
+
+fn file_told(alloc: Global, bytes: &str) -> Result<String, Fail> {
+    let targets = document(alloc, TARGETS)?.into_signed();
+    let answer = file_word(alloc, &targets, bytes);
+    drop(targets);
+    answer
+}
+
 // What is told of one of the documents.
 fn told(alloc: Global, what: &str, value: &str) -> Result<String, Fail> {
     match what {
-        "root" => root_word(alloc, &document(alloc, ROOT)?, value),
-        "timestamp" => timestamp_word(alloc, &document(alloc, TIMESTAMP)?, value),
-        "pin" => pin_word(alloc, document(alloc, TIMESTAMP)?.signed(), value),
-        "moment" => moment_word(alloc, document(alloc, TIMESTAMP)?.signed(), value),
-        "file" => file_word(alloc, &document(alloc, TARGETS)?.into_signed(), value),
+        "root" => root_told(alloc, value),
+        "file" => file_told(alloc, value),
         "snapshot" => read(alloc, "snapshot", SNAPSHOT),
-        _ => Err(Fail::from("no such document")),
+        _ => timestamp_told(alloc, what, value),
     }
+}
+
+fn answer(alloc: Global, row: &str) -> Result<String, Fail> {
+    let (what, value) = row.split_once(' ').ok_or("a question")?;
+    told(alloc, what, value)
 }
 
 #[test]
@@ -197,10 +220,5 @@ moment 2030-01-01T00:00:01Z => Expired { role: "timestamp", expires: 2030-01-01T
 file {} => Ok
 file {  => IntegrityMismatch(Digest)
 file { => IntegrityMismatch(Length)"#;
-    for row in rows.lines() {
-        let (cells, wanted) = row.split_once(" => ").ok_or("a row")?;
-        let (what, value) = cells.split_once(' ').ok_or("a question")?;
-        assert_eq!(rt; told(rt.alloc(), what, value)?.as_str(), wanted, "{row}");
-    }
-    Ok(())
+    hold(&rt, rows, answer)
 }
