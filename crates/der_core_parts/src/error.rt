@@ -5,38 +5,29 @@ ghost use Rattle.der_core_parts.specs.Outcome.{number_of};
 
 use foundation::NoMemory;
 use std::alloc::{AllocError, AllocFailed};
-use thiserror::Error;
+use std::{error, fmt};
 
 /// Why bytes are no DER encoding of a value, or a value has none.
-#[derive(Clone, Copy, Debug, PartialEq, Eq, Drop, Error)]
+#[derive(Clone, Copy, Debug, PartialEq, Eq, Drop)]
 pub enum DerError {
     /// Bytes of a tag, a length or a value are missing.
-    #[error("Truncated")]
     Truncated,
     /// The length is indefinite, longer than four bytes or not in its shortest form
     /// (X.690, 8.1.3 and 10.1).
-    #[error("Length")]
     Length,
     /// The tag has several bytes (X.690, 8.1.2.4), or isn't one of the type.
-    #[error("Tag")]
     Tag,
     /// The contents are outside the type's grammar.
-    #[error("Value")]
     Value,
     /// Bytes are left behind the value.
-    #[error("Trailing")]
     Trailing,
     /// Two members of a set are equal.
-    #[error("SetDuplicate")]
     SetDuplicate,
     /// A text or a list of arcs is no object identifier of at most 39 octets.
-    #[error("Oid")]
     Oid,
     /// A length is 2^28 or more.
-    #[error("TooLong")]
     TooLong,
     /// An allocation was refused.
-    #[error("NoMemory")]
     NoMemory,
 }
 
@@ -82,3 +73,21 @@ impl<T: Drop> From<AllocFailed<T>> for DerError {
         DerError::NoMemory
     }
 }
+
+impl fmt::Display for DerError {
+    fn fmt<W: fmt::Write>(&self, f: &mut fmt::Formatter<W>) -> fmt::Result {
+        f.write_str(match self {
+            DerError::Truncated => "Truncated",
+            DerError::Length => "Length",
+            DerError::Tag => "Tag",
+            DerError::Value => "Value",
+            DerError::Trailing => "Trailing",
+            DerError::SetDuplicate => "SetDuplicate",
+            DerError::Oid => "Oid",
+            DerError::TooLong => "TooLong",
+            DerError::NoMemory => "NoMemory",
+        })
+    }
+}
+
+impl error::Error for DerError {}

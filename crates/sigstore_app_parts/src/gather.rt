@@ -12,19 +12,15 @@ use crate::tables::{Tables, read_provider};
 use crate::usage_fault::UsageFault;
 use sigstore_types_parts::Bytes;
 use std::alloc::Global;
-use thiserror::Error;
+use std::{error, fmt};
 
 /// Why a run ends before the verification: its words are outside their grammar, an input is outside
 /// its own, an input isn't there, can't be read or is too long, or memory is wanting.
-#[derive(Clone, Copy, Debug, PartialEq, Eq, Drop, Error)]
+#[derive(Clone, Copy, Debug, PartialEq, Eq, Drop)]
 pub enum Stop {
-    #[error("Words")]
     Words,
-    #[error("Form")]
     Form(Which),
-    #[error("Input")]
     Input(Which),
-    #[error("Memory")]
     Memory,
 }
 
@@ -167,3 +163,16 @@ pub fn gather_inputs<I: Inputs>(alloc: Global, inputs: &mut I) -> Result<Gathere
         Err(e) => Err(e),
     }
 }
+
+impl fmt::Display for Stop {
+    fn fmt<W: fmt::Write>(&self, f: &mut fmt::Formatter<W>) -> fmt::Result {
+        f.write_str(match self {
+            Stop::Words => "Words",
+            Stop::Form(_) => "Form",
+            Stop::Input(_) => "Input",
+            Stop::Memory => "Memory",
+        })
+    }
+}
+
+impl error::Error for Stop {}

@@ -7,7 +7,7 @@ ghost use Rattle.sigstore_app_parts.specs.declared.inputs.InputFault.TheVariants
 use foundation::NoMemory;
 use sigstore_types_parts::Bytes;
 use std::alloc::Global;
-use thiserror::Error;
+use std::{error, fmt};
 
 /// The inputs of the program.
 #[derive(Clone, Copy, Debug, PartialEq, Eq, Drop)]
@@ -19,15 +19,11 @@ pub enum Which {
 }
 
 /// Why an input wasn't given.
-#[derive(Clone, Copy, Debug, PartialEq, Eq, Drop, Error)]
+#[derive(Clone, Copy, Debug, PartialEq, Eq, Drop)]
 pub enum InputFault {
-    #[error("Failed")]
     Failed,
-    #[error("Absent")]
     Absent,
-    #[error("TooLong")]
     TooLong { seen: u64 },
-    #[error("NoMemory")]
     NoMemory,
 }
 
@@ -48,3 +44,16 @@ pub trait Inputs {
     fn read(&mut self, alloc: Global, which: Which, max: u64) -> Result<Bytes, InputFault>
         ensures { Gives which (seen self.old) (seen self.new) max result };
 }
+
+impl fmt::Display for InputFault {
+    fn fmt<W: fmt::Write>(&self, f: &mut fmt::Formatter<W>) -> fmt::Result {
+        f.write_str(match self {
+            InputFault::Failed => "Failed",
+            InputFault::Absent => "Absent",
+            InputFault::TooLong { .. } => "TooLong",
+            InputFault::NoMemory => "NoMemory",
+        })
+    }
+}
+
+impl error::Error for InputFault {}

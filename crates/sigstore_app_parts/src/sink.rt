@@ -3,12 +3,11 @@ ghost use Rattle.std.specs.Prelude.{List, ℕ};
 ghost use Rattle.foundation.specs.Watched.{Watched};
 ghost use Rattle.sigstore_app_parts.specs.Sink.{Writes};
 
-use thiserror::Error;
+use std::{error, fmt};
 
 /// Why a text wasn't written.
-#[derive(Clone, Copy, Debug, PartialEq, Eq, Drop, Error)]
+#[derive(Clone, Copy, Debug, PartialEq, Eq, Drop)]
 pub enum SinkFault {
-    #[error("Failed")]
     Failed,
 }
 
@@ -21,3 +20,13 @@ pub trait Sink {
     fn write(&mut self, bytes: &[u8]) -> Result<usize, SinkFault>
         ensures { Writes (seen self.old) (seen self.new) bytes.now result };
 }
+
+impl fmt::Display for SinkFault {
+    fn fmt<W: fmt::Write>(&self, f: &mut fmt::Formatter<W>) -> fmt::Result {
+        f.write_str(match self {
+            SinkFault::Failed => "Failed",
+        })
+    }
+}
+
+impl error::Error for SinkFault {}

@@ -3,14 +3,12 @@ ghost use Rattle.std.specs.Prelude.{◌≡◌};
 ghost use Rattle.sigstore_app_parts.specs.declared.usage_fault.UsageFault.TheVariants.{NoMemory as Want};
 
 use foundation::NoMemory;
-use thiserror::Error;
+use std::{error, fmt};
 
 /// Why words or a file aren't read: they are outside their grammar, or memory is wanting.
-#[derive(Clone, Copy, Debug, PartialEq, Eq, Drop, Error)]
+#[derive(Clone, Copy, Debug, PartialEq, Eq, Drop)]
 pub enum UsageFault {
-    #[error("Usage")]
     Usage,
-    #[error("NoMemory")]
     NoMemory,
 }
 
@@ -21,3 +19,14 @@ impl From<NoMemory> for UsageFault {
         UsageFault::NoMemory
     }
 }
+
+impl fmt::Display for UsageFault {
+    fn fmt<W: fmt::Write>(&self, f: &mut fmt::Formatter<W>) -> fmt::Result {
+        f.write_str(match self {
+            UsageFault::Usage => "Usage",
+            UsageFault::NoMemory => "NoMemory",
+        })
+    }
+}
+
+impl error::Error for UsageFault {}

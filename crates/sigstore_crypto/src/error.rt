@@ -5,7 +5,7 @@ ghost use Rattle.sigstore_crypto.specs.Error.{number_of};
 
 use foundation::NoMemory;
 use sigstore_types_parts::Form;
-use thiserror::Error as ThisError;
+use std::{error, fmt};
 
 /// Why a signature isn't good: the provider refuses it, the raw key fails its test, the digest has
 /// another length than its scheme's, or no key is known.
@@ -41,25 +41,16 @@ pub enum KeyRule {
 }
 
 /// Why a key, a signature or a digest is refused.
-#[derive(Clone, Copy, Debug, PartialEq, Eq, Drop, ThisError)]
+#[derive(Clone, Copy, Debug, PartialEq, Eq, Drop)]
 pub enum Error {
-    #[error("Signing")]
     Signing,
-    #[error("Verification")]
     Verification(VerificationFault),
-    #[error("InvalidKeyFormat")]
     InvalidKeyFormat,
-    #[error("UnsupportedAlgorithm")]
     UnsupportedAlgorithm,
-    #[error("Checkpoint")]
     Checkpoint(CheckpointFault),
-    #[error("InvalidCertificate")]
     InvalidCertificate(CertificateFault),
-    #[error("InvalidKey")]
     InvalidKey(KeyRule),
-    #[error("NoMemory")]
     NoMemory,
-    #[error("Unbuilt")]
     Unbuilt(Form),
 }
 
@@ -89,3 +80,21 @@ impl From<NoMemory> for Error {
         Error::NoMemory
     }
 }
+
+impl fmt::Display for Error {
+    fn fmt<W: fmt::Write>(&self, f: &mut fmt::Formatter<W>) -> fmt::Result {
+        f.write_str(match self {
+            Error::Signing => "Signing",
+            Error::Verification(_) => "Verification",
+            Error::InvalidKeyFormat => "InvalidKeyFormat",
+            Error::UnsupportedAlgorithm => "UnsupportedAlgorithm",
+            Error::Checkpoint(_) => "Checkpoint",
+            Error::InvalidCertificate(_) => "InvalidCertificate",
+            Error::InvalidKey(_) => "InvalidKey",
+            Error::NoMemory => "NoMemory",
+            Error::Unbuilt(_) => "Unbuilt",
+        })
+    }
+}
+
+impl error::Error for Error {}

@@ -4,13 +4,12 @@ ghost use Rattle.sigstore_crypto.specs.Reader.{HashesToEnd};
 use crate::source::{ArtifactSource, ReadFault};
 use sha2::{Digest, Sha256};
 use sigstore_types_parts::{Hash, Sha256Hash};
+use std::{error, fmt};
 
 /// Why a source isn't read to its end: a read failed, or it gave more bytes than the limit.
-#[derive(Clone, Copy, Debug, PartialEq, Eq, Drop, thiserror::Error)]
+#[derive(Clone, Copy, Debug, PartialEq, Eq, Drop)]
 pub enum ReadError {
-    #[error("Failed")]
     Failed,
-    #[error("TooLong")]
     TooLong { max: u64 },
 }
 
@@ -39,3 +38,14 @@ pub fn sha256_reader<A: ArtifactSource>(source: &mut A, max: u64) -> Result<Sha2
         }
     }
 }
+
+impl fmt::Display for ReadError {
+    fn fmt<W: fmt::Write>(&self, f: &mut fmt::Formatter<W>) -> fmt::Result {
+        f.write_str(match self {
+            ReadError::Failed => "Failed",
+            ReadError::TooLong { .. } => "TooLong",
+        })
+    }
+}
+
+impl error::Error for ReadError {}

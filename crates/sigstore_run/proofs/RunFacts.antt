@@ -23,7 +23,7 @@ use Rattle.sigstore_app_parts.specs.declared.usage_fault.UsageFault.{UsageFault}
 use Rattle.sigstore_run.specs.declared.answer.Answer.{Answer}
 use Rattle.sigstore_run.proofs.ReportThere.{report_there}
 use Rattle.sigstore_run.specs.Run as r
-use Rattle.sigstore_run.specs.Run.{answer, stop_answer, tuf_answer, verify_answer, refusal_answer, policy_meant, max_artifact, crypto_in, now_of, VerifiesInputs, AcceptsInputs, said_of, Reports, SaysReport, Judges, Proceeds, Decides, RunsTo}
+use Rattle.sigstore_run.specs.Run.{answer, stop_answer, tuf_answer, verify_answer, refusal_answer, policy_meant, max_artifact, crypto_in, now_of, VerifiesInputs, AcceptsInputs, said_of, Reports, Answers, SaysReport, Judges, Proceeds, Decides, RunsTo}
 
 -- the verification was called on the inputs
 pub on_inputs : (g : Gathered) (now : jiff.Timestamp) (repo repo' : Watched Folders) (source source' : Watched (List ℕ)) (result : Result Rooted RootFault)
@@ -62,6 +62,17 @@ pub judged_refused : (g : Gathered) (now : jiff.Timestamp) (repo repo' : Watched
     → VerifiesInputs g now repo repo' source source' (Err fault) → IfOk result (λ said. refusal_answer fault ≡ Some said) → Judges g now repo repo' source source' result
 judged_refused g now repo repo' source source' fault (Ok said) v h = r.refused fault said v h refl
 judged_refused g now repo repo' source source' fault (Err e) v h = r.want_judging e refl
+
+pub judged_answered : (g : Gathered) (now : jiff.Timestamp) (repo repo' : Watched Folders) (source source' : Watched (List ℕ)) (judged : Result Rooted RootFault) (result : Result Answer NoMemory)
+    → VerifiesInputs g now repo repo' source source' judged → IfOk judged (AcceptsInputs g now source source') → IfOk result (Answers judged) → Judges g now repo repo' source source' result
+judged_answered g now repo repo' source source' (Ok rooted) result v a h = judged_reported g now repo repo' source source' rooted result v a h
+judged_answered g now repo repo' source source' (Err fault) result v a h = judged_refused g now repo repo' source source' fault result v h
+
+pub accepted_on : (g : Gathered) (now : jiff.Timestamp) (source source' : Watched (List ℕ)) (judged : Result Rooted RootFault) (p : PublicKeyVerificationPolicy) (root bundle : List ℕ) (config : UpdaterConfig)
+    → p ≡ policy_meant g.policy → root ≡ g.root → bundle ≡ g.bundle → config ≡ default_config
+    → IfOk judged (IsAccepted (crypto_in g) (PublicKey p) root bundle config now source source' max_artifact) → IfOk judged (AcceptsInputs g now source source')
+accepted_on g now source source' (Ok rooted) p root bundle config a b c d h = accepted_on_inputs g now source source' rooted p root bundle config a b c d h
+accepted_on g now source source' (Err fault) p root bundle config a b c d h = tt
 
 pub proceeds_stopped : (now : jiff.Timestamp) (inputs inputs' : Watched Held) (repo repo' : Watched Folders) (source source' : Watched (List ℕ)) (stop : Stop) (result : Result Answer NoMemory)
     → ReadsAs gathered_of inputs inputs' (Err stop) → IfOk result (λ said. stop_answer stop ≡ Some said) → Proceeds now inputs inputs' repo repo' source source' result

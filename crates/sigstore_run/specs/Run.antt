@@ -109,6 +109,11 @@ said_of (Err e) = Some (tuf_answer e)
 abbrev pub Reports : Rooted → Answer → Type 0
 Reports rooted said = said_of (report_of rooted.chain rooted.digests rooted.result) ≡ Some said
 
+-- what is said of the verification's answer
+abbrev pub Answers : Result Rooted RootFault → Answer → Type 0
+Answers (Ok rooted) said = Reports rooted said
+Answers (Err fault) said = refusal_answer fault ≡ Some said
+
 -- the report is said
 pub record SaysReport (rooted : Rooted) (said : Answer) : Type 0 where
   pub text : List ℕ

@@ -108,12 +108,12 @@ fn refused_verify(alloc: Global, e: &sigstore_verify::Error) -> Result<Answer, N
 
 /// What is said of a refusal of the verification.
 #[tactic(auto, unfolding(crate::specs::Run::refusal_answer))]
-pub fn refused(alloc: Global, fault: RootFault) -> Result<Answer, NoMemory>
-    ensures { IfOk result (λ said. refusal_answer fault ≡ Some said) }
+pub fn refused(alloc: Global, fault: &RootFault) -> Result<Answer, NoMemory>
+    ensures { IfOk result (λ said. refusal_answer fault.now ≡ Some said) }
 {
     match fault {
-        RootFault::Tuf(e) => Ok(refused_tuf(alloc, &e)?),
-        RootFault::Verify { fault, .. } => Ok(refused_verify(alloc, &fault)?),
+        RootFault::Tuf(e) => Ok(refused_tuf(alloc, e)?),
+        RootFault::Verify { fault, .. } => Ok(refused_verify(alloc, fault)?),
         RootFault::NoMemory => Err(NoMemory),
     }
 }

@@ -1,7 +1,7 @@
 // A run of the program.
 ghost use Rattle.std.specs.Prelude.{◌≡◌, IfOk};
 ghost use Rattle.sigstore_app_parts.specs.Sink.{WritesText};
-ghost use Rattle.sigstore_run.specs.Run.{policy_meant, Reports, Judges, Proceeds, Decides, RunsTo, Means};
+ghost use Rattle.sigstore_run.specs.Run.{policy_meant, Reports, Answers, Judges, Proceeds, Decides, RunsTo, Means};
 
 use crate::answer::{Answer, Status, refused, refused_tuf, stopped};
 use crate::report::report;
@@ -13,7 +13,7 @@ use sigstore_app_parts::{
 use sigstore_crypto::ArtifactSource;
 use sigstore_tuf::{MetadataStore, Repository, UpdaterConfig};
 use sigstore_types_parts::Text;
-use sigstore_verify::{PublicKeyVerificationPolicy, Rooted, verify_from_root};
+use sigstore_verify::{PublicKeyVerificationPolicy, RootFault, Rooted, verify_from_root};
 use std::alloc::Global;
 
 // The greatest length of the artifact in bytes.
@@ -44,7 +44,21 @@ fn reported(alloc: Global, rooted: &Rooted) -> Result<Answer, NoMemory>
             text: Text::from_string(text),
         }),
         Err(sigstore_tuf_parts::Error::NoMemory) => Err(NoMemory),
-        Err(e) => Ok(refused_tuf(alloc, &e)?),
+        Err(e) => {
+            let said = refused_tuf(alloc, &e);
+            drop(e);
+            said
+        }
+    }
+}
+
+// What is said of an acceptance or a refusal.
+fn answered(alloc: Global, judged: &Result<Rooted, RootFault>) -> Result<Answer, NoMemory>
+    ensures { IfOk result (λ said. Answers judged.now said) }
+{
+    match judged {
+        Ok(rooted) => reported(alloc, rooted),
+        Err(fault) => refused(alloc, fault),
     }
 }
 
@@ -66,7 +80,7 @@ fn judge<R: Repository, S: MetadataStore, A: ArtifactSource>(
         bundle,
     } = gathered;
     let policy = policy_meant(policy);
-    match verify_from_root(
+    let judged = verify_from_root(
         alloc,
         &tables.provider,
         &tables.armor,
@@ -79,10 +93,10 @@ fn judge<R: Repository, S: MetadataStore, A: ArtifactSource>(
         artifact,
         MAX_ARTIFACT,
         &policy,
-    ) {
-        Ok(rooted) => reported(alloc, &rooted),
-        Err(fault) => refused(alloc, fault),
-    }
+    );
+    let said = answered(alloc, &judged);
+    drop(judged);
+    said
 }
 
 // The inputs, then the verification.
@@ -121,6 +135,7 @@ fn decide<I: Inputs, R: Repository, S: MetadataStore, A: ArtifactSource>(
     match found {
         Some(layout) => {
             let now = layout.now.unwrap_or(clock);
+            drop(layout);
             proceed(alloc, now, inputs, repo, store, artifact)
         }
         None => stopped(alloc, Stop::Words),

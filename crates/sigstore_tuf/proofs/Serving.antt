@@ -38,6 +38,9 @@ use Rattle.sigstore_tuf.proofs.Authorised.{step_ok, ok_same, some_same, ok_some,
 
 -- ---- tests
 
+no_both : {A E C : Type 0} (x : A) (e : E) → ◌≡◌ {A = Result A E} (Ok x) (Err e) → C
+no_both x e h = cc
+
 both_true : (a b : Bool) → (a && b) ≡ true → (a ≡ true) × (b ≡ true)
 both_true true b h = (refl, h)
 both_true false b h = cc
@@ -224,11 +227,11 @@ module _ (crypto : Crypto) (config : UpdaterConfig) (now : jiff.Timestamp) where
 
   -- after a refresh that is Ok the documents in force serve
   pub refresh_serves : (old new : InForce) (repo repo' : Watched Folders) → Refreshes crypto config now old new repo repo' (Ok tt) → Serve now new
-  refresh_serves old new repo repo' (walk_refuses e w n r) = cc
-  refresh_serves old new repo repo' (root_refuses e w c n r) = cc
-  refresh_serves old new repo repo' (timestamp_refuses r1 e w c t r) = cc
-  refresh_serves old new repo repo' (snapshot_refuses r1 r2 s1 e w c t s r) = cc
-  refresh_serves old new repo repo' (targets_refuses r1 r2 r3 s1 s2 e w c t s g r) = cc
+  refresh_serves old new repo repo' (walk_refuses e w n r) = no_both tt e r
+  refresh_serves old new repo repo' (root_refuses e w c n r) = no_both tt e r
+  refresh_serves old new repo repo' (timestamp_refuses r1 e w c t r) = no_both tt e r
+  refresh_serves old new repo repo' (snapshot_refuses r1 r2 s1 e w c t s r) = no_both tt e r
+  refresh_serves old new repo repo' (targets_refuses r1 r2 r3 s1 s2 e w c t s g r) = no_both tt e r
   refresh_serves old new repo repo' (all_serve r1 r2 r3 s1 s2 w c t s g r) =
       let a = timestamp_step old s1 r1 r2 t in
       serve_from old s1 s2 new (root_there old c) a.1 (snapshot_step s1 s2 r2 r3 a.0 s) (targets_step s2 new r3 repo' g)
@@ -390,9 +393,9 @@ module _ (crypto : Crypto) (given path : List ℕ) (config : UpdaterConfig) (now
 
   -- a chain that is handed back is trusted
   pub chain_trusted : (repo repo' : Watched Folders) (chain : TrustChain) → AreAuthorised crypto given set → GetsTarget set config path now repo repo' (Ok chain) → Trusts chain
-  chain_trusted repo repo' chain k (unlisted e h r w) = cc
-  chain_trusted repo repo' chain k (unfetched entry e t f w) = cc
-  chain_trusted repo repo' chain k (unchained entry file e t f h w) = cc
+  chain_trusted repo repo' chain k (unlisted e h r w) = no_both chain e w
+  chain_trusted repo repo' chain k (unfetched entry e t f w) = no_both chain e w
+  chain_trusted repo repo' chain k (unchained entry file e t f h w) = no_both chain e w
   chain_trusted repo repo' chain k (found entry file other t f c w) = found_trusted repo repo' entry file chain k t f (c ∙ sym w)
 
 -- ---- as the calls promise it

@@ -45,8 +45,8 @@ impl Duplicate for TrustChain {
             timestamp: self.timestamp.duplicate(alloc)?,
             snapshot: self.snapshot.duplicate(alloc)?,
             roles: self.roles.duplicate(alloc)?,
-            target: self.target.duplicate(alloc)?,
             file: self.file.duplicate(alloc)?,
+            target: self.target.duplicate(alloc)?,
         })
     }
 }

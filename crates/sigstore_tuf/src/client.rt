@@ -19,6 +19,7 @@ use sigstore_tuf_parts::{
 };
 use sigstore_types_parts::{Armor, Bytes, Form, Text, TextMap};
 use std::alloc::Global;
+use std::mem;
 
 // A repository's fault as the client's refusal.
 pub(crate) fn transport(fault: FetchFault, max: u64) -> Error
@@ -101,7 +102,7 @@ fn adopt_timestamp<C: CryptoProvider, M: Armor>(
 {
     match new_timestamp(alloc, provider, armor, documents, bytes, now) {
         Ok(held) => {
-            documents.timestamp = Some(held);
+            drop(mem::replace(&mut documents.timestamp, Some(held)));
             Ok(())
         }
         Err(Error::EqualVersion { .. }) => Ok(()),
@@ -204,8 +205,8 @@ fn keeps_snapshot(documents: &InForce, now: jiff::Timestamp) -> bool
 fn put_snapshot(alloc: Global, documents: &mut InForce, held: Held<Snapshot>)
     ensures { documents.new ≡ with_snapshot documents.old held }
 {
-    documents.snapshot = Some(held);
-    documents.targets = TextMap::new(alloc);
+    drop(mem::replace(&mut documents.snapshot, Some(held)));
+    drop(mem::replace(&mut documents.targets, TextMap::new(alloc)));
 }
 
 // Fetches the snapshot and adopts it.
@@ -275,9 +276,16 @@ fn put_targets(alloc: Global, documents: &mut InForce, held: Held<Targets>) -> R
     ensures err { IfErr result (λ e. e ≡ Want) }
     ensures kept { OnErr result (documents.new ≡ documents.old) }
 {
-    let name = Text::new(alloc, "targets")?;
-    documents.targets.insert(name, held)?;
-    Ok(())
+    match Text::new(alloc, "targets") {
+        Ok(name) => {
+            documents.targets.insert(name, held)?;
+            Ok(())
+        }
+        Err(e) => {
+            drop(held);
+            Err(Error::from(e))
+        }
+    }
 }
 
 // Adopts a fetched targets document.

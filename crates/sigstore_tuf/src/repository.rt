@@ -7,16 +7,13 @@ ghost use Rattle.sigstore_tuf.specs.declared.repository.FetchFault.TheVariants.{
 use foundation::NoMemory;
 use sigstore_types_parts::Bytes;
 use std::alloc::Global;
-use thiserror::Error;
+use std::{error, fmt};
 
 /// Why nothing is fetched: the call failed, the file is longer than the limit, or memory is wanting.
-#[derive(Clone, Copy, Debug, PartialEq, Eq, Drop, Error)]
+#[derive(Clone, Copy, Debug, PartialEq, Eq, Drop)]
 pub enum FetchFault {
-    #[error("Failed")]
     Failed,
-    #[error("TooLong")]
     TooLong { seen: u64 },
-    #[error("NoMemory")]
     NoMemory,
 }
 
@@ -53,3 +50,15 @@ pub trait Repository {
     ) -> Result<Option<Bytes>, FetchFault>
         ensures { Fetches target_files (seen self.old) (seen self.new) path.now max result };
 }
+
+impl fmt::Display for FetchFault {
+    fn fmt<W: fmt::Write>(&self, f: &mut fmt::Formatter<W>) -> fmt::Result {
+        f.write_str(match self {
+            FetchFault::Failed => "Failed",
+            FetchFault::TooLong { .. } => "TooLong",
+            FetchFault::NoMemory => "NoMemory",
+        })
+    }
+}
+
+impl error::Error for FetchFault {}

@@ -8,17 +8,14 @@ ghost use Rattle.sigstore_tuf.specs.declared.store.StoreFault.TheVariants.{NoMem
 use foundation::NoMemory;
 use sigstore_types_parts::Bytes;
 use std::alloc::Global;
-use thiserror::Error;
+use std::{error, fmt};
 
 /// Why nothing is loaded or stored: the call failed, the name is absolute or has a component `..`, or
 /// memory is wanting.
-#[derive(Clone, Copy, Debug, PartialEq, Eq, Drop, Error)]
+#[derive(Clone, Copy, Debug, PartialEq, Eq, Drop)]
 pub enum StoreFault {
-    #[error("Failed")]
     Failed,
-    #[error("BadName")]
     BadName,
-    #[error("NoMemory")]
     NoMemory,
 }
 
@@ -46,3 +43,15 @@ pub trait MetadataStore {
     /// Nothing is held under a bad name.
     ghost tame: { (s : Self) → IfTold (seen s).told HoldsNoBadName };
 }
+
+impl fmt::Display for StoreFault {
+    fn fmt<W: fmt::Write>(&self, f: &mut fmt::Formatter<W>) -> fmt::Result {
+        f.write_str(match self {
+            StoreFault::Failed => "Failed",
+            StoreFault::BadName => "BadName",
+            StoreFault::NoMemory => "NoMemory",
+        })
+    }
+}
+
+impl error::Error for StoreFault {}

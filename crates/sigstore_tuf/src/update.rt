@@ -41,8 +41,13 @@ fn own_root<C: CryptoProvider, M: Armor>(
         first_root_of (crypto_of (C.accepts provider.now) (M.armored armor.now) (M.key_in armor.now)) bytes.now ≡ Err e) }
 {
     let root = Metadata::from_slice(alloc, bytes)?;
-    root.verify_role(alloc, provider, armor, root.signed(), "root")?;
-    Ok(root)
+    match root.verify_role(alloc, provider, armor, root.signed(), "root") {
+        Ok(()) => Ok(root),
+        Err(e) => {
+            drop(root);
+            Err(e)
+        }
+    }
 }
 
 /// The documents in force with a first root, which meets its own role. Errors: those of a document, then
@@ -174,8 +179,13 @@ pub(crate) fn new_timestamp<C: CryptoProvider, M: Armor>(
         new_timestamp_of (crypto_of (C.accepts provider.now) (M.armored armor.now) (M.key_in armor.now)) documents.now bytes now ≡ Err e) }
 {
     let document = Metadata::<Timestamp>::from_slice(alloc, bytes.as_bytes())?;
-    check_timestamp(alloc, provider, armor, documents, &document, now)?;
-    Ok(Held { bytes, document })
+    match check_timestamp(alloc, provider, armor, documents, &document, now) {
+        Ok(()) => Ok(Held { bytes, document }),
+        Err(e) => {
+            drop(document);
+            Err(e)
+        }
+    }
 }
 
 // The snapshot's pin in the timestamp in force, which isn't expired.
@@ -285,8 +295,13 @@ pub(crate) fn new_snapshot<C: CryptoProvider, M: Armor>(
     let pin = snapshot_pin(alloc, documents, now)?;
     check_integrity(pin.length, pin.hashes.as_ref(), bytes.as_bytes())?;
     let document = Metadata::<Snapshot>::from_slice(alloc, bytes.as_bytes())?;
-    check_snapshot(alloc, provider, armor, documents, pin, &document, now)?;
-    Ok(Held { bytes, document })
+    match check_snapshot(alloc, provider, armor, documents, pin, &document, now) {
+        Ok(()) => Ok(Held { bytes, document }),
+        Err(e) => {
+            drop(document);
+            Err(e)
+        }
+    }
 }
 
 // The pin of the top-level targets document in the snapshot in force, which isn't expired.
@@ -349,6 +364,11 @@ pub(crate) fn new_targets<C: CryptoProvider, M: Armor>(
     let pin = targets_pin(alloc, documents, now)?;
     check_integrity(pin.length, pin.hashes.as_ref(), bytes.as_bytes())?;
     let document = Metadata::<Targets>::from_slice(alloc, bytes.as_bytes())?;
-    check_targets(alloc, provider, armor, documents, pin, &document, now)?;
-    Ok(Held { bytes, document })
+    match check_targets(alloc, provider, armor, documents, pin, &document, now) {
+        Ok(()) => Ok(Held { bytes, document }),
+        Err(e) => {
+            drop(document);
+            Err(e)
+        }
+    }
 }

@@ -23,6 +23,7 @@ use sigstore_crypto::CryptoProvider;
 use sigstore_tuf_parts::Error;
 use sigstore_types_parts::{Armor, Bytes};
 use std::alloc::Global;
+use std::mem;
 
 // A refresh over the store that is there, or over none.
 fn refresh_held<C: CryptoProvider, M: Armor, R: Repository, S: MetadataStore>(
@@ -208,10 +209,13 @@ impl<'a, C: CryptoProvider, M: Armor, R: Repository, S: MetadataStore> Updater<'
         ) {
             Ok(chain) => match chain.file.duplicate(alloc) {
                 Ok(file) => {
-                    self.chain = Some(chain);
+                    drop(mem::replace(&mut self.chain, Some(chain)));
                     Ok(file)
                 }
-                Err(_) => Err(Error::NoMemory),
+                Err(_) => {
+                    drop(chain);
+                    Err(Error::NoMemory)
+                }
             },
             Err(e) => Err(e),
         }

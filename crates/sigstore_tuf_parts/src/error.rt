@@ -6,6 +6,7 @@ ghost use Rattle.sigstore_tuf_parts.specs.Error.{error_of, error_of_fault, numbe
 use foundation::NoMemory;
 use sigstore_types_parts::{Form, JsonFault, Misread, Refusal, Text};
 use std::alloc::{AllocError, AllocFailed};
+use std::{error, fmt};
 
 /// The rule that a document breaks: its frame, its kind, the version of the specification, a
 /// threshold of 0, a pattern, or what has to be in force before it.
@@ -46,74 +47,55 @@ pub enum TransportFault {
 }
 
 /// Why a document, a key or a chain of documents is refused.
-#[derive(Debug, Drop, thiserror::Error)]
+#[derive(Debug, Drop)]
 pub enum Error {
-    #[error("Json")]
     Json,
-    #[error("Malformed")]
     Malformed(Rule),
-    #[error("NonIntegerNumber")]
     NonIntegerNumber,
-    #[error("UnusableKey")]
     UnusableKey {
         key_id: Text,
     },
-    #[error("UnsupportedScheme")]
     UnsupportedScheme {
         keytype: Text,
         scheme: Text,
     },
-    #[error("UnknownRole")]
     UnknownRole {
         name: Text,
     },
-    #[error("DuplicateSignature")]
     DuplicateSignature {
         role: Text,
         key_id: Text,
     },
-    #[error("ThresholdNotMet")]
     ThresholdNotMet {
         role: Text,
         found: u64,
         threshold: u64,
     },
-    #[error("Rollback")]
     Rollback {
         role: Text,
         trusted: u64,
         new: u64,
     },
-    #[error("EqualVersion")]
     EqualVersion {
         role: Text,
         version: u64,
     },
-    #[error("BadRootVersion")]
     BadRootVersion {
         trusted: u64,
         new: u64,
     },
-    #[error("Expired")]
     Expired {
         role: Text,
         expires: jiff::Timestamp,
     },
-    #[error("IntegrityMismatch")]
     IntegrityMismatch(Mismatch),
-    #[error("Crypto")]
     Crypto,
-    #[error("NotRefreshed")]
     NotRefreshed,
-    #[error("TargetNotFound")]
     TargetNotFound {
         path: Text,
     },
-    #[error("Transport")]
     Transport(TransportFault),
-    #[error("NoMemory")]
     NoMemory,
-    #[error("Unbuilt")]
     Unbuilt(Form),
 }
 
@@ -219,3 +201,11 @@ impl From<JsonFault> for Error {
         }
     }
 }
+
+impl fmt::Display for Error {
+    fn fmt<W: fmt::Write>(&self, f: &mut fmt::Formatter<W>) -> fmt::Result {
+        f.write_str(self.name())
+    }
+}
+
+impl error::Error for Error {}

@@ -8,7 +8,7 @@ use crate::member::TypesMember;
 use crate::misread::{Misread, Refusal};
 use crate::parse::JsonFault;
 use foundation::NoMemory;
-use thiserror::Error;
+use std::{error, fmt};
 
 /// The rule of checkpoints (C2SP tlog-checkpoint) that a text breaks.
 #[derive(Clone, Copy, Debug, PartialEq, Eq, Drop)]
@@ -21,33 +21,20 @@ pub enum CheckpointRule {
 }
 
 /// Why a bundle, a trust file, a statement or a part of one isn't read.
-#[derive(Clone, Copy, Debug, PartialEq, Eq, Drop, Error)]
+#[derive(Clone, Copy, Debug, PartialEq, Eq, Drop)]
 pub enum TypesError {
-    #[error("Json")]
     Json,
-    #[error("Float")]
     Float,
-    #[error("Field")]
     Field { member: TypesMember },
-    #[error("Base64")]
     Base64,
-    #[error("Hex")]
     Hex,
-    #[error("Length")]
     Length { expected: u64, actual: u64 },
-    #[error("MediaType")]
     MediaType,
-    #[error("Kind")]
     Kind,
-    #[error("Checkpoint")]
     Checkpoint(CheckpointRule),
-    #[error("NoEntry")]
     NoEntry,
-    #[error("NoProof")]
     NoProof,
-    #[error("NoMemory")]
     NoMemory,
-    #[error("Unbuilt")]
     Unbuilt(Form),
 }
 
@@ -107,3 +94,25 @@ impl From<JsonFault> for TypesError {
         }
     }
 }
+
+impl fmt::Display for TypesError {
+    fn fmt<W: fmt::Write>(&self, f: &mut fmt::Formatter<W>) -> fmt::Result {
+        f.write_str(match self {
+            TypesError::Json => "Json",
+            TypesError::Float => "Float",
+            TypesError::Field { .. } => "Field",
+            TypesError::Base64 => "Base64",
+            TypesError::Hex => "Hex",
+            TypesError::Length { .. } => "Length",
+            TypesError::MediaType => "MediaType",
+            TypesError::Kind => "Kind",
+            TypesError::Checkpoint(_) => "Checkpoint",
+            TypesError::NoEntry => "NoEntry",
+            TypesError::NoProof => "NoProof",
+            TypesError::NoMemory => "NoMemory",
+            TypesError::Unbuilt(_) => "Unbuilt",
+        })
+    }
+}
+
+impl error::Error for TypesError {}

@@ -7,109 +7,74 @@ use foundation::NoMemory;
 use jiff::Timestamp;
 use sigstore_crypto::ReadError;
 use sigstore_types_parts::{Form, LogKeyId, Text, TypesError};
-use thiserror::Error as ThisError;
+use std::{error, fmt};
 
 /// Why a signing certificate isn't accepted.
-#[derive(Debug, PartialEq, Drop, ThisError)]
+#[derive(Debug, PartialEq, Drop)]
 pub enum CertificateError {
-    #[error("Malformed")]
     Malformed,
-    #[error("ChainInvalid")]
     ChainInvalid,
-    #[error("NoValidAuthority")]
     NoValidAuthority {
         time: Timestamp,
     },
-    #[error("NotYetValid")]
     NotYetValid {
         time: Timestamp,
         not_before: Timestamp,
     },
-    #[error("Expired")]
     Expired {
         time: Timestamp,
         not_after: Timestamp,
     },
-    #[error("Sct")]
     Sct,
 }
 
 /// Why an entry of a transparency log isn't accepted.
-#[derive(Debug, PartialEq, Drop, ThisError)]
+#[derive(Debug, PartialEq, Drop)]
 pub enum TransparencyLogError {
-    #[error("UnknownLog")]
     UnknownLog { log_id: LogKeyId },
-    #[error("InclusionProof")]
     InclusionProof,
-    #[error("Checkpoint")]
     Checkpoint,
-    #[error("InclusionPromise")]
     InclusionPromise,
-    #[error("EntryMismatch")]
     EntryMismatch,
-    #[error("IntegratedTime")]
     IntegratedTime,
-    #[error("MalformedEntry")]
     MalformedEntry,
 }
 
 /// Why a time-stamp token isn't accepted.
-#[derive(Debug, PartialEq, Drop, ThisError)]
+#[derive(Debug, PartialEq, Drop)]
 pub enum TimestampError {
-    #[error("Invalid")]
     Invalid,
-    #[error("OutsideAuthorityValidity")]
     OutsideAuthorityValidity { time: Timestamp },
-    #[error("NoVerifiedTimestamp")]
     NoVerifiedTimestamp,
 }
 
 /// Why a bundle isn't accepted.
-#[derive(Debug, PartialEq, Drop, ThisError)]
+#[derive(Debug, PartialEq, Drop)]
 pub enum Error {
-    #[error("IdentityMismatch")]
     IdentityMismatch {
         expected: Text,
         actual: Option<Text>,
     },
-    #[error("IssuerMismatch")]
     IssuerMismatch {
         expected: Text,
         actual: Option<Text>,
     },
-    #[error("SignatureInvalid")]
     SignatureInvalid,
-    #[error("ArtifactMismatch")]
     ArtifactMismatch,
-    #[error("UnsupportedArtifact")]
     UnsupportedArtifact,
-    #[error("Certificate")]
     Certificate(CertificateError),
-    #[error("TransparencyLog")]
     TransparencyLog(TransparencyLogError),
-    #[error("Timestamp")]
     Timestamp(TimestampError),
-    #[error("InvalidBundle")]
     InvalidBundle,
-    #[error("UnsupportedBundle")]
     UnsupportedBundle,
-    #[error("InvalidTrustRoot")]
     InvalidTrustRoot,
-    #[error("Types")]
     Types,
-    #[error("Crypto")]
     Crypto,
-    #[error("Bundle")]
     Bundle,
-    #[error("TrustRoot")]
     TrustRoot,
-    #[error("TrustedCertificate")]
     TrustedCertificate,
-    #[error("ArtifactRead")]
     ArtifactRead(ReadError),
-    #[error("NoMemory")]
     NoMemory,
-    #[error("Unbuilt")]
     Unbuilt(Form),
 }
 
@@ -279,3 +244,74 @@ pub(crate) fn of_structure(fault: TypesError) -> Error
         _ => Error::Bundle,
     }
 }
+
+impl fmt::Display for CertificateError {
+    fn fmt<W: fmt::Write>(&self, f: &mut fmt::Formatter<W>) -> fmt::Result {
+        f.write_str(match self {
+            CertificateError::Malformed => "Malformed",
+            CertificateError::ChainInvalid => "ChainInvalid",
+            CertificateError::NoValidAuthority { .. } => "NoValidAuthority",
+            CertificateError::NotYetValid { .. } => "NotYetValid",
+            CertificateError::Expired { .. } => "Expired",
+            CertificateError::Sct => "Sct",
+        })
+    }
+}
+
+impl error::Error for CertificateError {}
+
+impl fmt::Display for TransparencyLogError {
+    fn fmt<W: fmt::Write>(&self, f: &mut fmt::Formatter<W>) -> fmt::Result {
+        f.write_str(match self {
+            TransparencyLogError::UnknownLog { .. } => "UnknownLog",
+            TransparencyLogError::InclusionProof => "InclusionProof",
+            TransparencyLogError::Checkpoint => "Checkpoint",
+            TransparencyLogError::InclusionPromise => "InclusionPromise",
+            TransparencyLogError::EntryMismatch => "EntryMismatch",
+            TransparencyLogError::IntegratedTime => "IntegratedTime",
+            TransparencyLogError::MalformedEntry => "MalformedEntry",
+        })
+    }
+}
+
+impl error::Error for TransparencyLogError {}
+
+impl fmt::Display for TimestampError {
+    fn fmt<W: fmt::Write>(&self, f: &mut fmt::Formatter<W>) -> fmt::Result {
+        f.write_str(match self {
+            TimestampError::Invalid => "Invalid",
+            TimestampError::OutsideAuthorityValidity { .. } => "OutsideAuthorityValidity",
+            TimestampError::NoVerifiedTimestamp => "NoVerifiedTimestamp",
+        })
+    }
+}
+
+impl error::Error for TimestampError {}
+
+impl fmt::Display for Error {
+    fn fmt<W: fmt::Write>(&self, f: &mut fmt::Formatter<W>) -> fmt::Result {
+        f.write_str(match self {
+            Error::IdentityMismatch { .. } => "IdentityMismatch",
+            Error::IssuerMismatch { .. } => "IssuerMismatch",
+            Error::SignatureInvalid => "SignatureInvalid",
+            Error::ArtifactMismatch => "ArtifactMismatch",
+            Error::UnsupportedArtifact => "UnsupportedArtifact",
+            Error::Certificate(_) => "Certificate",
+            Error::TransparencyLog(_) => "TransparencyLog",
+            Error::Timestamp(_) => "Timestamp",
+            Error::InvalidBundle => "InvalidBundle",
+            Error::UnsupportedBundle => "UnsupportedBundle",
+            Error::InvalidTrustRoot => "InvalidTrustRoot",
+            Error::Types => "Types",
+            Error::Crypto => "Crypto",
+            Error::Bundle => "Bundle",
+            Error::TrustRoot => "TrustRoot",
+            Error::TrustedCertificate => "TrustedCertificate",
+            Error::ArtifactRead(_) => "ArtifactRead",
+            Error::NoMemory => "NoMemory",
+            Error::Unbuilt(_) => "Unbuilt",
+        })
+    }
+}
+
+impl error::Error for Error {}

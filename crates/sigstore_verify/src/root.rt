@@ -55,7 +55,10 @@ fn verify_fault(fault: Error, chain: TrustChain) -> RootFault
     ensures { result ≡ root_of_verify fault chain }
 {
     match fault {
-        Error::NoMemory => RootFault::NoMemory,
+        Error::NoMemory => {
+            drop(chain);
+            RootFault::NoMemory
+        }
         fault => RootFault::Verify { fault, chain },
     }
 }
@@ -125,10 +128,10 @@ fn chain_by<C: CryptoProvider, M: Armor, R: Repository, S: MetadataStore>(
 }
 
 // The chain of documents that authorises the trust file.
-fn trust_chain<C: CryptoProvider, M: Armor, R: Repository, S: MetadataStore>(
+fn trust_chain<'p, C: CryptoProvider, M: Armor, R: Repository, S: MetadataStore>(
     alloc: Global,
-    provider: &C,
-    armor: &M,
+    provider: &'p C,
+    armor: &'p M,
     root_bytes: &[u8],
     repo: &mut R,
     store: &mut S,
@@ -140,16 +143,20 @@ fn trust_chain<C: CryptoProvider, M: Armor, R: Repository, S: MetadataStore>(
     ensures store { S.seen store.new ≡ S.seen store.old }
 {
     match TrustedMetadataSet::from_root(alloc, provider, armor, root_bytes) {
-        Ok(mut set) => chain_by(
-            alloc,
-            provider,
-            armor,
-            &mut set.documents,
-            repo,
-            store,
-            config,
-            now,
-        ),
+        Ok(mut set) => {
+            let given = chain_by(
+                alloc,
+                provider,
+                armor,
+                &mut set.documents,
+                repo,
+                store,
+                config,
+                now,
+            );
+            drop(set);
+            given
+        }
         Err(e) => Err(e),
     }
 }
@@ -181,10 +188,9 @@ fn judge_bundle<C: CryptoProvider, M: Armor, A: ArtifactSource, P: Policy>(
         Ok(bundle) => bundle,
         Err(e) => return Err(e),
     };
-    match verifier.verify_reader_kept(alloc, artifact, max_artifact, &bundle, policy, now) {
-        Ok(kept) => Ok(kept),
-        Err(e) => Err(e),
-    }
+    let kept = verifier.verify_reader_kept(alloc, artifact, max_artifact, &bundle, policy, now);
+    drop(bundle);
+    kept
 }
 
 /// Verifies a bundle over an artifact from a pinned TUF root: refreshes a client of the repository, gets

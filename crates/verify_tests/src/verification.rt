@@ -15,6 +15,7 @@ use sigstore_types::{
 };
 use sigstore_verify::*;
 use std::alloc::Global;
+use std::process::Abort;
 use std::test::Fail;
 
 struct Echo;
@@ -328,24 +329,52 @@ fn kept(
     Ok(verifier.verify_reader_kept(alloc, &mut source, 5, bundle, policy, now)?)
 }
 
-#[test]
-fn an_acceptance_is_shown(rt: HostRuntime) -> Result<(), Fail> {
-    let alloc = rt.alloc();
+fn check_digests<X: AllocGlobal + Abort>(rt: &X, kept: &Kept) -> Result<(), Fail> {
+    let digest = kept.digests.as_slice().first().ok_or("a digest")?;
+    assert!(rt; kept.digests.len() == 1 && digest.algorithm() == HashAlgorithm::Sha2256);
+    assert!(rt; digest.as_bytes() == sha256(b"hello").as_bytes());
+    Ok(())
+}
+
+fn check_result<X: AllocGlobal + Abort>(rt: &X, shown: &VerificationResult) {
+    assert!(rt; shown.issuer().is_none() && shown.integrated_time().is_none());
+    assert!(rt; !shown.certificate_verified() && !shown.sct_verified());
+    assert!(rt; !shown.tlog_verified() && !shown.identity_policy_checked());
+    assert!(rt; shown.verified_timestamps().is_empty());
+}
+
+fn check_policy<X: AllocGlobal + Abort>(rt: &X, policy: &PublicKeyVerificationPolicy) {
+    assert!(rt; policy.public_key().as_bytes().len() == 91 && !policy.verifies_tlog());
+}
+
+fn accepted(alloc: Global) -> Result<Kept, Fail> {
     let unchanged = Change {
         part: "nothing",
         text: "",
     };
     let policy = policy(alloc, unchanged)?;
-    assert!(rt; policy.public_key().as_bytes().len() == 91 && !policy.verifies_tlog());
     let bundle = bundle(alloc, unchanged)?;
-    let kept = kept(alloc, &policy, &bundle)?;
-    let digest = kept.digests.as_slice().first().ok_or("a digest")?;
-    assert!(rt; kept.digests.len() == 1 && digest.algorithm() == HashAlgorithm::Sha2256);
-    assert!(rt; digest.as_bytes() == sha256(b"hello").as_bytes());
-    let result = &kept.result;
-    assert!(rt; result.issuer().is_none() && result.integrated_time().is_none());
-    assert!(rt; !result.certificate_verified() && !result.sct_verified());
-    assert!(rt; !result.tlog_verified() && !result.identity_policy_checked());
-    assert!(rt; result.verified_timestamps().is_empty());
+    let kept = kept(alloc, &policy, &bundle);
+    drop(bundle);
+    kept
+}
+
+#[test]
+fn a_policy_is_shown(rt: HostRuntime) -> Result<(), Fail> {
+    let unchanged = Change {
+        part: "nothing",
+        text: "",
+    };
+    let policy = policy(rt.alloc(), unchanged)?;
+    check_policy(&rt, &policy);
     Ok(())
+}
+
+#[test]
+fn an_acceptance_is_shown(rt: HostRuntime) -> Result<(), Fail> {
+    let kept = accepted(rt.alloc())?;
+    check_result(&rt, &kept.result);
+    let checked = check_digests(&rt, &kept);
+    drop(kept);
+    checked
 }

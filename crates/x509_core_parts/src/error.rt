@@ -6,31 +6,24 @@ ghost use Rattle.x509_core_parts.specs.Reading.{number_of, error_of_der};
 use der_core::DerError;
 use foundation::NoMemory;
 use std::alloc::{AllocError, AllocFailed};
-use thiserror::Error;
+use std::{error, fmt};
 
 /// Why bytes are no certificate, no key or no list of timestamps, or bytes can't be made of one.
-#[derive(Clone, Copy, Debug, PartialEq, Eq, Drop, Error)]
+#[derive(Clone, Copy, Debug, PartialEq, Eq, Drop)]
 pub enum X509Error {
     /// A part is outside its DER grammar.
-    #[error("Der")]
     Der(DerError),
     /// A version is written that is neither 2 nor 3 (RFC 5280, 4.1.2.1).
-    #[error("Version")]
     Version,
     /// The algorithm in the signed part differs from the one behind it (RFC 5280, 4.1.1.2).
-    #[error("Algorithms")]
     Algorithms,
     /// A date is neither a UTCTime nor a GeneralizedTime (RFC 5280, 4.1.2.5).
-    #[error("Time")]
     Time,
     /// Two extensions have one identifier (RFC 5280, 4.2).
-    #[error("Extension")]
     Extension,
     /// Bytes are no list of timestamps, or a signed part is too long for one (RFC 6962, 3.2 and 3.3).
-    #[error("SctList")]
     SctList,
     /// An allocation was refused.
-    #[error("NoMemory")]
     NoMemory,
 }
 
@@ -85,3 +78,19 @@ impl<T: Drop> From<AllocFailed<T>> for X509Error {
         X509Error::NoMemory
     }
 }
+
+impl fmt::Display for X509Error {
+    fn fmt<W: fmt::Write>(&self, f: &mut fmt::Formatter<W>) -> fmt::Result {
+        f.write_str(match self {
+            X509Error::Der(_) => "Der",
+            X509Error::Version => "Version",
+            X509Error::Algorithms => "Algorithms",
+            X509Error::Time => "Time",
+            X509Error::Extension => "Extension",
+            X509Error::SctList => "SctList",
+            X509Error::NoMemory => "NoMemory",
+        })
+    }
+}
+
+impl error::Error for X509Error {}

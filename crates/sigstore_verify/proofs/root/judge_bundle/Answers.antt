@@ -11,10 +11,6 @@ returns-in-Err-new g c = verifier_refused _ _ c.in-Ok.ensures.ok c.in-Err-new.en
 pub returns-in-Err-read_bundle : goal.returns-in-Err-read_bundle
 returns-in-Err-read_bundle g c = bundle_refused _ _ c.in-Ok.ensures.ok c.in-Ok-new.ensures.ok c.in-Err-read_bundle.ensures.err refl refl
 
-pub returns-in-Ok-verify_reader_kept : goal.returns-in-Ok-verify_reader_kept
-returns-in-Ok-verify_reader_kept g c =
-    judged _ _ c.in-Ok.ensures.ok c.in-Ok-new.ensures.ok c.in-Ok-read_bundle.ensures.ok (rw c.in-Ok-new.ensures.provider at c.in-Ok-verify_reader_kept.ensures)
-
 pub returns : goal.returns
 returns g c =
-    judged _ _ c.in-Ok.ensures.ok c.in-Ok-new.ensures.ok c.in-Ok-read_bundle.ensures.ok (rw c.in-Ok-new.ensures.provider at c.in-Err-verify_reader_kept.ensures)
+    judged _ _ c.in-Ok.ensures.ok c.in-Ok-new.ensures.ok c.in-Ok-read_bundle.ensures.ok (rw c.in-Ok-new.ensures.provider at c.verify_reader_kept-kept.ensures)

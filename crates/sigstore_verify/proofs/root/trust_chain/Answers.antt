@@ -6,4 +6,4 @@ pub returns-in-Err-clause-gives : goal.returns-in-Err-clause-gives
 returns-in-Err-clause-gives g c = root_refused _ c.in-Err.ensures.err refl refl
 
 pub returns-in-Ok-clause-gives : goal.returns-in-Ok-clause-gives
-returns-in-Ok-clause-gives g c = c.chain_by.ensures.gives _ c.in-Ok.ensures.ok
+returns-in-Ok-clause-gives g c = c.chain_by-given.ensures.gives _ c.in-Ok.ensures.ok
