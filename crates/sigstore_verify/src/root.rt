@@ -3,8 +3,9 @@ ghost use Rattle.std.specs.Prelude.{◌≡◌, ◌≢◌, ℕ, List, Ok, Err, If
 ghost use Rattle.sigstore_tuf_parts.specs.Crypto.{crypto_of};
 ghost use Rattle.sigstore_tuf.specs.Update.{first_root_of};
 ghost use Rattle.sigstore_verify.specs.declared.error.Error.TheVariants.{NoMemory as Want};
-ghost use Rattle.sigstore_verify.specs.Root.{trust_fault, bundle_fault, trust_of, bundle_of, GivesChain, JudgesBundle, root_of_tuf, root_of_verify, Runs, IsAccepted};
-ghost use Rattle.sigstore_verify.specs.Cause.{RootCause};
+ghost use Rattle.sigstore_verify.specs.Root.{trust_fault, bundle_fault, trust_of, bundle_of, GivesChain, JudgesBundle, root_of_tuf, root_of_verify};
+ghost use Rattle.sigstore_verify.specs.Given.{Anchor, Given, Outside};
+ghost use Rattle.sigstore_verify.specs.Promises.{Promises};
 
 use crate::error::Error;
 use crate::policy::Policy;
@@ -114,8 +115,9 @@ fn chain_by<C: CryptoProvider, M: Armor, R: Repository, S: MetadataStore>(
     config: &UpdaterConfig,
     now: Timestamp,
 ) -> Result<TrustChain, sigstore_tuf_parts::Error>
-    ensures gives { (root : List ℕ) → first_root_of (crypto_of (C.accepts provider.now) (M.armored armor.now) (M.key_in armor.now)) root ≡ Ok documents.old
-        → GivesChain (crypto_of (C.accepts provider.now) (M.armored armor.now) (M.key_in armor.now)) root config.now now (R.seen repo.old) (R.seen repo.new) result }
+    ensures gives { let crypto = crypto_of (C.accepts provider.now) (M.armored armor.now) (M.key_in armor.now) in
+        (root : List ℕ) → first_root_of crypto root ≡ Ok documents.old
+        → GivesChain (record { crypto = crypto; root = root; config = config.now; now = now }) (R.seen repo.old) (R.seen repo.new) result }
     ensures store { S.seen store.new ≡ S.seen store.old }
 {
     if let Err(e) = refresh_parts(alloc, provider, armor, documents, repo, store, config, now) {
@@ -138,8 +140,8 @@ fn trust_chain<'p, C: CryptoProvider, M: Armor, R: Repository, S: MetadataStore>
     config: &UpdaterConfig,
     now: Timestamp,
 ) -> Result<TrustChain, sigstore_tuf_parts::Error>
-    ensures gives { GivesChain (crypto_of (C.accepts provider.now) (M.armored armor.now) (M.key_in armor.now))
-        root_bytes.now config.now now (R.seen repo.old) (R.seen repo.new) result }
+    ensures gives { let crypto = crypto_of (C.accepts provider.now) (M.armored armor.now) (M.key_in armor.now) in
+        GivesChain (record { crypto = crypto; root = root_bytes.now; config = config.now; now = now }) (R.seen repo.old) (R.seen repo.new) result }
     ensures store { S.seen store.new ≡ S.seen store.old }
 {
     match TrustedMetadataSet::from_root(alloc, provider, armor, root_bytes) {
@@ -218,13 +220,12 @@ pub fn verify_from_root<
     max_artifact: u64,
     policy: &P,
 ) -> Result<Rooted, RootFault>
-    ensures runs { Runs (crypto_of (C.accepts provider.now) (M.armored armor.now) (M.key_in armor.now)) (P.meant policy.now)
-        root_bytes.now bundle_bytes.now config now (R.seen repo.old) (R.seen repo.new) (A.seen artifact.old) (A.seen artifact.new) max_artifact result }
-    ensures accepted { IfOk result (IsAccepted (crypto_of (C.accepts provider.now) (M.armored armor.now) (M.key_in armor.now)) (P.meant policy.now)
-        root_bytes.now bundle_bytes.now config now (A.seen artifact.old) (A.seen artifact.new) max_artifact) }
-    ensures refused { IfErr result (RootCause (crypto_of (C.accepts provider.now) (M.armored armor.now) (M.key_in armor.now)) (P.meant policy.now)
-        root_bytes.now bundle_bytes.now config now (R.seen repo.old) (R.seen repo.new) (A.seen artifact.old) (A.seen artifact.new) max_artifact) }
-    ensures store { S.seen store.new ≡ S.seen store.old }
+    ensures { let crypto = crypto_of (C.accepts provider.now) (M.armored armor.now) (M.key_in armor.now) in
+        let anchor : Anchor = record { crypto = crypto; root = root_bytes.now; config = config; now = now } in
+        let given : Given = record { anchor = anchor; policy = P.meant policy.now; bundle = bundle_bytes.now; max = max_artifact } in
+        let before : Outside = record { repo = R.seen repo.old; store = S.seen store.old; source = A.seen artifact.old } in
+        let after : Outside = record { repo = R.seen repo.new; store = S.seen store.new; source = A.seen artifact.new } in
+        Promises given before after result }
 {
     let chain = match trust_chain(
         alloc, provider, armor, root_bytes, repo, store, &config, now,
