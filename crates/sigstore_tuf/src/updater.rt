@@ -186,8 +186,10 @@ impl<'a, C: CryptoProvider, M: Armor, R: Repository, S: MetadataStore> Updater<'
         )
     }
 
-    /// The file of a target, which `chain` then explains. Errors, in this order: `Expired`,
-    /// `NotRefreshed`, `IntegrityMismatch`, `TargetNotFound`, then those of the fetch and of the file.
+    /// The file of a target, which `chain` then explains. Errors, in this order: `Expired` of root,
+    /// timestamp and snapshot, `NotRefreshed`, `Expired` of the targets document,
+    /// `IntegrityMismatch(Version)`, `TargetNotFound` or `Unbuilt(Delegations)`,
+    /// `IntegrityMismatch(TooLong)`, then those of the fetch and of the file's length and digests.
     pub fn get_target(
         &mut self,
         alloc: Global,

@@ -50,7 +50,8 @@ needed_of (Some Sha2512) = Err (Unbuilt form.Digest)
 needed_of (Some Sha3256) = Err (Unbuilt form.Digest)
 needed_of (Some Sha3384) = Err (Unbuilt form.Digest)
 
--- before the artifact is read: the bundle's structure, the policy's key, its scheme, and the digest that it needs
+-- Before the artifact is read: the bundle's structure (else a signature that was never logged passes), the policy's key (the
+-- bundle's own hint is never a key), its scheme (else a bundle could choose one), and the digest that it needs.
 unfoldable pub prepared_of : PublicKeyVerificationPolicy → Bundle → Result VerificationKey Error
 prepared_of policy bundle = do
   _ ← by_types (structure_of bundle policy.verify_tlog)
@@ -76,7 +77,8 @@ key_report_of policy = record {
   verified_timestamps = [];
 }
 
--- after the artifact was read to this digest: the bundle's digest of the message, then the signature
+-- After the artifact was read to this digest: the bundle's digest of the message is it (else the bundle is of another artifact),
+-- then the signature is good over it (else anyone could have written the bundle).
 abbrev pub content_judged_of : Judge → VerificationKey → SignatureContent → List ℕ → Result ⊤ Error
 content_judged_of accepts key (OfMessage message) digest =
     if is_bound message.message_digest digest then

@@ -38,8 +38,11 @@ pub struct Rooted {
 /// judged under; or want of memory.
 #[derive(Drop)]
 pub enum RootFault {
+    /// No chain of documents authorises a trust file; the artifact wasn't read.
     Tuf(sigstore_tuf_parts::Error),
+    /// The bundle isn't accepted under the trust file of this chain, which is trusted from the root.
     Verify { fault: Error, chain: TrustChain },
+    /// An allocation was refused; nothing is said of root, repository or bundle.
     NoMemory,
 }
 
