@@ -18,9 +18,10 @@ use Rattle.sigstore_crypto.specs.Key.{spki_key_of}
 use Rattle.sigstore_crypto.specs.Good.{Judge, is_good_over}
 use Rattle.sigstore_verify.specs.declared.error.Error.{Error}
 use Rattle.sigstore_verify.specs.declared.error.Error.TheVariants.{SignatureInvalid, ArtifactMismatch, UnsupportedArtifact, Unbuilt}
+use Rattle.sigstore_verify.specs.declared.error.Error.TheVariants as verify
 use Rattle.sigstore_verify.specs.declared.policy.PublicKeyVerificationPolicy.{PublicKeyVerificationPolicy}
 use Rattle.sigstore_verify.specs.declared.report.VerificationResult.{VerificationResult}
-use Rattle.sigstore_verify.specs.Error.{error_of_crypto, error_of_types}
+use Rattle.sigstore_verify.specs.Error.{error_of_crypto, lowered}
 use Rattle.sigstore_verify.specs.Policy.{Meaning, PublicKey}
 
 -- a lower call's value, or what its refusal is here
@@ -30,7 +31,7 @@ by_crypto (Err e) = Err (error_of_crypto e)
 
 abbrev pub by_types : {A : Type 0} → Result A TypesError → Result A Error
 by_types (Ok x) = Ok x
-by_types (Err e) = Err (error_of_types e)
+by_types (Err e) = Err (lowered verify.Bundle e)
 
 -- the scheme under which the key signed: that of the key and the message digest's algorithm, and the key's own where the
 -- bundle tells no digest

@@ -4,7 +4,6 @@ use Rattle.sha2.specs.Sha256.{sha256}
 use Rattle.foundation.specs.Watched.{Watched}
 use Rattle.sigstore_types_parts.specs.declared.hash_algorithm.HashAlgorithm.TheVariants.{Sha2256}
 use Rattle.sigstore_types_parts.specs.declared.error.TypesError.{TypesError}
-use Rattle.sigstore_types_parts.specs.declared.error.TypesError.TheVariants as types
 use Rattle.sigstore_types.specs.declared.bundle.Bundle.{Bundle}
 use Rattle.sigstore_types.specs.declared.trusted_root.TrustedRoot.{TrustedRoot}
 use Rattle.sigstore_types.specs.Bundle.{bundle_of_bytes}
@@ -21,6 +20,7 @@ use Rattle.sigstore_tuf.specs.Target.{GetsTarget}
 use Rattle.sigstore_tuf.specs.Trusted.{Trusted}
 use Rattle.sigstore_verify.specs.declared.error.Error.{Error}
 use Rattle.sigstore_verify.specs.declared.error.Error.TheVariants as verify
+use Rattle.sigstore_verify.specs.Error.{lowered}
 use Rattle.sigstore_verify.specs.declared.report.Kept.{Kept}
 use Rattle.sigstore_verify.specs.declared.root.Rooted.{Rooted}
 use Rattle.sigstore_verify.specs.declared.root.RootFault.{RootFault}
@@ -40,15 +40,11 @@ trust_path = codes "trusted_root.json"
 
 -- a trust file that isn't read
 abbrev pub trust_fault : TypesError → Error
-trust_fault types.NoMemory = verify.NoMemory
-trust_fault (types.Unbuilt form) = verify.Unbuilt form
-trust_fault _ = verify.TrustRoot
+trust_fault e = lowered verify.TrustRoot e
 
 -- a bundle that isn't read
 abbrev pub bundle_fault : TypesError → Error
-bundle_fault types.NoMemory = verify.NoMemory
-bundle_fault (types.Unbuilt form) = verify.Unbuilt form
-bundle_fault _ = verify.InvalidBundle
+bundle_fault e = lowered verify.InvalidBundle e
 
 abbrev pub or_fault : {T : Type 0} → (TypesError → Error) → Result T TypesError → Result T Error
 or_fault fault (Ok x) = Ok x

@@ -1,7 +1,7 @@
 // Why a bundle isn't accepted.
 ghost use Rattle.std.specs.Prelude.{◌≡◌};
 ghost use Rattle.sigstore_verify.specs.declared.error.Error.TheVariants.{NoMemory as Want};
-ghost use Rattle.sigstore_verify.specs.Error.{number_of, name_of, certificate_number_of, certificate_name_of, log_number_of, log_name_of, timestamp_number_of, timestamp_name_of, error_of_crypto, error_of_types};
+ghost use Rattle.sigstore_verify.specs.Error.{number_of, name_of, certificate_number_of, certificate_name_of, log_number_of, log_name_of, timestamp_number_of, timestamp_name_of, error_of_crypto, lowered};
 
 use foundation::NoMemory;
 use jiff::Timestamp;
@@ -269,14 +269,21 @@ impl From<sigstore_crypto::Error> for Error {
     }
 }
 
-// Why a bundle hasn't the structure that its policy needs.
-pub(crate) fn of_structure(fault: TypesError) -> Error
-    ensures { result ≡ error_of_types fault }
+// A refusal of the crates of values: want of memory and a form that isn't built stay what they are, and every
+// other is this one.
+pub(crate) fn lowered(fault: TypesError, otherwise: Error) -> Error
+    ensures { result ≡ lowered otherwise fault }
 {
     match fault {
-        TypesError::NoMemory => Error::NoMemory,
-        TypesError::Unbuilt(form) => Error::Unbuilt(form),
-        _ => Error::Bundle,
+        TypesError::NoMemory => {
+            drop(otherwise);
+            Error::NoMemory
+        }
+        TypesError::Unbuilt(form) => {
+            drop(otherwise);
+            Error::Unbuilt(form)
+        }
+        _ => otherwise,
     }
 }
 

@@ -7,7 +7,7 @@ ghost use Rattle.sigstore_verify.specs.declared.error.Error.TheVariants.{NoMemor
 ghost use Rattle.sigstore_verify.specs.Judged.{by_types, by_crypto, scheme_of, needed_of, prepared_of, key_report_of, content_judged_of};
 ghost use Rattle.sigstore_types.specs.Bundle.{structure_of};
 
-use crate::error::{Error, of_structure};
+use crate::error::{Error, lowered};
 use crate::policy::PublicKeyVerificationPolicy;
 use crate::report::VerificationResult;
 use foundation::Sequence;
@@ -23,7 +23,7 @@ fn check_structure(bundle: &Bundle, verify_tlog: bool) -> Result<(), Error>
 {
     match validate_structure(bundle, verify_tlog) {
         Ok(()) => Ok(()),
-        Err(fault) => Err(of_structure(fault)),
+        Err(fault) => Err(lowered(fault, Error::Bundle)),
     }
 }
 

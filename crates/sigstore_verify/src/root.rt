@@ -3,11 +3,11 @@ ghost use Rattle.std.specs.Prelude.{◌≡◌, ◌≢◌, ℕ, List, Ok, Err, If
 ghost use Rattle.sigstore_tuf_parts.specs.Crypto.{crypto_of};
 ghost use Rattle.sigstore_tuf.specs.Update.{first_root_of};
 ghost use Rattle.sigstore_verify.specs.declared.error.Error.TheVariants.{NoMemory as Want};
-ghost use Rattle.sigstore_verify.specs.Root.{trust_fault, bundle_fault, trust_of, bundle_of, GivesChain, JudgesBundle, root_of_tuf, root_of_verify};
+ghost use Rattle.sigstore_verify.specs.Root.{trust_of, bundle_of, GivesChain, JudgesBundle, root_of_tuf, root_of_verify};
 ghost use Rattle.sigstore_verify.specs.Given.{Anchor, Given, Outside};
 ghost use Rattle.sigstore_verify.specs.Promises.{Promises};
 
-use crate::error::Error;
+use crate::error::{Error, lowered};
 use crate::policy::Policy;
 use crate::report::{Kept, VerificationResult};
 use crate::verifier::Verifier;
@@ -19,7 +19,7 @@ use sigstore_tuf::{
     get_target_parts, refresh_parts,
 };
 use sigstore_types::{Bundle, TrustedRoot};
-use sigstore_types_parts::{Armor, ArtifactDigest, TypesError};
+use sigstore_types_parts::{Armor, ArtifactDigest};
 use std::alloc::Global;
 
 // The target that is the trust file.
@@ -67,33 +67,13 @@ fn verify_fault(fault: Error, chain: TrustChain) -> RootFault
     }
 }
 
-fn trust_refusal(e: TypesError) -> Error
-    ensures { result ≡ trust_fault e }
-{
-    match e {
-        TypesError::NoMemory => Error::NoMemory,
-        TypesError::Unbuilt(form) => Error::Unbuilt(form),
-        _ => Error::TrustRoot,
-    }
-}
-
-fn bundle_refusal(e: TypesError) -> Error
-    ensures { result ≡ bundle_fault e }
-{
-    match e {
-        TypesError::NoMemory => Error::NoMemory,
-        TypesError::Unbuilt(form) => Error::Unbuilt(form),
-        _ => Error::InvalidBundle,
-    }
-}
-
 fn read_trust(alloc: Global, bytes: &[u8]) -> Result<TrustedRoot, Error>
     ensures ok { IfOk result (λ trust. trust_of bytes.now ≡ Ok trust) }
     ensures err { IfErr result (λ e. e ≢ Want → trust_of bytes.now ≡ Err e) }
 {
     match TrustedRoot::from_json(alloc, bytes) {
         Ok(trust) => Ok(trust),
-        Err(e) => Err(trust_refusal(e)),
+        Err(e) => Err(lowered(e, Error::TrustRoot)),
     }
 }
 
@@ -103,7 +83,7 @@ fn read_bundle(alloc: Global, bytes: &[u8]) -> Result<Bundle, Error>
 {
     match Bundle::from_json(alloc, bytes) {
         Ok(bundle) => Ok(bundle),
-        Err(e) => Err(bundle_refusal(e)),
+        Err(e) => Err(lowered(e, Error::InvalidBundle)),
     }
 }
 
