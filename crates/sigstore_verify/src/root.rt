@@ -21,6 +21,7 @@ use sigstore_tuf::{
 use sigstore_types::{Bundle, TrustedRoot};
 use sigstore_types_parts::{Armor, ArtifactDigest};
 use std::alloc::Global;
+use std::fmt;
 
 // The target that is the trust file.
 const TRUST_PATH: &str = "trusted_root.json";
@@ -236,5 +237,15 @@ pub fn verify_from_root<
             })
         }
         Err(fault) => Err(verify_fault(fault, chain)),
+    }
+}
+
+impl fmt::Display for RootFault {
+    fn fmt<W: fmt::Write>(&self, f: &mut fmt::Formatter<W>) -> fmt::Result {
+        f.write_str(match self {
+            RootFault::Tuf(_) => "Tuf",
+            RootFault::Verify { .. } => "Verify",
+            RootFault::NoMemory => "NoMemory",
+        })
     }
 }
