@@ -166,11 +166,27 @@ impl FromValue<Error> for Delegations {
 
     #[tactic(auto, unfolding(crate::specs::Targets::delegations_of))]
     fn from_value(alloc: Global, value: &Value) -> Result<Delegations, Error> {
-        Ok(Delegations {
-            keys: required(alloc, value, DocumentMember::Keys)?,
-            roles: defaulted(alloc, value, DocumentMember::Roles, Sequence::new(alloc))?,
-            extra: others(alloc, value, &[DocumentMember::Keys, DocumentMember::Roles])?,
-        })
+        let keys: TextMap<Key> = required(alloc, value, DocumentMember::Keys)?;
+        let roles: Sequence<DelegatedRole> = match defaulted(
+            alloc,
+            value,
+            DocumentMember::Roles,
+            Sequence::new(alloc),
+        ) {
+            Ok(roles) => roles,
+            Err(e) => {
+                drop(keys);
+                return Err(e);
+            }
+        };
+        match others(alloc, value, &[DocumentMember::Keys, DocumentMember::Roles]) {
+            Ok(extra) => Ok(Delegations { keys, roles, extra }),
+            Err(NoMemory) => {
+                drop(keys);
+                drop(roles);
+                Err(Error::NoMemory)
+            }
+        }
     }
 }
 
