@@ -1,3 +1,4 @@
+pub mod Groups
 pub mod Moments
 pub mod Numbers
 pub mod OidLaws

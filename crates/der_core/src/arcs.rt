@@ -20,32 +20,28 @@ fn low_bits(octet: u8) -> u64
     (octet - 128) as u64
 }
 
-/// The number of the group at the front, and what follows.
-#[tactic(auto, unfolding(crate::specs::Oid::group_at, crate::specs::Oid::second_octet, crate::specs::Oid::third_octet, crate::specs::Oid::fourth_octet, crate::specs::Oid::fifth_octet))]
+/// The number of the group at the front, of at most five octets, and what follows.
 fn group(bytes: &[u8]) -> Result<(u64, &[u8]), DerError>
     ensures ok { IfOk result (λ x. group_at bytes.now ≡ Ok (x.0, x.1.now)) }
     ensures err { IfErr result (λ e. group_at bytes.now ≡ Err e) }
     ensures shorter { IfOk result (λ x. length x.1.now < length bytes.now) }
 {
-    match bytes {
-        [a, rest @ ..] if *a < 128 => Ok((*a as u64, rest)),
-        [128, ..] => Err(DerError::Value),
-        [a, b, rest @ ..] if *b < 128 => Ok((128 * low_bits(*a) + *b as u64, rest)),
-        [a, b, c, rest @ ..] if *c < 128 => Ok((
-            128 * (128 * low_bits(*a) + low_bits(*b)) + *c as u64,
-            rest,
-        )),
-        [a, b, c, d, rest @ ..] if *d < 128 => Ok((
-            128 * (128 * (128 * low_bits(*a) + low_bits(*b)) + low_bits(*c)) + *d as u64,
-            rest,
-        )),
-        [a, b, c, d, e, rest @ ..] if *e < 128 => Ok((
-            128 * (128 * (128 * (128 * low_bits(*a) + low_bits(*b)) + low_bits(*c)) + low_bits(*d))
-                + *e as u64,
-            rest,
-        )),
-        _ => Err(DerError::Value),
+    let mut number = 0;
+    let mut rest = bytes;
+    'octets: for count in 0..5u8 {
+        let Some((octet, after)) = rest.split_first() else {
+            return Err(DerError::Value);
+        };
+        if *octet < 128 {
+            return Ok((128 * number + *octet as u64, after));
+        }
+        if count == 0 && *octet == 128 {
+            return Err(DerError::Value);
+        }
+        number = 128 * number + low_bits(*octet);
+        rest = after;
     }
+    Err(DerError::Value)
 }
 
 /// The first two arcs, from the number of the first group (X.690, 8.19.4).

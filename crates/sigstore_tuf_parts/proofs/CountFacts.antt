@@ -1,12 +1,14 @@
 -- Lemmas on the signatures that count.
-use Rattle.std.proofs.Common.{◌≡◌, ℕ, suc, ◌+◌, ◌<◌, List, [], ◌∷◌, ◌++◌, length, get_or, take, drop, filter, count_by, cond, Bool, true, false, ◌&&◌, ◌||◌, bytes_eq, Some, refl, sym, ap, ◌∙◌, add-one}
+use Rattle.std.proofs.Common.{◌≡◌, ℕ, suc, ◌+◌, ◌<◌, List, [], ◌∷◌, ◌++◌, length, get_or, take, drop, filter, count_by, cond, Bool, true, false, ◌&&◌, ◌||◌, bytes_eq, Some, Ok, Err, refl, sym, ap, ◌∙◌, add-one}
 use Rattle.std.proofs.Math.Seq.{take-suc, drop-cons}
 use Rattle.std.proofs.lemmas.List.{map-append, append-nil}
 use Rattle.std.proofs.lemmas.List.Elements.{filter-append}
 use Rattle.std.proofs.lemmas.List.Sums.{length-filter}
 use Rattle.sigstore_tuf_parts.specs.declared.document.Signature.{Signature}
 use Rattle.sigstore_tuf_parts.specs.declared.keys.RoleKeys.{RoleKeys}
-use Rattle.sigstore_tuf_parts.specs.Threshold.{is_among, is_counted, counted_of, ids_of, second_after}
+use Rattle.foundation.specs.Steps.{◌>>=◌}
+use Rattle.sigstore_tuf_parts.specs.Threshold.{is_among, is_counted, counted_of, ids_of, second_after, KeyOf, Keys, built_of, counted_built, all_built}
+use Rattle.sigstore_tuf_parts.specs.declared.error.Error.{Error}
 
 -- counting in a part of a list is counting by both tests
 filter_one : (p q : Signature → Bool) (s : Signature) (xs : List Signature) (b : Bool) → filter q (filter p xs) ≡ filter (λ t. p t && q t) xs
@@ -69,3 +71,29 @@ second_found role xs i s below at is = rw (drop-cons xs i s below, at) (here (is
         → second_after (ids_of (counted_of role (take i xs))) (ids_of (cond b (s ∷ counted_of role (drop (suc i) xs)) (counted_of role (drop (suc i) xs)))) ≡ Some s.keyid
     here true e = rw e
     here false e = cc
+
+-- one of those that count, before the others
+built_one : (key_of : KeyOf) (keys : Keys) (s : Signature) (rest : List Signature) (b : Bool)
+    → all_built key_of keys (cond b (s ∷ rest) rest) ≡ (cond b (built_of key_of keys s) (Ok tt) >>= λ _. all_built key_of keys rest)
+built_one key_of keys s rest true = refl
+built_one key_of keys s rest false = refl
+
+-- those from one place on: the one there, then the others
+all_built-step : (key_of : KeyOf) (keys : Keys) (role : RoleKeys) (xs : List Signature) (i : ℕ) (s : Signature) → i < length xs → s ≡ get_or xs i s
+    → all_built key_of keys (counted_of role (drop i xs)) ≡ (counted_built key_of keys role s >>= λ _. all_built key_of keys (counted_of role (drop (i + 1) xs)))
+all_built-step key_of keys role xs i s h e =
+    let rest = drop (i + 1) xs in
+    let here : drop i xs ≡ s ∷ rest = rw (add-one, drop-cons xs i s, ← e) in
+    ap (λ l. all_built key_of keys (counted_of role l)) here ∙ built_one key_of keys s (counted_of role rest) (is_counted role s)
+
+-- none before refused, and the one there doesn't
+pub all_built-on : (key_of : KeyOf) (keys : Keys) (role : RoleKeys) (xs : List Signature) (i : ℕ) (s : Signature) → i < length xs → s ≡ get_or xs i s
+    → all_built key_of keys (counted_of role xs) ≡ all_built key_of keys (counted_of role (drop i xs)) → counted_built key_of keys role s ≡ Ok tt
+    → all_built key_of keys (counted_of role xs) ≡ all_built key_of keys (counted_of role (drop (i + 1) xs))
+all_built-on key_of keys role xs i s h e before built = before ∙ all_built-step key_of keys role xs i s h e ∙ rw built
+
+-- none before refused, and the one there does
+pub all_built-refused : (key_of : KeyOf) (keys : Keys) (role : RoleKeys) (xs : List Signature) (i : ℕ) (s : Signature) (error : Error) → i < length xs → s ≡ get_or xs i s
+    → all_built key_of keys (counted_of role xs) ≡ all_built key_of keys (counted_of role (drop i xs)) → counted_built key_of keys role s ≡ Err error
+    → all_built key_of keys (counted_of role xs) ≡ Err error
+all_built-refused key_of keys role xs i s error h e before unbuilt = before ∙ all_built-step key_of keys role xs i s h e ∙ rw unbuilt

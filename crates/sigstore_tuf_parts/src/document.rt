@@ -126,7 +126,7 @@ fn read_frame<T: Role>(alloc: Global, value: &Value) -> Result<Metadata<T>, Erro
 {
     let signed = framed(value, "signed")?;
     let signatures = framed(value, "signatures")?;
-    Ok(assembled(alloc, signed, signatures)?)
+    assembled(alloc, signed, signatures)
 }
 
 #[tactic(auto, unfolding(crate::specs::Document::content_of))]

@@ -45,25 +45,32 @@ impl FromValue<Error> for KeyVal {
     }
 }
 
+const KEY_MEMBERS: [DocumentMember; 3] = [
+    DocumentMember::Keytype,
+    DocumentMember::Scheme,
+    DocumentMember::Keyval,
+];
+
 impl FromValue<Error> for Key {
     ghost reads = { key_in_of };
 
     #[tactic(auto, unfolding(crate::specs::Keys::key_in_of))]
     fn from_value(alloc: Global, value: &Value) -> Result<Key, Error> {
-        Ok(Key {
-            keytype: required(alloc, value, DocumentMember::Keytype)?,
-            scheme: required(alloc, value, DocumentMember::Scheme)?,
-            keyval: required(alloc, value, DocumentMember::Keyval)?,
-            extra: others(
-                alloc,
-                value,
-                &[
-                    DocumentMember::Keytype,
-                    DocumentMember::Scheme,
-                    DocumentMember::Keyval,
-                ],
-            )?,
-        })
+        let keytype = required(alloc, value, DocumentMember::Keytype)?;
+        let scheme = required(alloc, value, DocumentMember::Scheme)?;
+        let keyval: KeyVal = required(alloc, value, DocumentMember::Keyval)?;
+        match others(alloc, value, &KEY_MEMBERS) {
+            Ok(extra) => Ok(Key {
+                keytype,
+                scheme,
+                keyval,
+                extra,
+            }),
+            Err(NoMemory) => {
+                drop(keyval);
+                Err(Error::NoMemory)
+            }
+        }
     }
 }
 

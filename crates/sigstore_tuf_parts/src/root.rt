@@ -10,6 +10,7 @@ use crate::head::Head;
 use crate::keys::{Key, RoleKeys};
 use crate::member::DocumentMember;
 use crate::role::Role;
+use foundation::NoMemory;
 use serde_json::Value;
 use sigstore_types_parts::{FromValue, Json, Text, TextMap, defaulted, required};
 use std::alloc::Global;
@@ -27,6 +28,16 @@ pub struct Root {
     pub extra: TextMap<Json>,
 }
 
+const ROOT_MEMBERS: [DocumentMember; 7] = [
+    DocumentMember::Type,
+    DocumentMember::SpecVersion,
+    DocumentMember::Version,
+    DocumentMember::Expires,
+    DocumentMember::ConsistentSnapshot,
+    DocumentMember::Keys,
+    DocumentMember::Roles,
+];
+
 impl FromValue<Error> for Root {
     ghost reads = { root_of };
 
@@ -38,33 +49,37 @@ impl FromValue<Error> for Root {
             version,
             expires,
         } = Head::from_value(alloc, value)?;
-        Ok(Root {
-            type_,
-            spec_version,
-            version,
-            expires,
-            consistent_snapshot: defaulted(
-                alloc,
-                value,
-                DocumentMember::ConsistentSnapshot,
-                false,
-            )?,
-            keys: required(alloc, value, DocumentMember::Keys)?,
-            roles: required(alloc, value, DocumentMember::Roles)?,
-            extra: others(
-                alloc,
-                value,
-                &[
-                    DocumentMember::Type,
-                    DocumentMember::SpecVersion,
-                    DocumentMember::Version,
-                    DocumentMember::Expires,
-                    DocumentMember::ConsistentSnapshot,
-                    DocumentMember::Keys,
-                    DocumentMember::Roles,
-                ],
-            )?,
-        })
+        let consistent_snapshot = defaulted(
+            alloc,
+            value,
+            DocumentMember::ConsistentSnapshot,
+            false,
+        )?;
+        let keys: TextMap<Key> = required(alloc, value, DocumentMember::Keys)?;
+        let roles: TextMap<RoleKeys> = match required(alloc, value, DocumentMember::Roles) {
+            Ok(roles) => roles,
+            Err(e) => {
+                drop(keys);
+                return Err(e);
+            }
+        };
+        match others(alloc, value, &ROOT_MEMBERS) {
+            Ok(extra) => Ok(Root {
+                type_,
+                spec_version,
+                version,
+                expires,
+                consistent_snapshot,
+                keys,
+                roles,
+                extra,
+            }),
+            Err(NoMemory) => {
+                drop(keys);
+                drop(roles);
+                Err(Error::NoMemory)
+            }
+        }
     }
 }
 

@@ -7,6 +7,7 @@ use crate::head::Head;
 use crate::member::DocumentMember;
 use crate::role::Role;
 use crate::timestamp::MetaFile;
+use foundation::NoMemory;
 use serde_json::Value;
 use sigstore_types_parts::{FromValue, Json, Text, TextMap, required};
 use std::alloc::Global;
@@ -22,6 +23,14 @@ pub struct Snapshot {
     pub extra: TextMap<Json>,
 }
 
+const SNAPSHOT_MEMBERS: [DocumentMember; 5] = [
+    DocumentMember::Type,
+    DocumentMember::SpecVersion,
+    DocumentMember::Version,
+    DocumentMember::Expires,
+    DocumentMember::Meta,
+];
+
 impl FromValue<Error> for Snapshot {
     ghost reads = { snapshot_of };
 
@@ -33,24 +42,21 @@ impl FromValue<Error> for Snapshot {
             version,
             expires,
         } = Head::from_value(alloc, value)?;
-        Ok(Snapshot {
-            type_,
-            spec_version,
-            version,
-            expires,
-            meta: required(alloc, value, DocumentMember::Meta)?,
-            extra: others(
-                alloc,
-                value,
-                &[
-                    DocumentMember::Type,
-                    DocumentMember::SpecVersion,
-                    DocumentMember::Version,
-                    DocumentMember::Expires,
-                    DocumentMember::Meta,
-                ],
-            )?,
-        })
+        let meta: TextMap<MetaFile> = required(alloc, value, DocumentMember::Meta)?;
+        match others(alloc, value, &SNAPSHOT_MEMBERS) {
+            Ok(extra) => Ok(Snapshot {
+                type_,
+                spec_version,
+                version,
+                expires,
+                meta,
+                extra,
+            }),
+            Err(NoMemory) => {
+                drop(meta);
+                Err(Error::NoMemory)
+            }
+        }
     }
 }
 

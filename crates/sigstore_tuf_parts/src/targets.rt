@@ -110,6 +110,15 @@ impl FromValue<Error> for Grant {
     }
 }
 
+const DELEGATED_ROLE_MEMBERS: [DocumentMember; 6] = [
+    DocumentMember::Name,
+    DocumentMember::Keyids,
+    DocumentMember::Threshold,
+    DocumentMember::Terminating,
+    DocumentMember::Paths,
+    DocumentMember::PathHashPrefixes,
+];
+
 impl FromValue<Error> for DelegatedRole {
     ghost reads = { delegated_role_of };
 
@@ -120,26 +129,35 @@ impl FromValue<Error> for DelegatedRole {
             keyids,
             threshold,
         } = Grant::from_value(alloc, value)?;
-        Ok(DelegatedRole {
-            name,
-            keyids,
-            threshold,
-            terminating: defaulted(alloc, value, DocumentMember::Terminating, false)?,
-            paths: optional(alloc, value, DocumentMember::Paths)?,
-            path_hash_prefixes: optional(alloc, value, DocumentMember::PathHashPrefixes)?,
-            extra: others(
-                alloc,
-                value,
-                &[
-                    DocumentMember::Name,
-                    DocumentMember::Keyids,
-                    DocumentMember::Threshold,
-                    DocumentMember::Terminating,
-                    DocumentMember::Paths,
-                    DocumentMember::PathHashPrefixes,
-                ],
-            )?,
-        })
+        let terminating = defaulted(alloc, value, DocumentMember::Terminating, false)?;
+        let paths: Option<Sequence<Text>> = optional(alloc, value, DocumentMember::Paths)?;
+        let path_hash_prefixes: Option<Sequence<Text>> = match optional(
+            alloc,
+            value,
+            DocumentMember::PathHashPrefixes,
+        ) {
+            Ok(prefixes) => prefixes,
+            Err(e) => {
+                drop(paths);
+                return Err(e);
+            }
+        };
+        match others(alloc, value, &DELEGATED_ROLE_MEMBERS) {
+            Ok(extra) => Ok(DelegatedRole {
+                name,
+                keyids,
+                threshold,
+                terminating,
+                paths,
+                path_hash_prefixes,
+                extra,
+            }),
+            Err(NoMemory) => {
+                drop(paths);
+                drop(path_hash_prefixes);
+                Err(Error::NoMemory)
+            }
+        }
     }
 }
 
@@ -148,13 +166,38 @@ impl FromValue<Error> for Delegations {
 
     #[tactic(auto, unfolding(crate::specs::Targets::delegations_of))]
     fn from_value(alloc: Global, value: &Value) -> Result<Delegations, Error> {
-        Ok(Delegations {
-            keys: required(alloc, value, DocumentMember::Keys)?,
-            roles: defaulted(alloc, value, DocumentMember::Roles, Sequence::new(alloc))?,
-            extra: others(alloc, value, &[DocumentMember::Keys, DocumentMember::Roles])?,
-        })
+        let keys: TextMap<Key> = required(alloc, value, DocumentMember::Keys)?;
+        let roles: Sequence<DelegatedRole> = match defaulted(
+            alloc,
+            value,
+            DocumentMember::Roles,
+            Sequence::new(alloc),
+        ) {
+            Ok(roles) => roles,
+            Err(e) => {
+                drop(keys);
+                return Err(e);
+            }
+        };
+        match others(alloc, value, &[DocumentMember::Keys, DocumentMember::Roles]) {
+            Ok(extra) => Ok(Delegations { keys, roles, extra }),
+            Err(NoMemory) => {
+                drop(keys);
+                drop(roles);
+                Err(Error::NoMemory)
+            }
+        }
     }
 }
+
+const TARGETS_MEMBERS: [DocumentMember; 6] = [
+    DocumentMember::Type,
+    DocumentMember::SpecVersion,
+    DocumentMember::Version,
+    DocumentMember::Expires,
+    DocumentMember::Targets,
+    DocumentMember::Delegations,
+];
 
 impl FromValue<Error> for Targets {
     ghost reads = { targets_of };
@@ -167,26 +210,34 @@ impl FromValue<Error> for Targets {
             version,
             expires,
         } = Head::from_value(alloc, value)?;
-        Ok(Targets {
-            type_,
-            spec_version,
-            version,
-            expires,
-            targets: required(alloc, value, DocumentMember::Targets)?,
-            delegations: optional(alloc, value, DocumentMember::Delegations)?,
-            extra: others(
-                alloc,
-                value,
-                &[
-                    DocumentMember::Type,
-                    DocumentMember::SpecVersion,
-                    DocumentMember::Version,
-                    DocumentMember::Expires,
-                    DocumentMember::Targets,
-                    DocumentMember::Delegations,
-                ],
-            )?,
-        })
+        let targets: TextMap<TargetFile> = required(alloc, value, DocumentMember::Targets)?;
+        let delegations: Option<Delegations> = match optional(
+            alloc,
+            value,
+            DocumentMember::Delegations,
+        ) {
+            Ok(delegations) => delegations,
+            Err(e) => {
+                drop(targets);
+                return Err(e);
+            }
+        };
+        match others(alloc, value, &TARGETS_MEMBERS) {
+            Ok(extra) => Ok(Targets {
+                type_,
+                spec_version,
+                version,
+                expires,
+                targets,
+                delegations,
+                extra,
+            }),
+            Err(NoMemory) => {
+                drop(targets);
+                drop(delegations);
+                Err(Error::NoMemory)
+            }
+        }
     }
 }
 

@@ -43,8 +43,7 @@ impl<T> Metadata<T> {
         check_built(alloc, armor, keys, role_keys, signatures)?;
         check_found(
             alloc, provider, armor, keys, role_keys, role, signatures, text,
-        )?;
-        Ok(())
+        )
     }
 }
 
@@ -106,7 +105,7 @@ fn check_signature<M: Armor>(
         return Ok(());
     }
     match keys.get(signature.keyid.as_str()) {
-        Some(key) => Ok(check_key(alloc, armor, key)?),
+        Some(key) => check_key(alloc, armor, key),
         None => Ok(()),
     }
 }
@@ -127,7 +126,7 @@ fn check_counted<M: Armor>(
     if !is_counted(role_keys, signature) {
         return Ok(());
     }
-    Ok(check_signature(alloc, armor, keys, signature)?)
+    check_signature(alloc, armor, keys, signature)
 }
 
 fn check_built<M: Armor>(

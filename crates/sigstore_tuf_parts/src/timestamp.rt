@@ -67,6 +67,14 @@ impl Duplicate for MetaFile {
     }
 }
 
+const TIMESTAMP_MEMBERS: [DocumentMember; 5] = [
+    DocumentMember::Type,
+    DocumentMember::SpecVersion,
+    DocumentMember::Version,
+    DocumentMember::Expires,
+    DocumentMember::Meta,
+];
+
 impl FromValue<Error> for Timestamp {
     ghost reads = { timestamp_of };
 
@@ -78,24 +86,21 @@ impl FromValue<Error> for Timestamp {
             version,
             expires,
         } = Head::from_value(alloc, value)?;
-        Ok(Timestamp {
-            type_,
-            spec_version,
-            version,
-            expires,
-            meta: required(alloc, value, DocumentMember::Meta)?,
-            extra: others(
-                alloc,
-                value,
-                &[
-                    DocumentMember::Type,
-                    DocumentMember::SpecVersion,
-                    DocumentMember::Version,
-                    DocumentMember::Expires,
-                    DocumentMember::Meta,
-                ],
-            )?,
-        })
+        let meta: TextMap<MetaFile> = required(alloc, value, DocumentMember::Meta)?;
+        match others(alloc, value, &TIMESTAMP_MEMBERS) {
+            Ok(extra) => Ok(Timestamp {
+                type_,
+                spec_version,
+                version,
+                expires,
+                meta,
+                extra,
+            }),
+            Err(NoMemory) => {
+                drop(meta);
+                Err(Error::NoMemory)
+            }
+        }
     }
 }
 

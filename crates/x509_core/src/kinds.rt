@@ -127,6 +127,5 @@ fn three_values(contents: &[u8]) -> Result<(), DerError>
     reader.read_tlv()?;
     reader.read_tlv()?;
     reader.read_tlv()?;
-    reader.finish()?;
-    Ok(())
+    reader.finish()
 }
