@@ -1,89 +1,106 @@
 // Tables of calls, one row a line: a call, what it is given, ` => ` and its answer. Octets are given
-// in hexadecimal or by the name of a certificate, and `+N` stands for N octets 7 behind them. Calls
-// with unknown names answer NoMemory, which no row names.
+// in hexadecimal or by the name of a certificate, and `+N` stands for N octets 7 behind them. A test
+// ends the process where it fails, so no helper hands a failure on.
 use crate::certificate_data::named;
 use crate::{encodings, leaves};
-use der_core::{Der, DerError, OctetString};
-use hex::FromHexError;
-use std::alloc::{AllocError, Global};
+use der_core::{Der, DerError, OctetString, Tag};
 use std::fmt::{self, Debug};
 use std::process::Abort;
-use std::test::Fail;
 
 /// Ends the process at the first row whose call doesn't give its answer.
-pub fn check_rows(rt: &impl Abort, alloc: Global, tables: &[&str]) -> Result<(), Fail> {
-    for table in tables {
-        for row in table.lines() {
-            let (call, wanted) = row.split_once(" => ").ok_or("a row without an answer")?;
-            let (name, given) = call.split_once(' ').ok_or("a row without a call")?;
-            let found = leaves::answer_to_text(alloc, name, given)?;
-            assert_eq!(rt; found.as_str(), named(wanted), "{row}");
-        }
+pub fn check_rows<X: AllocGlobal + Abort>(rt: &X, rows: &str) {
+    for row in rows.lines() {
+        let (call, wanted) = halves(rt, row, " => ");
+        let (name, given) = halves(rt, call, " ");
+        check(
+            rt,
+            row,
+            named(wanted),
+            leaves::answer_to_text(rt, name, given),
+        );
     }
-    Ok(())
+}
+
+/// Ends the process where an answer isn't the one that is wanted.
+pub fn check<X: Abort>(rt: &X, row: &str, wanted: &str, found: String) {
+    assert_eq!(rt; found.as_str(), wanted, "{row}");
+}
+
+/// What stands before and behind the first of these marks.
+pub fn halves<'a, X: Abort>(rt: &X, text: &'a str, mark: &str) -> (&'a str, &'a str) {
+    text.split_once(mark).expect(rt, text)
 }
 
 /// The answer of a call that is given octets and words behind them, if any.
-pub fn answer_to_octets(alloc: Global, name: &str, given: &str) -> Result<String, AllocError> {
+pub fn answer_to_octets<X: AllocGlobal + Abort>(rt: &X, name: &str, given: &str) -> String {
     let (front, words) = given.split_once(' ').unwrap_or((given, ""));
-    match octets(alloc, front) {
-        Ok(bytes) => encodings::answer(alloc, name, &bytes, words),
-        Err(refusal) => shown::<u8, FromHexError>(alloc, Err(refusal)),
-    }
+    encodings::answer(rt, name, &octets(rt, front), words)
 }
 
-fn octets(alloc: Global, text: &str) -> Result<Vec<u8>, FromHexError> {
+fn octets<X: AllocGlobal + Abort>(rt: &X, text: &str) -> Vec<u8> {
     let (front, more) = text.split_once('+').unwrap_or((text, "0"));
-    let mut bytes = hex::decode(alloc, named(front))?;
-    let behind = vec![in alloc; 7u8; number(more)]?;
-    bytes.extend_from_slice(&behind)?;
-    Ok(bytes)
+    let mut bytes = hex::decode(rt.alloc(), named(front)).expect(rt, text);
+    let behind = vec![in rt.alloc(); 7u8; number(rt, more)].expect(rt, "memory");
+    bytes.extend_from_slice(&behind).expect(rt, "memory");
+    bytes
 }
 
-/// A decimal number; usize::MAX, which no row names, where the text is none.
-pub fn number(text: &str) -> usize {
-    text.parse().unwrap_or(usize::MAX)
+/// A tag and the contents behind it.
+pub fn tagged<'a, X: Abort>(rt: &X, bytes: &'a [u8]) -> (Tag, &'a [u8]) {
+    let (tag, contents) = bytes.split_first().expect(rt, "a tag");
+    (Tag(*tag), contents)
+}
+
+/// A decimal number.
+pub fn number<X: Abort>(rt: &X, text: &str) -> usize {
+    text.parse::<usize>().expect(rt, text)
+}
+
+/// The form of `Debug` of a value, which is let go.
+pub fn debug<X: AllocGlobal + Abort, T: Debug + Drop>(rt: &X, value: T) -> String {
+    format!(in rt.alloc(); "{value:?}").expect(rt, "memory")
 }
 
 /// What a call gave, or its refusal, in the form of `Debug`.
-pub fn shown<T: Debug + Drop, E: Debug + Drop>(
-    alloc: Global,
+pub fn shown<X: AllocGlobal + Abort, T: Debug + Drop, E: Debug + Drop>(
+    rt: &X,
     given: Result<T, E>,
-) -> Result<String, AllocError> {
+) -> String {
     match given {
-        Ok(value) => format!(in alloc; "{value:?}"),
-        Err(refusal) => format!(in alloc; "{refusal:?}"),
+        Ok(value) => debug(rt, value),
+        Err(refusal) => debug(rt, refusal),
     }
 }
 
+pub fn hex_of<X: AllocGlobal + Abort>(rt: &X, bytes: &[u8]) -> String {
+    hex::encode(rt.alloc(), bytes).expect(rt, "memory")
+}
+
 /// Octets in hexadecimal, or the refusal.
-pub fn in_hexadecimal<E: Debug + Drop>(
-    alloc: Global,
+pub fn in_hexadecimal<X: AllocGlobal + Abort, E: Debug + Drop>(
+    rt: &X,
     given: Result<OctetString, E>,
-) -> Result<String, AllocError> {
+) -> String {
     match given {
-        Ok(bytes) => hex::encode(alloc, bytes.as_bytes()),
-        Err(refusal) => format!(in alloc; "{refusal:?}"),
+        Ok(bytes) => hex_of(rt, bytes.as_bytes()),
+        Err(refusal) => debug(rt, refusal),
     }
 }
 
 /// The encoding of a value in hexadecimal, or the refusal.
-pub fn encoded<T: Der>(alloc: Global, given: Result<T, DerError>) -> Result<String, AllocError> {
+pub fn encoded<X: AllocGlobal + Abort, T: Der>(rt: &X, given: Result<T, DerError>) -> String {
     match given {
-        Ok(value) => in_hexadecimal(alloc, value.to_der(alloc)),
-        Err(refusal) => format!(in alloc; "{refusal:?}"),
+        Ok(value) => in_hexadecimal(rt, value.to_der(rt.alloc())),
+        Err(refusal) => debug(rt, refusal),
     }
 }
 
-/// `kept` where the octets are those that were read, else the octets in hexadecimal, or the refusal.
-pub fn compared(
-    alloc: Global,
-    read: &[u8],
-    written: Result<OctetString, DerError>,
-) -> Result<String, AllocError> {
-    match written {
-        Ok(bytes) if bytes.as_bytes() == read => format!(in alloc; "kept"),
-        _ => in_hexadecimal(alloc, written),
+/// `kept` where the octets are those that were read, else the octets in hexadecimal.
+pub fn compared<X: AllocGlobal + Abort>(rt: &X, read: &[u8], written: &OctetString) -> String {
+    if written.as_bytes() == read {
+        String::from_str(rt.alloc(), "kept").expect(rt, "memory")
+    } else {
+        hex_of(rt, written.as_bytes())
     }
 }
 
