@@ -1,7 +1,7 @@
 // Certificates that OpenSSL made, changes of them, and encodings worked out by hand.
 use crate::certificate_data::{ISSUER, LOG};
 use crate::tables::{
-    Hexadecimal, check_rows, debug, encoded, halves, in_hexadecimal, number, shown, tagged,
+    Hexadecimal, check_rows, debug, encoded, good, halves, in_hexadecimal, number, shown, tagged, there,
 };
 use der_core::{DerError, ObjectIdentifier, OctetString};
 use foundation::Duplicate;
@@ -30,7 +30,7 @@ pub fn answer<X: AllocGlobal + Abort>(rt: &X, name: &str, bytes: &[u8], words: &
 
 /// The certificate that octets are.
 fn read<'a, X: Abort>(rt: &X, bytes: &'a [u8]) -> CertView<'a> {
-    CertView::parse(bytes).expect(rt, "a certificate")
+    good(rt, CertView::parse(bytes))
 }
 
 // Where OpenSSL finds the parts of a certificate.
@@ -65,7 +65,7 @@ fn stands_at<X: AllocGlobal + Abort>(rt: &X, bytes: &[u8], words: &str) -> Strin
     let (name, places) = halves(rt, words, " ");
     let wanted = between(rt, bytes, places);
     let cert = read(rt, bytes);
-    let in_memory = CertView::parse_in(rt.alloc(), bytes).expect(rt, "a certificate");
+    let in_memory = good(rt, CertView::parse_in(rt.alloc(), bytes));
     debug(
         rt,
         has_part(&cert, bytes, name, wanted) && has_part(&in_memory, bytes, name, wanted),
@@ -75,9 +75,7 @@ fn stands_at<X: AllocGlobal + Abort>(rt: &X, bytes: &[u8], words: &str) -> Strin
 /// The octets between two places.
 fn between<'a, X: Abort>(rt: &X, bytes: &'a [u8], places: &str) -> &'a [u8] {
     let (begin, end) = halves(rt, places, " ");
-    bytes
-        .get(number(rt, begin)..number(rt, end))
-        .expect(rt, places)
+    there(rt, bytes.get(number(rt, begin)..number(rt, end)))
 }
 
 fn has_part(cert: &CertView, bytes: &[u8], name: &str, part: &[u8]) -> bool {
@@ -109,7 +107,7 @@ extension p256 2.5.29.19 => None
 validity p384 => (Civil { year: 2026, month: 11, day: 27, hour: 6, minute: 38, second: 59 }, Civil { year: 2036, month: 11, day: 24, hour: 6, minute: 38, second: 59 })";
 
 fn extension_of<X: AllocGlobal + Abort>(rt: &X, cert: &CertView, oid: &str) -> String {
-    let oid = ObjectIdentifier::new(oid).expect(rt, oid);
+    let oid = good(rt, ObjectIdentifier::new(oid));
     match cert.extension(&oid) {
         Some(extension) => debug(rt, Some((extension.critical, Hexadecimal(extension.value)))),
         None => debug(rt, None::<bool>),
@@ -174,7 +172,9 @@ changed p256 15 7e => None";
 fn refusal_of<X: AllocGlobal + Abort>(rt: &X, bytes: &[u8], words: &str) -> String {
     let changed = changed(rt, bytes, words);
     let refusal = CertView::parse(&changed).err();
-    assert!(rt; CertView::parse_in(rt.alloc(), &changed).err() == refusal);
+    let in_memory = CertView::parse_in(rt.alloc(), &changed).err();
+    drop(changed);
+    assert!(rt; in_memory == refusal);
     debug(rt, refusal)
 }
 
@@ -182,13 +182,13 @@ fn changed<X: AllocGlobal + Abort>(rt: &X, bytes: &[u8], words: &str) -> Vec<u8>
     let (place, octet) = halves(rt, words, " ");
     let (at, octet) = (
         number(rt, place),
-        u8::from_str_radix(octet, 16).expect(rt, octet),
+        good(rt, u8::from_str_radix(octet, 16)),
     );
-    let mut changed = bytes.to_vec(rt.alloc()).expect(rt, "memory");
+    let mut changed = good(rt, bytes.to_vec(rt.alloc()));
     if at < changed.len() {
         changed[at] = octet;
     } else {
-        changed.push(octet).expect(rt, "memory");
+        good(rt, changed.push(octet));
     }
     changed
 }
@@ -212,13 +212,13 @@ sct_list 04050003000100 => SctList";
 
 /// The timestamps in a certificate's list.
 fn scts_of<X: AllocGlobal + Abort>(rt: &X, cert: &CertView) -> Vec<Sct> {
-    let oid = ObjectIdentifier::new("1.3.6.1.4.1.11129.2.4.2").expect(rt, "an identifier");
-    let extension = cert.extension(&oid).expect(rt, "a list");
-    sct_list(rt.alloc(), extension.value).expect(rt, "a list")
+    let oid = good(rt, ObjectIdentifier::new("1.3.6.1.4.1.11129.2.4.2"));
+    let extension = there(rt, cert.extension(&oid));
+    good(rt, sct_list(rt.alloc(), extension.value))
 }
 
 fn timestamp_shown<X: AllocGlobal + Abort>(rt: &X, sct: &Sct) -> String {
-    let copy = sct.duplicate(rt.alloc()).expect(rt, "memory");
+    let copy = good(rt, sct.duplicate(rt.alloc()));
     let is_copied = copy == *sct;
     drop(copy);
     let (is_of_log, milliseconds) = (sct.log_id() == &LOG, sct.milliseconds());
@@ -238,7 +238,7 @@ fn timestamp_shown<X: AllocGlobal + Abort>(rt: &X, sct: &Sct) -> String {
 
 fn last_timestamp<X: AllocGlobal + Abort>(rt: &X, cert: &CertView) -> String {
     let scts = scts_of(rt, cert);
-    let answer = timestamp_shown(rt, scts.last().expect(rt, "a timestamp"));
+    let answer = timestamp_shown(rt, there(rt, scts.last()));
     drop(scts);
     answer
 }
@@ -246,24 +246,31 @@ fn last_timestamp<X: AllocGlobal + Abort>(rt: &X, cert: &CertView) -> String {
 /// The number of timestamps in a list.
 fn timestamps_in<X: AllocGlobal + Abort>(rt: &X, bytes: &[u8]) -> String {
     match sct_list(rt.alloc(), bytes) {
-        Ok(scts) => debug(rt, scts.len()),
+        Ok(scts) => {
+            let count = scts.len();
+            drop(scts);
+            debug(rt, count)
+        }
         Err(refusal) => debug(rt, refusal),
     }
 }
 
 fn signed_part<X: AllocGlobal + Abort>(rt: &X, cert: &CertView) -> OctetString {
-    precert_tbs(rt.alloc(), cert).expect(rt, "a signed part")
+    good(rt, precert_tbs(rt.alloc(), cert))
 }
 
 /// Whether what a log signs for a certificate without timestamps is its signed part.
 fn is_signed_part<X: AllocGlobal + Abort>(rt: &X, cert: &CertView) -> String {
-    debug(rt, signed_part(rt, cert).as_bytes() == cert.tbs)
+    let part = signed_part(rt, cert);
+    let is_same = part.as_bytes() == cert.tbs;
+    drop(part);
+    debug(rt, is_same)
 }
 
 /// What the log of a certificate's last timestamp signs with it for a signed part.
 fn signed_with<X: AllocGlobal + Abort>(rt: &X, cert: &CertView, tbs: &[u8]) -> String {
     let scts = scts_of(rt, cert);
-    let sct = scts.last().expect(rt, "a timestamp");
+    let sct = there(rt, scts.last());
     let signed = sct_signed_bytes(rt.alloc(), sct, &ISSUER, tbs);
     drop(scts);
     in_hexadecimal(rt, signed)
@@ -271,13 +278,18 @@ fn signed_with<X: AllocGlobal + Abort>(rt: &X, cert: &CertView, tbs: &[u8]) -> S
 
 /// What the log signed for a certificate.
 fn signed_for<X: AllocGlobal + Abort>(rt: &X, cert: &CertView) -> String {
-    signed_with(rt, cert, signed_part(rt, cert).as_bytes())
+    let part = signed_part(rt, cert);
+    let answer = signed_with(rt, cert, part.as_bytes());
+    drop(part);
+    answer
 }
 
 /// The same for so many octets 0 in place of the signed part.
 fn signed_zeros<X: AllocGlobal + Abort>(rt: &X, cert: &CertView, count: &str) -> String {
-    let zeros = vec![in rt.alloc(); 0u8; number(rt, count)].expect(rt, "memory");
-    signed_with(rt, cert, &zeros)
+    let zeros = good(rt, vec![in rt.alloc(); 0u8; number(rt, count)]);
+    let answer = signed_with(rt, cert, &zeros);
+    drop(zeros);
+    answer
 }
 
 // Names of other forms; the first octet is the tag.
@@ -292,7 +304,10 @@ fn other_name<X: AllocGlobal + Abort>(rt: &X, bytes: &[u8]) -> Result<OtherName,
 }
 
 fn tag_of<X: AllocGlobal + Abort>(rt: &X, bytes: &[u8]) -> String {
-    debug(rt, other_name(rt, bytes).expect(rt, "a name").tag_byte())
+    let name = good(rt, other_name(rt, bytes));
+    let tag = name.tag_byte();
+    drop(name);
+    debug(rt, tag)
 }
 
 #[test]

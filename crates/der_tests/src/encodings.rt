@@ -1,7 +1,7 @@
 // Encodings worked out from X.690 and RFC 5280 by hand, and those of certificates: read, copied and
 // written again with ample memory. A row answers `kept` where the same octets are written.
 use crate::leaves;
-use crate::tables::{check_rows, compared, debug};
+use crate::tables::{check_rows, compared, debug, good};
 use der_core::*;
 use foundation::{Duplicate, Sequence};
 use std::process::Abort;
@@ -12,14 +12,14 @@ use x509_core::{
 
 /// The encoding of a copy that equals the value.
 fn copied<X: AllocGlobal + Abort, T: Der + Duplicate + PartialEq>(rt: &X, value: T) -> OctetString {
-    let copy = value.duplicate(rt.alloc()).expect(rt, "memory");
+    let copy = good(rt, value.duplicate(rt.alloc()));
     assert!(rt; copy == value);
-    copy.to_der(rt.alloc()).expect(rt, "an encoding")
+    good(rt, copy.to_der(rt.alloc()))
 }
 
 fn again<X: AllocGlobal + Abort, T: Der + Duplicate + PartialEq>(rt: &X, bytes: &[u8]) -> String {
     match T::from_der(rt.alloc(), bytes) {
-        Ok(value) => compared(rt, bytes, &copied(rt, value)),
+        Ok(value) => compared(rt, bytes, copied(rt, value)),
         Err(refusal) => debug(rt, refusal),
     }
 }

@@ -1,6 +1,8 @@
 // Calls of der_core, with answers worked out by hand.
 use crate::certificates;
-use crate::tables::{self, check_rows, compared, debug, encoded, hex_of, number, shown, tagged};
+use crate::tables::{
+    self, check_rows, compared, debug, encoded, good, hex_of, number, shown, tagged, there,
+};
 use der_core::*;
 use jiff::Timestamp;
 use std::fmt;
@@ -34,7 +36,7 @@ pub fn answer_to_octets<X: AllocGlobal + Abort>(
         "Int::new" => encoded(rt, Int::new(rt.alloc(), bytes)),
         "Uint::new" => encoded(rt, Uint::new(rt.alloc(), bytes)),
         "Uint::as_bytes" => magnitude(rt, bytes),
-        "Int::encode_into" => behind_nine(rt, &int(rt, bytes)),
+        "Int::encode_into" => behind_nine(rt, int(rt, bytes)),
         "Int::der_cmp" => order_of(rt, bytes),
         "OctetString::as_bytes" => length_of(rt, bytes),
         "SetOfVec::insert" => inserted(rt, bytes),
@@ -69,7 +71,7 @@ fn refusal(number: usize) -> DerError {
 
 fn numbered<X: AllocGlobal + Abort>(rt: &X, error: DerError) -> String {
     let number = error.number();
-    format!(in rt.alloc(); "{number} {error}").expect(rt, "memory")
+    good(rt, format!(in rt.alloc(); "{number} {error}"))
 }
 
 // The number and the text of each refusal.
@@ -124,34 +126,42 @@ fn any_of<X: AllocGlobal + Abort>(rt: &X, bytes: &[u8]) -> String {
 }
 
 fn int<X: AllocGlobal + Abort>(rt: &X, bytes: &[u8]) -> Int {
-    Int::new(rt.alloc(), bytes).expect(rt, "an integer")
+    good(rt, Int::new(rt.alloc(), bytes))
 }
 
 fn magnitude<X: AllocGlobal + Abort>(rt: &X, bytes: &[u8]) -> String {
-    let number = Uint::new(rt.alloc(), bytes).expect(rt, "an integer");
-    hex_of(rt, number.as_bytes())
+    let number = good(rt, Uint::new(rt.alloc(), bytes));
+    let answer = hex_of(rt, number.as_bytes());
+    drop(number);
+    answer
 }
 
 /// An octet 9, and the encoding of an INTEGER behind it.
-fn behind_nine<X: AllocGlobal + Abort>(rt: &X, number: &Int) -> String {
-    let mut out = OctetString::new(rt.alloc(), &[9]).expect(rt, "memory");
-    number
-        .encode_into(rt.alloc(), &mut out)
-        .expect(rt, "memory");
-    hex_of(rt, out.as_bytes())
+fn behind_nine<X: AllocGlobal + Abort>(rt: &X, number: Int) -> String {
+    let mut out = good(rt, OctetString::new(rt.alloc(), &[9]));
+    good(rt, number.encode_into(rt.alloc(), &mut out));
+    drop(number);
+    let answer = hex_of(rt, out.as_bytes());
+    drop(out);
+    answer
 }
 
 /// How the encodings of two INTEGERs are ordered.
 fn order_of<X: AllocGlobal + Abort>(rt: &X, bytes: &[u8]) -> String {
     let mut reader = Reader::new(bytes);
-    let first = read_value::<Int>(rt.alloc(), &mut reader).expect(rt, "an integer");
-    let second = read_value::<Int>(rt.alloc(), &mut reader).expect(rt, "an integer");
-    shown(rt, first.der_cmp(rt.alloc(), &second))
+    let first = good(rt, read_value::<Int>(rt.alloc(), &mut reader));
+    let second = good(rt, read_value::<Int>(rt.alloc(), &mut reader));
+    let order = first.der_cmp(rt.alloc(), &second);
+    drop(first);
+    drop(second);
+    shown(rt, order)
 }
 
 fn length_of<X: AllocGlobal + Abort>(rt: &X, bytes: &[u8]) -> String {
-    let value = OctetString::from_der(rt.alloc(), bytes).expect(rt, "an encoding");
-    debug(rt, value.as_bytes().len())
+    let value = good(rt, OctetString::from_der(rt.alloc(), bytes));
+    let length = value.as_bytes().len();
+    drop(value);
+    debug(rt, length)
 }
 
 // Texts of identifiers, and identifiers of three arcs: one octet, two octets and one.
@@ -177,7 +187,7 @@ ObjectIdentifier::arc 1.3.6.1.4.1.57264.1.8 => (9, Some(3), Some(57264), None)
 ObjectIdentifier::arc 2.4294967295 => (2, Some(4294967295), None, None)";
 
 fn identifier<X: Abort>(rt: &X, text: &str) -> ObjectIdentifier {
-    ObjectIdentifier::new(text).expect(rt, text)
+    good(rt, ObjectIdentifier::new(text))
 }
 
 /// The number of arcs, and those at 1, 6 and 9.
@@ -216,23 +226,25 @@ fn insert<X: AllocGlobal + Abort>(
 fn set_with<X: AllocGlobal + Abort>(rt: &X, octets: &[u8]) -> SetOfVec<Int> {
     let mut set = SetOfVec::new(rt.alloc());
     for octet in octets {
-        insert(rt, &mut set, *octet).expect(rt, "a new member");
+        good(rt, insert(rt, &mut set, *octet));
     }
     set
 }
 
 /// What the insertion of the last INTEGER answers.
 fn inserted<X: AllocGlobal + Abort>(rt: &X, octets: &[u8]) -> String {
-    let (last, front) = octets.split_last().expect(rt, "a member");
+    let (last, front) = there(rt, octets.split_last());
     let mut set = set_with(rt, front);
-    shown(rt, insert(rt, &mut set, *last))
+    let answer = insert(rt, &mut set, *last);
+    drop(set);
+    shown(rt, answer)
 }
 
 /// The set of INTEGERs of one octet each, all at once.
 fn set_from<X: AllocGlobal + Abort>(rt: &X, octets: &[u8]) -> Result<SetOfVec<Int>, DerError> {
     let mut items = Vec::new(rt.alloc());
     for octet in octets {
-        items.push(int(rt, &[*octet])).ok().expect(rt, "memory");
+        there(rt, items.push(int(rt, &[*octet])).ok());
     }
     SetOfVec::try_from(rt.alloc(), items)
 }
@@ -242,15 +254,20 @@ fn are_equal<X: AllocGlobal + Abort>(rt: &X, octets: &[u8]) -> String {
     let (first, second) = octets.split_at(octets.len() / 2);
     let (set, other) = (
         set_with(rt, first),
-        set_from(rt, second).expect(rt, "a set"),
+        good(rt, set_from(rt, second)),
     );
-    debug(rt, set == other)
+    let are_equal = set == other;
+    drop(set);
+    drop(other);
+    debug(rt, are_equal)
 }
 
 /// The number of members, and whether none stands at that index.
 fn members_of<X: AllocGlobal + Abort>(rt: &X, octets: &[u8]) -> String {
     let set = set_with(rt, octets);
-    debug(rt, (set.len(), set.get(set.len()).is_none()))
+    let answer = (set.len(), set.get(set.len()).is_none());
+    drop(set);
+    debug(rt, answer)
 }
 
 // A reader gives the contents and the whole of the first value, the tag behind it, the whole of the
@@ -268,26 +285,28 @@ explicit_default a003020100 => Value";
 
 fn two_values<X: AllocGlobal + Abort>(rt: &X, bytes: &[u8]) -> String {
     let mut reader = Reader::new(bytes);
-    let first = reader.read_tlv().expect(rt, "a value");
+    let first = good(rt, reader.read_tlv());
     let next = reader.peek_tag();
-    let second = reader.read_tlv().expect(rt, "a value");
+    let second = good(rt, reader.read_tlv());
     let last = reader.peek_tag();
-    reader.finish().expect(rt, "the end");
+    good(rt, reader.finish());
     debug(rt, (first.value, first.whole, next, second.whole, last))
 }
 
 /// A BOOLEAN DEFAULT FALSE as it is written.
 fn truth_written<X: AllocGlobal + Abort>(rt: &X, truth: bool) -> String {
     let mut out = OctetString::empty(rt.alloc());
-    append_default(rt.alloc(), &false, &truth, &mut out).expect(rt, "memory");
+    good(rt, append_default(rt.alloc(), &false, &truth, &mut out));
     debug(rt, out)
 }
 
 /// An INTEGER DEFAULT 0 under tag a0 as it is written.
-fn number_written<X: AllocGlobal + Abort>(rt: &X, number: &Int) -> OctetString {
+fn number_written<X: AllocGlobal + Abort>(rt: &X, number: Int) -> OctetString {
     let zero = int(rt, &[0]);
     let mut out = OctetString::empty(rt.alloc());
-    append_explicit_default(rt.alloc(), Tag(0xa0), &zero, number, &mut out).expect(rt, "memory");
+    good(rt, append_explicit_default(rt.alloc(), Tag(0xa0), &zero, &number, &mut out));
+    drop(zero);
+    drop(number);
     out
 }
 
@@ -295,7 +314,7 @@ fn number_written<X: AllocGlobal + Abort>(rt: &X, number: &Int) -> OctetString {
 fn number_again<X: AllocGlobal + Abort>(rt: &X, bytes: &[u8]) -> String {
     let mut reader = Reader::new(bytes);
     match read_explicit_default(rt.alloc(), Tag(0xa0), int(rt, &[0]), &mut reader) {
-        Ok(number) => compared(rt, bytes, &number_written(rt, &number)),
+        Ok(number) => compared(rt, bytes, number_written(rt, number)),
         Err(refusal) => debug(rt, refusal),
     }
 }
@@ -312,8 +331,7 @@ GeneralizedTime::moment 180f39393939313233313233353935395a => (253402207200, tru
 
 /// The moment of a time in seconds from the start of 1970 on, and whether it is the last one.
 fn second_of<X: AllocGlobal + Abort, K: TimeKind>(rt: &X, bytes: &[u8]) -> String {
-    let moment = Time::<K>::from_der(rt.alloc(), bytes)
-        .expect(rt, "a time")
+    let moment = good(rt, Time::<K>::from_der(rt.alloc(), bytes))
         .moment();
     debug(rt, (moment.as_second(), moment == Timestamp::MAX))
 }
@@ -334,7 +352,7 @@ fn moment_of<X: Abort>(rt: &X, text: &str) -> Timestamp {
     if text == "MIN" {
         Timestamp::MIN
     } else {
-        Timestamp::from_millisecond(text.parse::<i64>().expect(rt, text)).expect(rt, text)
+        good(rt, Timestamp::from_millisecond(good(rt, text.parse::<i64>())))
     }
 }
 
@@ -343,7 +361,7 @@ fn letters_of<X: AllocGlobal + Abort, K: TimeKind>(rt: &X, moment: Timestamp) ->
     match Time::<K>::new(moment) {
         Ok(time) => {
             let letters = Letters(time.as_bytes());
-            format!(in rt.alloc(); "{letters}").expect(rt, "memory")
+            good(rt, format!(in rt.alloc(); "{letters}"))
         }
         Err(refusal) => debug(rt, refusal),
     }

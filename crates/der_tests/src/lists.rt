@@ -1,5 +1,5 @@
 // Lists and copies once with ample memory, and the text of want of memory.
-use crate::tables::check;
+use crate::tables::{check, debug, good};
 use foundation::{Duplicate, NoMemory, Sequence};
 use std::process::Abort;
 
@@ -9,31 +9,31 @@ fn numbers<X: AllocGlobal + Abort>(rt: &X) -> String {
     let mut list = Sequence::new(rt.alloc());
     let is_empty = list.is_empty();
     for item in [7u64, 8, 9] {
-        list.push(item).expect(rt, "memory");
+        good(rt, list.push(item));
     }
-    let copy = list.duplicate(rt.alloc()).expect(rt, "memory");
+    let copy = good(rt, list.duplicate(rt.alloc()));
     let (length, is_copied) = (list.len(), copy == list);
     let items = copy.into_vec();
-    format!(in rt.alloc(); "{is_empty} {length} {is_copied} {items:?}").expect(rt, "memory")
+    drop(list);
+    debug(rt, (is_empty, length, is_copied, items))
 }
 
 /// The items of a copy of the list of these.
 fn options<X: AllocGlobal + Abort>(rt: &X) -> String {
-    let items = vec![in rt.alloc(); Some(true), None].expect(rt, "memory");
-    let copy = Sequence::from_vec(items)
-        .duplicate(rt.alloc())
-        .expect(rt, "memory");
-    let items = copy.as_slice();
-    format!(in rt.alloc(); "{items:?}").expect(rt, "memory")
+    let items = good(rt, vec![in rt.alloc(); Some(true), None]);
+    let copy = good(rt, Sequence::from_vec(items).duplicate(rt.alloc()));
+    let answer = debug(rt, copy.as_slice());
+    drop(copy);
+    answer
 }
 
 fn want_of_memory<X: AllocGlobal + Abort>(rt: &X) -> String {
-    format!(in rt.alloc(); "{NoMemory}").expect(rt, "memory")
+    good(rt, format!(in rt.alloc(); "{NoMemory}"))
 }
 
 #[test]
 fn lists_keep_their_items(rt: HostRuntime) {
-    check(&rt, "numbers", "true 3 true [7, 8, 9]", numbers(&rt));
+    check(&rt, "numbers", "(true, 3, true, [7, 8, 9])", numbers(&rt));
     check(&rt, "options", "[Some(true), None]", options(&rt));
     check(&rt, "want of memory", "NoMemory", want_of_memory(&rt));
 }

@@ -23,42 +23,56 @@ pub fn check_rows<X: AllocGlobal + Abort>(rt: &X, rows: &str) {
 
 /// Ends the process where an answer isn't the one that is wanted.
 pub fn check<X: Abort>(rt: &X, row: &str, wanted: &str, found: String) {
-    assert_eq!(rt; found.as_str(), wanted, "{row}");
+    assert!(rt; found.as_str() == wanted, "{row}\nfound: {found}");
+}
+
+/// What a call gave; a refusal ends the process.
+pub fn good<X: Abort, T, E: Debug>(rt: &X, given: Result<T, E>) -> T {
+    given.expect(rt, "a value")
+}
+
+/// What is there; where nothing is, the process ends.
+pub fn there<X: Abort, T>(rt: &X, given: Option<T>) -> T {
+    given.expect(rt, "something")
 }
 
 /// What stands before and behind the first of these marks.
 pub fn halves<'a, X: Abort>(rt: &X, text: &'a str, mark: &str) -> (&'a str, &'a str) {
-    text.split_once(mark).expect(rt, text)
+    there(rt, text.split_once(mark))
 }
 
 /// The answer of a call that is given octets and words behind them, if any.
 pub fn answer_to_octets<X: AllocGlobal + Abort>(rt: &X, name: &str, given: &str) -> String {
     let (front, words) = given.split_once(' ').unwrap_or((given, ""));
-    encodings::answer(rt, name, &octets(rt, front), words)
+    let bytes = octets(rt, front);
+    let answer = encodings::answer(rt, name, &bytes, words);
+    drop(bytes);
+    answer
 }
 
 fn octets<X: AllocGlobal + Abort>(rt: &X, text: &str) -> Vec<u8> {
     let (front, more) = text.split_once('+').unwrap_or((text, "0"));
-    let mut bytes = hex::decode(rt.alloc(), named(front)).expect(rt, text);
-    let behind = vec![in rt.alloc(); 7u8; number(rt, more)].expect(rt, "memory");
-    bytes.extend_from_slice(&behind).expect(rt, "memory");
+    let mut bytes = good(rt, hex::decode(rt.alloc(), named(front)));
+    let behind = good(rt, vec![in rt.alloc(); 7u8; number(rt, more)]);
+    good(rt, bytes.extend_from_slice(&behind));
+    drop(behind);
     bytes
 }
 
 /// A tag and the contents behind it.
 pub fn tagged<'a, X: Abort>(rt: &X, bytes: &'a [u8]) -> (Tag, &'a [u8]) {
-    let (tag, contents) = bytes.split_first().expect(rt, "a tag");
+    let (tag, contents) = there(rt, bytes.split_first());
     (Tag(*tag), contents)
 }
 
 /// A decimal number.
 pub fn number<X: Abort>(rt: &X, text: &str) -> usize {
-    text.parse::<usize>().expect(rt, text)
+    good(rt, text.parse::<usize>())
 }
 
 /// The form of `Debug` of a value, which is let go.
 pub fn debug<X: AllocGlobal + Abort, T: Debug + Drop>(rt: &X, value: T) -> String {
-    format!(in rt.alloc(); "{value:?}").expect(rt, "memory")
+    good(rt, format!(in rt.alloc(); "{value:?}"))
 }
 
 /// What a call gave, or its refusal, in the form of `Debug`.
@@ -73,7 +87,7 @@ pub fn shown<X: AllocGlobal + Abort, T: Debug + Drop, E: Debug + Drop>(
 }
 
 pub fn hex_of<X: AllocGlobal + Abort>(rt: &X, bytes: &[u8]) -> String {
-    hex::encode(rt.alloc(), bytes).expect(rt, "memory")
+    good(rt, hex::encode(rt.alloc(), bytes))
 }
 
 /// Octets in hexadecimal, or the refusal.
@@ -96,9 +110,9 @@ pub fn encoded<X: AllocGlobal + Abort, T: Der>(rt: &X, given: Result<T, DerError
 }
 
 /// `kept` where the octets are those that were read, else the octets in hexadecimal.
-pub fn compared<X: AllocGlobal + Abort>(rt: &X, read: &[u8], written: &OctetString) -> String {
+pub fn compared<X: AllocGlobal + Abort>(rt: &X, read: &[u8], written: OctetString) -> String {
     if written.as_bytes() == read {
-        String::from_str(rt.alloc(), "kept").expect(rt, "memory")
+        good(rt, String::from_str(rt.alloc(), "kept"))
     } else {
         hex_of(rt, written.as_bytes())
     }

@@ -1,6 +1,6 @@
 // The refusal of each text, worked out by hand from the order of the members.
 use crate::keys;
-use crate::words::{copied, hold, hold_filled, printed, word};
+use crate::words::{copied, good, hold, hold_filled, printed, word};
 use sigstore_types::*;
 use std::process::Abort;
 
@@ -87,7 +87,7 @@ const HELLO: &str =
 fn over_hello<X: AllocGlobal + Abort>(rt: &X, call: &str) -> String {
     let bundle = copied(
         rt,
-        Bundle::from_json(rt.alloc(), HELLO.as_bytes()).expect(rt, HELLO),
+        good(rt, Bundle::from_json(rt.alloc(), HELLO.as_bytes())),
     );
     match call {
         "log" => structure(rt, bundle, true),
@@ -110,7 +110,7 @@ log => Err(NoEntry)"#;
 
 // Whether a copy of a trust file is the empty one.
 fn trust_copied<X: AllocGlobal + Abort>(rt: &X, text: &str) -> String {
-    let file = TrustedRoot::from_json(rt.alloc(), text.as_bytes()).expect(rt, text);
+    let file = good(rt, TrustedRoot::from_json(rt.alloc(), text.as_bytes()));
     printed(rt, copied(rt, file) == TrustedRoot {})
 }
 

@@ -2,11 +2,12 @@
 ghost use Rattle.std.specs.Prelude.{Some, true};
 
 use crate::provider::{One, p256};
-use crate::words::{check, halves, hold, key_in, printed, string, word};
+use crate::words::{check, good, halves, hold, key_bytes, printed, string, there, word};
 use foundation::{Duplicate, NoMemory};
 use jiff::Timestamp;
 use sigstore_crypto::CryptoProvider;
 use sigstore_tuf::*;
+use sigstore_tuf_parts::Role;
 use sigstore_types_parts::{Armor, Bytes, FailList};
 use std::alloc::Global;
 use std::process::Abort;
@@ -64,30 +65,36 @@ const TARGETS: &str =
 
 fn armor<X: AllocGlobal + Abort>(rt: &X) -> OneKey {
     OneKey {
-        key: Bytes::new(rt.alloc(), key_in(rt, p256()).as_bytes()).expect(rt, "memory"),
+        key: key_bytes(rt, p256()),
     }
 }
 
 fn put<X: AllocGlobal + Abort>(rt: &X, repo: &mut MemoryRepository, name: &str, text: &str) {
-    repo.put_metadata(rt.alloc(), name, text.as_bytes())
-        .expect(rt, "memory");
+    good(rt, repo.put_metadata(rt.alloc(), name, text.as_bytes()));
 }
 
 // The documents, of which the timestamp may be absent.
 fn repository<X: AllocGlobal + Abort>(rt: &X, timestamp: &str) -> MemoryRepository {
-    let failures = FailList::new(Vec::new(rt.alloc())).expect(rt, "a list");
+    let failures = there(rt, FailList::new(Vec::new(rt.alloc())));
     let mut repo = MemoryRepository::new(rt.alloc(), failures);
     if timestamp == "there" {
         put(rt, &mut repo, "timestamp.json", TIMESTAMP);
     }
     put(rt, &mut repo, "snapshot.json", SNAPSHOT);
     put(rt, &mut repo, "targets.json", TARGETS);
-    repo.put_target(rt.alloc(), "a", b"{}").expect(rt, "memory");
+    good(rt, repo.put_target(rt.alloc(), "a", b"{}"));
     repo
 }
 
 const LIMITS: &str =
     " => UpdaterConfig { root_max_length: 512000, timestamp_max_length: 16384, snapshot_max_length: 2000000, targets_max_length: 5000000, target_max_length: 50000000, max_root_rotations: 32, max_delegations: 32 }";
+
+fn version<T: Role>(document: Option<&T>) -> Option<u64> {
+    match document {
+        Some(document) => Some(document.version()),
+        None => None,
+    }
+}
 
 // The versions of the documents that are there.
 fn versions<X: AllocGlobal + Abort, C: CryptoProvider, M: Armor>(
@@ -95,18 +102,18 @@ fn versions<X: AllocGlobal + Abort, C: CryptoProvider, M: Armor>(
     set: &TrustedMetadataSet<C, M>,
 ) -> String {
     let root = set.root().version;
-    let timestamp = set.timestamp().map(|it| it.version);
-    let snapshot = set.snapshot().map(|it| it.version);
-    let targets = set.targets_role("targets").map(|it| it.version);
-    format!(in rt.alloc(); "{root} {timestamp:?} {snapshot:?} {targets:?}").expect(rt, "memory")
+    let (timestamp, snapshot) = (version(set.timestamp()), version(set.snapshot()));
+    let targets = version(set.targets_role("targets"));
+    printed(rt, (root, timestamp, snapshot, targets))
 }
 
 fn versions_of_a_set<X: AllocGlobal + Abort>(rt: &X) -> String {
     let armor = armor(rt);
     let made = TrustedMetadataSet::from_root(rt.alloc(), &One, &armor, ROOT.as_bytes());
-    let set = made.expect(rt, ROOT);
+    let set = good(rt, made);
     let answer = versions(rt, &set);
     drop(set);
+    drop(armor);
     answer
 }
 
@@ -117,14 +124,13 @@ fn shown<X: AllocGlobal + Abort>(rt: &X, chain: &TrustChain) -> String {
     let timestamp = chain.timestamp.as_bytes() == TIMESTAMP.as_bytes();
     let snapshot = chain.snapshot.as_bytes() == SNAPSHOT.as_bytes();
     let file = &chain.file;
-    let shown = format!(in rt.alloc(); "{roots} {roles} {timestamp} {snapshot} {length} {file:?}");
-    shown.expect(rt, "memory")
+    printed(rt, (roots, roles, timestamp, snapshot, length, file))
 }
 
 type Client<'a> = Updater<'a, One, OneKey, MemoryRepository, NoStore>;
 
 fn chain_shown<X: AllocGlobal + Abort>(rt: &X, client: &Client) -> String {
-    match client.chain(rt.alloc()).expect(rt, "memory") {
+    match good(rt, client.chain(rt.alloc())) {
         Some(chain) => {
             let answer = shown(rt, &chain);
             drop(chain);
@@ -159,18 +165,19 @@ fn called<X: AllocGlobal + Abort>(rt: &X, timestamp: &str, now: &str, most: u32,
     };
     let (armor, mut repo) = (armor(rt), repository(rt, timestamp));
     let made = Updater::new(rt.alloc(), &One, &armor, &mut repo, ROOT.as_bytes());
-    let mut client: Client = made.expect(rt, ROOT).with_config(config);
-    told_all(rt, &mut client, now.parse().expect(rt, now), rows);
+    let mut client: Client = good(rt, made).with_config(config);
+    told_all(rt, &mut client, good(rt, now.parse()), rows);
     drop(client);
     drop(repo);
+    drop(armor);
 }
 
 // The file `a` is `{}`.
 const CALLS: &str = "chain => none
 refresh => Ok
-versions => 1 Some(2) Some(3) Some(4)
+versions => (1, Some(2), Some(3), Some(4))
 a => Ok([123, 125])
-chain => 1 1 true true 2 [123, 125]";
+chain => (1, 1, true, true, 2, [123, 125])";
 
 const EXPIRED: &str = r#"refresh => Expired { role: "timestamp", expires: 2030-01-01T00:00:00Z }"#;
 
@@ -181,7 +188,7 @@ const ABSENT: &str = "refresh => Transport(Absent)";
 #[test]
 fn clients(rt: HostRuntime) {
     hold(&rt, "limits by default", LIMITS);
-    hold(&rt, "set of the root", " => 1 None None None");
+    hold(&rt, "set of the root", " => (1, None, None, None)");
     called(&rt, "there", "2025-01-01T00:00:00Z", 32, CALLS);
     called(&rt, "there", "2030-01-01T00:00:00Z", 32, "refresh => Ok");
     called(&rt, "there", "2030-01-01T00:00:01Z", 32, EXPIRED);

@@ -1,6 +1,6 @@
 // Documents of each kind, read and refused, and the checks of pins and of expiries.
 use crate::places;
-use crate::words::{halves, hold, hold_filled, number, printed, word};
+use crate::words::{good, halves, hold, hold_filled, number, printed, there, word};
 use foundation::Duplicate;
 use sigstore_tuf_parts::*;
 use sigstore_types_parts::instant;
@@ -71,8 +71,8 @@ const TARGETS: &str =
     r#"{"signatures":[{"keyid":"k","sig":"01"}],"signed":{"_type":"targets","spec_version":"1.0.0","version":1,"expires":"2031-01-01T00:00:00Z","targets":{"trusted_root.json":{"length":2,"hashes":{"sha256":"44136fa355b3678a1146ad16f7e8649e94fb4fc21fe77e8310c060f61caaff8a"}}}}}"#;
 
 fn copied_key<X: AllocGlobal + Abort>(rt: &X, root: &Root) -> Key {
-    let key = root.keys.get("k").expect(rt, "a key");
-    key.duplicate(rt.alloc()).expect(rt, "memory")
+    let key = there(rt, root.keys.get("k"));
+    good(rt, key.duplicate(rt.alloc()))
 }
 
 fn public_text<X: AllocGlobal + Abort>(rt: &X, root: &Root) -> String {
@@ -85,8 +85,8 @@ fn public_text<X: AllocGlobal + Abort>(rt: &X, root: &Root) -> String {
 // The threshold of a role, the first signature, or the public text of a key.
 fn root_part<X: AllocGlobal + Abort>(rt: &X, root: &Metadata<Root>, part: &str) -> String {
     match part {
-        "threshold" => printed(rt, root.signed().role("targets").expect(rt, part).threshold),
-        "signature" => printed(rt, &root.signatures().first().expect(rt, part).sig),
+        "threshold" => printed(rt, there(rt, root.signed().role("targets")).threshold),
+        "signature" => printed(rt, &there(rt, root.signatures().first()).sig),
         _ => public_text(rt, root.signed()),
     }
 }
@@ -101,7 +101,7 @@ fn timestamp_part<X: AllocGlobal + Abort>(
 ) -> String {
     match what {
         "pin" => pin_word(rt, read.signed(), number(rt, value)),
-        "moment" => moment_word(rt, read.signed(), instant(value).expect(rt, value)),
+        "moment" => moment_word(rt, read.signed(), there(rt, instant(value))),
         _ => match value {
             "version" => printed(rt, read.signed().version()),
             _ => printed(rt, read.signed_canonical().len()),
@@ -112,7 +112,7 @@ fn timestamp_part<X: AllocGlobal + Abort>(
 fn pin_word<X: AllocGlobal + Abort>(rt: &X, timestamp: &Timestamp, version: u64) -> String {
     word(
         rt,
-        check_version(timestamp.snapshot_meta().expect(rt, "a pin"), version),
+        check_version(there(rt, timestamp.snapshot_meta()), version),
     )
 }
 
@@ -129,29 +129,27 @@ fn moment_word<X: AllocGlobal + Abort>(
 
 // The word for the bytes of the file that the targets document lists.
 fn file_word<X: AllocGlobal + Abort>(rt: &X, targets: &Targets, bytes: &str) -> String {
-    let target = targets.target("trusted_root.json").expect(rt, "a target");
+    let target = there(rt, targets.target("trusted_root.json"));
     let answer = check_integrity(Some(target.length), Some(&target.hashes), bytes.as_bytes());
     word(rt, answer)
 }
 
 fn of_root<X: AllocGlobal + Abort>(rt: &X, part: &str) -> String {
-    let root = document(rt.alloc(), ROOT).expect(rt, ROOT);
+    let root = good(rt, document(rt.alloc(), ROOT));
     let answer = root_part(rt, &root, part);
     drop(root);
     answer
 }
 
 fn of_timestamp<X: AllocGlobal + Abort>(rt: &X, what: &str, value: &str) -> String {
-    let timestamp = document(rt.alloc(), TIMESTAMP).expect(rt, TIMESTAMP);
+    let timestamp = good(rt, document(rt.alloc(), TIMESTAMP));
     let answer = timestamp_part(rt, &timestamp, what, value);
     drop(timestamp);
     answer
 }
 
 fn of_file<X: AllocGlobal + Abort>(rt: &X, bytes: &str) -> String {
-    let targets = document(rt.alloc(), TARGETS)
-        .expect(rt, TARGETS)
-        .into_signed();
+    let targets = good(rt, document(rt.alloc(), TARGETS)).into_signed();
     let answer = file_word(rt, &targets, bytes);
     drop(targets);
     answer

@@ -3,7 +3,9 @@ ghost use Rattle.std.specs.Prelude.{bytes_eq};
 ghost use Rattle.sigstore_crypto.specs.Good.{subject_of};
 
 use crate::refusals;
-use crate::words::{displayed, halves, hold, key_in, number, printed, text};
+use crate::words::{
+    check, displayed, good, halves, hold, key_in, number, numbered, printed, text, there,
+};
 use foundation::Duplicate;
 use sigstore_crypto::*;
 use sigstore_types_parts::{Bytes, FailList, Form, HashAlgorithm, SignatureBytes, Text};
@@ -62,8 +64,7 @@ impl CryptoProvider for Echo {
 }
 
 fn shown<X: AllocGlobal + Abort>(rt: &X, error: Error) -> String {
-    let number = error.number();
-    format!(in rt.alloc(); "{number} {error}").expect(rt, "memory")
+    numbered(rt, error.number(), error)
 }
 
 // The number and the display text of a refusal, or the display text of one of a reading.
@@ -117,26 +118,26 @@ fn scheme_of(name: &str) -> Option<SigningScheme> {
 
 // The name of a scheme, its keys, its digest, and whether it signs digests.
 fn scheme<X: AllocGlobal + Abort>(rt: &X, name: &str) -> String {
-    let scheme = scheme_of(name).expect(rt, name);
+    let scheme = there(rt, scheme_of(name));
     let (name, key) = (scheme.name(), scheme.key_algorithm());
     let (digest, prehashed) = (scheme.hash_algorithm(), scheme.supports_prehashed());
-    format!(in rt.alloc(); "{name} {key:?} {digest:?} {prehashed}").expect(rt, "memory")
+    printed(rt, (name, key, digest, prehashed))
 }
 
-const SCHEMES: &str = "EcdsaP256Sha256 => ECDSA_P256_SHA256 EcdsaP256 Some(Sha2256) true
-EcdsaP256Sha384 => ECDSA_P256_SHA384 EcdsaP256 Some(Sha2384) true
-EcdsaP384Sha256 => ECDSA_P384_SHA256 EcdsaP384 Some(Sha2256) true
-EcdsaP384Sha384 => ECDSA_P384_SHA384 EcdsaP384 Some(Sha2384) true
-Ed25519 => ED25519 Ed25519 None false
-RsaPssSha256 => RSA_PSS_SHA256 Rsa Some(Sha2256) true
-RsaPssSha384 => RSA_PSS_SHA384 Rsa Some(Sha2384) true
-RsaPssSha512 => RSA_PSS_SHA512 Rsa Some(Sha2512) true
-RsaPkcs1Sha256 => RSA_PKCS1_SHA256 Rsa Some(Sha2256) true
-RsaPkcs1Sha384 => RSA_PKCS1_SHA384 Rsa Some(Sha2384) true
-RsaPkcs1Sha512 => RSA_PKCS1_SHA512 Rsa Some(Sha2512) true
-MlDsa44 => ML_DSA_44 MlDsa44 None false
-MlDsa65 => ML_DSA_65 MlDsa65 None false
-MlDsa87 => ML_DSA_87 MlDsa87 None false";
+const SCHEMES: &str = r#"EcdsaP256Sha256 => ("ECDSA_P256_SHA256", EcdsaP256, Some(Sha2256), true)
+EcdsaP256Sha384 => ("ECDSA_P256_SHA384", EcdsaP256, Some(Sha2384), true)
+EcdsaP384Sha256 => ("ECDSA_P384_SHA256", EcdsaP384, Some(Sha2256), true)
+EcdsaP384Sha384 => ("ECDSA_P384_SHA384", EcdsaP384, Some(Sha2384), true)
+Ed25519 => ("ED25519", Ed25519, None, false)
+RsaPssSha256 => ("RSA_PSS_SHA256", Rsa, Some(Sha2256), true)
+RsaPssSha384 => ("RSA_PSS_SHA384", Rsa, Some(Sha2384), true)
+RsaPssSha512 => ("RSA_PSS_SHA512", Rsa, Some(Sha2512), true)
+RsaPkcs1Sha256 => ("RSA_PKCS1_SHA256", Rsa, Some(Sha2256), true)
+RsaPkcs1Sha384 => ("RSA_PKCS1_SHA384", Rsa, Some(Sha2384), true)
+RsaPkcs1Sha512 => ("RSA_PKCS1_SHA512", Rsa, Some(Sha2512), true)
+MlDsa44 => ("ML_DSA_44", MlDsa44, None, false)
+MlDsa65 => ("ML_DSA_65", MlDsa65, None, false)
+MlDsa87 => ("ML_DSA_87", MlDsa87, None, false)"#;
 
 fn algorithm_of(name: &str) -> Option<KeyAlgorithm> {
     match name {
@@ -154,7 +155,7 @@ fn algorithm_of(name: &str) -> Option<KeyAlgorithm> {
 // The scheme of an algorithm by default, or with a digest.
 fn resolved<X: AllocGlobal + Abort>(rt: &X, row: &str) -> String {
     let (name, digest) = halves(rt, row, " ");
-    let key = algorithm_of(name).expect(rt, name);
+    let key = there(rt, algorithm_of(name));
     match HashAlgorithm::from_name(digest) {
         Some(digest) => printed(rt, key.resolve_signing_scheme(digest)),
         None => printed(rt, key.default_signing_scheme()),
@@ -186,7 +187,7 @@ MlDsa87 default => MlDsa87
 MlDsa87 SHA3_384 => Ok(MlDsa87)";
 
 fn hexadecimal<X: Abort, E: Debug>(rt: &X, text: Result<Text, E>) -> String {
-    text.expect(rt, "memory").into_string()
+    good(rt, text).into_string()
 }
 
 const SHA256: &str = "hello => 2cf24dba5fb0a30e26e83b2ac5b9e29e1b161e5c1fa7425e73043362938b9824
@@ -203,17 +204,19 @@ const SHA512: &str =
 fn key_shown<X: AllocGlobal + Abort>(rt: &X, key: &VerificationKey) -> String {
     let (length, first, scheme) = (key.as_bytes().len(), key.as_bytes().first(), key.scheme());
     let test = validate_raw_public_key(scheme, key.as_bytes());
-    let copy = key.duplicate(rt.alloc()).expect(rt, "memory");
+    let copy = good(rt, key.duplicate(rt.alloc()));
     let is_copied = copy == *key;
     drop(copy);
-    format!(in rt.alloc(); "{length} {first:?} {scheme:?} {test:?} {is_copied}").expect(
-        rt, "memory",
-    )
+    printed(rt, (length, first, scheme, test, is_copied))
 }
 
 fn key<X: AllocGlobal + Abort>(rt: &X, base64: &str) -> String {
     match VerificationKey::from_spki(rt.alloc(), &key_in(rt, base64)) {
-        Ok(key) => key_shown(rt, &key),
+        Ok(key) => {
+            let shown = key_shown(rt, &key);
+            drop(key);
+            shown
+        }
         Err(refusal) => printed(rt, refusal),
     }
 }
@@ -221,9 +224,9 @@ fn key<X: AllocGlobal + Abort>(rt: &X, base64: &str) -> String {
 // Keys in base64: P-256 with 65, with one and with no key bytes, with an unused bit, and with a byte
 // behind it; on the curve P-384; Ed25519; no bytes, and a byte.
 const KEYS: &str =
-    "MFkwEwYHKoZIzj0CAQYIKoZIzj0DAQcDQgAEAAAAAAAAAAAAAAAAAAAAAAAAAAAAAAAAAAAAAAAAAAAAAAAAAAAAAAAAAAAAAAAAAAAAAAAAAAAAAAAAAAAAAA== => 65 Some(4) EcdsaP256Sha256 Ok(()) true
-MBkwEwYHKoZIzj0CAQYIKoZIzj0DAQcDAgAF => 1 Some(5) EcdsaP256Sha256 Err(InvalidKey(RawKey)) true
-MBgwEwYHKoZIzj0CAQYIKoZIzj0DAQcDAQA= => 0 None EcdsaP256Sha256 Err(InvalidKey(RawKey)) true
+    "MFkwEwYHKoZIzj0CAQYIKoZIzj0DAQcDQgAEAAAAAAAAAAAAAAAAAAAAAAAAAAAAAAAAAAAAAAAAAAAAAAAAAAAAAAAAAAAAAAAAAAAAAAAAAAAAAAAAAAAAAA== => (65, Some(4), EcdsaP256Sha256, Ok(()), true)
+MBkwEwYHKoZIzj0CAQYIKoZIzj0DAQcDAgAF => (1, Some(5), EcdsaP256Sha256, Err(InvalidKey(RawKey)), true)
+MBgwEwYHKoZIzj0CAQYIKoZIzj0DAQcDAQA= => (0, None, EcdsaP256Sha256, Err(InvalidKey(RawKey)), true)
 MBkwEwYHKoZIzj0CAQYIKoZIzj0DAQcDAgEE => InvalidKey(UnusedBits)
 MBkwEwYHKoZIzj0CAQYIKoZIzj0DAQcDAgAFAA== => InvalidKey(Encoding)
 MBYwEAYHKoZIzj0CAQYFK4EEACIDAgAE => Unbuilt(Key)
@@ -245,8 +248,8 @@ fn verified(key: &VerificationKey, signature: &SignatureBytes, call: &str) -> Re
 
 fn raw_key<X: AllocGlobal + Abort>(rt: &X, name: &str, raw: &str) -> VerificationKey {
     VerificationKey {
-        scheme: scheme_of(name).expect(rt, name),
-        key: Bytes::new(rt.alloc(), raw.as_bytes()).expect(rt, "memory"),
+        scheme: there(rt, scheme_of(name)),
+        key: good(rt, Bytes::new(rt.alloc(), raw.as_bytes())),
     }
 }
 
@@ -255,8 +258,9 @@ fn judged<X: AllocGlobal + Abort>(rt: &X, row: &str) -> String {
     let (name, asked) = halves(rt, row, " ");
     let (raw, call) = halves(rt, asked, " ");
     let key = raw_key(rt, name, raw);
-    let signature = SignatureBytes::from_bytes(rt.alloc(), sha256(b"hello").as_bytes()).expect(
-        rt, "memory",
+    let signature = good(
+        rt,
+        SignatureBytes::from_bytes(rt.alloc(), sha256(b"hello").as_bytes()),
     );
     let answer = verified(&key, &signature, call);
     drop(key);
@@ -295,22 +299,22 @@ fn digested<X: AllocGlobal + Abort>(rt: &X, source: &mut MemorySource, max: u64)
 fn failures<X: AllocGlobal + Abort>(rt: &X, call: u64) -> FailList {
     let mut calls = Vec::new(rt.alloc());
     if call > 0 {
-        calls.push(call).expect(rt, "memory");
+        good(rt, calls.push(call));
     }
-    FailList::new(calls).expect(rt, "a list")
+    there(rt, FailList::new(calls))
 }
 
 // A source that gives `hello` in steps.
 fn source<X: AllocGlobal + Abort>(rt: &X, step: u32, call: u64) -> MemorySource {
-    let step = NonZeroU32::new(step).expect(rt, "a step");
-    let bytes = Bytes::new(rt.alloc(), b"hello").expect(rt, "memory");
+    let step = there(rt, NonZeroU32::new(step));
+    let bytes = good(rt, Bytes::new(rt.alloc(), b"hello"));
     MemorySource::new(bytes, step, failures(rt, call))
 }
 
 fn source_read<X: AllocGlobal + Abort>(rt: &X, row: &str) -> String {
     let (step, asked) = halves(rt, row, " ");
     let (call, max) = halves(rt, asked, " ");
-    let step = step.parse::<u32>().expect(rt, step);
+    let step = good(rt, step.parse::<u32>());
     let mut source = source(rt, step, number(rt, call));
     let answer = digested(rt, &mut source, number(rt, max));
     drop(source);
@@ -341,12 +345,20 @@ fn keys(rt: HostRuntime) {
 #[test]
 fn files_are_digested(rt: HostRuntime) {
     let name = "sigstore_crypto_artifact";
-    let bytes = vec![in rt.alloc(); 7u8; 150000].expect(&rt, "memory");
-    fs::write(&rt, name, bytes.as_slice()).expect(&rt, name);
+    let bytes = good(&rt, vec![in rt.alloc(); 7u8; 150000]);
+    good(&rt, fs::write(&rt, name, bytes.as_slice()));
     let mut source = FileSource::new(&rt, text(&rt, name));
-    let answer = sha256_reader(&mut source, 150000);
-    fs::remove_file(&rt, name).expect(&rt, name);
+    let is_whole = sha256_reader(&mut source, 150000) == Ok(sha256(&bytes));
+    drop(source);
+    drop(bytes);
+    good(&rt, fs::remove_file(&rt, name));
     let mut absent = FileSource::new(&rt, text(&rt, name));
     let other = sha256_reader(&mut absent, 1);
-    assert!(rt; answer == Ok(sha256(&bytes)) && other == Err(ReadError::Failed));
+    drop(absent);
+    check(
+        &rt,
+        name,
+        "(true, Err(Failed))",
+        printed(&rt, (is_whole, other)),
+    );
 }

@@ -1,6 +1,8 @@
 // Each object of the outside, at its type and through its trait.
 use crate::client;
-use crate::words::{check, displayed, halves, hold, number, printed, string, text, text_of};
+use crate::words::{
+    check, displayed, good, halves, hold, number, printed, string, text, text_of, there,
+};
 use sigstore_tuf::*;
 use sigstore_types_parts::{Bytes, FailList};
 use std::fmt::Debug;
@@ -108,18 +110,15 @@ load a/../b => BadName
 load a/b/../..c => BadName";
 
 fn second_fails<X: AllocGlobal + Abort>(rt: &X) -> FailList {
-    let calls = Vec::from_slice(rt.alloc(), &[2]).expect(rt, "memory");
-    FailList::new(calls).expect(rt, "ascending")
+    let calls = good(rt, Vec::from_slice(rt.alloc(), &[2]));
+    there(rt, FailList::new(calls))
 }
 
 fn repository<X: AllocGlobal + Abort>(rt: &X) -> MemoryRepository {
     let mut repo = MemoryRepository::new(rt.alloc(), second_fails(rt));
-    repo.put_metadata(rt.alloc(), "timestamp.json", b"old")
-        .expect(rt, "memory");
-    repo.put_metadata(rt.alloc(), "timestamp.json", b"ab")
-        .expect(rt, "memory");
-    repo.put_target(rt.alloc(), "a/b", b"file")
-        .expect(rt, "memory");
+    good(rt, repo.put_metadata(rt.alloc(), "timestamp.json", b"old"));
+    good(rt, repo.put_metadata(rt.alloc(), "timestamp.json", b"ab"));
+    good(rt, repo.put_target(rt.alloc(), "a/b", b"file"));
     repo
 }
 
@@ -174,21 +173,25 @@ load a/../b => BadName";
 
 #[test]
 fn a_repository_in_a_folder(rt: HostRuntime) {
-    let long = vec![in rt.alloc(); b'7'; 70_000].expect(&rt, "memory");
-    fs::create_dir_all(&rt, "repo/targets/a").expect(&rt, "a folder");
-    fs::write(&rt, "repo/1.root.json", "ab").expect(&rt, "a file");
-    fs::write(&rt, "repo/targets/a/b", long.as_slice()).expect(&rt, "a file");
+    let long = good(&rt, vec![in rt.alloc(); b'7'; 70_000]);
+    good(&rt, fs::create_dir_all(&rt, "repo/targets/a"));
+    good(&rt, fs::write(&rt, "repo/1.root.json", "ab"));
+    good(&rt, fs::write(&rt, "repo/targets/a/b", long.as_slice()));
     let mut repo = FileRepository::new(&rt, text(&rt, "repo"));
+    drop(long);
     fetch_all(&rt, &mut repo, IN_A_FOLDER);
+    drop(repo);
 }
 
 #[test]
 fn a_store_in_a_folder(rt: HostRuntime) {
     let mut store = FileStore::new(&rt, text(&rt, "store"));
     store_all(&rt, &mut store, STORED_IN_A_FOLDER);
+    drop(store);
     let name = "store/root_history/1.root.json";
-    let written = fs::read_to_string(&rt, name).expect(&rt, name);
-    let is_there = fs::exists(&rt, "store/root_history/1.root.json.new~").expect(&rt, name);
-    let is_left = fs::exists(&rt, "store/root_history.new~").expect(&rt, name);
-    assert!(rt; written.as_str() == "ab" && !is_there && !is_left);
+    let written = good(&rt, fs::read_to_string(&rt, name));
+    let is_there = good(&rt, fs::exists(&rt, "store/root_history/1.root.json.new~"));
+    let is_left = good(&rt, fs::exists(&rt, "store/root_history.new~"));
+    let found = printed(&rt, (written, is_there, is_left));
+    check(&rt, name, r#"("ab", false, false)"#, found);
 }

@@ -1,6 +1,6 @@
 // Names and numbers of refusals, canonical texts, names of files, and members that are kept.
 use crate::thresholds;
-use crate::words::{copied, halves, hold, number, printed, string, text, text_of};
+use crate::words::{copied, good, halves, hold, number, printed, string, text, text_of};
 use serde_json::Value;
 use sigstore_tuf_parts::*;
 use sigstore_types_parts::{Form, FromValue, Json, Text, TextMap, parse_json};
@@ -77,7 +77,7 @@ fn with_texts(number: u8, first: Text, second: Text) -> Error {
 
 // A refusal of each number.
 fn sample<X: AllocGlobal + Abort>(rt: &X, given: &str) -> Error {
-    let number = given.parse::<u8>().expect(rt, given);
+    let number = good(rt, given.parse::<u8>());
     match number {
         5 | 7 => with_texts(number, text(rt, "r"), text(rt, "k")),
         4 | 6 | 8 | 9 | 10 | 12 | 16 => with_text(number, text(rt, "r")),
@@ -87,7 +87,7 @@ fn sample<X: AllocGlobal + Abort>(rt: &X, given: &str) -> Error {
 
 fn shown<X: AllocGlobal + Abort>(rt: &X, error: Error) -> String {
     let (number, name) = (error.number(), error.name());
-    let shown = format!(in rt.alloc(); "{number} {name} {error}").expect(rt, "memory");
+    let shown = good(rt, format!(in rt.alloc(); "{number} {name} {error}"));
     drop(error);
     shown
 }
@@ -114,7 +114,7 @@ const REFUSALS: &str = "1 => 1 Json Json
 90 => 90 Unbuilt Unbuilt";
 
 fn canonical<X: AllocGlobal + Abort>(rt: &X, text: &str) -> String {
-    let value = Value::from_str(rt.alloc(), text).expect(rt, text);
+    let value = good(rt, Value::from_str(rt.alloc(), text));
     let answer = to_canonical_bytes(rt.alloc(), &value);
     drop(value);
     match answer {
@@ -143,7 +143,7 @@ fn file_name<X: AllocGlobal + Abort>(rt: &X, row: &str) -> String {
 }
 
 fn text_in<X: Abort, E: Debug>(rt: &X, text: Result<Text, E>) -> String {
-    text.expect(rt, "memory").into_string()
+    good(rt, text).into_string()
 }
 
 const FILES: &str = "root 12 => 12.root.json
@@ -158,30 +158,29 @@ name timestamp => timestamp.json";
 fn members<X: AllocGlobal + Abort>(rt: &X, extra: TextMap<Json>) -> String {
     let (public, note) = (extra.get("public").is_some(), extra.get("x-note").is_some());
     drop(extra);
-    format!(in rt.alloc(); "{public} {note}").expect(rt, "memory")
+    printed(rt, (public, note))
 }
 
 fn others_of<X: AllocGlobal + Abort>(rt: &X, value: &Value, call: &str) -> TextMap<Json> {
     match call {
-        "others" => others(rt.alloc(), value, &[DocumentMember::Public]).expect(rt, "memory"),
-        _ => copied(
-            rt,
-            KeyVal::from_value(rt.alloc(), value).expect(rt, "a key's value"),
-        )
-        .extra,
+        "others" => good(rt, others(rt.alloc(), value, &[DocumentMember::Public])),
+        _ => copied(rt, good(rt, KeyVal::from_value(rt.alloc(), value))).extra,
     }
 }
 
 // The other members of a key's value, as they are read and as they stand in a copy of the value.
 fn kept<X: AllocGlobal + Abort>(rt: &X, call: &str) -> String {
-    let value = parse_json(rt.alloc(), b"{\"public\":\"p\",\"x-note\":7}").expect(rt, "a value");
+    let value = good(
+        rt,
+        parse_json(rt.alloc(), b"{\"public\":\"p\",\"x-note\":7}"),
+    );
     let extra = others_of(rt, &value, call);
     drop(value);
     members(rt, extra)
 }
 
-const KEPT: &str = "others => false true
-copy => false true";
+const KEPT: &str = "others => (false, true)
+copy => (false, true)";
 
 #[test]
 fn refusals(rt: HostRuntime) {

@@ -1,6 +1,6 @@
 // Display texts, and the encodings on outside values.
 use crate::bundles;
-use crate::words::{copied, hold, number, printed, string};
+use crate::words::{copied, good, hold, number, numbered, printed, string};
 use foundation::{Duplicate, Sequence};
 use serde_json::Value;
 use sigstore_types_parts::*;
@@ -21,8 +21,7 @@ pub fn answer<X: AllocGlobal + Abort>(rt: &X, call: &str, given: &str) -> String
 }
 
 fn shown<X: AllocGlobal + Abort>(rt: &X, error: TypesError) -> String {
-    let number = error.number();
-    format!(in rt.alloc(); "{number} {error}").expect(rt, "memory")
+    numbered(rt, error.number(), error)
 }
 
 // The number and the display text of a refusal.
@@ -70,49 +69,47 @@ fn algorithm<X: AllocGlobal + Abort>(rt: &X, name: &str) -> String {
         Some(algorithm) => {
             let (length, rekor) = (algorithm.digest_len(), algorithm.as_rekor_str());
             let again = HashAlgorithm::from_name(rekor);
-            format!(in rt.alloc(); "{length} {rekor} {again:?}").expect(rt, "memory")
+            printed(rt, (length, rekor, again))
         }
         None => string(rt, "None"),
     }
 }
 
-const ALGORITHMS: &str = "SHA2_256 => 32 sha256 Some(Sha2256)
-SHA2_384 => 48 sha384 Some(Sha2384)
-SHA2_512 => 64 sha512 Some(Sha2512)
-SHA3_256 => 32 sha3-256 Some(Sha3256)
-SHA3_384 => 48 sha3-384 Some(Sha3384)
-md5 => None";
+const ALGORITHMS: &str = r#"SHA2_256 => (32, "sha256", Some(Sha2256))
+SHA2_384 => (48, "sha384", Some(Sha2384))
+SHA2_512 => (64, "sha512", Some(Sha2512))
+SHA3_256 => (32, "sha3-256", Some(Sha3256))
+SHA3_384 => (48, "sha3-384", Some(Sha3384))
+md5 => None"#;
 
 // The bytes, their base64, and whether a copy equals them.
-fn bytes_shown<X: AllocGlobal + Abort>(rt: &X, bytes: &SignatureBytes) -> String {
-    let base64 = bytes.to_base64(rt.alloc()).expect(rt, "memory");
-    let copy = bytes.duplicate(rt.alloc()).expect(rt, "memory");
-    let is_copied = copy == *bytes;
-    format!(in rt.alloc(); "{bytes:?} {base64:?} {is_copied}").expect(rt, "memory")
+fn bytes_shown<X: AllocGlobal + Abort>(rt: &X, bytes: SignatureBytes) -> String {
+    let base64 = good(rt, bytes.to_base64(rt.alloc()));
+    let copy = good(rt, bytes.duplicate(rt.alloc()));
+    let is_copied = copy == bytes;
+    drop(copy);
+    printed(rt, (bytes, base64, is_copied))
 }
 
 fn encoding<X: AllocGlobal + Abort>(rt: &X, text: &str) -> String {
     match SignatureBytes::from_base64(rt.alloc(), text) {
-        Ok(bytes) => bytes_shown(rt, &bytes),
+        Ok(bytes) => bytes_shown(rt, bytes),
         Err(refusal) => printed(rt, refusal),
     }
 }
 
 // RFC 4648, section 10: the bytes of nothing, f, foo and fooba.
-const ENCODINGS: &str = r#" => [] "" true
-Zg== => [102] "Zg==" true
-Zm9v => [102, 111, 111] "Zm9v" true
-Zm9vYmE= => [102, 111, 111, 98, 97] "Zm9vYmE=" true
+const ENCODINGS: &str = r#" => ([], "", true)
+Zg== => ([102], "Zg==", true)
+Zm9v => ([102, 111, 111], "Zm9v", true)
+Zm9vYmE= => ([102, 111, 111, 98, 97], "Zm9vYmE=", true)
 Zg => Base64"#;
 
 fn hint_of<X: AllocGlobal + Abort>(rt: &X, bytes: &[u8]) -> String {
     match KeyHint::from_slice(bytes) {
         Ok(hint) => {
-            let (hex, length) = (
-                hint.to_hex(rt.alloc()).expect(rt, "memory"),
-                hint.as_array().len(),
-            );
-            format!(in rt.alloc(); "{hex:?} {length}").expect(rt, "memory")
+            let (hex, length) = (good(rt, hint.to_hex(rt.alloc())), hint.as_array().len());
+            printed(rt, (hex, length))
         }
         Err(refusal) => printed(rt, refusal),
     }
@@ -126,7 +123,7 @@ fn hint<X: AllocGlobal + Abort>(rt: &X, name: &str) -> String {
     }
 }
 
-const HINTS: &str = r#"hello => "2cf24dba" 4
+const HINTS: &str = r#"hello => ("2cf24dba", 4)
 short => Length { expected: 4, actual: 1 }"#;
 
 const FAULTS: &str = "{ => Some(NotJson)
@@ -134,13 +131,11 @@ const FAULTS: &str = "{ => Some(NotJson)
 
 // Which of the members `sig` and `start` stand in a copy of all members.
 fn all<X: AllocGlobal + Abort>(rt: &X, value: &Value) -> String {
-    let all: TextMap<Json> = FromValue::<TypesError>::from_value(rt.alloc(), value).expect(
-        rt, "members",
-    );
+    let all: TextMap<Json> = good(rt, FromValue::<TypesError>::from_value(rt.alloc(), value));
     let copy = copied(rt, all);
     let (sig, start) = (copy.get("sig").is_some(), copy.get("start").is_some());
     drop(copy);
-    format!(in rt.alloc(); "{sig} {start}").expect(rt, "memory")
+    printed(rt, (sig, start))
 }
 
 fn member_of<X: AllocGlobal + Abort>(rt: &X, value: &Value, name: &str) -> String {
@@ -191,11 +186,13 @@ fn member_of<X: AllocGlobal + Abort>(rt: &X, value: &Value, name: &str) -> Strin
 }
 
 fn member<X: AllocGlobal + Abort>(rt: &X, name: &str) -> String {
-    let value = parse_json(
-        rt.alloc(),
-        b"{\"hint\":\"k\",\"version\":7,\"sig\":\"AQ==\"}",
-    )
-    .expect(rt, "a value");
+    let value = good(
+        rt,
+        parse_json(
+            rt.alloc(),
+            b"{\"hint\":\"k\",\"version\":7,\"sig\":\"AQ==\"}",
+        ),
+    );
     let answer = member_of(rt, &value, name);
     drop(value);
     answer
@@ -207,7 +204,7 @@ sig => Ok(Some([1]))
 start => Ok(None)
 end => Ok(true)
 subject => Some(Field { member: Subject })
-all => true false"#;
+all => (true, false)"#;
 
 // The answers of four calls, and the count of faults.
 fn four_calls<X: AllocGlobal + Abort>(rt: &X, list: FailList) -> String {
@@ -217,13 +214,14 @@ fn four_calls<X: AllocGlobal + Abort>(rt: &X, list: FailList) -> String {
     let third = calls.next_fails();
     let fourth = calls.next_fails();
     let faults = calls.faults;
-    format!(in rt.alloc(); "{first} {second} {third} {fourth} {faults}").expect(rt, "memory")
+    drop(calls);
+    printed(rt, (first, second, third, fourth, faults))
 }
 
 fn numbers<X: AllocGlobal + Abort>(rt: &X, words: &str) -> Vec<u64> {
     let mut numbers = Vec::new(rt.alloc());
     for word in words.split_whitespace() {
-        numbers.push(number(rt, word)).expect(rt, "memory");
+        good(rt, numbers.push(number(rt, word)));
     }
     numbers
 }
@@ -236,7 +234,7 @@ fn listed<X: AllocGlobal + Abort>(rt: &X, words: &str) -> String {
 }
 
 // A row: the listed calls, and whether each of four calls fails, with the count.
-const LISTED: &str = "2 3 => false true true false 2
+const LISTED: &str = "2 3 => (false, true, true, false, 2)
 0 1 => no list
 1 1 => no list
 2 1 => no list";

@@ -3,7 +3,7 @@ ghost use Rattle.std.specs.Prelude.{◌||◌, Some, bytes_eq, if◌then◌else�
 
 use crate::documents;
 use crate::provider::{One, p256};
-use crate::words::{filled, halves, hold, key_in, printed, text, word};
+use crate::words::{filled, good, halves, hold, is_good, key_bytes, printed, text, there, word};
 use foundation::{Duplicate, NoMemory};
 use serde_json::Value;
 use sigstore_tuf_parts::*;
@@ -64,10 +64,6 @@ impl Armor for Three {
     }
 }
 
-fn key_bytes<X: AllocGlobal + Abort>(rt: &X, base64: &str) -> Bytes {
-    Bytes::new(rt.alloc(), key_in(rt, base64).as_bytes()).expect(rt, "memory")
-}
-
 // The text p holds a P-256 key, q an Ed25519 key of 32 zero bytes (RFC 8410), and b one byte that is no
 // key.
 fn armor<X: AllocGlobal + Abort>(rt: &X) -> Three {
@@ -95,33 +91,40 @@ const TIMESTAMP: &str =
 
 fn read<X: AllocGlobal + Abort, T: Role>(rt: &X, text: &str, cells: &str) -> Metadata<T> {
     let text = filled(rt, text, cells);
-    Metadata::from_slice(rt.alloc(), text.as_bytes()).expect(rt, "a document")
+    let document = good(rt, Metadata::from_slice(rt.alloc(), text.as_bytes()));
+    drop(text);
+    document
 }
 
 // A root, from its threshold and the public text of its keys.
 fn root<X: AllocGlobal + Abort>(rt: &X, cells: &str) -> Root {
     let (_, public) = halves(rt, cells, " | ");
-    let cells = format!(in rt.alloc(); "{cells} | {public}").expect(rt, "memory");
-    read::<X, Root>(rt, ROOT, cells.as_str()).into_signed()
+    let cells = good(rt, format!(in rt.alloc(); "{cells} | {public}"));
+    let root = read::<X, Root>(rt, ROOT, cells.as_str());
+    drop(cells);
+    root.into_signed()
 }
 
 // A timestamp signed by words of an id, `=` and a signature.
 fn signed_by<X: AllocGlobal + Abort>(rt: &X, words: &str) -> Metadata<Timestamp> {
-    let signatures = words
-        .replace(rt.alloc(), '=', "\",\"sig\":\"")
-        .expect(rt, "memory");
+    let signatures = good(rt, words.replace(rt.alloc(), '=', "\",\"sig\":\""));
     let more = signatures
         .as_str()
         .replace(rt.alloc(), ' ', "\"},{\"keyid\":\"");
-    read(rt, TIMESTAMP, more.expect(rt, "memory").as_str())
+    read(rt, TIMESTAMP, good(rt, more).as_str())
 }
 
 // Whether the document meets the role as it stands in the root.
 fn is_met(alloc: Global, document: &Metadata<Timestamp>, armor: &Three, root: &Root) -> bool {
     match root.role("timestamp") {
-        Some(role) => document
-            .verify_threshold(alloc, &One, armor, &root.keys, role, "timestamp")
-            .is_ok(),
+        Some(role) => is_good(document.verify_threshold(
+            alloc,
+            &One,
+            armor,
+            &root.keys,
+            role,
+            "timestamp",
+        )),
         None => false,
     }
 }
@@ -137,7 +140,7 @@ fn told<X: AllocGlobal + Abort>(rt: &X, document: &Metadata<Timestamp>, root: &R
 }
 
 fn judged<X: AllocGlobal + Abort>(rt: &X, row: &str) -> String {
-    let (cells, words) = row.rsplit_once(" | ").expect(rt, row);
+    let (cells, words) = there(rt, row.rsplit_once(" | "));
     let root = root(rt, cells);
     let document = signed_by(rt, words);
     let answer = told(rt, &document, &root);
@@ -179,8 +182,9 @@ const KEY: &str = r#"{"keytype":"t","scheme":"*","keyval":{"public":"*"}}"#;
 
 fn declared<X: AllocGlobal + Abort>(rt: &X, cells: &str) -> String {
     let text = filled(rt, KEY, cells);
-    let value = Value::from_str(rt.alloc(), text.as_str()).expect(rt, "a value");
-    let key = Key::from_value(rt.alloc(), &value).expect(rt, "a key");
+    let value = good(rt, Value::from_str(rt.alloc(), text.as_str()));
+    let key = good(rt, Key::from_value(rt.alloc(), &value));
+    drop(text);
     drop(value);
     let armor = armor(rt);
     let fault = key.verification_key(rt.alloc(), &armor).err();

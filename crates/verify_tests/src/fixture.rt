@@ -1,5 +1,5 @@
 // A run of the program over objects in memory: the fixture, with one of its parts changed.
-use crate::tables::{Change, bytes, change_in, failures, source, text_of, words};
+use crate::tables::{Change, bytes, change_in, failures, good, source, text_of, words};
 use jiff::Timestamp;
 use sigstore_app_parts::{MemoryInputs, MemorySink, Which};
 use sigstore_crypto::sha256;
@@ -69,44 +69,44 @@ fn root<X: AllocGlobal + Abort>(rt: &X, change: Change) -> String {
     let text = format!(in rt.alloc();
         r#"{{"_type":"root","consistent_snapshot":{consistent},"expires":"2031-01-01T00:00:00Z","keys":{{"k":{{"keytype":"ecdsa","keyval":{{"public":"der:{public}"}},"scheme":"{scheme}"}}}},{ROLES},"spec_version":"1.0.0","version":1}}"#
     );
-    text.expect(rt, "memory")
+    good(rt, text)
 }
 
 // The entry of the trust file, with its length and digest.
 fn listed<X: AllocGlobal + Abort>(rt: &X, trust: &str) -> String {
-    let digest = sha256(trust.as_bytes())
-        .to_hex(rt.alloc())
-        .expect(rt, "memory");
-    let (digest, length) = (digest.as_str(), trust.len());
+    let digest = good(rt, sha256(trust.as_bytes()).to_hex(rt.alloc()));
+    let (sha256, length) = (digest.as_str(), trust.len());
     let text = format!(in rt.alloc();
-        r#""trusted_root.json":{{"hashes":{{"sha256":"{digest}"}},"length":{length}}}"#
+        r#""trusted_root.json":{{"hashes":{{"sha256":"{sha256}"}},"length":{length}}}"#
     );
-    text.expect(rt, "memory")
+    drop(digest);
+    good(rt, text)
 }
 
 fn targets<X: AllocGlobal + Abort>(rt: &X, change: Change) -> String {
-    let listed = listed(rt, change.of("trust", "{}"));
-    let listed = change.of("listed", listed.as_str());
+    let entry = listed(rt, change.of("trust", "{}"));
+    let listed = change.of("listed", entry.as_str());
     let delegations = change.of("delegations", "");
     let text = format!(in rt.alloc();
         r#"{{"_type":"targets",{delegations}"expires":"2031-01-01T00:00:00Z","spec_version":"1.0.0","targets":{{{listed}}},"version":1}}"#
     );
-    text.expect(rt, "memory")
+    drop(entry);
+    good(rt, text)
 }
 
 fn document<X: AllocGlobal + Abort>(rt: &X, signed: &str) -> String {
     let text = format!(in rt.alloc();
         r#"{{"signatures":[{{"keyid":"k","sig":"01"}}],"signed":{signed}}}"#
     );
-    text.expect(rt, "memory")
+    good(rt, text)
 }
 
 // Puts a document in its place; an empty text is none.
 fn put<X: AllocGlobal + Abort>(rt: &X, repo: &mut MemoryRepository, name: &str, signed: &str) {
     if !signed.is_empty() {
         let document = document(rt, signed);
-        repo.put_metadata(rt.alloc(), name, document.as_bytes())
-            .expect(rt, "memory");
+        good(rt, repo.put_metadata(rt.alloc(), name, document.as_bytes()));
+        drop(document);
     }
 }
 
@@ -123,15 +123,19 @@ fn repository<X: AllocGlobal + Abort>(rt: &X, change: Change, targets: &str) -> 
     put(rt, &mut repo, "snapshot.json", SNAPSHOT);
     put(rt, &mut repo, "targets.json", targets);
     let trust = change.of("file", change.of("trust", "{}"));
-    repo.put_target(rt.alloc(), "trusted_root.json", trust.as_bytes())
-        .expect(rt, "memory");
+    good(
+        rt,
+        repo.put_target(rt.alloc(), "trusted_root.json", trust.as_bytes()),
+    );
     repo
 }
 
 fn digest<X: AllocGlobal + Abort>(rt: &X, subject: &str) -> Text {
     let digest = sha256(subject.as_bytes());
-    let digest = DigestBytes::from_bytes(rt.alloc(), digest.as_bytes()).expect(rt, "memory");
-    digest.to_base64(rt.alloc()).expect(rt, "memory")
+    let digest = good(rt, DigestBytes::from_bytes(rt.alloc(), digest.as_bytes()));
+    let base64 = digest.to_base64(rt.alloc());
+    drop(digest);
+    good(rt, base64)
 }
 
 // Adds the provider's row for what is signed, unless the change leaves it out.
@@ -144,8 +148,12 @@ fn sign<X: AllocGlobal + Abort>(
 ) {
     if change.of("unsigned", "") != name {
         let digest = digest(rt, subject);
-        let digest = digest.as_str();
-        write!(rows, "accept ECDSA_P256_SHA256 {RAW_KEY} {digest} AQ==\n").expect(rt, "memory");
+        let base64 = digest.as_str();
+        good(
+            rt,
+            write!(rows, "accept ECDSA_P256_SHA256 {RAW_KEY} {base64} AQ==\n"),
+        );
+        drop(digest);
     }
 }
 
@@ -167,14 +175,14 @@ fn provider<X: AllocGlobal + Abort>(rt: &X, change: Change, root: &str, targets:
 
 fn policy<X: AllocGlobal + Abort>(rt: &X, change: Change) -> Bytes {
     let (key, skip) = (change.of("key", SPKI), change.of("skip", "skip tlog\n"));
-    let text = format!(in rt.alloc(); "key {key}\n{skip}").expect(rt, "memory");
+    let text = good(rt, format!(in rt.alloc(); "key {key}\n{skip}"));
     Bytes::from_vec(text.into_bytes())
 }
 
 // That many blanks.
 fn blanks<X: AllocGlobal + Abort>(rt: &X, count: &str) -> Bytes {
-    let count = count.parse::<usize>().expect(rt, count);
-    Bytes::from_vec(vec![in rt.alloc(); b' '; count].expect(rt, "memory"))
+    let count = good(rt, count.parse::<usize>());
+    Bytes::from_vec(good(rt, vec![in rt.alloc(); b' '; count]))
 }
 
 fn message(change: Change) -> &str {
@@ -190,7 +198,7 @@ fn made_bundle<X: AllocGlobal + Abort>(rt: &X, change: Change) -> Bytes {
     let text = format!(in rt.alloc();
         r#"{{"mediaType":"application/vnd.dev.sigstore.bundle.v0.3+json","verificationMaterial":{{{material}}},{content}}}"#
     );
-    Bytes::from_vec(text.expect(rt, "memory").into_bytes())
+    Bytes::from_vec(good(rt, text).into_bytes())
 }
 
 fn bundle<X: AllocGlobal + Abort>(rt: &X, change: Change) -> Bytes {
@@ -255,6 +263,8 @@ fn run_with<X: AllocGlobal + Abort>(rt: &X, change: Change, sink: &mut MemorySin
     let status = ended(rt, change, &mut inputs, &mut repo, sink);
     drop(inputs);
     drop(repo);
+    drop(root);
+    drop(targets);
     status
 }
 
@@ -263,10 +273,12 @@ pub(crate) fn said<X: AllocGlobal + Abort>(rt: &X, row: &str) -> String {
     let change = change_in(rt, row, PARTS);
     let room = change.of("room", "1024");
     let failures = failures(rt, change.of("sink fails", ""));
-    let room = room.parse::<u32>().expect(rt, room);
-    let mut sink = MemorySink::new(rt.alloc(), room, failures).expect(rt, "memory");
+    let room = good(rt, room.parse::<u32>());
+    let mut sink = good(rt, MemorySink::new(rt.alloc(), room, failures));
     let status = run_with(rt, change, &mut sink);
     let taken = text_of(rt, sink.bytes());
     drop(sink);
-    format!(in rt.alloc(); "{status:?} {taken:?}").expect(rt, "memory")
+    let said = format!(in rt.alloc(); "{status:?} {taken:?}");
+    drop(taken);
+    good(rt, said)
 }

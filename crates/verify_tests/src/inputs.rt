@@ -1,7 +1,7 @@
 // Display texts, and words, files and lines on outside values.
 use crate::tables::{
-    answered, bytes, check, debug, display, failures, halves, hold, lines_of, number, string, text,
-    text_of, word, words,
+    answered, bytes, check, debug, display, failures, good, halves, hold, lines_of, number, string,
+    text, text_of, word, words,
 };
 use crate::verification;
 use foundation::NoMemory;
@@ -59,14 +59,14 @@ const WHOLE: &str =
 // The layout's root, policy and instant.
 fn shown<X: AllocGlobal + Abort>(rt: &X, layout: Layout) -> String {
     let (root, policy, now) = (layout.root.as_str(), layout.policy.as_str(), layout.now);
-    let shown = format!(in rt.alloc(); "{root} {policy} {now:?}").expect(rt, "memory");
+    let shown = debug(rt, (root, policy, now));
     drop(layout);
     shown
 }
 
 fn layout<X: AllocGlobal + Abort>(rt: &X, line: &str) -> String {
     let words = words(rt, line);
-    let layout = read_layout(rt.alloc(), &words).expect(rt, "memory");
+    let layout = good(rt, read_layout(rt.alloc(), &words));
     drop(words);
     match layout {
         Some(layout) => shown(rt, layout),
@@ -75,8 +75,22 @@ fn layout<X: AllocGlobal + Abort>(rt: &X, line: &str) -> String {
 }
 
 fn whole_layout<X: AllocGlobal + Abort>(rt: &X, more: &str) -> String {
-    let line = format!(in rt.alloc(); "{WHOLE} {more}").expect(rt, "memory");
-    layout(rt, line.as_str())
+    let line = good(rt, format!(in rt.alloc(); "{WHOLE} {more}"));
+    let answer = layout(rt, line.as_str());
+    drop(line);
+    answer
+}
+
+fn policy<X: AllocGlobal + Abort>(rt: &X, text: String) -> String {
+    let answer = read_policy(rt.alloc(), text.as_bytes());
+    drop(text);
+    debug(rt, answer)
+}
+
+fn provider<X: AllocGlobal + Abort>(rt: &X, text: String) -> String {
+    let answer = read_provider(rt.alloc(), text.as_bytes());
+    drop(text);
+    word(rt, "tables", answer)
 }
 
 // What is read of words, of words after a whole layout, of a policy file and of a provider file.
@@ -85,22 +99,15 @@ fn read<X: AllocGlobal + Abort>(rt: &X, row: &str) -> String {
     match call {
         "words" => layout(rt, text),
         "more words" => whole_layout(rt, text),
-        "policy" => debug(
-            rt,
-            read_policy(rt.alloc(), lines_of(rt, text).as_str().as_bytes()),
-        ),
+        "policy" => policy(rt, lines_of(rt, text)),
         "policy of byte ff" => debug(rt, read_policy(rt.alloc(), b"key AQI=\n#\xff\n")),
-        _ => word(
-            rt,
-            "tables",
-            read_provider(rt.alloc(), lines_of(rt, text).as_str().as_bytes()),
-        ),
+        _ => provider(rt, lines_of(rt, text)),
     }
 }
 
 // A row: what is read, its text with `;` for the end of a line, and what is read of it.
-const READINGS: &str = "more words |  | a f=g None
-more words | --now=2025-01-01T00:00:00Z | a f=g Some(2025-01-01T00:00:00Z)
+const READINGS: &str = "more words |  | (\"a\", \"f=g\", None)
+more words | --now=2025-01-01T00:00:00Z | (\"a\", \"f=g\", Some(2025-01-01T00:00:00Z))
 more words | --now=x | none
 more words | --root=a | none
 more words | --now= | none
@@ -171,7 +178,7 @@ fn is_accepted<X: Abort>(rt: &X, provider: &TableProvider, call: &str, text: &st
 }
 
 fn is_there<X: Abort>(rt: &X, read: Result<Option<Bytes>, NoMemory>) -> bool {
-    read.expect(rt, "memory").is_some()
+    good(rt, read).is_some()
 }
 
 // What a table answers.
@@ -182,10 +189,10 @@ fn asked<X: AllocGlobal + Abort>(rt: &X, tables: &Tables, call: &str, asked: &st
         "read_key" => debug(rt, is_there(rt, armor.read_key(rt.alloc(), bytes))),
         "read_certificate" => debug(rt, is_there(rt, armor.read_certificate(rt.alloc(), bytes))),
         "write_certificate" => {
-            let written = armor
-                .write_certificate(rt.alloc(), bytes)
-                .expect(rt, "memory");
-            text_of(rt, written.as_bytes())
+            let written = good(rt, armor.write_certificate(rt.alloc(), bytes));
+            let text = text_of(rt, written.as_bytes());
+            drop(written);
+            text
         }
         _ => debug(rt, is_accepted(rt, &tables.provider, call, asked)),
     }
@@ -193,7 +200,7 @@ fn asked<X: AllocGlobal + Abort>(rt: &X, tables: &Tables, call: &str, asked: &st
 
 fn table<X: AllocGlobal + Abort>(rt: &X, row: &str) -> String {
     let (call, text) = halves(rt, row, " | ");
-    let tables = read_provider(rt.alloc(), PROVIDER.as_bytes()).expect(rt, PROVIDER);
+    let tables = good(rt, read_provider(rt.alloc(), PROVIDER.as_bytes()));
     let answer = asked(rt, &tables, call, text);
     drop(tables);
     answer
@@ -228,7 +235,7 @@ fn write_texts<X: AllocGlobal + Abort>(rt: &X, sink: &mut MemorySink, texts: &st
     let mut answers = String::new(rt.alloc());
     for text in texts.split_whitespace() {
         let answer = write_all(sink, text.as_bytes());
-        write!(answers, "{answer:?} ").expect(rt, "memory");
+        good(rt, write!(answers, "{answer:?} "));
     }
     answers
 }
@@ -236,11 +243,14 @@ fn write_texts<X: AllocGlobal + Abort>(rt: &X, sink: &mut MemorySink, texts: &st
 // The answers of a sink with room for seven bytes, and what it took.
 fn taken<X: AllocGlobal + Abort>(rt: &X, row: &str) -> String {
     let (texts, call) = halves(rt, row, " | ");
-    let mut sink = MemorySink::new(rt.alloc(), 7, failures(rt, call)).expect(rt, "memory");
+    let mut sink = good(rt, MemorySink::new(rt.alloc(), 7, failures(rt, call)));
     let answers = write_texts(rt, &mut sink, texts);
     let taken = text_of(rt, sink.bytes());
     drop(sink);
-    format!(in rt.alloc(); "{answers}{taken:?}").expect(rt, "memory")
+    let text = format!(in rt.alloc(); "{answers}{taken:?}");
+    drop(answers);
+    drop(taken);
+    good(rt, text)
 }
 
 // A row: texts, the call that fails, and the answers with what was taken.
@@ -260,7 +270,11 @@ fn which(name: &str) -> Which {
 fn input<X: AllocGlobal + Abort, I: Inputs>(rt: &X, inputs: &mut I, row: &str) -> String {
     let (name, max) = halves(rt, row, " | ");
     match inputs.read(rt.alloc(), which(name), number(rt, max)) {
-        Ok(bytes) => text_of(rt, bytes.as_bytes()),
+        Ok(bytes) => {
+            let text = text_of(rt, bytes.as_bytes());
+            drop(bytes);
+            text
+        }
         Err(fault) => debug(rt, fault),
     }
 }
@@ -336,7 +350,7 @@ fn push(alloc: Global, text: &mut String, call: &str) -> Result<(), NoMemory> {
 // What a call adds to a text, as Debug prints it.
 fn pushed<X: AllocGlobal + Abort>(rt: &X, call: &str) -> String {
     let mut text = string(rt, "> ");
-    push(rt.alloc(), &mut text, call).expect(rt, "memory");
+    good(rt, push(rt.alloc(), &mut text, call));
     debug(rt, text)
 }
 
@@ -376,9 +390,9 @@ fn inputs_in_memory(rt: HostRuntime) {
 
 #[test]
 fn files_are_inputs(rt: HostRuntime) {
-    fs::write(&rt, "an_input", "hello").expect(&rt, "a file");
+    good(&rt, fs::write(&rt, "an_input", "hello"));
     let mut inputs = file_inputs(&rt);
     read_all(&rt, &mut inputs, FILES);
-    fs::remove_file(&rt, "an_input").expect(&rt, "a file");
+    good(&rt, fs::remove_file(&rt, "an_input"));
     drop(inputs);
 }

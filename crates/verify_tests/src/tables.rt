@@ -20,35 +20,45 @@ pub(crate) fn hold<X: AllocGlobal + Abort>(rt: &X, call: &str, rows: &str) {
 
 // What a row asks, and the answer that it wants.
 pub(crate) fn answered<'a, X: Abort>(rt: &X, row: &'a str) -> (&'a str, &'a str) {
-    row.rsplit_once(" | ").expect(rt, row)
+    there(rt, row.rsplit_once(" | "))
 }
 
 // Ends the process where a row's answer isn't the one that is wanted.
 pub(crate) fn check<X: Abort>(rt: &X, row: &str, wanted: &str, found: String) {
-    assert_eq!(rt; found.as_str(), wanted, "{row}");
+    assert!(rt; found.as_str() == wanted, "{row}\nfound: {found}");
+}
+
+// What a call gave; a refusal ends the process.
+pub(crate) fn good<X: Abort, T, E: Debug>(rt: &X, given: Result<T, E>) -> T {
+    given.expect(rt, "a value")
+}
+
+// What is there; where nothing is, the process ends.
+pub(crate) fn there<X: Abort, T>(rt: &X, given: Option<T>) -> T {
+    given.expect(rt, "something")
 }
 
 // What stands before and behind the first of these marks.
 pub(crate) fn halves<'a, X: Abort>(rt: &X, text: &'a str, mark: &str) -> (&'a str, &'a str) {
-    text.split_once(mark).expect(rt, text)
+    there(rt, text.split_once(mark))
 }
 
 pub(crate) fn number<X: Abort>(rt: &X, text: &str) -> u64 {
-    text.parse::<u64>().expect(rt, text)
+    good(rt, text.parse::<u64>())
 }
 
 pub(crate) fn string<X: AllocGlobal + Abort>(rt: &X, text: &str) -> String {
-    String::from_str(rt.alloc(), text).expect(rt, "memory")
+    good(rt, String::from_str(rt.alloc(), text))
 }
 
 // The Debug text of a value, which is let go.
 pub(crate) fn debug<X: AllocGlobal + Abort, T: Debug + Drop>(rt: &X, value: T) -> String {
-    format!(in rt.alloc(); "{value:?}").expect(rt, "memory")
+    good(rt, format!(in rt.alloc(); "{value:?}"))
 }
 
 // The display text of a value, which is let go.
 pub(crate) fn display<X: AllocGlobal + Abort, T: Display + Drop>(rt: &X, value: T) -> String {
-    format!(in rt.alloc(); "{value}").expect(rt, "memory")
+    good(rt, format!(in rt.alloc(); "{value}"))
 }
 
 // A word for what a call gave, or the Debug text of its refusal.
@@ -65,12 +75,12 @@ pub(crate) fn word<X: AllocGlobal + Abort, T: Drop, E: Debug + Drop>(
 
 // The text of bytes in UTF-8.
 pub(crate) fn text_of<X: AllocGlobal + Abort>(rt: &X, bytes: &[u8]) -> String {
-    string(rt, str::from_utf8(bytes).expect(rt, "a text"))
+    string(rt, good(rt, str::from_utf8(bytes)))
 }
 
 // A text with the end of a line in the place of each `;`.
 pub(crate) fn lines_of<X: AllocGlobal + Abort>(rt: &X, text: &str) -> String {
-    text.replace(rt.alloc(), ';', "\n").expect(rt, "memory")
+    good(rt, text.replace(rt.alloc(), ';', "\n"))
 }
 
 // A part of what is given to a call, and the text in its place.
@@ -98,29 +108,29 @@ pub(crate) fn change_in<'a, X: Abort>(rt: &X, row: &'a str, parts: &str) -> Chan
 pub(crate) fn failures<X: AllocGlobal + Abort>(rt: &X, call: &str) -> FailList {
     let mut calls = Vec::new(rt.alloc());
     if !call.is_empty() {
-        calls.push(number(rt, call)).expect(rt, "memory");
+        good(rt, calls.push(number(rt, call)));
     }
-    FailList::new(calls).expect(rt, "a list")
+    there(rt, FailList::new(calls))
 }
 
 pub(crate) fn text<X: AllocGlobal + Abort>(rt: &X, text: &str) -> Text {
-    Text::new(rt.alloc(), text).expect(rt, "memory")
+    good(rt, Text::new(rt.alloc(), text))
 }
 
 pub(crate) fn words<X: AllocGlobal + Abort>(rt: &X, line: &str) -> Vec<Text> {
     let mut words = Vec::new(rt.alloc());
     for word in line.split_whitespace() {
-        words.push(text(rt, word)).ok().expect(rt, "memory");
+        there(rt, words.push(text(rt, word)).ok());
     }
     words
 }
 
 pub(crate) fn bytes<X: AllocGlobal + Abort>(rt: &X, bytes: &[u8]) -> Bytes {
-    Bytes::new(rt.alloc(), bytes).expect(rt, "memory")
+    good(rt, Bytes::new(rt.alloc(), bytes))
 }
 
 // An artifact, two bytes at a time; the read of that number fails.
 pub(crate) fn source<X: AllocGlobal + Abort>(rt: &X, artifact: &str, read: &str) -> MemorySource {
-    let step = NonZeroU32::new(2).expect(rt, "a step");
+    let step = there(rt, NonZeroU32::new(2));
     MemorySource::new(bytes(rt, artifact.as_bytes()), step, failures(rt, read))
 }

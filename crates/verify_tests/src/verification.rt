@@ -3,7 +3,7 @@ ghost use Rattle.std.specs.Prelude.{bytes_eq, Some, None, false};
 ghost use Rattle.sigstore_crypto.specs.Good.{subject_of};
 
 use crate::fixture;
-use crate::tables::{Change, change_in, hold, number, source, text, word};
+use crate::tables::{Change, change_in, debug, good, hold, number, source, text, there, word};
 use foundation::NoMemory;
 use jiff::Timestamp;
 use sigstore_crypto::{CryptoProvider, ReadError, SigningScheme, sha256, sha384, sha512};
@@ -146,7 +146,7 @@ fn plain(number: u8) -> Error {
 
 // A refusal of each number.
 fn sample<X: AllocGlobal + Abort>(rt: &X, given: &str) -> Error {
-    let number = given.parse::<u8>().expect(rt, given);
+    let number = good(rt, given.parse::<u8>());
     match number {
         1 => Error::IdentityMismatch {
             expected: text(rt, "a"),
@@ -158,7 +158,7 @@ fn sample<X: AllocGlobal + Abort>(rt: &X, given: &str) -> Error {
         },
         6..=11 => Error::Certificate(certificate(number)),
         12 => Error::TransparencyLog(TransparencyLogError::UnknownLog {
-            log_id: LogKeyId::from_bytes(rt.alloc(), b"log").expect(rt, "memory"),
+            log_id: good(rt, LogKeyId::from_bytes(rt.alloc(), b"log")),
         }),
         13..=18 => Error::TransparencyLog(log(number)),
         19..=21 => Error::Timestamp(timestamp(number)),
@@ -174,15 +174,16 @@ fn part<X: Abort>(rt: &X, alloc: Global, error: &Error) -> String {
         Error::Timestamp(part) => format!(in alloc; " {part}"),
         _ => return String::new(alloc),
     };
-    shown.expect(rt, "memory")
+    good(rt, shown)
 }
 
 // The number and the name of a refusal, its display text, and that of its part.
 fn shown<X: AllocGlobal + Abort>(rt: &X, error: Error) -> String {
     let (number, name, part) = (error.number(), error.name(), part(rt, rt.alloc(), &error));
-    let shown = format!(in rt.alloc(); "{number} {name} {error}{part}").expect(rt, "memory");
+    let shown = format!(in rt.alloc(); "{number} {name} {error}{part}");
     drop(error);
-    shown
+    drop(part);
+    good(rt, shown)
 }
 
 // A row: which refusal, and its number, its name, its display text and that of its part.
@@ -234,7 +235,10 @@ const KEY: &str =
     "MFkwEwYHKoZIzj0CAQYIKoZIzj0DAQcDQgAEAAAAAAAAAAAAAAAAAAAAAAAAAAAAAAAAAAAAAAAAAAAAAAAAAAAAAAAAAAAAAAAAAAAAAAAAAAAAAAAAAAAAAA==";
 
 fn policy<X: AllocGlobal + Abort>(rt: &X, change: Change) -> PublicKeyVerificationPolicy {
-    let key = DerPublicKey::from_base64(rt.alloc(), change.of("key", KEY)).expect(rt, "a key");
+    let key = good(
+        rt,
+        DerPublicKey::from_base64(rt.alloc(), change.of("key", KEY)),
+    );
     let policy = PublicKeyVerificationPolicy::new(key);
     if change.part == "log" {
         policy
@@ -250,7 +254,7 @@ fn told<X: AllocGlobal + Abort>(rt: &X, change: Change) -> Option<MessageDigest>
         None => None,
         Some(algorithm) => Some(MessageDigest {
             algorithm,
-            digest: DigestBytes::from_bytes(rt.alloc(), digest.as_bytes()).expect(rt, "memory"),
+            digest: good(rt, DigestBytes::from_bytes(rt.alloc(), digest.as_bytes())),
         }),
     }
 }
@@ -267,7 +271,7 @@ fn bundle<X: AllocGlobal + Abort>(rt: &X, change: Change) -> Bundle {
         media_type: Text::from_string(String::new(rt.alloc())),
         content: SignatureContent::MessageSignature(MessageSignature {
             message_digest: told(rt, change),
-            signature: signature.expect(rt, "memory"),
+            signature: good(rt, signature),
         }),
         verification_material: VerificationMaterial {
             content: VerificationMaterialContent::PublicKey { hint: None },
@@ -280,7 +284,7 @@ fn verified<X: AllocGlobal + Abort>(rt: &X, change: Change) -> Result<Verificati
     let max = number(rt, change.of("greatest length", "5"));
     let mut source = source(rt, "hello", change.of("failing read", ""));
     let (policy, bundle) = (policy(rt, change), bundle(rt, change));
-    let verifier = Verifier::new(rt.alloc(), &Echo, &Bare, &TrustedRoot {}).expect(rt, "memory");
+    let verifier = good(rt, Verifier::new(rt.alloc(), &Echo, &Bare, &TrustedRoot {}));
     let now = Timestamp::UNIX_EPOCH;
     let answer = verifier.verify_reader(rt.alloc(), &mut source, max, &bundle, &policy, now);
     drop(verifier);
@@ -317,23 +321,23 @@ const UNCHANGED: Change = Change {
 fn kept<X: AllocGlobal + Abort>(rt: &X) -> Kept {
     let mut source = source(rt, "hello", "");
     let (policy, bundle) = (policy(rt, UNCHANGED), bundle(rt, UNCHANGED));
-    let verifier = Verifier::new(rt.alloc(), &Echo, &Bare, &TrustedRoot {}).expect(rt, "memory");
+    let verifier = good(rt, Verifier::new(rt.alloc(), &Echo, &Bare, &TrustedRoot {}));
     let now = Timestamp::UNIX_EPOCH;
     let kept = verifier.verify_reader_kept(rt.alloc(), &mut source, 5, &bundle, &policy, now);
     drop(verifier);
     drop(bundle);
     drop(policy);
     drop(source);
-    kept.expect(rt, "an acceptance")
+    good(rt, kept)
 }
 
 // The number of digests, the algorithm of the first one, and whether its bytes are those of `hello`.
 fn digests_shown<X: AllocGlobal + Abort>(rt: &X, kept: &Kept) -> String {
     let digests = kept.digests.as_slice();
-    let digest = digests.first().expect(rt, "a digest");
+    let digest = there(rt, digests.first());
     let (count, algorithm) = (digests.len(), digest.algorithm());
     let is_hello = digest.as_bytes() == sha256(b"hello").as_bytes();
-    format!(in rt.alloc(); "{count} {algorithm:?} {is_hello}").expect(rt, "memory")
+    debug(rt, (count, algorithm, is_hello))
 }
 
 // Whether an issuer, an integrated time and a verified time are there, and what was verified.
@@ -342,10 +346,10 @@ fn result_shown<X: AllocGlobal + Abort>(rt: &X, shown: &VerificationResult) -> S
     let (certificate, sct) = (shown.certificate_verified(), shown.sct_verified());
     let (tlog, identity) = (shown.tlog_verified(), shown.identity_policy_checked());
     let times = shown.verified_timestamps().len();
-    let text = format!(in rt.alloc();
-        "{issuer} {integrated} {times} {certificate} {sct} {tlog} {identity}"
-    );
-    text.expect(rt, "memory")
+    debug(
+        rt,
+        (issuer, integrated, times, certificate, sct, tlog, identity),
+    )
 }
 
 fn accepted<X: AllocGlobal + Abort>(rt: &X, part: &str) -> String {
@@ -358,21 +362,21 @@ fn accepted<X: AllocGlobal + Abort>(rt: &X, part: &str) -> String {
     shown
 }
 
-const ACCEPTANCE: &str = "digests | 1 Sha2256 true
-result | false false 0 false false false false";
+const ACCEPTANCE: &str = "digests | (1, Sha2256, true)
+result | (false, false, 0, false, false, false, false)";
 
 // The length of a policy's key, and whether the log is to be verified.
 fn policy_shown<X: AllocGlobal + Abort>(rt: &X) -> String {
     let policy = policy(rt, UNCHANGED);
     let (length, verifies) = (policy.public_key().as_bytes().len(), policy.verifies_tlog());
     drop(policy);
-    format!(in rt.alloc(); "{length} {verifies}").expect(rt, "memory")
+    debug(rt, (length, verifies))
 }
 
 #[test]
 fn verifications(rt: HostRuntime) {
     hold(&rt, "refusal", REFUSALS);
     hold(&rt, "judgement", JUDGED);
-    hold(&rt, "policy", " | 91 false");
+    hold(&rt, "policy", " | (91, false)");
     hold(&rt, "acceptance", ACCEPTANCE);
 }
