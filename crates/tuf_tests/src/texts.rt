@@ -106,7 +106,7 @@ Zm9vYmE= => ([102, 111, 111, 98, 97], "Zm9vYmE=", true)
 Zg => Base64"#;
 
 fn hint_of<X: AllocGlobal + Abort>(rt: &X, bytes: &[u8]) -> String {
-    match KeyHint::from_slice(bytes) {
+    match KeyHint::try_from(bytes) {
         Ok(hint) => {
             let (hex, length) = (good(rt, hint.to_hex(rt.alloc())), hint.as_array().len());
             printed(rt, (hex, length))
