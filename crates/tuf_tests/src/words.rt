@@ -32,15 +32,13 @@ pub fn check<X: Abort>(rt: &X, row: &str, wanted: &str, found: String) {
 /// A text with a cell in the place of each of its stars; ` | ` stands between cells.
 pub fn filled<X: AllocGlobal + Abort>(rt: &X, text: &str, cells: &str) -> String {
     let mut filled = String::new(rt.alloc());
-    let mut rest = text;
+    let mut parts = text.split('*');
+    good(rt, filled.push_str(there(rt, parts.next())));
     for cell in cells.split(" | ") {
-        let (front, behind) = halves(rt, rest, "*");
-        good(rt, filled.push_str(front));
         good(rt, filled.push_str(cell));
-        rest = behind;
+        good(rt, filled.push_str(there(rt, parts.next())));
     }
-    assert!(rt; !rest.contains('*'), "a cell for each star");
-    good(rt, filled.push_str(rest));
+    assert!(rt; parts.next().is_none(), "a cell for each star");
     filled
 }
 
