@@ -45,7 +45,6 @@ pub fn answers_alike<C: CryptoProvider>(
 ) -> bool
     requires has_digest { IsTrue (has_digest scheme) }
     requires digest { digest.now ≡ subject_of scheme message.now }
-    requires size { length digest.now ≡ digest_size_of scheme }
     ensures { result ≡ true }
 {
     provider.verify_raw(scheme, key, message, signature)
