@@ -20,3 +20,7 @@ number_of NoMemory = 9
 -- the only refusals of a call that writes
 abbrev pub IsTooLong : DerError → Type 0
 IsTooLong e = (e ≡ TooLong) ⊎ (e ≡ NoMemory)
+
+-- the refusals of a set that is made of its members
+abbrev pub IsSetRefusal : DerError → Type 0
+IsSetRefusal e = (e ≡ SetDuplicate) ⊎ IsTooLong e

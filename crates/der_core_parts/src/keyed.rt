@@ -5,6 +5,7 @@ ghost use Rattle.std.specs.Cmp.{partial_equiv_from_equiv, partial_order_from_own
 ghost use Rattle.std.specs.Cmp.Rules.{comparing};
 ghost use Rattle.std.specs.Cmp.Lexicographic.{slice_cmp, on_texts_equal};
 ghost use Rattle.std.specs.Ordering.{nat_cmp, on, as_partial_cmp};
+ghost use Rattle.der_core_parts.specs.Outcome.{IsTooLong};
 ghost use Rattle.der_core_parts.specs.declared.error.DerError.TheVariants.{NoMemory as Want};
 ghost use Rattle.der_core_parts.specs.Sets.{is_before, keyed, ordered, rises, values};
 
@@ -73,6 +74,7 @@ impl<T> Ord for Keyed<T> {
 pub fn with_encodings<T: Der>(alloc: Global, members: Vec<T>) -> Result<Vec<Keyed<T>>, DerError>
     ensures ok { IfOk result (λ v. keyed T.grammar members.items ≡ Ok v.items) }
     ensures err { IfErr result (λ e. e ≢ Want → keyed T.grammar members.items ≡ Err e) }
+    ensures cause { IfErr result IsTooLong }
 {
     let mut keys = Vec::new(alloc);
     'members: for member in members {

@@ -5,6 +5,7 @@ ghost use Rattle.std.specs.Option.{option_copied};
 ghost use Rattle.der_core_parts.specs.declared.error.DerError.TheVariants.{NoMemory as Want};
 ghost use Rattle.der_core_parts.specs.Grammar.{write};
 ghost use Rattle.der_core_parts.specs.Many.{sequence_of};
+ghost use Rattle.der_core_parts.specs.Outcome.{IsSetRefusal};
 ghost use Rattle.der_core_parts.specs.ManyLaws.{sequence_of-lawful};
 ghost use Rattle.der_core_parts.specs.Places.{place_of, put};
 ghost use Rattle.der_core_parts.specs.Sets.{set_from, set_of};
@@ -45,6 +46,7 @@ impl<T: Der> Model for SetOfVec<T> {
 fn in_order<T: Der>(alloc: Global, members: Vec<T>) -> Result<Vec<T>, DerError>
     ensures ok { IfOk result (λ v. set_from T.grammar members.items ≡ Ok v.items) }
     ensures err { IfErr result (λ e. e ≢ Want → set_from T.grammar members.items ≡ Err e) }
+    ensures cause { IfErr result IsSetRefusal }
 {
     let mut keys = with_encodings(alloc, members)?;
     sort(&mut keys)?;
@@ -58,6 +60,7 @@ fn in_order<T: Der>(alloc: Global, members: Vec<T>) -> Result<Vec<T>, DerError>
 fn place_for<T: Der>(alloc: Global, key: &[u8], members: &[T]) -> Result<usize, DerError>
     ensures ok { IfOk result (λ i. place_of T.grammar key.now members.now ≡ Ok i) }
     ensures err { IfErr result (λ e. e ≢ Want → place_of T.grammar key.now members.now ≡ Err e) }
+    ensures cause { IfErr result IsSetRefusal }
     ensures within { IfOk result (λ i. i ≤ length members.now) }
 {
     let mut place = 0;
@@ -77,6 +80,7 @@ fn place_for<T: Der>(alloc: Global, key: &[u8], members: &[T]) -> Result<usize, 
 fn put_in<T: Der>(alloc: Global, members: &mut Vec<T>, member: T) -> Result<(), DerError>
     ensures ok { OnOk result (put T.grammar member members.old.items ≡ Ok members.new.items) }
     ensures err { IfErr result (λ e. e ≢ Want → put T.grammar member members.old.items ≡ Err e) }
+    ensures cause { IfErr result IsSetRefusal }
     ensures same { OnErr result (members.new.items ≡ members.old.items) }
 {
     let key = member.to_der(alloc)?;
@@ -101,6 +105,7 @@ impl<T: Der> SetOfVec<T> {
     pub fn try_from(alloc: Global, members: Vec<T>) -> Result<SetOfVec<T>, DerError>
         ensures ok { IfOk result (λ set. set_from T.grammar members.items ≡ Ok set) }
         ensures err { IfErr result (λ e. e ≢ Want → set_from T.grammar members.items ≡ Err e) }
+        ensures cause { IfErr result IsSetRefusal }
     {
         Ok(SetOfVec {
             members: in_order(alloc, members)?,
@@ -112,6 +117,7 @@ impl<T: Der> SetOfVec<T> {
     pub fn insert(&mut self, alloc: Global, member: T) -> Result<(), DerError>
         ensures ok { OnOk result (set_from T.grammar (member ∷ self.old) ≡ Ok self.new) }
         ensures err { IfErr result (λ e. e ≢ Want → set_from T.grammar (member ∷ self.old) ≡ Err e) }
+        ensures cause { IfErr result IsSetRefusal }
         ensures same { OnErr result (self.new ≡ self.old) }
     {
         put_in(alloc, &mut self.members, member)
