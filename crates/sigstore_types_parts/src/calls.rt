@@ -1,12 +1,16 @@
 // The calls of an object in memory: which of them fail, and how many failed.
-ghost use Rattle.std.specs.Prelude.{◌≡◌, ◌≤◌, ◌+◌, ◌-◌, ◌^◌, ◌&&◌, [], List, ℕ, Some, None, min, true, false, nat_lt, if◌then◌else◌, IfSome, IsNone, ◌↔◌};
+ghost use Rattle.std.specs.Prelude.{◌≡◌, ◌≤◌, ◌+◌, ◌-◌, ◌^◌, ◌&&◌, [], List, ℕ, Some, None, min, true, false, nat_lt, if◌then◌else◌, IfSome, IsNone, ◌↔◌, bytes_eq};
+ghost use Rattle.std.specs.Cmp.{partial_equiv_from_equiv};
+ghost use Rattle.std.specs.Cmp.Lexicographic.{slice_cmp, nat_list_eq_equiv, nat_list_cmp_total, texts_ties, texts_po};
 ghost use Rattle.foundation.specs.Watched.{Rose};
 ghost use Rattle.sigstore_types_parts.specs.Calls.{is_ascending_above, is_named, fails_next};
 
+use foundation::{Duplicate, NoMemory};
+use std::alloc::Global;
 use std::marker::Model;
 
 /// The ascending numbers of the calls that fail, counted from 1.
-#[derive(Drop)]
+#[derive(Debug, Drop)]
 pub struct FailList {
     numbers: Vec<u64>,
 }
@@ -17,6 +21,28 @@ impl Model for FailList {
     ghost Value = { List ℕ };
 
     ghost view = { λ l. l.numbers.items };
+}
+
+impl PartialEq for FailList {
+    ghost eq = { bytes_eq };
+
+    ghost laws = { partial_equiv_from_equiv nat_list_eq_equiv };
+
+    fn eq(&self, other: &FailList) -> bool {
+        self.numbers.as_slice() == other.numbers.as_slice()
+    }
+}
+
+impl Eq for FailList {
+    ghost laws = { nat_list_eq_equiv };
+}
+
+impl Duplicate for FailList {
+    fn duplicate(&self, alloc: Global) -> Result<FailList, NoMemory> {
+        Ok(FailList {
+            numbers: Vec::from_slice(alloc, &self.numbers)?,
+        })
+    }
 }
 
 impl FailList {

@@ -5,6 +5,8 @@ ghost use Rattle.sigstore_types_parts.specs.HashAlgorithm.{digest_len_of, rekor_
 
 use crate::bytes::Bytes;
 use crate::error::TypesError;
+use foundation::{Duplicate, NoMemory};
+use std::alloc::Global;
 use std::marker::Model;
 
 /// A digest algorithm (FIPS 180-4, FIPS 202).
@@ -60,7 +62,7 @@ impl HashAlgorithm {
 }
 
 /// A digest of an artifact, of its algorithm's length; contracts see the algorithm and the bytes.
-#[derive(Drop)]
+#[derive(Debug, PartialEq, Eq, Drop)]
 pub struct ArtifactDigest {
     algorithm: HashAlgorithm,
     bytes: Bytes,
@@ -73,6 +75,17 @@ impl Model for ArtifactDigest {
     ghost Value = { HashAlgorithm × List ℕ };
 
     ghost view = { λ d. (d.algorithm, d.bytes) };
+
+    ghost inverse = { λ v. record { algorithm = v.0; bytes = v.1 } };
+}
+
+impl Duplicate for ArtifactDigest {
+    fn duplicate(&self, alloc: Global) -> Result<ArtifactDigest, NoMemory> {
+        Ok(ArtifactDigest {
+            algorithm: self.algorithm,
+            bytes: self.bytes.duplicate(alloc)?,
+        })
+    }
 }
 
 impl ArtifactDigest {
