@@ -2,13 +2,24 @@
 ghost use Rattle.std.specs.Prelude.{◌≡◌, true, false};
 ghost use Rattle.sigstore_verify.specs.Policy.{meaning_of};
 
+use foundation::{Duplicate, NoMemory};
 use sigstore_types_parts::DerPublicKey;
+use std::alloc::Global;
 
 /// A public key that its holder manages, and whether the transparency log is verified.
 #[derive(Debug, PartialEq, Drop)]
 pub struct PublicKeyVerificationPolicy {
     pub key: DerPublicKey,
     pub verify_tlog: bool,
+}
+
+impl Duplicate for PublicKeyVerificationPolicy {
+    fn duplicate(&self, alloc: Global) -> Result<PublicKeyVerificationPolicy, NoMemory> {
+        Ok(PublicKeyVerificationPolicy {
+            key: self.key.duplicate(alloc)?,
+            verify_tlog: self.verify_tlog,
+        })
+    }
 }
 
 impl PublicKeyVerificationPolicy {
