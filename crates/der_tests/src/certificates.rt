@@ -1,30 +1,37 @@
 // Certificates that OpenSSL made, changes of them, and encodings worked out by hand.
 use crate::certificate_data::{ISSUER, LOG};
-use crate::tables::{Hexadecimal, check_rows, encoded, in_hexadecimal, number, shown};
-use der_core::{Civil, DerError, ObjectIdentifier, OctetString, Tag};
+use crate::tables::{
+    Hexadecimal, check_rows, debug, encoded, good, halves, in_hexadecimal, number, shown, tagged,
+    there,
+};
+use der_core::{DerError, ObjectIdentifier, OctetString};
 use foundation::Duplicate;
-use std::alloc::{AllocError, Global};
-use std::test::Fail;
+use std::process::Abort;
 use x509_core::*;
 
 /// The answer of a call that is given octets and words behind them, if any.
-pub fn answer(alloc: Global, name: &str, bytes: &[u8], words: &str) -> Result<String, AllocError> {
+pub fn answer<X: AllocGlobal + Abort>(rt: &X, name: &str, bytes: &[u8], words: &str) -> String {
     match name {
-        "part" => shown(alloc, stands_at(alloc, bytes, words)),
-        "extension" => shown(alloc, extension_of(bytes, words)),
-        "validity" => shown(alloc, validity_of(bytes)),
-        "key" => shown(alloc, key_of(bytes)),
-        "SpkiView" => shown(alloc, key_in(bytes)),
-        "changed" => shown(alloc, refusal_of(alloc, bytes, words)),
-        "sct_list" => shown(alloc, timestamps_in(alloc, bytes)),
-        "timestamp" => shown(alloc, last_timestamp(alloc, bytes)),
-        "precert_tbs" => shown(alloc, is_signed_part(alloc, bytes)),
-        "sct_signed_bytes" => in_hexadecimal(alloc, signed_for(alloc, bytes)),
-        "sct_signed_bytes_of_zeros" => in_hexadecimal(alloc, signed_zeros(alloc, bytes, words)),
-        "OtherName::new" => encoded(alloc, other_name(alloc, bytes)),
-        "OtherName::tag_byte" => shown(alloc, tag_of(alloc, bytes)),
-        _ => shown::<u8, DerError>(alloc, Err(DerError::NoMemory)),
+        "part" => stands_at(rt, bytes, words),
+        "extension" => extension_of(rt, &read(rt, bytes), words),
+        "validity" => validity_of(rt, &read(rt, bytes)),
+        "key" => shown(rt, key_in(read(rt, bytes).spki)),
+        "SpkiView" => shown(rt, key_in(bytes)),
+        "changed" => refusal_of(rt, bytes, words),
+        "sct_list" => timestamps_in(rt, bytes),
+        "timestamp" => last_timestamp(rt, &read(rt, bytes)),
+        "precert_tbs" => is_signed_part(rt, &read(rt, bytes)),
+        "sct_signed_bytes" => signed_for(rt, &read(rt, bytes)),
+        "sct_signed_bytes_of_zeros" => signed_zeros(rt, &read(rt, bytes), words),
+        "OtherName::new" => encoded(rt, other_name(rt, bytes)),
+        "OtherName::tag_byte" => tag_of(rt, bytes),
+        _ => panic!(rt; "no call {name}"),
     }
+}
+
+/// The certificate that octets are.
+fn read<'a, X: Abort>(rt: &X, bytes: &'a [u8]) -> CertView<'a> {
+    good(rt, CertView::parse(bytes))
 }
 
 // Where OpenSSL finds the parts of a certificate.
@@ -55,20 +62,21 @@ part ed25519 spki 104 148 => true
 part ed25519 signature 207 271 => true";
 
 /// Whether the part with a name begins and ends at two places, read without memory and with it.
-fn stands_at(alloc: Global, bytes: &[u8], words: &str) -> Result<bool, X509Error> {
-    let (name, places) = words.split_once(' ').unwrap_or((words, ""));
-    let cert = CertView::parse(bytes)?;
-    let in_memory = CertView::parse_in(alloc, bytes)?;
-    let wanted = between(bytes, places);
-    Ok(has_part(&cert, bytes, name, wanted) && has_part(&in_memory, bytes, name, wanted))
+fn stands_at<X: AllocGlobal + Abort>(rt: &X, bytes: &[u8], words: &str) -> String {
+    let (name, places) = halves(rt, words, " ");
+    let wanted = between(rt, bytes, places);
+    let cert = read(rt, bytes);
+    let in_memory = good(rt, CertView::parse_in(rt.alloc(), bytes));
+    debug(
+        rt,
+        has_part(&cert, bytes, name, wanted) && has_part(&in_memory, bytes, name, wanted),
+    )
 }
 
 /// The octets between two places.
-fn between<'a>(bytes: &'a [u8], places: &str) -> &'a [u8] {
-    let (begin, end) = places.split_once(' ').unwrap_or((places, ""));
-    let (front, _) = bytes.split_at(number(end).min(bytes.len()));
-    let (_, part) = front.split_at(number(begin).min(front.len()));
-    part
+fn between<'a, X: Abort>(rt: &X, bytes: &'a [u8], places: &str) -> &'a [u8] {
+    let (begin, end) = halves(rt, places, " ");
+    there(rt, bytes.get(number(rt, begin)..number(rt, end)))
 }
 
 fn has_part(cert: &CertView, bytes: &[u8], name: &str, part: &[u8]) -> bool {
@@ -99,21 +107,16 @@ extension ed25519 2.5.29.19 => Some((true, 3000))
 extension p256 2.5.29.19 => None
 validity p384 => (Civil { year: 2026, month: 11, day: 27, hour: 6, minute: 38, second: 59 }, Civil { year: 2036, month: 11, day: 24, hour: 6, minute: 38, second: 59 })";
 
-fn extension_of<'a>(
-    bytes: &'a [u8],
-    oid: &str,
-) -> Result<Option<(bool, Hexadecimal<'a>)>, X509Error> {
-    let oid = ObjectIdentifier::new(oid)?;
-    let cert = CertView::parse(bytes)?;
+fn extension_of<X: AllocGlobal + Abort>(rt: &X, cert: &CertView, oid: &str) -> String {
+    let oid = good(rt, ObjectIdentifier::new(oid));
     match cert.extension(&oid) {
-        Some(extension) => Ok(Some((extension.critical, Hexadecimal(extension.value)))),
-        None => Ok(None),
+        Some(extension) => debug(rt, Some((extension.critical, Hexadecimal(extension.value)))),
+        None => debug(rt, None::<bool>),
     }
 }
 
-fn validity_of(bytes: &[u8]) -> Result<(Civil, Civil), X509Error> {
-    let cert = CertView::parse(bytes)?;
-    Ok((cert.not_before, cert.not_after))
+fn validity_of<X: AllocGlobal + Abort>(rt: &X, cert: &CertView) -> String {
+    debug(rt, (cert.not_before, cert.not_after))
 }
 
 // The identifier and the parameters of a key, and the number of unused bits, the length and the last
@@ -146,11 +149,6 @@ fn key_in(bytes: &[u8]) -> Result<KeyParts, X509Error> {
     ))
 }
 
-fn key_of(bytes: &[u8]) -> Result<KeyParts, X509Error> {
-    let cert = CertView::parse(bytes)?;
-    key_in(cert.spki)
-}
-
 // Why the P-256 certificate with the octet at a place changed, or one more behind it, is refused.
 const CHANGES: &str = "\
 changed p256 0 31 => Some(Der(Tag))
@@ -171,31 +169,26 @@ changed p256 344 01 => Some(Der(Value))
 changed p256 416 00 => Some(Der(Trailing))
 changed p256 15 7e => None";
 
-/// The refusal, without memory and with it; NoMemory where the two differ.
-fn refusal_of(alloc: Global, bytes: &[u8], words: &str) -> Result<Option<X509Error>, X509Error> {
-    let changed = changed(alloc, bytes, words)?;
+/// The refusal, which is the same without memory and with it.
+fn refusal_of<X: AllocGlobal + Abort>(rt: &X, bytes: &[u8], words: &str) -> String {
+    let changed = changed(rt, bytes, words);
     let refusal = CertView::parse(&changed).err();
-    if CertView::parse_in(alloc, &changed).err() == refusal {
-        Ok(refusal)
-    } else {
-        Err(X509Error::NoMemory)
-    }
+    let in_memory = CertView::parse_in(rt.alloc(), &changed).err();
+    drop(changed);
+    assert!(rt; in_memory == refusal);
+    debug(rt, refusal)
 }
 
-fn changed(alloc: Global, bytes: &[u8], words: &str) -> Result<Vec<u8>, X509Error> {
-    let (at, octet) = place_and_octet(words).ok_or(X509Error::NoMemory)?;
-    let mut changed = bytes.to_vec(alloc)?;
+fn changed<X: AllocGlobal + Abort>(rt: &X, bytes: &[u8], words: &str) -> Vec<u8> {
+    let (place, octet) = halves(rt, words, " ");
+    let (at, octet) = (number(rt, place), good(rt, u8::from_str_radix(octet, 16)));
+    let mut changed = good(rt, bytes.to_vec(rt.alloc()));
     if at < changed.len() {
         changed[at] = octet;
     } else {
-        changed.push(octet)?;
+        good(rt, changed.push(octet));
     }
-    Ok(changed)
-}
-
-fn place_and_octet(words: &str) -> Option<(usize, u8)> {
-    let (place, octet) = words.split_once(' ')?;
-    Some((place.parse().ok()?, u8::from_str_radix(octet, 16).ok()?))
+    changed
 }
 
 // The last timestamp in a certificate's list, whether its log is the one, its milliseconds, its
@@ -216,61 +209,85 @@ sct_list 040400020000 => SctList
 sct_list 04050003000100 => SctList";
 
 /// The timestamps in a certificate's list.
-fn scts_of(alloc: Global, cert: &CertView) -> Result<Vec<Sct>, X509Error> {
-    let oid = ObjectIdentifier::new("1.3.6.1.4.1.11129.2.4.2")?;
-    match cert.extension(&oid) {
-        Some(extension) => sct_list(alloc, extension.value),
-        None => Err(X509Error::Extension),
-    }
+fn scts_of<X: AllocGlobal + Abort>(rt: &X, cert: &CertView) -> Vec<Sct> {
+    let oid = good(rt, ObjectIdentifier::new("1.3.6.1.4.1.11129.2.4.2"));
+    let extension = there(rt, cert.extension(&oid));
+    good(rt, sct_list(rt.alloc(), extension.value))
 }
 
-type TimestampParts = (bool, u64, usize, [u8; 2], usize, bool);
+fn timestamp_shown<X: AllocGlobal + Abort>(rt: &X, sct: &Sct) -> String {
+    let copy = good(rt, sct.duplicate(rt.alloc()));
+    let is_copied = copy == *sct;
+    drop(copy);
+    let (is_of_log, milliseconds) = (sct.log_id() == &LOG, sct.milliseconds());
+    let (extensions, signature) = (sct.extensions().len(), sct.signature().len());
+    debug(
+        rt,
+        (
+            is_of_log,
+            milliseconds,
+            extensions,
+            sct.algorithm(),
+            signature,
+            is_copied,
+        ),
+    )
+}
 
-fn last_timestamp(alloc: Global, bytes: &[u8]) -> Result<TimestampParts, X509Error> {
-    let cert = CertView::parse(bytes)?;
-    let scts = scts_of(alloc, &cert)?;
-    let sct = scts.last().ok_or(X509Error::SctList)?;
-    let copy = sct.duplicate(alloc)?;
-    Ok((
-        sct.log_id() == &LOG,
-        sct.milliseconds(),
-        sct.extensions().len(),
-        sct.algorithm(),
-        sct.signature().len(),
-        copy == *sct,
-    ))
+fn last_timestamp<X: AllocGlobal + Abort>(rt: &X, cert: &CertView) -> String {
+    let scts = scts_of(rt, cert);
+    let answer = timestamp_shown(rt, there(rt, scts.last()));
+    drop(scts);
+    answer
 }
 
 /// The number of timestamps in a list.
-fn timestamps_in(alloc: Global, bytes: &[u8]) -> Result<usize, X509Error> {
-    Ok(sct_list(alloc, bytes)?.len())
+fn timestamps_in<X: AllocGlobal + Abort>(rt: &X, bytes: &[u8]) -> String {
+    match sct_list(rt.alloc(), bytes) {
+        Ok(scts) => {
+            let count = scts.len();
+            drop(scts);
+            debug(rt, count)
+        }
+        Err(refusal) => debug(rt, refusal),
+    }
+}
+
+fn signed_part<X: AllocGlobal + Abort>(rt: &X, cert: &CertView) -> OctetString {
+    good(rt, precert_tbs(rt.alloc(), cert))
 }
 
 /// Whether what a log signs for a certificate without timestamps is its signed part.
-fn is_signed_part(alloc: Global, bytes: &[u8]) -> Result<bool, X509Error> {
-    let cert = CertView::parse(bytes)?;
-    Ok(precert_tbs(alloc, &cert)?.as_bytes() == cert.tbs)
+fn is_signed_part<X: AllocGlobal + Abort>(rt: &X, cert: &CertView) -> String {
+    let part = signed_part(rt, cert);
+    let is_same = part.as_bytes() == cert.tbs;
+    drop(part);
+    debug(rt, is_same)
 }
 
 /// What the log of a certificate's last timestamp signs with it for a signed part.
-fn signed_with(alloc: Global, cert: &CertView, tbs: &[u8]) -> Result<OctetString, X509Error> {
-    let scts = scts_of(alloc, cert)?;
-    let sct = scts.last().ok_or(X509Error::SctList)?;
-    sct_signed_bytes(alloc, sct, &ISSUER, tbs)
+fn signed_with<X: AllocGlobal + Abort>(rt: &X, cert: &CertView, tbs: &[u8]) -> String {
+    let scts = scts_of(rt, cert);
+    let sct = there(rt, scts.last());
+    let signed = sct_signed_bytes(rt.alloc(), sct, &ISSUER, tbs);
+    drop(scts);
+    in_hexadecimal(rt, signed)
 }
 
 /// What the log signed for a certificate.
-fn signed_for(alloc: Global, bytes: &[u8]) -> Result<OctetString, X509Error> {
-    let cert = CertView::parse(bytes)?;
-    let tbs = precert_tbs(alloc, &cert)?;
-    signed_with(alloc, &cert, tbs.as_bytes())
+fn signed_for<X: AllocGlobal + Abort>(rt: &X, cert: &CertView) -> String {
+    let part = signed_part(rt, cert);
+    let answer = signed_with(rt, cert, part.as_bytes());
+    drop(part);
+    answer
 }
 
 /// The same for so many octets 0 in place of the signed part.
-fn signed_zeros(alloc: Global, bytes: &[u8], count: &str) -> Result<OctetString, X509Error> {
-    let cert = CertView::parse(bytes)?;
-    let zeros = vec![in alloc; 0u8; number(count)]?;
-    signed_with(alloc, &cert, &zeros)
+fn signed_zeros<X: AllocGlobal + Abort>(rt: &X, cert: &CertView, count: &str) -> String {
+    let zeros = good(rt, vec![in rt.alloc(); 0u8; number(rt, count)]);
+    let answer = signed_with(rt, cert, &zeros);
+    drop(zeros);
+    answer
 }
 
 // Names of other forms; the first octet is the tag.
@@ -279,19 +296,24 @@ OtherName::new 826162 => 82026162
 OtherName::tag_byte 826162 => Tag(130)
 OtherName::new 8161 => Value";
 
-fn other_name(alloc: Global, bytes: &[u8]) -> Result<OtherName, DerError> {
-    match bytes {
-        [tag, contents @ ..] => OtherName::new(alloc, Tag(*tag), contents),
-        [] => Err(DerError::Truncated),
-    }
+fn other_name<X: AllocGlobal + Abort>(rt: &X, bytes: &[u8]) -> Result<OtherName, DerError> {
+    let (tag, contents) = tagged(rt, bytes);
+    OtherName::new(rt.alloc(), tag, contents)
 }
 
-fn tag_of(alloc: Global, bytes: &[u8]) -> Result<Tag, DerError> {
-    Ok(other_name(alloc, bytes)?.tag_byte())
+fn tag_of<X: AllocGlobal + Abort>(rt: &X, bytes: &[u8]) -> String {
+    let name = good(rt, other_name(rt, bytes));
+    let tag = name.tag_byte();
+    drop(name);
+    debug(rt, tag)
 }
 
 #[test]
-fn certificates(rt: HostRuntime) -> Result<(), Fail> {
-    let tables = [PLACES, EXTENSIONS, KEYS, CHANGES, TIMESTAMPS, OTHER_NAMES];
-    check_rows(&rt, rt.alloc(), &tables)
+fn certificates(rt: HostRuntime) {
+    check_rows(&rt, PLACES);
+    check_rows(&rt, EXTENSIONS);
+    check_rows(&rt, KEYS);
+    check_rows(&rt, CHANGES);
+    check_rows(&rt, TIMESTAMPS);
+    check_rows(&rt, OTHER_NAMES);
 }

@@ -1,64 +1,56 @@
 // Encodings worked out from X.690 and RFC 5280 by hand, and those of certificates: read, copied and
 // written again with ample memory. A row answers `kept` where the same octets are written.
 use crate::leaves;
-use crate::tables::{check_rows, compared};
+use crate::tables::{check_rows, compared, debug, good};
 use der_core::*;
 use foundation::{Duplicate, Sequence};
-use std::alloc::{AllocError, Global};
-use std::test::Fail;
+use std::process::Abort;
 use x509_core::{
     AlgorithmIdentifierOwned, Attributes, Certificate, CertificateList, Extension, GeneralName,
     Name, SerialNumber, SubjectKeyIdentifier,
 };
 
-/// The encoding of a copy of the value that octets encode; empty where the copy differs from it.
-fn copied<T: Der + Duplicate + PartialEq>(
-    alloc: Global,
-    bytes: &[u8],
-) -> Result<OctetString, DerError> {
-    let value = T::from_der(alloc, bytes)?;
-    let copy = value.duplicate(alloc)?;
-    if copy == value {
-        copy.to_der(alloc)
-    } else {
-        Ok(OctetString::empty(alloc))
+/// The encoding of a copy that equals the value.
+fn copied<X: AllocGlobal + Abort, T: Der + Duplicate + PartialEq>(rt: &X, value: T) -> OctetString {
+    let copy = good(rt, value.duplicate(rt.alloc()));
+    assert!(rt; copy == value);
+    good(rt, copy.to_der(rt.alloc()))
+}
+
+fn again<X: AllocGlobal + Abort, T: Der + Duplicate + PartialEq>(rt: &X, bytes: &[u8]) -> String {
+    match T::from_der(rt.alloc(), bytes) {
+        Ok(value) => compared(rt, bytes, copied(rt, value)),
+        Err(refusal) => debug(rt, refusal),
     }
 }
 
-fn again<T: Der + Duplicate + PartialEq>(
-    alloc: Global,
-    bytes: &[u8],
-) -> Result<String, AllocError> {
-    compared(alloc, bytes, copied::<T>(alloc, bytes))
-}
-
 /// What a type answers to octets; for any other name the answer of a call of der_core.
-pub fn answer(alloc: Global, name: &str, bytes: &[u8], words: &str) -> Result<String, AllocError> {
+pub fn answer<X: AllocGlobal + Abort>(rt: &X, name: &str, bytes: &[u8], words: &str) -> String {
     match name {
-        "Any" => again::<Any>(alloc, bytes),
-        "Int" => again::<Int>(alloc, bytes),
-        "Uint" => again::<Uint>(alloc, bytes),
-        "BitString" => again::<BitString>(alloc, bytes),
-        "OctetString" => again::<OctetString>(alloc, bytes),
-        "Utf8" => again::<Utf8>(alloc, bytes),
-        "Ia5" => again::<Ia5>(alloc, bytes),
-        "bool" => again::<bool>(alloc, bytes),
-        "ObjectIdentifier" => again::<ObjectIdentifier>(alloc, bytes),
-        "SetOfVec" => again::<SetOfVec<Int>>(alloc, bytes),
-        "Sequence" => again::<Sequence<Int>>(alloc, bytes),
-        "UtcTime" => again::<UtcTime>(alloc, bytes),
-        "GeneralizedTime" => again::<GeneralizedTime>(alloc, bytes),
-        "Time" => again::<x509_core::Time>(alloc, bytes),
-        "AlgorithmIdentifierOwned" => again::<AlgorithmIdentifierOwned>(alloc, bytes),
-        "Attributes" => again::<Attributes>(alloc, bytes),
-        "Extension" => again::<Extension>(alloc, bytes),
-        "GeneralName" => again::<GeneralName>(alloc, bytes),
-        "Name" => again::<Name>(alloc, bytes),
-        "SubjectKeyIdentifier" => again::<SubjectKeyIdentifier>(alloc, bytes),
-        "SerialNumber" => again::<SerialNumber>(alloc, bytes),
-        "CertificateList" => again::<CertificateList>(alloc, bytes),
-        "Certificate" => again::<Certificate>(alloc, bytes),
-        _ => leaves::answer_to_octets(alloc, name, bytes, words),
+        "Any" => again::<X, Any>(rt, bytes),
+        "Int" => again::<X, Int>(rt, bytes),
+        "Uint" => again::<X, Uint>(rt, bytes),
+        "BitString" => again::<X, BitString>(rt, bytes),
+        "OctetString" => again::<X, OctetString>(rt, bytes),
+        "Utf8" => again::<X, Utf8>(rt, bytes),
+        "Ia5" => again::<X, Ia5>(rt, bytes),
+        "bool" => again::<X, bool>(rt, bytes),
+        "ObjectIdentifier" => again::<X, ObjectIdentifier>(rt, bytes),
+        "SetOfVec" => again::<X, SetOfVec<Int>>(rt, bytes),
+        "Sequence" => again::<X, Sequence<Int>>(rt, bytes),
+        "UtcTime" => again::<X, UtcTime>(rt, bytes),
+        "GeneralizedTime" => again::<X, GeneralizedTime>(rt, bytes),
+        "Time" => again::<X, x509_core::Time>(rt, bytes),
+        "AlgorithmIdentifierOwned" => again::<X, AlgorithmIdentifierOwned>(rt, bytes),
+        "Attributes" => again::<X, Attributes>(rt, bytes),
+        "Extension" => again::<X, Extension>(rt, bytes),
+        "GeneralName" => again::<X, GeneralName>(rt, bytes),
+        "Name" => again::<X, Name>(rt, bytes),
+        "SubjectKeyIdentifier" => again::<X, SubjectKeyIdentifier>(rt, bytes),
+        "SerialNumber" => again::<X, SerialNumber>(rt, bytes),
+        "CertificateList" => again::<X, CertificateList>(rt, bytes),
+        "Certificate" => again::<X, Certificate>(rt, bytes),
+        _ => leaves::answer_to_octets(rt, name, bytes, words),
     }
 }
 
@@ -217,7 +209,13 @@ Certificate ed25519 => kept
 Certificate 3000 => Value";
 
 #[test]
-fn encodings(rt: HostRuntime) -> Result<(), Fail> {
-    let tables = [TAGS, NUMBERS, BITS, TEXTS, IDENTIFIERS, SETS, TIMES, OWNED];
-    check_rows(&rt, rt.alloc(), &tables)
+fn encodings(rt: HostRuntime) {
+    check_rows(&rt, TAGS);
+    check_rows(&rt, NUMBERS);
+    check_rows(&rt, BITS);
+    check_rows(&rt, TEXTS);
+    check_rows(&rt, IDENTIFIERS);
+    check_rows(&rt, SETS);
+    check_rows(&rt, TIMES);
+    check_rows(&rt, OWNED);
 }

@@ -10,4 +10,6 @@ mod encodings;
 #[cfg(test)]
 mod leaves;
 #[cfg(test)]
+mod lists;
+#[cfg(test)]
 mod tables;

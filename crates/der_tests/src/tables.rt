@@ -1,89 +1,120 @@
 // Tables of calls, one row a line: a call, what it is given, ` => ` and its answer. Octets are given
-// in hexadecimal or by the name of a certificate, and `+N` stands for N octets 7 behind them. Calls
-// with unknown names answer NoMemory, which no row names.
+// in hexadecimal or by the name of a certificate, and `+N` stands for N octets 7 behind them. A test
+// ends the process where it fails, so no helper hands a failure on.
 use crate::certificate_data::named;
 use crate::{encodings, leaves};
-use der_core::{Der, DerError, OctetString};
-use hex::FromHexError;
-use std::alloc::{AllocError, Global};
+use der_core::{Der, DerError, OctetString, Tag};
 use std::fmt::{self, Debug};
 use std::process::Abort;
-use std::test::Fail;
 
 /// Ends the process at the first row whose call doesn't give its answer.
-pub fn check_rows(rt: &impl Abort, alloc: Global, tables: &[&str]) -> Result<(), Fail> {
-    for table in tables {
-        for row in table.lines() {
-            let (call, wanted) = row.split_once(" => ").ok_or("a row without an answer")?;
-            let (name, given) = call.split_once(' ').ok_or("a row without a call")?;
-            let found = leaves::answer_to_text(alloc, name, given)?;
-            assert_eq!(rt; found.as_str(), named(wanted), "{row}");
-        }
+pub fn check_rows<X: AllocGlobal + Abort>(rt: &X, rows: &str) {
+    for row in rows.lines() {
+        let (call, wanted) = halves(rt, row, " => ");
+        let (name, given) = halves(rt, call, " ");
+        check(
+            rt,
+            row,
+            named(wanted),
+            leaves::answer_to_text(rt, name, given),
+        );
     }
-    Ok(())
+}
+
+/// Ends the process where an answer isn't the one that is wanted.
+pub fn check<X: Abort>(rt: &X, row: &str, wanted: &str, found: String) {
+    assert!(rt; found.as_str() == wanted, "{row}\nfound: {found}");
+}
+
+/// What a call gave; a refusal ends the process.
+pub fn good<X: Abort, T, E: Debug>(rt: &X, given: Result<T, E>) -> T {
+    given.expect(rt, "a value")
+}
+
+/// What is there; where nothing is, the process ends.
+pub fn there<X: Abort, T>(rt: &X, given: Option<T>) -> T {
+    given.expect(rt, "something")
+}
+
+/// What stands before and behind the first of these marks.
+pub fn halves<'a, X: Abort>(rt: &X, text: &'a str, mark: &str) -> (&'a str, &'a str) {
+    there(rt, text.split_once(mark))
 }
 
 /// The answer of a call that is given octets and words behind them, if any.
-pub fn answer_to_octets(alloc: Global, name: &str, given: &str) -> Result<String, AllocError> {
+pub fn answer_to_octets<X: AllocGlobal + Abort>(rt: &X, name: &str, given: &str) -> String {
     let (front, words) = given.split_once(' ').unwrap_or((given, ""));
-    match octets(alloc, front) {
-        Ok(bytes) => encodings::answer(alloc, name, &bytes, words),
-        Err(refusal) => shown::<u8, FromHexError>(alloc, Err(refusal)),
-    }
+    let bytes = octets(rt, front);
+    let answer = encodings::answer(rt, name, &bytes, words);
+    drop(bytes);
+    answer
 }
 
-fn octets(alloc: Global, text: &str) -> Result<Vec<u8>, FromHexError> {
+fn octets<X: AllocGlobal + Abort>(rt: &X, text: &str) -> Vec<u8> {
     let (front, more) = text.split_once('+').unwrap_or((text, "0"));
-    let mut bytes = hex::decode(alloc, named(front))?;
-    let behind = vec![in alloc; 7u8; number(more)]?;
-    bytes.extend_from_slice(&behind)?;
-    Ok(bytes)
+    let mut bytes = good(rt, hex::decode(rt.alloc(), named(front)));
+    let behind = good(rt, vec![in rt.alloc(); 7u8; number(rt, more)]);
+    good(rt, bytes.extend_from_slice(&behind));
+    drop(behind);
+    bytes
 }
 
-/// A decimal number; usize::MAX, which no row names, where the text is none.
-pub fn number(text: &str) -> usize {
-    text.parse().unwrap_or(usize::MAX)
+/// A tag and the contents behind it.
+pub fn tagged<'a, X: Abort>(rt: &X, bytes: &'a [u8]) -> (Tag, &'a [u8]) {
+    let (tag, contents) = there(rt, bytes.split_first());
+    (Tag(*tag), contents)
+}
+
+/// A decimal number.
+pub fn number<X: Abort>(rt: &X, text: &str) -> usize {
+    good(rt, text.parse::<usize>())
+}
+
+/// The form of `Debug` of a value, which is let go.
+pub fn debug<X: AllocGlobal + Abort, T: Debug + Drop>(rt: &X, value: T) -> String {
+    good(rt, format!(in rt.alloc(); "{value:?}"))
 }
 
 /// What a call gave, or its refusal, in the form of `Debug`.
-pub fn shown<T: Debug + Drop, E: Debug + Drop>(
-    alloc: Global,
+pub fn shown<X: AllocGlobal + Abort, T: Debug + Drop, E: Debug + Drop>(
+    rt: &X,
     given: Result<T, E>,
-) -> Result<String, AllocError> {
+) -> String {
     match given {
-        Ok(value) => format!(in alloc; "{value:?}"),
-        Err(refusal) => format!(in alloc; "{refusal:?}"),
+        Ok(value) => debug(rt, value),
+        Err(refusal) => debug(rt, refusal),
     }
 }
 
+pub fn hex_of<X: AllocGlobal + Abort>(rt: &X, bytes: &[u8]) -> String {
+    good(rt, hex::encode(rt.alloc(), bytes))
+}
+
 /// Octets in hexadecimal, or the refusal.
-pub fn in_hexadecimal<E: Debug + Drop>(
-    alloc: Global,
+pub fn in_hexadecimal<X: AllocGlobal + Abort, E: Debug + Drop>(
+    rt: &X,
     given: Result<OctetString, E>,
-) -> Result<String, AllocError> {
+) -> String {
     match given {
-        Ok(bytes) => hex::encode(alloc, bytes.as_bytes()),
-        Err(refusal) => format!(in alloc; "{refusal:?}"),
+        Ok(bytes) => hex_of(rt, bytes.as_bytes()),
+        Err(refusal) => debug(rt, refusal),
     }
 }
 
 /// The encoding of a value in hexadecimal, or the refusal.
-pub fn encoded<T: Der>(alloc: Global, given: Result<T, DerError>) -> Result<String, AllocError> {
+pub fn encoded<X: AllocGlobal + Abort, T: Der>(rt: &X, given: Result<T, DerError>) -> String {
     match given {
-        Ok(value) => in_hexadecimal(alloc, value.to_der(alloc)),
-        Err(refusal) => format!(in alloc; "{refusal:?}"),
+        Ok(value) => in_hexadecimal(rt, value.to_der(rt.alloc())),
+        Err(refusal) => debug(rt, refusal),
     }
 }
 
-/// `kept` where the octets are those that were read, else the octets in hexadecimal, or the refusal.
-pub fn compared(
-    alloc: Global,
-    read: &[u8],
-    written: Result<OctetString, DerError>,
-) -> Result<String, AllocError> {
-    match written {
-        Ok(bytes) if bytes.as_bytes() == read => format!(in alloc; "kept"),
-        _ => in_hexadecimal(alloc, written),
+/// `kept` where the octets are those that were read, else the octets in hexadecimal.
+pub fn compared<X: AllocGlobal + Abort>(rt: &X, read: &[u8], written: OctetString) -> String {
+    if written.as_bytes() == read {
+        good(rt, String::from_str(rt.alloc(), "kept"))
+    } else {
+        hex_of(rt, written.as_bytes())
     }
 }
 

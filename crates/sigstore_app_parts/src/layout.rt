@@ -140,23 +140,23 @@ fn complete(found: Found) -> Result<Layout, UsageFault>
         provider,
         now,
     } = found;
-    let root = root.ok_or(UsageFault::Usage)?;
-    let repository = repository.ok_or(UsageFault::Usage)?;
-    let store = store.ok_or(UsageFault::Usage)?;
-    let bundle = bundle.ok_or(UsageFault::Usage)?;
-    let artifact = artifact.ok_or(UsageFault::Usage)?;
-    let policy = policy.ok_or(UsageFault::Usage)?;
-    let provider = provider.ok_or(UsageFault::Usage)?;
-    Ok(Layout {
-        root,
-        repository,
-        store,
-        bundle,
-        artifact,
-        policy,
-        provider,
-        now,
-    })
+    let places = root.zip(repository).zip(store.zip(bundle));
+    let files = artifact.zip(policy).zip(provider);
+    match places.zip(files) {
+        Some((((root, repository), (store, bundle)), ((artifact, policy), provider))) => {
+            Ok(Layout {
+                root,
+                repository,
+                store,
+                bundle,
+                artifact,
+                policy,
+                provider,
+                now,
+            })
+        }
+        None => Err(UsageFault::Usage),
+    }
 }
 
 #[tactic(auto, unfolding(crate::specs::Layout::layout_of))]

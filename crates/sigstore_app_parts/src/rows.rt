@@ -129,12 +129,15 @@ pub(crate) fn armor_row(alloc: Global, fields: &str) -> Result<ArmorRow, UsageFa
     ensures err { IfErr result (λ e. e ≢ Want → armor_row_of fields.now ≡ Err e) }
 {
     let (text, der) = parted(fields)?;
-    let text = field(alloc, text)?;
-    let der = field(alloc, der)?;
-    if is_der(text.as_bytes()) {
+    let row = ArmorRow {
+        text: field(alloc, text)?,
+        der: field(alloc, der)?,
+    };
+    if is_der(row.text.as_bytes()) {
+        drop(row);
         return Err(UsageFault::Usage);
     }
-    Ok(ArmorRow { text, der })
+    Ok(row)
 }
 
 // What the row of that text holds.

@@ -6,7 +6,7 @@ use crate::error::Error;
 use sigstore_types_parts::HashAlgorithm;
 
 /// A signature scheme: a sort of key with a padding and a digest (FIPS 186-5, RFC 8017, FIPS 204).
-#[derive(Clone, Copy, Debug, PartialEq, Eq, Drop)]
+#[derive(Clone, Copy, Debug, PartialEq, Eq, Hash, Drop)]
 pub enum SigningScheme {
     EcdsaP256Sha256,
     EcdsaP256Sha384,
@@ -25,7 +25,7 @@ pub enum SigningScheme {
 }
 
 /// A sort of public key.
-#[derive(Clone, Copy, Debug, PartialEq, Eq, Drop)]
+#[derive(Clone, Copy, Debug, PartialEq, Eq, Hash, Drop)]
 pub enum KeyAlgorithm {
     EcdsaP256,
     EcdsaP384,

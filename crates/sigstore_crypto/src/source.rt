@@ -3,6 +3,8 @@ ghost use Rattle.std.specs.Prelude.{List, ℕ};
 ghost use Rattle.foundation.specs.Watched.{Watched};
 ghost use Rattle.sigstore_crypto.specs.Source.{Reads};
 
+use std::{error, fmt};
+
 /// A read failed.
 #[derive(Clone, Copy, Debug, PartialEq, Eq, Drop)]
 pub enum ReadFault {
@@ -19,3 +21,13 @@ pub trait ArtifactSource {
     fn read(&mut self, buf: &mut [u8]) -> Result<usize, ReadFault>
         ensures { Reads (seen self.old) (seen self.new) buf.new result };
 }
+
+impl fmt::Display for ReadFault {
+    fn fmt<W: fmt::Write>(&self, f: &mut fmt::Formatter<W>) -> fmt::Result {
+        f.write_str(match self {
+            ReadFault::Failed => "Failed",
+        })
+    }
+}
+
+impl error::Error for ReadFault {}

@@ -1,5 +1,5 @@
 -- A run of the program: what it reads, what it says, and what it writes.
-use Rattle.std.specs.Prelude.{◌≡◌, ◌⊎◌, ℕ, ◌^◌, List, codes, not, unwrap_or, ⊤, Option, Some, None, Result, Ok, Err}
+use Rattle.std.specs.Prelude.{◌≡◌, ◌⊎◌, ℕ, ◌^◌, List, codes, not, unwrap_or, Option, Some, None, Result, Ok, Err}
 use Rattle.std.specs.Result.{result_ok}
 use Rattle.jiff_core.specs.declared.timestamp.Timestamp as jiff
 use Rattle.foundation.specs.Watched.{Watched, Rose}
@@ -8,7 +8,6 @@ use Rattle.sigstore_crypto.specs.Good.{Judge}
 use Rattle.sigstore_tuf_parts.specs.declared.error.Error.{Error as TufError}
 use Rattle.sigstore_tuf_parts.specs.Error as tuf
 use Rattle.sigstore_tuf_parts.specs.Crypto.{Crypto, crypto_of}
-use Rattle.sigstore_tuf.specs.Repository.{Folders}
 use Rattle.sigstore_tuf.specs.Config.{default_config}
 use Rattle.sigstore_verify.specs.declared.error.Error.{Error as VerifyError}
 use Rattle.sigstore_verify.specs.Error as verify
@@ -17,6 +16,7 @@ use Rattle.sigstore_verify.specs.Policy.{PublicKey}
 use Rattle.sigstore_verify.specs.declared.root.Rooted.{Rooted}
 use Rattle.sigstore_verify.specs.declared.root.RootFault.{RootFault}
 use Rattle.sigstore_verify.specs.declared.root.RootFault.TheVariants as root
+use Rattle.sigstore_verify.specs.Given.{Given, Outside}
 use Rattle.sigstore_verify.specs.Root.{Runs, IsAccepted}
 use Rattle.sigstore_verify.specs.Cause.{RootCause}
 use Rattle.sigstore_app_parts.specs.Inputs.{Held}
@@ -86,20 +86,24 @@ crypto_in gathered = crypto_of (judge_of gathered) (is_armored_by gathered.table
 abbrev pub now_of : Layout → jiff.Timestamp → jiff.Timestamp
 now_of layout clock = unwrap_or layout.now clock
 
--- the verification from the root, over the inputs
-abbrev pub VerifiesInputs : Gathered → jiff.Timestamp → Watched Folders → Watched Folders → Watched (List ℕ) → Watched (List ℕ) → Result Rooted RootFault → Type 0
-VerifiesInputs gathered now repo repo' source source' result =
-    Runs (crypto_in gathered) (PublicKey (policy_meant gathered.policy)) gathered.root gathered.bundle default_config now repo repo' source source' max_artifact result
+-- what the top call is given: the inputs, the program's limits, and the moment
+abbrev pub given_by : Gathered → jiff.Timestamp → Given
+given_by gathered now = record {
+  anchor = record { crypto = crypto_in gathered; root = gathered.root; config = default_config; now = now };
+  policy = PublicKey (policy_meant gathered.policy);
+  bundle = gathered.bundle;
+  max = max_artifact;
+}
 
--- what an acceptance means, over the inputs
-abbrev pub AcceptsInputs : Gathered → jiff.Timestamp → Watched (List ℕ) → Watched (List ℕ) → Rooted → Type 0
-AcceptsInputs gathered now source source' rooted =
-    IsAccepted (crypto_in gathered) (PublicKey (policy_meant gathered.policy)) gathered.root gathered.bundle default_config now source source' max_artifact rooted
+-- what the program is told: its words, and the clock's instant
+pub record Command : Type 0 where
+  pub words : List (List ℕ)
+  pub clock : jiff.Timestamp
 
--- the cause of a refusal, over the inputs
-abbrev pub RefusesInputs : Gathered → jiff.Timestamp → Watched Folders → Watched Folders → Watched (List ℕ) → Watched (List ℕ) → RootFault → Type 0
-RefusesInputs gathered now repo repo' source source' fault =
-    RootCause (crypto_in gathered) (PublicKey (policy_meant gathered.policy)) gathered.root gathered.bundle default_config now repo repo' source source' max_artifact fault
+-- what a run finds and leaves, but for its output: the inputs, and what the top call goes to
+pub record Environment : Type 0 where
+  pub inputs : Watched Held
+  pub outside : Outside
 
 -- what is said of an acceptance: its report, or the refusal of a document of its chain that isn't read
 abbrev pub said_of : Result (List ℕ) TufError → Option Answer
@@ -121,86 +125,87 @@ pub record SaysReport (rooted : Rooted) (said : Answer) : Type 0 where
   pub said_is : said ≡ answer status.Accepted text
 
 -- What the verification makes the program say: the report of what was accepted, or the refusal.
-pub data Judges (gathered : Gathered) (now : jiff.Timestamp) (repo repo' : Watched Folders) (source source' : Watched (List ℕ)) (result : Result Answer NoMemory) : Type 0 where
-  want_judging : (e : NoMemory) → result ≡ Err e → Judges gathered now repo repo' source source' result
-  refused : (fault : RootFault) (said : Answer) → VerifiesInputs gathered now repo repo' source source' (Err fault) → refusal_answer fault ≡ Some said → result ≡ Ok said
-      → Judges gathered now repo repo' source source' result
-  reported : (rooted : Rooted) (said : Answer) → VerifiesInputs gathered now repo repo' source source' (Ok rooted) → AcceptsInputs gathered now source source' rooted
-      → SaysReport rooted said → result ≡ Ok said → Judges gathered now repo repo' source source' result
+pub data Judges (gathered : Gathered) (now : jiff.Timestamp) (before after : Outside) (result : Result Answer NoMemory) : Type 0 where
+  want_judging : (judged : Result Rooted RootFault) (e : NoMemory) → Runs (given_by gathered now) before after judged → result ≡ Err e → Judges gathered now before after result
+  refused : (fault : RootFault) (said : Answer) → Runs (given_by gathered now) before after (Err fault) → refusal_answer fault ≡ Some said → result ≡ Ok said
+      → Judges gathered now before after result
+  reported : (rooted : Rooted) (said : Answer) → Runs (given_by gathered now) before after (Ok rooted) → IsAccepted (given_by gathered now) before after rooted
+      → SaysReport rooted said → result ≡ Ok said → Judges gathered now before after result
 
--- What the program says once its words are read: its inputs first, then the verification.
-pub data Proceeds (now : jiff.Timestamp) (inputs inputs' : Watched Held) (repo repo' : Watched Folders) (source source' : Watched (List ℕ)) (result : Result Answer NoMemory) : Type 0 where
-  want_inputs : (e : NoMemory) → result ≡ Err e → Proceeds now inputs inputs' repo repo' source source' result
-  stopped : (stop : Stop) (said : Answer) → ReadsAs gathered_of inputs inputs' (Err stop) → stop_answer stop ≡ Some said → result ≡ Ok said
-      → Proceeds now inputs inputs' repo repo' source source' result
-  judged : (gathered : Gathered) → ReadsAs gathered_of inputs inputs' (Ok gathered) → Judges gathered now repo repo' source source' result
-      → Proceeds now inputs inputs' repo repo' source source' result
+-- What the program says once its words are read: its inputs first, then the verification. Where an input is refused nothing else is called.
+pub data Proceeds (now : jiff.Timestamp) (before after : Environment) (result : Result Answer NoMemory) : Type 0 where
+  want_inputs : (stop : Stop) (e : NoMemory) → ReadsAs gathered_of before.inputs after.inputs (Err stop) → after.outside ≡ before.outside → result ≡ Err e
+      → Proceeds now before after result
+  stopped : (stop : Stop) (said : Answer) → ReadsAs gathered_of before.inputs after.inputs (Err stop) → after.outside ≡ before.outside → stop_answer stop ≡ Some said
+      → result ≡ Ok said → Proceeds now before after result
+  judged : (gathered : Gathered) → ReadsAs gathered_of before.inputs after.inputs (Ok gathered) → Judges gathered now before.outside after.outside result
+      → Proceeds now before after result
 
--- What the program says: its words first, then its inputs, then the verification; the first that refuses answers.
-pub data Decides (words : List (List ℕ)) (clock : jiff.Timestamp) (inputs inputs' : Watched Held) (repo repo' : Watched Folders) (source source' : Watched (List ℕ)) (result : Result Answer NoMemory) : Type 0 where
-  want_words : (e : NoMemory) → result ≡ Err e → Decides words clock inputs inputs' repo repo' source source' result
-  misworded : (said : Answer) → result_ok (layout_of words) ≡ None → stop_answer Words ≡ Some said → result ≡ Ok said → Decides words clock inputs inputs' repo repo' source source' result
-  worded : (layout : Layout) → layout_of words ≡ Ok layout → Proceeds (now_of layout clock) inputs inputs' repo repo' source source' result
-      → Decides words clock inputs inputs' repo repo' source source' result
-
--- A run: what is said is written; nothing is where memory is wanting, and a part of the text where a write failed.
-pub data RunsTo (words : List (List ℕ)) (clock : jiff.Timestamp) (inputs inputs' : Watched Held) (repo repo' : Watched Folders) (source source' out out' : Watched (List ℕ)) (ended : Status) : Type 0 where
-  unwritten : (e : NoMemory) → Decides words clock inputs inputs' repo repo' source source' (Err e) → out' ≡ out → ended ≡ status.Memory
-      → RunsTo words clock inputs inputs' repo repo' source source' out out' ended
-  cut : (said : Answer) (fault : SinkFault) → Decides words clock inputs inputs' repo repo' source source' (Ok said) → WritesText out out' said.text (Err fault) → ended ≡ status.Output
-      → RunsTo words clock inputs inputs' repo repo' source source' out out' ended
-  written : (said : Answer) → Decides words clock inputs inputs' repo repo' source source' (Ok said) → WritesText {E = SinkFault} out out' said.text (Ok tt) → ended ≡ said.status
-      → RunsTo words clock inputs inputs' repo repo' source source' out out' ended
-
--- What status 0 means: the words give a layout, the inputs were read, the verification from the root accepted, and the sink took
--- exactly the report's text.
-pub record Accepts (words : List (List ℕ)) (clock : jiff.Timestamp) (inputs inputs' : Watched Held) (repo repo' : Watched Folders) (source source' out out' : Watched (List ℕ)) : Type 0 where
-  pub layout : Layout
-  pub worded : layout_of words ≡ Ok layout
-  pub gathered : Gathered
-  pub read : ReadsAs gathered_of inputs inputs' (Ok gathered)
-  pub rooted : Rooted
-  pub verified : VerifiesInputs gathered (now_of layout clock) repo repo' source source' (Ok rooted)
-  pub accepted : AcceptsInputs gathered (now_of layout clock) source source' rooted
-  pub text : List ℕ
-  pub reported : report_of rooted.chain rooted.digests rooted.result ≡ Ok text
-  pub written : WritesText {E = SinkFault} out out' text (Ok tt)
+-- What the program says: its words first, then its inputs, then the verification; the first that refuses answers. Where the words
+-- are refused nothing is called.
+pub data Decides (command : Command) (before after : Environment) (result : Result Answer NoMemory) : Type 0 where
+  want_words : (e : NoMemory) → after ≡ before → result ≡ Err e → Decides command before after result
+  misworded : (said : Answer) → result_ok (layout_of command.words) ≡ None → after ≡ before → stop_answer Words ≡ Some said → result ≡ Ok said
+      → Decides command before after result
+  worded : (layout : Layout) → layout_of command.words ≡ Ok layout → Proceeds (now_of layout command.clock) before after result → Decides command before after result
 
 -- the sink took exactly the text
 abbrev pub TakesAll : Watched (List ℕ) → Watched (List ℕ) → List ℕ → Type 0
 TakesAll out out' text = WritesText {E = SinkFault} out out' text (Ok tt)
 
+-- A run: what is said is written; nothing is where memory is wanting, and a part of the text where a write failed.
+pub data RunsTo (command : Command) (before after : Environment) (out out' : Watched (List ℕ)) (ended : Status) : Type 0 where
+  unwritten : (e : NoMemory) → Decides command before after (Err e) → out' ≡ out → ended ≡ status.Memory → RunsTo command before after out out' ended
+  cut : (said : Answer) (fault : SinkFault) → Decides command before after (Ok said) → WritesText out out' said.text (Err fault) → ended ≡ status.Output
+      → RunsTo command before after out out' ended
+  written : (said : Answer) → Decides command before after (Ok said) → TakesAll out out' said.text → ended ≡ said.status → RunsTo command before after out out' ended
+
+-- What status 0 means: the words give a layout, the inputs were read, the verification from the root accepted, and the sink took
+-- exactly the report's text.
+pub record Accepts (command : Command) (before after : Environment) (out out' : Watched (List ℕ)) : Type 0 where
+  pub layout : Layout
+  pub worded : layout_of command.words ≡ Ok layout
+  pub gathered : Gathered
+  pub read : ReadsAs gathered_of before.inputs after.inputs (Ok gathered)
+  pub rooted : Rooted
+  pub verified : Runs (given_by gathered (now_of layout command.clock)) before.outside after.outside (Ok rooted)
+  pub accepted : IsAccepted (given_by gathered (now_of layout command.clock)) before.outside after.outside rooted
+  pub text : List ℕ
+  pub reported : report_of rooted.chain rooted.digests rooted.result ≡ Ok text
+  pub written : TakesAll out out' text
+
 -- What status 1 means: the words give a layout, the inputs were read, the verification from the root refused, for its cause, and
 -- the sink took exactly the refusal's line.
-pub record Refuses (words : List (List ℕ)) (clock : jiff.Timestamp) (inputs inputs' : Watched Held) (repo repo' : Watched Folders) (source source' out out' : Watched (List ℕ)) : Type 0 where
+pub record Refuses (command : Command) (before after : Environment) (out out' : Watched (List ℕ)) : Type 0 where
   pub layout : Layout
-  pub worded : layout_of words ≡ Ok layout
+  pub worded : layout_of command.words ≡ Ok layout
   pub gathered : Gathered
-  pub read : ReadsAs gathered_of inputs inputs' (Ok gathered)
+  pub read : ReadsAs gathered_of before.inputs after.inputs (Ok gathered)
   pub fault : RootFault
-  pub verified : VerifiesInputs gathered (now_of layout clock) repo repo' source source' (Err fault)
-  pub cause : RefusesInputs gathered (now_of layout clock) repo repo' source source' fault
+  pub verified : Runs (given_by gathered (now_of layout command.clock)) before.outside after.outside (Err fault)
+  pub cause : RootCause (given_by gathered (now_of layout command.clock)) before.outside after.outside fault
   pub said : Answer
   pub line : refusal_answer fault ≡ Some said
   pub written : TakesAll out out' said.text
 
--- What status 2 means: the words are outside their grammar, or the policy or the provider's file is, and the sink took exactly
--- the line that says so.
-abbrev pub Misuses : List (List ℕ) → Watched Held → Watched (List ℕ) → Watched (List ℕ) → Type 0
-Misuses words inputs out out' =
-    ((result_ok (layout_of words) ≡ None) × TakesAll out out' (line_of (codes "usage")))
-    ⊎ ((which : Which) × FormCause which inputs × TakesAll out out' (pair_line (codes "usage") (word_of which)))
+-- What status 2 means: the words are outside their grammar, and nothing was called; or the policy or the provider's file is, and
+-- only the inputs were; and the sink took exactly the line that says so.
+abbrev pub Misuses : Command → Environment → Environment → Watched (List ℕ) → Watched (List ℕ) → Type 0
+Misuses command before after out out' =
+    ((result_ok (layout_of command.words) ≡ None) × (after ≡ before) × TakesAll out out' (line_of (codes "usage")))
+    ⊎ ((which : Which) × FormCause which before.inputs × (after.outside ≡ before.outside) × TakesAll out out' (pair_line (codes "usage") (word_of which)))
 
--- What status 3 means: the count of the inputs' faults rose, or told inputs lack this one or hold it longer than its limit; and
--- the sink took exactly the line that names it.
-abbrev pub LacksInput : Watched Held → Watched Held → Watched (List ℕ) → Watched (List ℕ) → Type 0
-LacksInput inputs inputs' out out' = (which : Which) × StopCause inputs inputs' (Input which) × TakesAll out out' (pair_line (codes "input") (word_of which))
+-- What status 3 means: the count of the inputs' faults rose, or told inputs lack this one or hold it longer than its limit; nothing
+-- but the inputs was called; and the sink took exactly the line that names it.
+abbrev pub LacksInput : Environment → Environment → Watched (List ℕ) → Watched (List ℕ) → Type 0
+LacksInput before after out out' =
+    (which : Which) × StopCause before.inputs after.inputs (Input which) × (after.outside ≡ before.outside) × TakesAll out out' (pair_line (codes "input") (word_of which))
 
 -- What each status means. 4: the count of the sink's faults rose. 5: nothing was written.
-abbrev pub Means : List (List ℕ) → jiff.Timestamp → Watched Held → Watched Held → Watched Folders → Watched Folders → Watched (List ℕ) → Watched (List ℕ) → Watched (List ℕ) → Watched (List ℕ) → Status → Type 0
-Means words clock inputs inputs' repo repo' source source' out out' status.Accepted = Accepts words clock inputs inputs' repo repo' source source' out out'
-Means words clock inputs inputs' repo repo' source source' out out' status.Refused = Refuses words clock inputs inputs' repo repo' source source' out out'
-Means words clock inputs inputs' repo repo' source source' out out' status.Usage = Misuses words inputs out out'
-Means words clock inputs inputs' repo repo' source source' out out' status.Input = LacksInput inputs inputs' out out'
-Means words clock inputs inputs' repo repo' source source' out out' status.Output = Rose out.faults out'.faults
-Means words clock inputs inputs' repo repo' source source' out out' status.Memory = out' ≡ out
+abbrev pub Means : Command → Environment → Environment → Watched (List ℕ) → Watched (List ℕ) → Status → Type 0
+Means command before after out out' status.Accepted = Accepts command before after out out'
+Means command before after out out' status.Refused = Refuses command before after out out'
+Means command before after out out' status.Usage = Misuses command before after out out'
+Means command before after out out' status.Input = LacksInput before after out out'
+Means command before after out out' status.Output = Rose out.faults out'.faults
+Means command before after out out' status.Memory = out' ≡ out

@@ -1,7 +1,8 @@
 // A run of the program.
 ghost use Rattle.std.specs.Prelude.{◌≡◌, IfOk};
 ghost use Rattle.sigstore_app_parts.specs.Sink.{WritesText};
-ghost use Rattle.sigstore_run.specs.Run.{policy_meant, Reports, Answers, Judges, Proceeds, Decides, RunsTo, Means};
+ghost use Rattle.sigstore_verify.specs.Given.{Outside};
+ghost use Rattle.sigstore_run.specs.Run.{policy_meant, Environment, Reports, Answers, Judges, Proceeds, Decides, RunsTo, Means};
 
 use crate::answer::{Answer, Status, refused, refused_tuf, stopped};
 use crate::report::report;
@@ -71,7 +72,10 @@ fn judge<R: Repository, S: MetadataStore, A: ArtifactSource>(
     store: &mut S,
     artifact: &mut A,
 ) -> Result<Answer, NoMemory>
-    ensures { Judges gathered now (R.seen repo.old) (R.seen repo.new) (A.seen artifact.old) (A.seen artifact.new) result }
+    ensures judges { let before : Outside = record { repo = R.seen repo.old; store = S.seen store.old; source = A.seen artifact.old } in
+        let after : Outside = record { repo = R.seen repo.new; store = S.seen store.new; source = A.seen artifact.new } in
+        Judges gathered now before after result }
+    ensures store { S.seen store.new ≡ S.seen store.old }
 {
     let Gathered {
         policy,
@@ -108,7 +112,12 @@ fn proceed<I: Inputs, R: Repository, S: MetadataStore, A: ArtifactSource>(
     store: &mut S,
     artifact: &mut A,
 ) -> Result<Answer, NoMemory>
-    ensures { Proceeds now (I.seen inputs.old) (I.seen inputs.new) (R.seen repo.old) (R.seen repo.new) (A.seen artifact.old) (A.seen artifact.new) result }
+    ensures proceeds { let outside : Outside = record { repo = R.seen repo.old; store = S.seen store.old; source = A.seen artifact.old } in
+        let outside' : Outside = record { repo = R.seen repo.new; store = S.seen store.new; source = A.seen artifact.new } in
+        let before : Environment = record { inputs = I.seen inputs.old; outside = outside } in
+        let after : Environment = record { inputs = I.seen inputs.new; outside = outside' } in
+        Proceeds now before after result }
+    ensures store { S.seen store.new ≡ S.seen store.old }
 {
     match gather_inputs(alloc, inputs) {
         Ok(gathered) => judge(alloc, gathered, now, repo, store, artifact),
@@ -126,7 +135,12 @@ fn decide<I: Inputs, R: Repository, S: MetadataStore, A: ArtifactSource>(
     store: &mut S,
     artifact: &mut A,
 ) -> Result<Answer, NoMemory>
-    ensures { Decides words.now clock (I.seen inputs.old) (I.seen inputs.new) (R.seen repo.old) (R.seen repo.new) (A.seen artifact.old) (A.seen artifact.new) result }
+    ensures decides { let outside : Outside = record { repo = R.seen repo.old; store = S.seen store.old; source = A.seen artifact.old } in
+        let outside' : Outside = record { repo = R.seen repo.new; store = S.seen store.new; source = A.seen artifact.new } in
+        let before : Environment = record { inputs = I.seen inputs.old; outside = outside } in
+        let after : Environment = record { inputs = I.seen inputs.new; outside = outside' } in
+        Decides (record { words = words.now; clock = clock }) before after result }
+    ensures store { S.seen store.new ≡ S.seen store.old }
 {
     let found = match read_layout(alloc, words) {
         Ok(found) => found,
@@ -155,8 +169,17 @@ pub fn run<I: Inputs, R: Repository, S: MetadataStore, A: ArtifactSource, K: Sin
     artifact: &mut A,
     out: &mut K,
 ) -> Status
-    ensures runs { RunsTo words.now clock (I.seen inputs.old) (I.seen inputs.new) (R.seen repo.old) (R.seen repo.new) (A.seen artifact.old) (A.seen artifact.new) (K.seen out.old) (K.seen out.new) result }
-    ensures means { Means words.now clock (I.seen inputs.old) (I.seen inputs.new) (R.seen repo.old) (R.seen repo.new) (A.seen artifact.old) (A.seen artifact.new) (K.seen out.old) (K.seen out.new) result }
+    ensures means { let outside : Outside = record { repo = R.seen repo.old; store = S.seen store.old; source = A.seen artifact.old } in
+        let outside' : Outside = record { repo = R.seen repo.new; store = S.seen store.new; source = A.seen artifact.new } in
+        let before : Environment = record { inputs = I.seen inputs.old; outside = outside } in
+        let after : Environment = record { inputs = I.seen inputs.new; outside = outside' } in
+        Means (record { words = words.now; clock = clock }) before after (K.seen out.old) (K.seen out.new) result }
+    ensures runs { let outside : Outside = record { repo = R.seen repo.old; store = S.seen store.old; source = A.seen artifact.old } in
+        let outside' : Outside = record { repo = R.seen repo.new; store = S.seen store.new; source = A.seen artifact.new } in
+        let before : Environment = record { inputs = I.seen inputs.old; outside = outside } in
+        let after : Environment = record { inputs = I.seen inputs.new; outside = outside' } in
+        RunsTo (record { words = words.now; clock = clock }) before after (K.seen out.old) (K.seen out.new) result }
+    ensures store { S.seen store.new ≡ S.seen store.old }
 {
     let said = match decide(alloc, words, clock, inputs, repo, store, artifact) {
         Ok(said) => said,

@@ -29,7 +29,7 @@ use Rattle.sigstore_tuf.specs.declared.config.UpdaterConfig.{UpdaterConfig}
 use Rattle.sigstore_tuf.specs.declared.documents.Held.{Held}
 use Rattle.sigstore_tuf.specs.declared.documents.InForce.{InForce}
 use Rattle.sigstore_tuf.specs.Documents.{timestamp_document, snapshot_document, targets_document, content_of, targets_pin}
-use Rattle.sigstore_tuf.specs.Update.{first_root_of, newer_of, timestamp_checks_of, new_timestamp_of, snapshot_pin_of, kept_pins_of, snapshot_checks_of, new_snapshot_of, targets_pin_of, targets_checks_of, new_targets_of, with_snapshot, with_targets}
+use Rattle.sigstore_tuf.specs.Update.{first_root_of, timestamp_checks_of, new_timestamp_of, snapshot_pin_of, kept_pins_of, snapshot_checks_of, new_snapshot_of, targets_pin_of, targets_checks_of, new_targets_of, with_snapshot, with_targets}
 use Rattle.sigstore_tuf.specs.Client.{after_timestamp, top_targets}
 use Rattle.sigstore_tuf.specs.Refresh.{TookTimestamp, RefreshesTimestamp, IsUnfetched, TookSnapshot, TakesTargets, TookTargets, RefreshesSnapshot, IsUnpinned, RefreshesPinned, RefreshesTargets, Refreshes, walk_refuses, root_refuses, timestamp_refuses, snapshot_refuses, targets_refuses, all_serve}
 use Rattle.sigstore_tuf.specs.Authorised.{IsSigned, IsPinnedBy, AreAuthorised}

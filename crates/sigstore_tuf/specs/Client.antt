@@ -84,7 +84,8 @@ pub record WalksRoots (config : UpdaterConfig) (version : ℕ) (old new : Watche
 abbrev pub consistent_of : Bool → Result ⊤ Error
 consistent_of consistent = if consistent then Err (Unbuilt form.Consistent) else Ok tt
 
--- it isn't expired, and its names aren't consistent ones
+-- It isn't expired (5.3, 'check for a freeze attack'; only the last root has to be fresh, since each before it only leads to the
+-- next), and its names aren't consistent ones.
 unfoldable pub root_serves_of : InForce → jiff.Timestamp → Result ⊤ Error
 root_serves_of set now = do
   _ ← fresh_of (codes "root") (content_in set.root).expires now
@@ -102,7 +103,7 @@ abbrev pub after_timestamp : InForce → Result (Held Timestamp) Error → InFor
 after_timestamp set (Ok new) = with_timestamp set new
 after_timestamp set (Err e) = set
 
--- it pins the snapshot, and isn't expired
+-- It pins the snapshot, and isn't expired: also the one that was kept, since its day may have passed since it was adopted.
 unfoldable pub timestamp_serves_of : InForce → jiff.Timestamp → Result ⊤ Error
 timestamp_serves_of set now = do
   timestamp ← ok_or set.timestamp (Malformed rule.NoTimestamp)
@@ -125,7 +126,7 @@ abbrev pub has_version : Option MetaFile → ℕ → Bool
 has_version None version = false
 has_version (Some pin) version = pin.version == version
 
--- the version of the pin, and not expired
+-- The version of the pin, and not expired: a document that serves isn't fetched again, and one that doesn't is never used.
 abbrev pub serves : Option MetaFile → ℕ → jiff.Timestamp → jiff.Timestamp → Bool
 serves pin version expires now = has_version pin version && not (int_lt expires.nanosecond now.nanosecond)
 

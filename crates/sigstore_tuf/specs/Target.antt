@@ -33,14 +33,14 @@ abbrev pub fresh_snapshot_of : Option (Held Snapshot) → jiff.Timestamp → Res
 fresh_snapshot_of None now = Ok tt
 fresh_snapshot_of (Some snapshot) now = fresh_of (codes "snapshot") (content_of snapshot).expires now
 
--- none that is there is expired
+-- None that is there is expired (5.3 to 5.6, 'check for a freeze attack'): a client that refreshed long ago may not search.
 unfoldable pub unexpired_of : InForce → jiff.Timestamp → Result ⊤ Error
 unexpired_of set now = do
   _ ← fresh_of (codes "root") (content_in set.root).expires now
   _ ← fresh_timestamp_of set.timestamp now
   fresh_snapshot_of set.snapshot now
 
--- the pin has that version
+-- The pin has that version ('mix-and-match attack'): the documents of one search belong to one state of the repository.
 abbrev pub pinned_version_of : Option MetaFile → ℕ → Result ⊤ Error
 pinned_version_of pin version = if has_version pin version then Ok tt else Err (IntegrityMismatch Version)
 
@@ -79,7 +79,7 @@ abbrev pub entry_of : InForce → UpdaterConfig → List ℕ → Result TargetFi
 entry_of set config path =
     if config.max_delegations == 0 then Err (TargetNotFound path) else entry_in path (top_targets set) (listed_in path (top_targets set))
 
--- the listed length is within the limit
+-- The listed length is within the limit: else a listed length of 2^60 lets a repository send bytes without end (5.7).
 abbrev pub within_of : UpdaterConfig → TargetFile → Result ⊤ Error
 within_of config entry = if nat_lt config.target_max_length entry.length then Err (IntegrityMismatch TooLong) else Ok tt
 
@@ -93,7 +93,7 @@ target_of set config path now = do
 
 -- ---- the file
 
--- the file is the entry's, by its length and digests
+-- The file is the entry's, by its length and digests (5.7): without it a mirror hands out whatever it likes under a listed name.
 abbrev pub file_of : TargetFile → List ℕ → Result ⊤ Error
 file_of entry bytes = integrity_of (Some entry.length) (Some entry.hashes) bytes
 

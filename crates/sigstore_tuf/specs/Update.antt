@@ -20,7 +20,10 @@ use Rattle.sigstore_tuf.specs.declared.documents.InForce.{InForce}
 use Rattle.sigstore_tuf_parts.specs.RootRoles.{root_document, meets_role_of}
 use Rattle.sigstore_tuf.specs.Documents.{timestamp_document, snapshot_document, targets_document, content_of, snapshot_pin, targets_pin}
 
--- ---- a first root
+-- ---- a first root (section 5.2)
+
+-- The given root is trusted because its user says so. That it meets its own role says that it is whole: a root that its own keys
+-- don't sign can't be followed by a next one, and a cut or mixed file is found at once.
 
 unfoldable pub first_root_of : Crypto → List ℕ → Result InForce Error
 first_root_of crypto bytes = do
@@ -30,15 +33,16 @@ first_root_of crypto bytes = do
 
 -- ---- the timestamp
 
--- the new number isn't below the trusted one
+-- The new number isn't below the trusted one (5.4 and 5.5, 'check for a rollback attack'): else a repository, or who stands before
+-- it, serves an old state, signed and not yet expired, in which a known hole is still there.
 abbrev pub not_below_of : List ℕ → ℕ → ℕ → Result ⊤ Error
 not_below_of role trusted new = if nat_lt new trusted then Err (Rollback role trusted new) else Ok tt
 
--- the new number is another one
+-- The new number is another one (5.4): an equal one says nothing new, and the trusted document stays.
 abbrev pub other_of : List ℕ → ℕ → ℕ → Result ⊤ Error
 other_of role trusted new = if new == trusted then Err (EqualVersion role new) else Ok tt
 
--- where both pin the snapshot
+-- Where both pin the snapshot, its number isn't lower either (5.4): else a new timestamp brings an old snapshot back.
 abbrev pub pins_not_below_of : Option MetaFile → Option MetaFile → Result ⊤ Error
 pins_not_below_of None new = Ok tt
 pins_not_below_of (Some old) None = Ok tt
@@ -54,7 +58,8 @@ abbrev pub newer_of : Option (Held Timestamp) → Timestamp → Result ⊤ Error
 newer_of None new = Ok tt
 newer_of (Some old) new = newer_than_of (content_of old) new
 
--- the checks of a timestamp that was read
+-- The checks of a timestamp that was read: its role's signatures ('arbitrary software attack': without them anyone's document is
+-- taken), rollback, and its expiry ('freeze attack': without it a repository can stand still and hide every later release).
 unfoldable pub timestamp_checks_of : Crypto → InForce → Document Timestamp → jiff.Timestamp → Result ⊤ Error
 timestamp_checks_of crypto set new now = do
   _ ← meets_role_of crypto (content_in set.root) (codes "timestamp") new
@@ -76,7 +81,8 @@ snapshot_pin_of set now = do
   _ ← fresh_of (codes "timestamp") (content_of timestamp).expires now
   ok_or (snapshot_pin (content_of timestamp)) (Malformed rule.Unpinned)
 
--- each trusted pin, in ascending order of names, is still there and not lower
+-- Each trusted pin, in ascending order of names, is still there and not lower (5.5, 'check for a rollback attack'): a pin that
+-- vanishes would take a role's document out of the search, and with it what the role says of a path.
 abbrev pub kept_pin_of : List ℕ → MetaFile → Option MetaFile → Result ⊤ Error
 kept_pin_of name old None = Err (IntegrityMismatch Vanished)
 kept_pin_of name old (Some new) = not_below_of name old.version new.version
@@ -89,7 +95,9 @@ abbrev pub kept_pins_of : Option (Held Snapshot) → Snapshot → Result ⊤ Err
 kept_pins_of None new = Ok tt
 kept_pins_of (Some old) new = kept_pins_in (content_of old).meta new
 
--- the checks of a snapshot that was read, for its pin
+-- The checks of a snapshot that was read, for its pin: the role's signatures, the pinned version ('mix-and-match attack': else a
+-- snapshot of another moment is put beside this timestamp), rollback, freeze. The signatures come before the version, as the
+-- standard has it for a snapshot; its length and digests were held against the pin before it was parsed.
 unfoldable pub snapshot_checks_of : Crypto → InForce → MetaFile → Document Snapshot → jiff.Timestamp → Result ⊤ Error
 snapshot_checks_of crypto set pin new now = do
   _ ← meets_role_of crypto (content_in set.root) (codes "snapshot") new
@@ -114,7 +122,8 @@ targets_pin_of set now = do
   _ ← fresh_of (codes "snapshot") (content_of snapshot).expires now
   ok_or (targets_pin (content_of snapshot)) (Malformed rule.Unpinned)
 
--- the checks of a targets document that was read, for its pin
+-- The checks of a targets document that was read, for its pin: the pinned version ('mix-and-match attack'), the role's signatures,
+-- freeze. The version comes first here: what the snapshot pins is one version, and another one is refused whoever signed it.
 unfoldable pub targets_checks_of : Crypto → InForce → MetaFile → Document Targets → jiff.Timestamp → Result ⊤ Error
 targets_checks_of crypto set pin new now = do
   _ ← version_of pin (content_in new).version
@@ -134,7 +143,7 @@ new_targets_of crypto set bytes now = do
 abbrev pub with_timestamp : InForce → Held Timestamp → InForce
 with_timestamp set new = record set { timestamp = Some new }
 
--- the targets documents are dropped
+-- The targets documents are dropped: each was compared with a pin of the old snapshot, and may be another one under the new.
 abbrev pub with_snapshot : InForce → Held Snapshot → InForce
 with_snapshot set new = record set { snapshot = Some new; targets = [] }
 

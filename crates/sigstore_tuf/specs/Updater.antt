@@ -2,10 +2,10 @@
 use Rattle.std.specs.Prelude.{◌≡◌, ◌⊎◌, ℕ, List, Option, Some, None, Result, Ok, Err, ⊤}
 use Rattle.std.specs.Borrow.{MutBor}
 use Rattle.jiff_core.specs.declared.timestamp.Timestamp as jiff
-use Rattle.foundation.specs.Watched.{Watched}
+use Rattle.foundation.specs.Watched.{Watched, Since, untold}
 use Rattle.sigstore_tuf_parts.specs.declared.error.Error.{Error}
 use Rattle.sigstore_tuf_parts.specs.declared.error.Error.TheVariants as tuf
-use Rattle.sigstore_tuf.specs.Repository.{Folders}
+use Rattle.sigstore_tuf.specs.Repository.{Files, Folders}
 use Rattle.sigstore_tuf.specs.declared.config.UpdaterConfig.{UpdaterConfig}
 use Rattle.sigstore_tuf.specs.declared.documents.InForce.{InForce}
 use Rattle.sigstore_tuf.specs.declared.chain.TrustChain.{TrustChain}
@@ -18,9 +18,14 @@ SameOption None (Some b) = ⊥
 SameOption (Some a) None = ⊥
 SameOption (Some a) (Some b) = b.ghost_name ≡ a.ghost_name
 
+-- what the lent store shows; nothing where there is none
+abbrev pub option_seen : {S : Type 0} → (S → Watched Files) → Option (MutBor S) → Watched Files
+option_seen seen None = untold 0
+option_seen seen (Some store) = seen store.now
+
 -- a refusal of the search, or want of memory for the copy of the file
 abbrev pub IsRefused : InForce → UpdaterConfig → List ℕ → jiff.Timestamp → Watched Folders → Watched Folders → Error → Type 0
-IsRefused set config path now repo repo' e = (e ≡ tuf.NoMemory) ⊎ GetsTarget set config path now repo repo' (Err e)
+IsRefused set config path now repo repo' e = ((e ≡ tuf.NoMemory) × Since repo repo') ⊎ GetsTarget set config path now repo repo' (Err e)
 
 -- the file is that of the chain that is kept
 abbrev pub GivesFile : InForce → UpdaterConfig → List ℕ → jiff.Timestamp → Watched Folders → Watched Folders → Option TrustChain → Result (List ℕ) Error → Type 0

@@ -32,7 +32,7 @@ pub(crate) fn transport(fault: FetchFault, max: u64) -> Error
     }
 }
 
-// A document that has to be there.
+// Fetches a metadata file; its absence is an error.
 fn fetch_document<R: Repository>(
     alloc: Global,
     repo: &mut R,

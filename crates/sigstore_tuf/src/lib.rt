@@ -1,5 +1,6 @@
 //! Trusted metadata of The Update Framework: where documents and targets are fetched and kept, the
-//! documents in force, and the client that brings them up to date and finds a target.
+//! documents in force, the client that brings them up to date and finds a target, and the names of
+//! `sigstore_tuf_parts`.
 #![tactic(auto)]
 
 mod chain;
@@ -33,6 +34,13 @@ pub use memory_repository::MemoryRepository;
 pub use memory_store::MemoryStore;
 pub use no_store::NoStore;
 pub use repository::{FetchFault, Repository};
+pub use sigstore_tuf_parts::{
+    DelegatedRole, Delegations, DocumentMember, Error, Key, KeyFault, KeyVal, MetaFile, Metadata,
+    Mismatch, Role, RoleKeys, Root, Rule, SNAPSHOT_NAME, Signature, Snapshot, TARGETS_NAME,
+    TIMESTAMP_NAME, TargetFile, Targets, Timestamp, TransportFault, canonical_text_tells,
+    check_fresh, check_integrity, check_version, meets_exactly, others, pin_name, pins_have_causes,
+    readings_have_causes, relations_exactly, roles_have_causes, root_name, to_canonical_bytes,
+};
 pub use store::{MetadataStore, StoreFault};
 pub use target::get_target_parts;
 pub use trusted::TrustedMetadataSet;

@@ -352,8 +352,9 @@ fn run_search<R: Repository>(
 }
 
 /// Finds a target over parts, fetches its file, and gives the chain by which it is trusted. Errors, in
-/// this order: `Expired`, `NotRefreshed`, `IntegrityMismatch`, `TargetNotFound`, then those of the fetch
-/// and of the file's length and digests. Over documents that are authorised from a given root the chain
+/// this order: `Expired` of root, timestamp and snapshot, `NotRefreshed`, `Expired` of the targets
+/// document, `IntegrityMismatch(Version)`, `TargetNotFound` or `Unbuilt(Delegations)`,
+/// `IntegrityMismatch(TooLong)`, then those of the fetch and of the file's length and digests. Over documents that are authorised from a given root the chain
 /// is trusted from it. The store is handed through and not called yet.
 pub fn get_target_parts<R: Repository, S: MetadataStore>(
     alloc: Global,

@@ -7,7 +7,7 @@ ghost use Rattle.sigstore_tuf.specs.Update.{first_root_of};
 ghost use Rattle.sigstore_tuf.specs.Authorised.{AreAuthorised, StaysAuthorised, Serve, TrustsFrom, KeepsTrusted};
 ghost use Rattle.sigstore_tuf.specs.Refresh.{Refreshes};
 ghost use Rattle.sigstore_tuf.specs.Target.{GetsTarget};
-ghost use Rattle.sigstore_tuf.specs.Updater.{SameOption, GivesFile};
+ghost use Rattle.sigstore_tuf.specs.Updater.{SameOption, option_seen, GivesFile};
 
 use crate::chain::TrustChain;
 use crate::client::refresh_parts;
@@ -37,6 +37,7 @@ fn refresh_held<C: CryptoProvider, M: Armor, R: Repository, S: MetadataStore>(
     now: jiff::Timestamp,
 ) -> Result<(), Error>
     ensures same_store { SameOption store.old store.new }
+    ensures store { option_seen S.seen store.new ≡ option_seen S.seen store.old }
     ensures refreshes { Refreshes (crypto_of (C.accepts provider.now) (M.armored armor.now) (M.key_in armor.now))
         config.now now documents.old documents.new (R.seen repo.old) (R.seen repo.new) result }
     ensures authorised { StaysAuthorised (crypto_of (C.accepts provider.now) (M.armored armor.now) (M.key_in armor.now)) documents.old documents.new }
@@ -70,6 +71,7 @@ fn get_target_held<R: Repository, S: MetadataStore>(
     now: jiff::Timestamp,
 ) -> Result<TrustChain, Error>
     ensures same_store { SameOption store.old store.new }
+    ensures store { option_seen S.seen store.new ≡ option_seen S.seen store.old }
     ensures gets { GetsTarget documents.now config.now path.now now (R.seen repo.old) (R.seen repo.new) result }
     ensures trusted { TrustsFrom documents.now config.now path.now now result }
 {
@@ -161,6 +163,7 @@ impl<'a, C: CryptoProvider, M: Armor, R: Repository, S: MetadataStore> Updater<'
     pub fn refresh(&mut self, alloc: Global, now: jiff::Timestamp) -> Result<(), Error>
         ensures same_repo { self.new.repo.ghost_name ≡ self.old.repo.ghost_name }
         ensures same_store { SameOption self.old.store self.new.store }
+        ensures store { option_seen S.seen self.new.store ≡ option_seen S.seen self.old.store }
         ensures refreshes { Refreshes
             (crypto_of (C.accepts self.old.set.provider.now) (M.armored self.old.set.armor.now) (M.key_in self.old.set.armor.now))
             self.old.config now self.old.set.documents self.new.set.documents (R.seen self.old.repo.now) (R.seen self.new.repo.now) result }
@@ -183,8 +186,10 @@ impl<'a, C: CryptoProvider, M: Armor, R: Repository, S: MetadataStore> Updater<'
         )
     }
 
-    /// The file of a target, which `chain` then explains. Errors, in this order: `Expired`,
-    /// `NotRefreshed`, `IntegrityMismatch`, `TargetNotFound`, then those of the fetch and of the file.
+    /// The file of a target, which `chain` then explains. Errors, in this order: `Expired` of root,
+    /// timestamp and snapshot, `NotRefreshed`, `Expired` of the targets document,
+    /// `IntegrityMismatch(Version)`, `TargetNotFound` or `Unbuilt(Delegations)`,
+    /// `IntegrityMismatch(TooLong)`, then those of the fetch and of the file's length and digests.
     pub fn get_target(
         &mut self,
         alloc: Global,
@@ -193,6 +198,7 @@ impl<'a, C: CryptoProvider, M: Armor, R: Repository, S: MetadataStore> Updater<'
     ) -> Result<Bytes, Error>
         ensures same_repo { self.new.repo.ghost_name ≡ self.old.repo.ghost_name }
         ensures same_store { SameOption self.old.store self.new.store }
+        ensures store { option_seen S.seen self.new.store ≡ option_seen S.seen self.old.store }
         ensures gives { GivesFile self.old.set.documents self.old.config path.now now (R.seen self.old.repo.now) (R.seen self.new.repo.now) self.new.chain result }
         ensures trusted { OnOk result (KeepsTrusted self.old.set.documents self.old.config path.now now self.new.chain) }
         ensures kept { OnErr result (self.new.chain ≡ self.old.chain) }

@@ -1,5 +1,6 @@
 pub mod Floats
 pub mod OtherFacts
+pub mod TextSets
 pub mod CountFacts
 pub mod MeetsLaw
 pub mod IntegrityLaws

@@ -64,10 +64,6 @@ built_by key_of (Some key) = unbuilt_in (key_of key)
 abbrev pub built_of : KeyOf → Keys → Signature → Result ⊤ Error
 built_of key_of keys s = if is_some (result_ok (decode_of s.sig)) then built_by key_of (at_name s.keyid keys) else Ok tt
 
--- the same of a signature that counts
-abbrev pub counted_built : KeyOf → Keys → RoleKeys → Signature → Result ⊤ Error
-counted_built key_of keys role s = if is_counted role s then built_of key_of keys s else Ok tt
-
 -- each of them, in order
 abbrev pub all_built : KeyOf → Keys → List Signature → Result ⊤ Error
 all_built key_of keys [] = Ok tt

@@ -1,60 +1,65 @@
 // The signatures of a document that count for a role.
-ghost use Rattle.std.specs.Prelude.{◌≡◌, [], ◌&&◌};
+ghost use Rattle.std.specs.Prelude.{◌≡◌, ℕ, List, [], ◌&&◌, ◌==◌, not, length, map, IfOk};
 ghost use Rattle.std.specs.Option.{option_copied};
-ghost use Rattle.sigstore_tuf_parts.specs.Threshold.{is_among, is_counted, counted_of, ids_of, second_after};
+ghost use Rattle.sigstore_tuf_parts.specs.Threshold.{is_among, counted_of, ids_of, second_after};
 
 use crate::document::Signature;
 use crate::keys::RoleKeys;
+use crate::text_set::TextSet;
+use foundation::NoMemory;
 use sigstore_types_parts::Text;
+use std::alloc::Global;
 
-// Whether a text is one of these.
-fn is_among(known: &[Text], name: &Text) -> bool
-    ensures { result ≡ is_among known.now name.now }
+// The set of these texts.
+fn set_of<'t>(alloc: Global, texts: &'t [Text]) -> Result<TextSet<'t>, NoMemory>
+    ensures { IfOk result (λ set. (text : List ℕ) → is_among set text ≡ is_among texts.now text) }
 {
-    for other in known {
-        if *other == *name {
-            return true;
+    let mut set = TextSet::new(alloc);
+    for text in texts {
+        set.insert(text.as_str())?;
+    }
+    Ok(set)
+}
+
+// Whether a signature is of one of these ids, and not empty.
+fn counts(ids: &TextSet<'_>, signature: &Signature) -> bool
+    ensures { result ≡ (is_among ids.now signature.now.keyid && not (length signature.now.sig == 0)) }
+{
+    ids.contains(signature.keyid.as_str()) && !signature.sig.as_str().is_empty()
+}
+
+/// The signatures of ids that the role names, but for empty ones, in their order.
+pub(crate) fn counted<'s>(
+    alloc: Global,
+    role_keys: &RoleKeys,
+    signatures: &'s [Signature],
+) -> Result<Vec<&'s Signature>, NoMemory>
+    ensures { IfOk result
+        (λ found. map (λ s. s.now) found.items ≡ counted_of role_keys.now signatures.now) }
+{
+    let ids = set_of(alloc, role_keys.keyids.as_slice())?;
+    let mut found = Vec::new(alloc);
+    for signature in signatures {
+        if counts(&ids, signature) {
+            found.push(signature)?;
         }
     }
-    false
+    Ok(found)
 }
 
-/// Whether a signature is of an id that the role names, and not empty.
-pub(crate) fn is_counted(role_keys: &RoleKeys, signature: &Signature) -> bool
-    ensures { result ≡ is_counted role_keys.now signature.now }
+/// The first id whose second signature comes.
+pub(crate) fn second_id<'s>(
+    alloc: Global,
+    signatures: &[&'s Signature],
+) -> Result<Option<&'s Text>, NoMemory>
+    ensures { IfOk result
+        (λ id. option_copied id ≡ second_after [] (ids_of (map (λ s. s.now) signatures.now))) }
 {
-    is_among(role_keys.keyids.as_slice(), &signature.keyid) && !signature.sig.as_str().is_empty()
-}
-
-// Whether a signature that counts has the id.
-fn has_id(role_keys: &RoleKeys, signatures: &[Signature], id: &Text) -> bool
-    ensures { result ≡ is_among (ids_of (counted_of role_keys.now signatures.now)) id.now }
-{
-    for other in signatures {
-        if is_counted(role_keys, other) && other.keyid == *id {
-            return true;
+    let mut seen = TextSet::new(alloc);
+    for signature in signatures {
+        if !seen.insert(signature.keyid.as_str())? {
+            return Ok(Some(&signature.keyid));
         }
     }
-    false
-}
-
-// The signature counts, and one before it that counts has its id.
-fn is_second(role_keys: &RoleKeys, earlier: &[Signature], signature: &Signature) -> bool
-    ensures { result ≡ (is_counted role_keys.now signature.now
-        && is_among (ids_of (counted_of role_keys.now earlier.now)) signature.now.keyid) }
-{
-    is_counted(role_keys, signature) && has_id(role_keys, earlier, &signature.keyid)
-}
-
-/// The first id whose second signature that counts comes.
-pub(crate) fn second_id<'s>(role_keys: &RoleKeys, signatures: &'s [Signature]) -> Option<&'s Text>
-    ensures { option_copied result ≡ second_after [] (ids_of (counted_of role_keys.now signatures.now)) }
-{
-    for i in 0..signatures.len() {
-        let signature = &signatures[i];
-        if is_second(role_keys, &signatures[..i], signature) {
-            return Some(&signature.keyid);
-        }
-    }
-    None
+    Ok(None)
 }

@@ -19,6 +19,7 @@ mod root;
 mod root_role;
 mod snapshot;
 mod targets;
+mod text_set;
 mod threshold;
 mod timestamp;
 mod verification;

@@ -1,11 +1,11 @@
 // Whether a document meets a role.
-ghost use Rattle.std.specs.Prelude.{◌≡◌, ◌≢◌, [], Ok, Err, IfOk, IfErr, ◌&&◌};
+ghost use Rattle.std.specs.Prelude.{◌≡◌, ◌≢◌, [], Ok, Err, IfOk, IfErr, map, count_by};
 ghost use Rattle.sigstore_tuf_parts.specs.declared.error.Error.TheVariants.{NoMemory as Want};
 ghost use Rattle.sigstore_tuf_parts.specs.Crypto.{key_of, crypto_of};
-ghost use Rattle.sigstore_tuf_parts.specs.Threshold.{is_counted, counted_of, ids_of, second_after, unbuilt_in, built_of, counted_built, all_built, is_accepted, found_of, threshold_of, no_second, enough_of, meets_of};
+ghost use Rattle.sigstore_tuf_parts.specs.Threshold.{ids_of, second_after, unbuilt_in, built_of, all_built, is_accepted, threshold_of, no_second, enough_of, meets_of};
 
 use crate::accepted::{decoded, is_accepted};
-use crate::counted::{is_counted, second_id};
+use crate::counted::{counted, second_id};
 use crate::document::{Metadata, Signature};
 use crate::error::{Error, Rule};
 use crate::keys::{Key, RoleKeys};
@@ -39,11 +39,13 @@ impl<T> Metadata<T> {
         let signatures = self.signatures();
         let text = self.signed_canonical();
         check_threshold(role_keys.threshold)?;
-        check_once(alloc, role_keys, role, signatures)?;
-        check_built(alloc, armor, keys, role_keys, signatures)?;
-        check_found(
-            alloc, provider, armor, keys, role_keys, role, signatures, text,
-        )
+        let counting = counted(alloc, role_keys, signatures)?;
+        let counting = counting.as_slice();
+        check_once(alloc, role, counting)?;
+        check_built(alloc, armor, keys, counting)?;
+        let found = count_accepted(alloc, provider, armor, keys, counting, text)?;
+        check_enough(alloc, role, found, role_keys.threshold)?;
+        Ok(())
     }
 }
 
@@ -57,18 +59,13 @@ fn check_threshold(threshold: u64) -> Result<(), Error>
     }
 }
 
-fn check_once(
-    alloc: Global,
-    role_keys: &RoleKeys,
-    role: &str,
-    signatures: &[Signature],
-) -> Result<(), Error>
+fn check_once(alloc: Global, role: &str, signatures: &[&Signature]) -> Result<(), Error>
     ensures ok { IfOk result (λ v.
-        no_second role.now (second_after [] (ids_of (counted_of role_keys.now signatures.now))) ≡ Ok v) }
+        no_second role.now (second_after [] (ids_of (map (λ s. s.now) signatures.now))) ≡ Ok v) }
     ensures err { IfErr result (λ e. e ≢ Want →
-        no_second role.now (second_after [] (ids_of (counted_of role_keys.now signatures.now))) ≡ Err e) }
+        no_second role.now (second_after [] (ids_of (map (λ s. s.now) signatures.now))) ≡ Err e) }
 {
-    match second_id(role_keys, signatures) {
+    match second_id(alloc, signatures)? {
         Some(id) => Err(Error::DuplicateSignature {
             role: Text::new(alloc, role)?,
             key_id: Text::new(alloc, id.as_str())?,
@@ -110,61 +107,21 @@ fn check_signature<M: Armor>(
     }
 }
 
-// A signature that counts and whose key isn't built is refused.
-fn check_counted<M: Armor>(
-    alloc: Global,
-    armor: &M,
-    keys: &TextMap<Key>,
-    role_keys: &RoleKeys,
-    signature: &Signature,
-) -> Result<(), Error>
-    ensures ok { IfOk result (λ v. counted_built (key_of (M.armored armor.now) (M.key_in armor.now))
-        keys.now role_keys.now signature.now ≡ Ok v) }
-    ensures err { IfErr result (λ e. e ≢ Want → counted_built (key_of (M.armored armor.now) (M.key_in armor.now))
-        keys.now role_keys.now signature.now ≡ Err e) }
-{
-    if !is_counted(role_keys, signature) {
-        return Ok(());
-    }
-    check_signature(alloc, armor, keys, signature)
-}
-
 fn check_built<M: Armor>(
     alloc: Global,
     armor: &M,
     keys: &TextMap<Key>,
-    role_keys: &RoleKeys,
-    signatures: &[Signature],
+    signatures: &[&Signature],
 ) -> Result<(), Error>
     ensures ok { IfOk result (λ v. all_built (key_of (M.armored armor.now) (M.key_in armor.now))
-        keys.now (counted_of role_keys.now signatures.now) ≡ Ok v) }
+        keys.now (map (λ s. s.now) signatures.now) ≡ Ok v) }
     ensures err { IfErr result (λ e. e ≢ Want → all_built (key_of (M.armored armor.now) (M.key_in armor.now))
-        keys.now (counted_of role_keys.now signatures.now) ≡ Err e) }
+        keys.now (map (λ s. s.now) signatures.now) ≡ Err e) }
 {
     for signature in signatures {
-        check_counted(alloc, armor, keys, role_keys, signature)?;
+        check_signature(alloc, armor, keys, signature)?;
     }
     Ok(())
-}
-
-// The signature counts and is accepted.
-fn counts<C: CryptoProvider, M: Armor>(
-    alloc: Global,
-    provider: &C,
-    armor: &M,
-    keys: &TextMap<Key>,
-    role_keys: &RoleKeys,
-    text: &[u8],
-    signature: &Signature,
-) -> Result<bool, NoMemory>
-    ensures { IfOk result (λ b. b ≡ (is_counted role_keys.now signature.now
-        && is_accepted (crypto_of (C.accepts provider.now) (M.armored armor.now) (M.key_in armor.now))
-        keys.now text.now signature.now)) }
-{
-    if !is_counted(role_keys, signature) {
-        return Ok(false);
-    }
-    is_accepted(alloc, provider, armor, keys, text, signature)
 }
 
 fn count_accepted<C: CryptoProvider, M: Armor>(
@@ -172,44 +129,20 @@ fn count_accepted<C: CryptoProvider, M: Armor>(
     provider: &C,
     armor: &M,
     keys: &TextMap<Key>,
-    role_keys: &RoleKeys,
-    signatures: &[Signature],
+    signatures: &[&Signature],
     text: &[u8],
 ) -> Result<u64, NoMemory>
-    ensures { IfOk result (λ n. n ≡
-        found_of (crypto_of (C.accepts provider.now) (M.armored armor.now) (M.key_in armor.now))
-        keys.now role_keys.now signatures.now text.now) }
+    ensures { IfOk result (λ n. n ≡ count_by
+        (is_accepted (crypto_of (C.accepts provider.now) (M.armored armor.now) (M.key_in armor.now)) keys.now text.now)
+        (map (λ s. s.now) signatures.now)) }
 {
     let mut found = 0u64;
     for signature in signatures {
-        if counts(alloc, provider, armor, keys, role_keys, text, signature)? {
+        if is_accepted(alloc, provider, armor, keys, text, signature)? {
             found += 1;
         }
     }
     Ok(found)
-}
-
-fn check_found<C: CryptoProvider, M: Armor>(
-    alloc: Global,
-    provider: &C,
-    armor: &M,
-    keys: &TextMap<Key>,
-    role_keys: &RoleKeys,
-    role: &str,
-    signatures: &[Signature],
-    text: &[u8],
-) -> Result<(), Error>
-    ensures ok { IfOk result (λ v. enough_of role.now
-        (found_of (crypto_of (C.accepts provider.now) (M.armored armor.now) (M.key_in armor.now))
-        keys.now role_keys.now signatures.now text.now) role_keys.now.threshold ≡ Ok v) }
-    ensures err { IfErr result (λ e. e ≢ Want → enough_of role.now
-        (found_of (crypto_of (C.accepts provider.now) (M.armored armor.now) (M.key_in armor.now))
-        keys.now role_keys.now signatures.now text.now) role_keys.now.threshold ≡ Err e) }
-{
-    match count_accepted(alloc, provider, armor, keys, role_keys, signatures, text) {
-        Ok(found) => check_enough(alloc, role, found, role_keys.threshold),
-        Err(NoMemory) => Err(Error::NoMemory),
-    }
 }
 
 fn check_enough(alloc: Global, role: &str, found: u64, threshold: u64) -> Result<(), Error>

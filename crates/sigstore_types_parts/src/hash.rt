@@ -64,7 +64,7 @@ impl<const N: usize> Hash<N> {
     }
 
     /// The bytes as they stand in a slice. Errors: `Length` for a slice of another length.
-    pub fn from_slice(bytes: &[u8]) -> Result<Hash<N>, TypesError>
+    pub fn try_from(bytes: &[u8]) -> Result<Hash<N>, TypesError>
         ensures { result ≡ sized_of types_of N bytes.now }
     {
         if bytes.len() != N {

@@ -29,7 +29,7 @@ use Rattle.sigstore_verify.specs.declared.error.Error.TheVariants as verify
 use Rattle.sigstore_verify.specs.declared.policy.PublicKeyVerificationPolicy.{PublicKeyVerificationPolicy}
 use Rattle.sigstore_verify.specs.Accepts.{signature_in, digest_in}
 use Rattle.sigstore_verify.specs.Cause.{IsRefusedAs, IsRead, HasScheme, LacksScheme, key_unread, no_scheme, trust_unbuilt, bundle_unbuilt, scheme_unbuilt, digest_unbuilt, JudgeCause}
-use Rattle.sigstore_verify.specs.Error.{error_of_crypto, error_of_types}
+use Rattle.sigstore_verify.specs.Error.{error_of_crypto, lowered}
 use Rattle.sigstore_verify.specs.Judged.{by_crypto, by_types, scheme_of, needed_of, prepared_of, is_bound, content_judged_of, key_judged_of, ready_of}
 use Rattle.sigstore_verify.specs.Policy.{Meaning, PublicKey}
 use Rattle.sigstore_verify.specs.Promise as promise
@@ -47,10 +47,6 @@ refused_at (Err d) f e h here later = let same : d ≡ e = cc in here (ap Err sa
 by_fault : {T : Type 0} (fault : TypesError → Error) (r : Result T TypesError) (e : Error) → or_fault fault r ≡ Err e → IsRefusedAs fault r e
 by_fault fault (Ok x) e h = cc
 by_fault fault (Err t) e h = (t, refl, err_same (fault t) e h)
-
-through_types : {A : Type 0} (r : Result A TypesError) (e : Error) → by_types r ≡ Err e → IsRefusedAs error_of_types r e
-through_types (Ok x) e h = cc
-through_types (Err t) e h = (t, refl, err_same (error_of_types t) e h)
 
 through_crypto : {A : Type 0} (r : Result A CryptoError) (e : Error) → by_crypto r ≡ Err e → IsRefusedAs error_of_crypto r e
 through_crypto (Ok x) e h = cc
@@ -75,6 +71,26 @@ as_crypto (crypto.InvalidKey a) = inl refl
 as_crypto crypto.NoMemory = inr (inr refl)
 as_crypto (crypto.Unbuilt f) = inr (inl (f, refl))
 
+-- what a refusal of the crates of values is here
+abbrev IsLowered : Error → TypesError → Type 0
+IsLowered otherwise x =
+    (lowered otherwise x ≡ verify.NoMemory) ⊎ (((f : Form) × (x ≡ types.Unbuilt f) × (lowered otherwise x ≡ verify.Unbuilt f)) ⊎ (lowered otherwise x ≡ otherwise))
+
+as_lowered : (otherwise : Error) (x : TypesError) → IsLowered otherwise x
+as_lowered o types.Json = inr (inr refl)
+as_lowered o types.Float = inr (inr refl)
+as_lowered o (types.Field a) = inr (inr refl)
+as_lowered o types.Base64 = inr (inr refl)
+as_lowered o types.Hex = inr (inr refl)
+as_lowered o (types.Length a b) = inr (inr refl)
+as_lowered o types.MediaType = inr (inr refl)
+as_lowered o types.Kind = inr (inr refl)
+as_lowered o (types.Checkpoint a) = inr (inr refl)
+as_lowered o types.NoEntry = inr (inr refl)
+as_lowered o types.NoProof = inr (inr refl)
+as_lowered o types.NoMemory = inl refl
+as_lowered o (types.Unbuilt f) = inr (inl (f, refl, refl))
+
 -- the artifact's digest is another than the one that is told
 told_another : {C : Type 0} (o : Option MessageDigest) (digest : List ℕ) → is_bound o digest ≡ false → ((told : MessageDigest) → o ≡ Some told → told.digest ≢ digest → C) → C
 told_another None digest h f = cc
@@ -84,35 +100,15 @@ module _ (accepts : Judge) (policy : PublicKeyVerificationPolicy) (file bundle :
   abbrev Cause : Error → Type 0
   Cause e = JudgeCause accepts (PublicKey policy) file bundle source source' max e
 
-  by_trust : (e : Error) (x : TypesError) → trusted_root_of_bytes file ≡ Err x → trust_fault x ≡ e → Cause e
-  by_trust e types.Json h q = subst Cause q (types.Json, h, refl)
-  by_trust e types.Float h q = subst Cause q (types.Float, h, refl)
-  by_trust e (types.Field a) h q = subst Cause q ((types.Field a), h, refl)
-  by_trust e types.Base64 h q = subst Cause q (types.Base64, h, refl)
-  by_trust e types.Hex h q = subst Cause q (types.Hex, h, refl)
-  by_trust e (types.Length a b) h q = subst Cause q ((types.Length a b), h, refl)
-  by_trust e types.MediaType h q = subst Cause q (types.MediaType, h, refl)
-  by_trust e types.Kind h q = subst Cause q (types.Kind, h, refl)
-  by_trust e (types.Checkpoint a) h q = subst Cause q ((types.Checkpoint a), h, refl)
-  by_trust e types.NoEntry h q = subst Cause q (types.NoEntry, h, refl)
-  by_trust e types.NoProof h q = subst Cause q (types.NoProof, h, refl)
-  by_trust e types.NoMemory h q = subst Cause q tt
-  by_trust e (types.Unbuilt f) h q = subst Cause q (trust_unbuilt h)
+  by_trust : (e : Error) (x : TypesError) → trusted_root_of_bytes file ≡ Err x → trust_fault x ≡ e → IsLowered verify.TrustRoot x → Cause e
+  by_trust e x h q (inl want) = subst Cause (sym want ∙ q) tt
+  by_trust e x h q (inr (inl (f, same, is))) = subst Cause (sym is ∙ q) (trust_unbuilt (h ∙ ap Err same))
+  by_trust e x h q (inr (inr is)) = subst Cause (sym is ∙ q) (x, h, is)
 
-  by_bundle : (e : Error) (x : TypesError) → bundle_of_bytes bundle ≡ Err x → bundle_fault x ≡ e → Cause e
-  by_bundle e types.Json h q = subst Cause q (types.Json, h, refl)
-  by_bundle e types.Float h q = subst Cause q (types.Float, h, refl)
-  by_bundle e (types.Field a) h q = subst Cause q ((types.Field a), h, refl)
-  by_bundle e types.Base64 h q = subst Cause q (types.Base64, h, refl)
-  by_bundle e types.Hex h q = subst Cause q (types.Hex, h, refl)
-  by_bundle e (types.Length a b) h q = subst Cause q ((types.Length a b), h, refl)
-  by_bundle e types.MediaType h q = subst Cause q (types.MediaType, h, refl)
-  by_bundle e types.Kind h q = subst Cause q (types.Kind, h, refl)
-  by_bundle e (types.Checkpoint a) h q = subst Cause q ((types.Checkpoint a), h, refl)
-  by_bundle e types.NoEntry h q = subst Cause q (types.NoEntry, h, refl)
-  by_bundle e types.NoProof h q = subst Cause q (types.NoProof, h, refl)
-  by_bundle e types.NoMemory h q = subst Cause q tt
-  by_bundle e (types.Unbuilt f) h q = subst Cause q (bundle_unbuilt h)
+  by_bundle : (e : Error) (x : TypesError) → bundle_of_bytes bundle ≡ Err x → bundle_fault x ≡ e → IsLowered verify.InvalidBundle x → Cause e
+  by_bundle e x h q (inl want) = subst Cause (sym want ∙ q) tt
+  by_bundle e x h q (inr (inl (f, same, is))) = subst Cause (sym is ∙ q) (bundle_unbuilt (h ∙ ap Err same))
+  by_bundle e x h q (inr (inr is)) = subst Cause (sym is ∙ q) (x, h, is)
 
   wants : (e : Error) → (e ≢ verify.NoMemory → Cause e) → Cause e
   wants (verify.IdentityMismatch a b) f = f (λ h. cc)
@@ -215,10 +211,10 @@ module _ (accepts : Judge) (policy : PublicKeyVerificationPolicy) (file bundle :
 
   key_refused : (e : Error) → JudgesBundle accepts (PublicKey policy) file bundle source source' max (Err e) → Cause e
   key_refused e (trust_refused d h s n) =
-      subst Cause (err_same d e (sym n)) (wants d (λ other. let r = by_fault trust_fault (trusted_root_of_bytes file) d (h other) in by_trust d r.0 r.1 r.2))
+      subst Cause (err_same d e (sym n)) (wants d (λ other. let r = by_fault trust_fault (trusted_root_of_bytes file) d (h other) in by_trust d r.0 r.1 r.2 (as_lowered verify.TrustRoot r.0)))
   key_refused e (verifier_refused trust d t h s n) = subst Cause (err_same d e (sym n)) (wants d (λ other. let r = h other in cc))
   key_refused e (bundle_refused trust d t u h s n) =
-      subst Cause (err_same d e (sym n)) (wants d (λ other. let r = by_fault bundle_fault (bundle_of_bytes bundle) d (h other) in by_bundle d r.0 r.1 r.2))
+      subst Cause (err_same d e (sym n)) (wants d (λ other. let r = by_fault bundle_fault (bundle_of_bytes bundle) d (h other) in by_bundle d r.0 r.1 r.2 (as_lowered verify.InvalidBundle r.0)))
   key_refused e (judged trust reading t u b v) = by_stage reading (read_of (bundle_of_bytes bundle) reading b) e v.refused
     where
       read_of : (r : Result Bundle TypesError) (x : Bundle) → or_fault bundle_fault r ≡ Ok x → r ≡ Ok x

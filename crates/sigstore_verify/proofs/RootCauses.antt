@@ -1,12 +1,9 @@
 -- Each refusal of the top call has its cause.
-use Rattle.std.proofs.Common.{◌≡◌, ℕ, List, Result, Err, sym, subst}
-use Rattle.jiff_core.specs.declared.timestamp.Timestamp as jiff
+use Rattle.std.proofs.Common.{◌≡◌, Result, Err, sym, subst}
 use Rattle.foundation.specs.Watched.{Watched}
 use Rattle.sigstore_tuf_parts.specs.declared.error.Error.{Error as TufError}
 use Rattle.sigstore_tuf_parts.specs.declared.error.Error.TheVariants as tuf
-use Rattle.sigstore_tuf_parts.specs.Crypto.{Crypto}
 use Rattle.sigstore_tuf.specs.declared.chain.TrustChain.{TrustChain}
-use Rattle.sigstore_tuf.specs.declared.config.UpdaterConfig.{UpdaterConfig}
 use Rattle.sigstore_tuf.specs.Cause.{ClientCause}
 use Rattle.sigstore_tuf.specs.Repository.{Folders}
 use Rattle.sigstore_tuf.proofs.CauseNumbers.{wanting}
@@ -15,9 +12,9 @@ use Rattle.sigstore_verify.specs.declared.error.Error.{Error}
 use Rattle.sigstore_verify.specs.declared.error.Error.TheVariants as verify
 use Rattle.sigstore_verify.specs.declared.root.RootFault.{RootFault}
 use Rattle.sigstore_verify.specs.Cause.{JudgeCause, RootCause}
-use Rattle.sigstore_verify.specs.Policy.{Meaning}
+use Rattle.sigstore_verify.specs.Given.{Anchor, Given, Outside}
 use Rattle.sigstore_verify.specs.Root as top
-use Rattle.sigstore_verify.specs.Root.{trust_path, TrustsChain, GivesChain, JudgesBundle, root_of_tuf, root_of_verify, Runs}
+use Rattle.sigstore_verify.specs.Root.{trust_path, TrustsChain, GivesChain, root_of_tuf, root_of_verify, Runs}
 use Rattle.sigstore_verify.proofs.JudgeCauses.{judge_refused}
 use Rattle.sigstore_verify.proofs.RootFacts.{chain_trusts}
 
@@ -25,21 +22,24 @@ err_same : {A E : Type 0} (d e : E) → ◌≡◌ {A = Result A E} (Err d) (Err 
 err_same d e h = cc
 
 -- a chain that isn't given has its cause in the root and the repository
-chain_cause : (crypto : Crypto) (root : List ℕ) (config : UpdaterConfig) (now : jiff.Timestamp) (repo repo' : Watched Folders) (e : TufError) → GivesChain crypto root config now repo repo' (Err e)
-    → ClientCause crypto root config trust_path now repo repo' e
-chain_cause crypto root config now repo repo' e (top.root_refused d h s r) =
-    subst (ClientCause crypto root config trust_path now repo repo') (err_same d e (sym r)) (wanting crypto root config trust_path now repo repo' d (λ other. first_refused crypto root config trust_path now repo repo' d (h other)))
-chain_cause crypto root config now repo repo' e (top.refresh_refused set set' d f w r) =
-    subst (ClientCause crypto root config trust_path now repo repo') (err_same d e (sym r)) (refresh_refused crypto root config trust_path now repo repo' set set' f d w)
-chain_cause crypto root config now repo repo' e (top.target_refused set set' mid d f w g r) =
-    subst (ClientCause crypto root config trust_path now repo repo') (err_same d e (sym r)) (search_refused crypto root config trust_path now repo repo' set set' mid f w d g)
-chain_cause crypto root config now repo repo' e (top.chain_given set set' mid chain f w g r) = cc
+module _ (anchor : Anchor) (repo repo' : Watched Folders) where
+  abbrev ChainCause : TufError → Type 0
+  ChainCause e = ClientCause anchor.crypto anchor.root anchor.config trust_path anchor.now repo repo' e
 
-module _ (crypto : Crypto) (policy : Meaning) (root bundle : List ℕ) (config : UpdaterConfig) (now : jiff.Timestamp) (repo repo' : Watched Folders) (source source' : Watched (List ℕ)) (max : ℕ) where
+  chain_cause : (e : TufError) → GivesChain anchor repo repo' (Err e) → ChainCause e
+  chain_cause e (top.root_refused d h s r) =
+      subst ChainCause (err_same d e (sym r)) (wanting anchor.crypto anchor.root anchor.config trust_path anchor.now repo repo' d (λ other. first_refused anchor.crypto anchor.root anchor.config trust_path anchor.now repo repo' d (h other)))
+  chain_cause e (top.refresh_refused set set' d f w r) =
+      subst ChainCause (err_same d e (sym r)) (refresh_refused anchor.crypto anchor.root anchor.config trust_path anchor.now repo repo' set set' f d w)
+  chain_cause e (top.target_refused set set' mid d f w g r) =
+      subst ChainCause (err_same d e (sym r)) (search_refused anchor.crypto anchor.root anchor.config trust_path anchor.now repo repo' set set' mid f w d g)
+  chain_cause e (top.chain_given set set' mid chain f w g r) = cc
+
+module _ (given : Given) (before after : Outside) where
   abbrev Cause : RootFault → Type 0
-  Cause fault = RootCause crypto policy root bundle config now repo repo' source source' max fault
+  Cause fault = RootCause given before after fault
 
-  by_tuf : (e : TufError) → ClientCause crypto root config trust_path now repo repo' e → source' ≡ source → Cause (root_of_tuf e)
+  by_tuf : (e : TufError) → ChainCause given.anchor before.repo after.repo e → after.source ≡ before.source → Cause (root_of_tuf e)
   by_tuf tuf.Json h s = (h, s)
   by_tuf (tuf.Malformed a) h s = (h, s)
   by_tuf tuf.NonIntegerNumber h s = (h, s)
@@ -60,7 +60,8 @@ module _ (crypto : Crypto) (policy : Meaning) (root bundle : List ℕ) (config :
   by_tuf tuf.NoMemory h s = tt
   by_tuf (tuf.Unbuilt a) h s = (h, s)
 
-  by_verify : (e : Error) (chain : TrustChain) → TrustsChain crypto root config now chain → JudgeCause crypto.accepts policy chain.file bundle source source' max e → Cause (root_of_verify e chain)
+  by_verify : (e : Error) (chain : TrustChain) → TrustsChain given.anchor chain
+      → JudgeCause given.anchor.crypto.accepts given.policy chain.file given.bundle before.source after.source given.max e → Cause (root_of_verify e chain)
   by_verify (verify.IdentityMismatch a b) chain t h = (t, h)
   by_verify (verify.IssuerMismatch a b) chain t h = (t, h)
   by_verify verify.SignatureInvalid chain t h = (t, h)
@@ -81,9 +82,9 @@ module _ (crypto : Crypto) (policy : Meaning) (root bundle : List ℕ) (config :
   by_verify verify.NoMemory chain t h = tt
   by_verify (verify.Unbuilt a) chain t h = (t, h)
 
-  pub runs_cause : (fault : RootFault) → Runs crypto policy root bundle config now repo repo' source source' max (Err fault) → Cause fault
-  runs_cause fault (top.chain_refused e c s r) = subst Cause (err_same (root_of_tuf e) fault (sym r)) (by_tuf e (chain_cause crypto root config now repo repo' e c) s)
+  pub runs_cause : (fault : RootFault) → Runs given before after (Err fault) → Cause fault
+  runs_cause fault (top.chain_refused e c s r) = subst Cause (err_same (root_of_tuf e) fault (sym r)) (by_tuf e (chain_cause given.anchor before.repo after.repo e c) s)
   runs_cause fault (top.judgement_refused chain e c j r) =
       subst Cause (err_same (root_of_verify e chain) fault (sym r))
-      (by_verify e chain (chain_trusts crypto root config now repo repo' chain c) (judge_refused crypto.accepts policy chain.file bundle source source' max e j))
+      (by_verify e chain (chain_trusts given.anchor before.repo after.repo chain c) (judge_refused given.anchor.crypto.accepts given.policy chain.file given.bundle before.source after.source given.max e j))
   runs_cause fault (top.accepted rooted c j r) = cc

@@ -2,7 +2,6 @@
 -- artifact (TUF specification, section 5; Sigstore bundle format; FIPS 180-4, FIPS 186-5).
 use Rattle.std.specs.Prelude.{◌≡◌, ◌≢◌, ℕ, List, true, false, Some, None, Result, Ok, Err, ⊤}
 use Rattle.sha2.specs.Sha256.{sha256}
-use Rattle.jiff_core.specs.declared.timestamp.Timestamp as jiff
 use Rattle.foundation.specs.Watched.{Watched}
 use Rattle.sigstore_types_parts.specs.declared.form.Form.{Form}
 use Rattle.sigstore_types_parts.specs.declared.form.Form.TheVariants as form
@@ -19,10 +18,7 @@ use Rattle.sigstore_crypto.specs.Good.{Judge, is_good_over}
 use Rattle.sigstore_crypto.specs.Key.{spki_key_of}
 use Rattle.sigstore_crypto.specs.Scheme.{digest_algorithm_of}
 use Rattle.sigstore_tuf_parts.specs.declared.error.Error.TheVariants as tuf
-use Rattle.sigstore_tuf_parts.specs.Crypto.{Crypto}
-use Rattle.sigstore_tuf.specs.declared.config.UpdaterConfig.{UpdaterConfig}
 use Rattle.sigstore_tuf.specs.Cause.{ClientCause}
-use Rattle.sigstore_tuf.specs.Repository.{Folders}
 use Rattle.sigstore_verify.specs.declared.error.Error.{Error}
 use Rattle.sigstore_verify.specs.declared.error.Error.TheVariants as verify
 use Rattle.sigstore_verify.specs.declared.policy.PublicKeyVerificationPolicy.{PublicKeyVerificationPolicy}
@@ -33,6 +29,7 @@ use Rattle.sigstore_verify.specs.Error.{error_of_crypto}
 use Rattle.sigstore_verify.specs.Judged.{scheme_of}
 use Rattle.sigstore_verify.specs.Policy.{Meaning, PublicKey}
 use Rattle.sigstore_verify.specs.Promise.{ReadWhole, ReadCause}
+use Rattle.sigstore_verify.specs.Given.{Given, Outside}
 use Rattle.sigstore_verify.specs.Root.{trust_fault, bundle_fault, trust_path, TrustsChain}
 
 -- a lower definition refuses, and its refusal is this one here
@@ -121,10 +118,11 @@ JudgeCause accepts (PublicKey policy) file bundle source source' max _ = ⊥
 
 -- Tuf: its cause is in the root and the repository. Verify: the chain that is handed back is trusted, and the cause is in its
 -- file, the bundle, the policy and the artifact. Want of memory is never told as one of these.
-abbrev pub RootCause : Crypto → Meaning → List ℕ → List ℕ → UpdaterConfig → jiff.Timestamp → Watched Folders → Watched Folders → Watched (List ℕ) → Watched (List ℕ) → ℕ → RootFault → Type 0
-RootCause crypto policy root bundle config now repo repo' source source' max (refusal.Tuf tuf.NoMemory) = ⊥
-RootCause crypto policy root bundle config now repo repo' source source' max (refusal.Tuf e) = ClientCause crypto root config trust_path now repo repo' e × (source' ≡ source)
-RootCause crypto policy root bundle config now repo repo' source source' max (refusal.Verify verify.NoMemory chain) = ⊥
-RootCause crypto policy root bundle config now repo repo' source source' max (refusal.Verify e chain) =
-    TrustsChain crypto root config now chain × JudgeCause crypto.accepts policy chain.file bundle source source' max e
-RootCause crypto policy root bundle config now repo repo' source source' max refusal.NoMemory = ⊤
+abbrev pub RootCause : Given → Outside → Outside → RootFault → Type 0
+RootCause given before after (refusal.Tuf tuf.NoMemory) = ⊥
+RootCause given before after (refusal.Tuf e) =
+    ClientCause given.anchor.crypto given.anchor.root given.anchor.config trust_path given.anchor.now before.repo after.repo e × (after.source ≡ before.source)
+RootCause given before after (refusal.Verify verify.NoMemory chain) = ⊥
+RootCause given before after (refusal.Verify e chain) =
+    TrustsChain given.anchor chain × JudgeCause given.anchor.crypto.accepts given.policy chain.file given.bundle before.source after.source given.max e
+RootCause given before after refusal.NoMemory = ⊤

@@ -112,18 +112,8 @@ error_of_crypto (crypto.InvalidKey rule) = Crypto
 error_of_crypto crypto.NoMemory = NoMemory
 error_of_crypto (crypto.Unbuilt form) = Unbuilt form
 
--- a bundle that hasn't the structure that its policy needs
-abbrev pub error_of_types : TypesError → Error
-error_of_types types.Json = Bundle
-error_of_types types.Float = Bundle
-error_of_types (types.Field member) = Bundle
-error_of_types types.Base64 = Bundle
-error_of_types types.Hex = Bundle
-error_of_types (types.Length expected actual) = Bundle
-error_of_types types.MediaType = Bundle
-error_of_types types.Kind = Bundle
-error_of_types (types.Checkpoint rule) = Bundle
-error_of_types types.NoEntry = Bundle
-error_of_types types.NoProof = Bundle
-error_of_types types.NoMemory = NoMemory
-error_of_types (types.Unbuilt form) = Unbuilt form
+-- A refusal of the crates of values: want of memory and a form that isn't built stay what they are, and every other is this one.
+abbrev pub lowered : Error → TypesError → Error
+lowered otherwise types.NoMemory = NoMemory
+lowered otherwise (types.Unbuilt form) = Unbuilt form
+lowered otherwise _ = otherwise

@@ -18,9 +18,10 @@ use Rattle.sigstore_crypto.specs.Key.{spki_key_of}
 use Rattle.sigstore_crypto.specs.Good.{Judge, is_good_over}
 use Rattle.sigstore_verify.specs.declared.error.Error.{Error}
 use Rattle.sigstore_verify.specs.declared.error.Error.TheVariants.{SignatureInvalid, ArtifactMismatch, UnsupportedArtifact, Unbuilt}
+use Rattle.sigstore_verify.specs.declared.error.Error.TheVariants as verify
 use Rattle.sigstore_verify.specs.declared.policy.PublicKeyVerificationPolicy.{PublicKeyVerificationPolicy}
 use Rattle.sigstore_verify.specs.declared.report.VerificationResult.{VerificationResult}
-use Rattle.sigstore_verify.specs.Error.{error_of_crypto, error_of_types}
+use Rattle.sigstore_verify.specs.Error.{error_of_crypto, lowered}
 use Rattle.sigstore_verify.specs.Policy.{Meaning, PublicKey}
 
 -- a lower call's value, or what its refusal is here
@@ -30,7 +31,7 @@ by_crypto (Err e) = Err (error_of_crypto e)
 
 abbrev pub by_types : {A : Type 0} → Result A TypesError → Result A Error
 by_types (Ok x) = Ok x
-by_types (Err e) = Err (error_of_types e)
+by_types (Err e) = Err (lowered verify.Bundle e)
 
 -- the scheme under which the key signed: that of the key and the message digest's algorithm, and the key's own where the
 -- bundle tells no digest
@@ -50,7 +51,8 @@ needed_of (Some Sha2512) = Err (Unbuilt form.Digest)
 needed_of (Some Sha3256) = Err (Unbuilt form.Digest)
 needed_of (Some Sha3384) = Err (Unbuilt form.Digest)
 
--- before the artifact is read: the bundle's structure, the policy's key, its scheme, and the digest that it needs
+-- Before the artifact is read: the bundle's structure (else a signature that was never logged passes), the policy's key (the
+-- bundle's own hint is never a key), its scheme (else a bundle could choose one), and the digest that it needs.
 unfoldable pub prepared_of : PublicKeyVerificationPolicy → Bundle → Result VerificationKey Error
 prepared_of policy bundle = do
   _ ← by_types (structure_of bundle policy.verify_tlog)
@@ -76,7 +78,8 @@ key_report_of policy = record {
   verified_timestamps = [];
 }
 
--- after the artifact was read to this digest: the bundle's digest of the message, then the signature
+-- After the artifact was read to this digest: the bundle's digest of the message is it (else the bundle is of another artifact),
+-- then the signature is good over it (else anyone could have written the bundle).
 abbrev pub content_judged_of : Judge → VerificationKey → SignatureContent → List ℕ → Result ⊤ Error
 content_judged_of accepts key (OfMessage message) digest =
     if is_bound message.message_digest digest then

@@ -1,11 +1,9 @@
 -- The top call: from a pinned root down to one artifact.
 use Rattle.std.specs.Prelude.{◌≡◌, ◌≢◌, ℕ, List, [], ◌∷◌, Result, Ok, Err, codes}
 use Rattle.sha2.specs.Sha256.{sha256}
-use Rattle.jiff_core.specs.declared.timestamp.Timestamp as jiff
 use Rattle.foundation.specs.Watched.{Watched}
 use Rattle.sigstore_types_parts.specs.declared.hash_algorithm.HashAlgorithm.TheVariants.{Sha2256}
 use Rattle.sigstore_types_parts.specs.declared.error.TypesError.{TypesError}
-use Rattle.sigstore_types_parts.specs.declared.error.TypesError.TheVariants as types
 use Rattle.sigstore_types.specs.declared.bundle.Bundle.{Bundle}
 use Rattle.sigstore_types.specs.declared.trusted_root.TrustedRoot.{TrustedRoot}
 use Rattle.sigstore_types.specs.Bundle.{bundle_of_bytes}
@@ -13,9 +11,7 @@ use Rattle.sigstore_types.specs.TrustedRoot.{trusted_root_of_bytes}
 use Rattle.sigstore_crypto.specs.Good.{Judge}
 use Rattle.sigstore_tuf_parts.specs.declared.error.Error.{Error as TufError}
 use Rattle.sigstore_tuf_parts.specs.declared.error.Error.TheVariants as tuf
-use Rattle.sigstore_tuf_parts.specs.Crypto.{Crypto}
 use Rattle.sigstore_tuf.specs.Repository.{Folders}
-use Rattle.sigstore_tuf.specs.declared.config.UpdaterConfig.{UpdaterConfig}
 use Rattle.sigstore_tuf.specs.declared.documents.InForce.{InForce}
 use Rattle.sigstore_tuf.specs.declared.chain.TrustChain.{TrustChain}
 use Rattle.sigstore_tuf.specs.Update.{first_root_of}
@@ -24,11 +20,13 @@ use Rattle.sigstore_tuf.specs.Target.{GetsTarget}
 use Rattle.sigstore_tuf.specs.Trusted.{Trusted}
 use Rattle.sigstore_verify.specs.declared.error.Error.{Error}
 use Rattle.sigstore_verify.specs.declared.error.Error.TheVariants as verify
+use Rattle.sigstore_verify.specs.Error.{lowered}
 use Rattle.sigstore_verify.specs.declared.report.Kept.{Kept}
 use Rattle.sigstore_verify.specs.declared.root.Rooted.{Rooted}
 use Rattle.sigstore_verify.specs.declared.root.RootFault.{RootFault}
 use Rattle.sigstore_verify.specs.declared.root.RootFault.TheVariants.{Tuf, Verify, NoMemory}
 use Rattle.sigstore_verify.specs.Policy.{Meaning, PublicKey}
+use Rattle.sigstore_verify.specs.Given.{Anchor, Given, Outside}
 use Rattle.sigstore_verify.specs.Accepts.{AcceptsKey}
 use Rattle.sigstore_verify.specs.Judged.{judged_of}
 use Rattle.sigstore_verify.specs.Trust.{usable_of}
@@ -42,15 +40,11 @@ trust_path = codes "trusted_root.json"
 
 -- a trust file that isn't read
 abbrev pub trust_fault : TypesError → Error
-trust_fault types.NoMemory = verify.NoMemory
-trust_fault (types.Unbuilt form) = verify.Unbuilt form
-trust_fault _ = verify.TrustRoot
+trust_fault e = lowered verify.TrustRoot e
 
 -- a bundle that isn't read
 abbrev pub bundle_fault : TypesError → Error
-bundle_fault types.NoMemory = verify.NoMemory
-bundle_fault (types.Unbuilt form) = verify.Unbuilt form
-bundle_fault _ = verify.InvalidBundle
+bundle_fault e = lowered verify.InvalidBundle e
 
 abbrev pub or_fault : {T : Type 0} → (TypesError → Error) → Result T TypesError → Result T Error
 or_fault fault (Ok x) = Ok x
@@ -64,19 +58,21 @@ bundle_of bytes = or_fault bundle_fault (bundle_of_bytes bytes)
 
 -- ---- the chain of documents
 
--- The chain is had by a first root, a refresh and a search, in this order; the first that refuses answers.
-pub data GivesChain (crypto : Crypto) (root : List ℕ) (config : UpdaterConfig) (now : jiff.Timestamp) (repo repo' : Watched Folders) (result : Result TrustChain TufError) : Type 0 where
-  root_refused : (e : TufError) → (e ≢ tuf.NoMemory → first_root_of crypto root ≡ Err e) → repo' ≡ repo → result ≡ Err e → GivesChain crypto root config now repo repo' result
-  refresh_refused : (set set' : InForce) (e : TufError) → first_root_of crypto root ≡ Ok set → Refreshes crypto config now set set' repo repo' (Err e) → result ≡ Err e
-      → GivesChain crypto root config now repo repo' result
-  target_refused : (set set' : InForce) (mid : Watched Folders) (e : TufError) → first_root_of crypto root ≡ Ok set → Refreshes crypto config now set set' repo mid (Ok tt)
-      → GetsTarget set' config trust_path now mid repo' (Err e) → result ≡ Err e → GivesChain crypto root config now repo repo' result
-  chain_given : (set set' : InForce) (mid : Watched Folders) (chain : TrustChain) → first_root_of crypto root ≡ Ok set → Refreshes crypto config now set set' repo mid (Ok tt)
-      → GetsTarget set' config trust_path now mid repo' (Ok chain) → result ≡ Ok chain → GivesChain crypto root config now repo repo' result
+-- The chain comes from a first root, a refresh and a search, in this order; the first that refuses answers.
+pub data GivesChain (anchor : Anchor) (repo repo' : Watched Folders) (result : Result TrustChain TufError) : Type 0 where
+  root_refused : (e : TufError) → (e ≢ tuf.NoMemory → first_root_of anchor.crypto anchor.root ≡ Err e) → repo' ≡ repo → result ≡ Err e → GivesChain anchor repo repo' result
+  refresh_refused : (set set' : InForce) (e : TufError) → first_root_of anchor.crypto anchor.root ≡ Ok set → Refreshes anchor.crypto anchor.config anchor.now set set' repo repo' (Err e)
+      → result ≡ Err e → GivesChain anchor repo repo' result
+  target_refused : (set set' : InForce) (mid : Watched Folders) (e : TufError) → first_root_of anchor.crypto anchor.root ≡ Ok set
+      → Refreshes anchor.crypto anchor.config anchor.now set set' repo mid (Ok tt) → GetsTarget set' anchor.config trust_path anchor.now mid repo' (Err e) → result ≡ Err e
+      → GivesChain anchor repo repo' result
+  chain_given : (set set' : InForce) (mid : Watched Folders) (chain : TrustChain) → first_root_of anchor.crypto anchor.root ≡ Ok set
+      → Refreshes anchor.crypto anchor.config anchor.now set set' repo mid (Ok tt) → GetsTarget set' anchor.config trust_path anchor.now mid repo' (Ok chain) → result ≡ Ok chain
+      → GivesChain anchor repo repo' result
 
 -- the chain is trusted from the given root at the moment, for the trust file
-abbrev pub TrustsChain : Crypto → List ℕ → UpdaterConfig → jiff.Timestamp → TrustChain → Type 0
-TrustsChain crypto root config now chain = Trusted crypto root now config.max_delegations trust_path chain
+abbrev pub TrustsChain : Anchor → TrustChain → Type 0
+TrustsChain anchor chain = Trusted anchor.crypto anchor.root anchor.now anchor.config.max_delegations trust_path chain
 
 -- ---- the judgement
 
@@ -100,31 +96,35 @@ abbrev pub root_of_verify : Error → TrustChain → RootFault
 root_of_verify verify.NoMemory chain = NoMemory
 root_of_verify e chain = Verify e chain
 
--- The top call is the chain and then the judgement under the chain's file; the first that refuses answers.
-pub data Runs (crypto : Crypto) (policy : Meaning) (root bundle : List ℕ) (config : UpdaterConfig) (now : jiff.Timestamp) (repo repo' : Watched Folders) (source source' : Watched (List ℕ)) (max : ℕ) (result : Result Rooted RootFault) : Type 0 where
-  chain_refused : (e : TufError) → GivesChain crypto root config now repo repo' (Err e) → source' ≡ source → result ≡ Err (root_of_tuf e)
-      → Runs crypto policy root bundle config now repo repo' source source' max result
-  judgement_refused : (chain : TrustChain) (e : Error) → GivesChain crypto root config now repo repo' (Ok chain) → JudgesBundle crypto.accepts policy chain.file bundle source source' max (Err e)
-      → result ≡ Err (root_of_verify e chain) → Runs crypto policy root bundle config now repo repo' source source' max result
-  accepted : (rooted : Rooted) → GivesChain crypto root config now repo repo' (Ok rooted.chain)
-      → JudgesBundle crypto.accepts policy rooted.chain.file bundle source source' max (Ok (record { result = rooted.result; digests = rooted.digests }))
-      → result ≡ Ok rooted → Runs crypto policy root bundle config now repo repo' source source' max result
+-- the judgement of what is asked, under a trust file
+abbrev pub JudgesGiven : Given → List ℕ → Outside → Outside → Result Kept Error → Type 0
+JudgesGiven given file before after result = JudgesBundle given.anchor.crypto.accepts given.policy file given.bundle before.source after.source given.max result
+
+-- The top call is the chain and then the judgement under the chain's file; the first that refuses answers. The artifact stays
+-- unread where there is no chain.
+pub data Runs (given : Given) (before after : Outside) (result : Result Rooted RootFault) : Type 0 where
+  chain_refused : (e : TufError) → GivesChain given.anchor before.repo after.repo (Err e) → after.source ≡ before.source → result ≡ Err (root_of_tuf e) → Runs given before after result
+  judgement_refused : (chain : TrustChain) (e : Error) → GivesChain given.anchor before.repo after.repo (Ok chain) → JudgesGiven given chain.file before after (Err e)
+      → result ≡ Err (root_of_verify e chain) → Runs given before after result
+  accepted : (rooted : Rooted) → GivesChain given.anchor before.repo after.repo (Ok rooted.chain)
+      → JudgesGiven given rooted.chain.file before after (Ok (record { result = rooted.result; digests = rooted.digests })) → result ≡ Ok rooted → Runs given before after result
 
 -- the bundle is accepted under the policy, by the digest of its artifact
 abbrev pub AcceptsUnder : Judge → Meaning → Bundle → List ℕ → Type 0
 AcceptsUnder accepts (PublicKey policy) bundle digest = AcceptsKey accepts policy bundle digest
 
--- What an acceptance means: the chain that is handed back is trusted from the given root; its file has a reading as the trust file, and the bundle
--- has a reading; these bytes are exactly those that a telling source gave up to its end; by their SHA-256 value the bundle is accepted under the
+-- What an acceptance means: the chain that is handed back is trusted from the given root; its file has a reading as the trust file, which
+-- can be used, and the bundle has a reading; these bytes are exactly those that a telling source gave up to its end; by their SHA-256 value the bundle is accepted under the
 -- policy with this report; and the digests are that value.
-pub record IsAccepted (crypto : Crypto) (policy : Meaning) (root bundle : List ℕ) (config : UpdaterConfig) (now : jiff.Timestamp) (source source' : Watched (List ℕ)) (max : ℕ) (rooted : Rooted) : Type 0 where
-  pub trusted : TrustsChain crypto root config now rooted.chain
+pub record IsAccepted (given : Given) (before after : Outside) (rooted : Rooted) : Type 0 where
+  pub trusted : TrustsChain given.anchor rooted.chain
   pub trust : TrustedRoot
   pub trust_read : trusted_root_of_bytes rooted.chain.file ≡ Ok trust
+  pub usable : usable_of trust ≡ Ok tt
   pub reading : Bundle
-  pub read : bundle_of_bytes bundle ≡ Ok reading
+  pub read : bundle_of_bytes given.bundle ≡ Ok reading
   pub bytes : List ℕ
-  pub whole : ReadWhole source source' max bytes
-  pub judged : judged_of crypto.accepts policy reading (sha256 bytes) ≡ Ok rooted.result
-  pub means : AcceptsUnder crypto.accepts policy reading (sha256 bytes)
+  pub whole : ReadWhole before.source after.source given.max bytes
+  pub judged : judged_of given.anchor.crypto.accepts given.policy reading (sha256 bytes) ≡ Ok rooted.result
+  pub means : AcceptsUnder given.anchor.crypto.accepts given.policy reading (sha256 bytes)
   pub digests : rooted.digests ≡ (Sha2256, sha256 bytes) ∷ []

@@ -1,7 +1,7 @@
 // Why a bundle isn't accepted.
 ghost use Rattle.std.specs.Prelude.{◌≡◌};
 ghost use Rattle.sigstore_verify.specs.declared.error.Error.TheVariants.{NoMemory as Want};
-ghost use Rattle.sigstore_verify.specs.Error.{number_of, name_of, certificate_number_of, certificate_name_of, log_number_of, log_name_of, timestamp_number_of, timestamp_name_of, error_of_crypto, error_of_types};
+ghost use Rattle.sigstore_verify.specs.Error.{number_of, name_of, certificate_number_of, certificate_name_of, log_number_of, log_name_of, timestamp_number_of, timestamp_name_of, error_of_crypto, lowered};
 
 use foundation::NoMemory;
 use jiff::Timestamp;
@@ -12,69 +12,104 @@ use std::{error, fmt};
 /// Why a signing certificate isn't accepted.
 #[derive(Debug, PartialEq, Drop)]
 pub enum CertificateError {
+    /// The certificate has no reading by its grammar (RFC 5280, section 4.1).
     Malformed,
+    /// No path leads from the certificate to an authority of the trust file (RFC 5280, section 6).
     ChainInvalid,
+    /// No authority of the trust file was valid at the time.
     NoValidAuthority {
         time: Timestamp,
     },
+    /// The certificate's validity begins after the time.
     NotYetValid {
         time: Timestamp,
         not_before: Timestamp,
     },
+    /// The certificate's validity ended before the time.
     Expired {
         time: Timestamp,
         not_after: Timestamp,
     },
+    /// No timestamp of a certificate log in the certificate is good (RFC 6962, section 3.2).
     Sct,
 }
 
 /// Why an entry of a transparency log isn't accepted.
 #[derive(Debug, PartialEq, Drop)]
 pub enum TransparencyLogError {
+    /// The trust file has no log of this id.
     UnknownLog { log_id: LogKeyId },
+    /// The entry isn't shown to be in the log's tree (RFC 6962, section 2.1.1).
     InclusionProof,
+    /// The log's signed tree head isn't read, or isn't signed by the log.
     Checkpoint,
+    /// The log's promise to include the entry isn't signed by the log.
     InclusionPromise,
+    /// The entry is of another signature, artifact or certificate than the bundle.
     EntryMismatch,
+    /// The log's time for the entry is missing where it is needed, or outside the log's validity.
     IntegratedTime,
+    /// The entry's body has no reading by its kind's grammar.
     MalformedEntry,
 }
 
 /// Why a time-stamp token isn't accepted.
 #[derive(Debug, PartialEq, Drop)]
 pub enum TimestampError {
+    /// The token isn't read, or isn't signed by an authority over the bundle's signature (RFC 3161).
     Invalid,
+    /// The token's time is outside its authority's validity.
     OutsideAuthorityValidity { time: Timestamp },
+    /// A verified time is needed, and the bundle gives none.
     NoVerifiedTimestamp,
 }
 
 /// Why a bundle isn't accepted.
 #[derive(Debug, PartialEq, Drop)]
 pub enum Error {
+    /// The certificate is for another identity than the policy's.
     IdentityMismatch {
         expected: Text,
         actual: Option<Text>,
     },
+    /// The certificate names another issuer of identities than the policy's.
     IssuerMismatch {
         expected: Text,
         actual: Option<Text>,
     },
+    /// The signature isn't good over the artifact's digest under the key.
     SignatureInvalid,
+    /// The bundle tells another digest of its message than the artifact's.
     ArtifactMismatch,
+    /// The scheme signs the message itself, and only the artifact's digest is there.
     UnsupportedArtifact,
+    /// The signing certificate isn't accepted.
     Certificate(CertificateError),
+    /// An entry of a transparency log isn't accepted.
     TransparencyLog(TransparencyLogError),
+    /// A time-stamp token isn't accepted.
     Timestamp(TimestampError),
+    /// The bundle's bytes have no reading by its grammar.
     InvalidBundle,
+    /// The bundle has parts that don't go together.
     UnsupportedBundle,
+    /// The trust file was read, and can't be used.
     InvalidTrustRoot,
+    /// A value of the trust file or the bundle is outside its type's grammar.
     Types,
+    /// The policy's key isn't read, or it has no scheme with the message digest's algorithm.
     Crypto,
+    /// The bundle lacks what its policy needs: an entry of a log.
     Bundle,
+    /// The trust file's bytes have no reading by its grammar.
     TrustRoot,
+    /// A certificate of the trust file has no reading.
     TrustedCertificate,
+    /// A read of the artifact failed, or it is longer than the limit.
     ArtifactRead(ReadError),
+    /// An allocation was refused.
     NoMemory,
+    /// The input is of a form that is known and isn't built yet.
     Unbuilt(Form),
 }
 
@@ -234,14 +269,21 @@ impl From<sigstore_crypto::Error> for Error {
     }
 }
 
-// Why a bundle hasn't the structure that its policy needs.
-pub(crate) fn of_structure(fault: TypesError) -> Error
-    ensures { result ≡ error_of_types fault }
+// A refusal of the crates of values: want of memory and a form that isn't built stay what they are, and every
+// other is this one.
+pub(crate) fn lowered(fault: TypesError, otherwise: Error) -> Error
+    ensures { result ≡ lowered otherwise fault }
 {
     match fault {
-        TypesError::NoMemory => Error::NoMemory,
-        TypesError::Unbuilt(form) => Error::Unbuilt(form),
-        _ => Error::Bundle,
+        TypesError::NoMemory => {
+            drop(otherwise);
+            Error::NoMemory
+        }
+        TypesError::Unbuilt(form) => {
+            drop(otherwise);
+            Error::Unbuilt(form)
+        }
+        _ => otherwise,
     }
 }
 

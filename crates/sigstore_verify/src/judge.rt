@@ -7,7 +7,7 @@ ghost use Rattle.sigstore_verify.specs.declared.error.Error.TheVariants.{NoMemor
 ghost use Rattle.sigstore_verify.specs.Judged.{by_types, by_crypto, scheme_of, needed_of, prepared_of, key_report_of, content_judged_of};
 ghost use Rattle.sigstore_types.specs.Bundle.{structure_of};
 
-use crate::error::{Error, of_structure};
+use crate::error::{Error, lowered};
 use crate::policy::PublicKeyVerificationPolicy;
 use crate::report::VerificationResult;
 use foundation::Sequence;
@@ -16,15 +16,19 @@ use sigstore_types::{Bundle, SignatureContent, validate_structure};
 use sigstore_types_parts::{Form, HashAlgorithm, Sha256Hash, SignatureBytes};
 use std::alloc::Global;
 
+// What the policy needs of the log is there: else a signature that was never logged passes, and the owner of
+// a stolen key is never noticed.
 fn check_structure(bundle: &Bundle, verify_tlog: bool) -> Result<(), Error>
     ensures { result ≡ by_types (structure_of bundle.now verify_tlog) }
 {
     match validate_structure(bundle, verify_tlog) {
         Ok(()) => Ok(()),
-        Err(fault) => Err(of_structure(fault)),
+        Err(fault) => Err(lowered(fault, Error::Bundle)),
     }
 }
 
+// The scheme is that of the policy's key and the digest that the bundle tells, never one that the bundle
+// names: a bundle can't choose a weaker one.
 fn scheme_of(
     scheme: SigningScheme,
     content: &SignatureContent,
@@ -41,6 +45,7 @@ fn scheme_of(
     }
 }
 
+// The one digest that is taken of the artifact is SHA-256; a scheme over another one can't be judged by it.
 fn needed(algorithm: Option<HashAlgorithm>) -> Result<(), Error>
     ensures { result ≡ needed_of algorithm }
 {
@@ -51,7 +56,8 @@ fn needed(algorithm: Option<HashAlgorithm>) -> Result<(), Error>
     }
 }
 
-// Everything that doesn't need the artifact.
+// Everything that doesn't need the artifact, so that a bundle that can't be accepted costs no reading of
+// a long file.
 #[tactic(auto, unfolding(crate::specs::Judged::prepared_of))]
 pub(crate) fn prepare(
     alloc: Global,
@@ -86,7 +92,8 @@ fn is_signed<C: CryptoProvider>(
         .is_ok()
 }
 
-// The digest and the signature of a message.
+// The digest and the signature of a message. The digest that the bundle tells is compared first: a bundle
+// that belongs to another artifact is told from a signature that is bad.
 pub(crate) fn judge_content<C: CryptoProvider>(
     provider: &C,
     key: &VerificationKey,

@@ -3,10 +3,11 @@ ghost use Rattle.std.specs.Prelude.{◌≡◌, ◌≢◌, ℕ, List, Ok, Err, If
 ghost use Rattle.sigstore_tuf_parts.specs.Crypto.{crypto_of};
 ghost use Rattle.sigstore_tuf.specs.Update.{first_root_of};
 ghost use Rattle.sigstore_verify.specs.declared.error.Error.TheVariants.{NoMemory as Want};
-ghost use Rattle.sigstore_verify.specs.Root.{trust_fault, bundle_fault, trust_of, bundle_of, GivesChain, JudgesBundle, root_of_tuf, root_of_verify, Runs, IsAccepted};
-ghost use Rattle.sigstore_verify.specs.Cause.{RootCause};
+ghost use Rattle.sigstore_verify.specs.Root.{trust_of, bundle_of, GivesChain, JudgesBundle, root_of_tuf, root_of_verify};
+ghost use Rattle.sigstore_verify.specs.Given.{Anchor, Given, Outside};
+ghost use Rattle.sigstore_verify.specs.Promises.{Promises};
 
-use crate::error::Error;
+use crate::error::{Error, lowered};
 use crate::policy::Policy;
 use crate::report::{Kept, VerificationResult};
 use crate::verifier::Verifier;
@@ -18,8 +19,9 @@ use sigstore_tuf::{
     get_target_parts, refresh_parts,
 };
 use sigstore_types::{Bundle, TrustedRoot};
-use sigstore_types_parts::{Armor, ArtifactDigest, TypesError};
+use sigstore_types_parts::{Armor, ArtifactDigest};
 use std::alloc::Global;
+use std::fmt;
 
 // The target that is the trust file.
 const TRUST_PATH: &str = "trusted_root.json";
@@ -37,8 +39,11 @@ pub struct Rooted {
 /// judged under; or want of memory.
 #[derive(Drop)]
 pub enum RootFault {
+    /// No chain of documents authorises a trust file; the artifact wasn't read.
     Tuf(sigstore_tuf_parts::Error),
+    /// The bundle isn't accepted under the trust file of this chain, which is trusted from the root.
     Verify { fault: Error, chain: TrustChain },
+    /// An allocation was refused; nothing is said of root, repository or bundle.
     NoMemory,
 }
 
@@ -63,33 +68,13 @@ fn verify_fault(fault: Error, chain: TrustChain) -> RootFault
     }
 }
 
-fn trust_refusal(e: TypesError) -> Error
-    ensures { result ≡ trust_fault e }
-{
-    match e {
-        TypesError::NoMemory => Error::NoMemory,
-        TypesError::Unbuilt(form) => Error::Unbuilt(form),
-        _ => Error::TrustRoot,
-    }
-}
-
-fn bundle_refusal(e: TypesError) -> Error
-    ensures { result ≡ bundle_fault e }
-{
-    match e {
-        TypesError::NoMemory => Error::NoMemory,
-        TypesError::Unbuilt(form) => Error::Unbuilt(form),
-        _ => Error::InvalidBundle,
-    }
-}
-
 fn read_trust(alloc: Global, bytes: &[u8]) -> Result<TrustedRoot, Error>
     ensures ok { IfOk result (λ trust. trust_of bytes.now ≡ Ok trust) }
     ensures err { IfErr result (λ e. e ≢ Want → trust_of bytes.now ≡ Err e) }
 {
     match TrustedRoot::from_json(alloc, bytes) {
         Ok(trust) => Ok(trust),
-        Err(e) => Err(trust_refusal(e)),
+        Err(e) => Err(lowered(e, Error::TrustRoot)),
     }
 }
 
@@ -99,7 +84,7 @@ fn read_bundle(alloc: Global, bytes: &[u8]) -> Result<Bundle, Error>
 {
     match Bundle::from_json(alloc, bytes) {
         Ok(bundle) => Ok(bundle),
-        Err(e) => Err(bundle_refusal(e)),
+        Err(e) => Err(lowered(e, Error::InvalidBundle)),
     }
 }
 
@@ -114,8 +99,9 @@ fn chain_by<C: CryptoProvider, M: Armor, R: Repository, S: MetadataStore>(
     config: &UpdaterConfig,
     now: Timestamp,
 ) -> Result<TrustChain, sigstore_tuf_parts::Error>
-    ensures gives { (root : List ℕ) → first_root_of (crypto_of (C.accepts provider.now) (M.armored armor.now) (M.key_in armor.now)) root ≡ Ok documents.old
-        → GivesChain (crypto_of (C.accepts provider.now) (M.armored armor.now) (M.key_in armor.now)) root config.now now (R.seen repo.old) (R.seen repo.new) result }
+    ensures gives { let crypto = crypto_of (C.accepts provider.now) (M.armored armor.now) (M.key_in armor.now) in
+        (root : List ℕ) → first_root_of crypto root ≡ Ok documents.old
+        → GivesChain (record { crypto = crypto; root = root; config = config.now; now = now }) (R.seen repo.old) (R.seen repo.new) result }
     ensures store { S.seen store.new ≡ S.seen store.old }
 {
     if let Err(e) = refresh_parts(alloc, provider, armor, documents, repo, store, config, now) {
@@ -138,8 +124,8 @@ fn trust_chain<'p, C: CryptoProvider, M: Armor, R: Repository, S: MetadataStore>
     config: &UpdaterConfig,
     now: Timestamp,
 ) -> Result<TrustChain, sigstore_tuf_parts::Error>
-    ensures gives { GivesChain (crypto_of (C.accepts provider.now) (M.armored armor.now) (M.key_in armor.now))
-        root_bytes.now config.now now (R.seen repo.old) (R.seen repo.new) result }
+    ensures gives { let crypto = crypto_of (C.accepts provider.now) (M.armored armor.now) (M.key_in armor.now) in
+        GivesChain (record { crypto = crypto; root = root_bytes.now; config = config.now; now = now }) (R.seen repo.old) (R.seen repo.new) result }
     ensures store { S.seen store.new ≡ S.seen store.old }
 {
     match TrustedMetadataSet::from_root(alloc, provider, armor, root_bytes) {
@@ -218,13 +204,12 @@ pub fn verify_from_root<
     max_artifact: u64,
     policy: &P,
 ) -> Result<Rooted, RootFault>
-    ensures runs { Runs (crypto_of (C.accepts provider.now) (M.armored armor.now) (M.key_in armor.now)) (P.meant policy.now)
-        root_bytes.now bundle_bytes.now config now (R.seen repo.old) (R.seen repo.new) (A.seen artifact.old) (A.seen artifact.new) max_artifact result }
-    ensures accepted { IfOk result (IsAccepted (crypto_of (C.accepts provider.now) (M.armored armor.now) (M.key_in armor.now)) (P.meant policy.now)
-        root_bytes.now bundle_bytes.now config now (A.seen artifact.old) (A.seen artifact.new) max_artifact) }
-    ensures refused { IfErr result (RootCause (crypto_of (C.accepts provider.now) (M.armored armor.now) (M.key_in armor.now)) (P.meant policy.now)
-        root_bytes.now bundle_bytes.now config now (R.seen repo.old) (R.seen repo.new) (A.seen artifact.old) (A.seen artifact.new) max_artifact) }
-    ensures store { S.seen store.new ≡ S.seen store.old }
+    ensures { let crypto = crypto_of (C.accepts provider.now) (M.armored armor.now) (M.key_in armor.now) in
+        let anchor : Anchor = record { crypto = crypto; root = root_bytes.now; config = config; now = now } in
+        let given : Given = record { anchor = anchor; policy = P.meant policy.now; bundle = bundle_bytes.now; max = max_artifact } in
+        let before : Outside = record { repo = R.seen repo.old; store = S.seen store.old; source = A.seen artifact.old } in
+        let after : Outside = record { repo = R.seen repo.new; store = S.seen store.new; source = A.seen artifact.new } in
+        Promises given before after result }
 {
     let chain = match trust_chain(
         alloc, provider, armor, root_bytes, repo, store, &config, now,
@@ -252,5 +237,15 @@ pub fn verify_from_root<
             })
         }
         Err(fault) => Err(verify_fault(fault, chain)),
+    }
+}
+
+impl fmt::Display for RootFault {
+    fn fmt<W: fmt::Write>(&self, f: &mut fmt::Formatter<W>) -> fmt::Result {
+        f.write_str(match self {
+            RootFault::Tuf(_) => "Tuf",
+            RootFault::Verify { .. } => "Verify",
+            RootFault::NoMemory => "NoMemory",
+        })
     }
 }

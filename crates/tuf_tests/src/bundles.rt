@@ -1,33 +1,22 @@
 // The refusal of each text, worked out by hand from the order of the members.
-use crate::words::{filled, hold, printed, word};
-use foundation::Duplicate;
+use crate::keys;
+use crate::words::{copied, good, hold, hold_filled, printed, word};
 use sigstore_types::*;
-use std::alloc::Global;
 use std::process::Abort;
-use std::test::Fail;
 
-// The word for a text of this kind.
-fn read(alloc: Global, kind: &str, bytes: &[u8]) -> Result<String, Fail> {
-    match kind {
-        "bundle" => word(alloc, &Bundle::from_json(alloc, bytes)),
-        "trust file" => word(alloc, &TrustedRoot::from_json(alloc, bytes)),
-        _ => Err(Fail::from("no such kind")),
+/// The answer of a call that is given a text; for any other name that of a call of sigstore_crypto.
+pub fn answer<X: AllocGlobal + Abort>(rt: &X, call: &str, given: &str) -> String {
+    match call {
+        "bundle" => word(rt, Bundle::from_json(rt.alloc(), given.as_bytes())),
+        "bundle of byte ff" => word(rt, Bundle::from_json(rt.alloc(), &[0xff])),
+        "bundle over hello" => over_hello(rt, given),
+        "trust file" => word(rt, TrustedRoot::from_json(rt.alloc(), given.as_bytes())),
+        "copied trust file" => trust_copied(rt, given),
+        _ => keys::answer(rt, call, given),
     }
 }
 
-// Each row has what stands in the text for its star, and the word for the text.
-fn check<X: AllocGlobal + Abort>(rt: &X, kind: &str, text: &str, rows: &str) -> Result<(), Fail> {
-    hold(
-        rt,
-        rows,
-        |alloc, part| read(alloc, kind, filled(alloc, text, part)?.as_bytes()),
-    )
-}
-
-#[test]
-fn texts_and_media_types(rt: HostRuntime) -> Result<(), Fail> {
-    let alloc = rt.alloc();
-    let rows = r#"{ => Json
+const MEDIA_TYPES: &str = r#"{ => Json
 {"mediaType":1.5} => Float
 {"other":[1e0]} => Float
 [] => Json
@@ -40,16 +29,11 @@ fn texts_and_media_types(rt: HostRuntime) -> Result<(), Fail> {
 {"mediaType":"application/vnd.dev.sigstore.bundle+json;version=0.2"} => Field { member: VerificationMaterial }
 {"mediaType":"application/vnd.dev.sigstore.bundle+json;version=0.3"} => Field { member: VerificationMaterial }
 {"mediaType":"application/vnd.dev.sigstore.bundle.v0.3+json"} => Field { member: VerificationMaterial }"#;
-    check(&rt, "bundle", "*", rows)?;
-    assert_eq!(rt; read(alloc, "bundle", &[0xff])?.as_str(), "Json");
-    Ok(())
-}
 
-#[test]
-fn verification_materials(rt: HostRuntime) -> Result<(), Fail> {
-    let text =
-        r#"{"messageSignature":{"signature":"AQ=="},"mediaType":"application/vnd.dev.sigstore.bundle.v0.3+json","verificationMaterial":*}"#;
-    let rows = r#"null => Field { member: VerificationMaterial }
+const MATERIAL: &str =
+    r#"{"messageSignature":{"signature":"AQ=="},"mediaType":"application/vnd.dev.sigstore.bundle.v0.3+json","verificationMaterial":*}"#;
+
+const MATERIALS: &str = r#"null => Field { member: VerificationMaterial }
 [] => Field { member: VerificationMaterial }
 {} => Field { member: VerificationMaterial }
 {"publicKey":null,"tlogEntries":0} => Field { member: VerificationMaterial }
@@ -70,15 +54,12 @@ fn verification_materials(rt: HostRuntime) -> Result<(), Fail> {
 {"publicKey":{},"timestampVerificationData":{"rfc3161Timestamps":0}} => Field { member: Rfc3161Timestamps }
 {"publicKey":{},"timestampVerificationData":{"rfc3161Timestamps":[]}} => Ok
 {"publicKey":{},"timestampVerificationData":{"rfc3161Timestamps":[0]}} => Unbuilt(Tokens)"#;
-    check(&rt, "bundle", text, rows)
-}
 
 // Message signatures, their digests, and envelopes.
-#[test]
-fn contents(rt: HostRuntime) -> Result<(), Fail> {
-    let text =
-        r#"{"mediaType":"application/vnd.dev.sigstore.bundle.v0.3+json","verificationMaterial":{"publicKey":{}}*}"#;
-    let rows = r#" => Json
+const CONTENT: &str =
+    r#"{"mediaType":"application/vnd.dev.sigstore.bundle.v0.3+json","verificationMaterial":{"publicKey":{}}*}"#;
+
+const CONTENTS: &str = r#" => Json
 ,"messageSignature":null => Json
 ,"messageSignature":0 => Field { member: MessageSignature }
 ,"messageSignature":{} => Field { member: Signature }
@@ -98,32 +79,42 @@ fn contents(rt: HostRuntime) -> Result<(), Fail> {
 ,"messageSignature":{"signature":"AQ=="},"dsseEnvelope":0 => Unbuilt(Envelope)
 ,"messageSignature":{},"dsseEnvelope":{} => Field { member: Signature }
 ,"messageSignature":{"signature":"AQ=="},"dsseEnvelope":null => Ok"#;
-    check(&rt, "bundle", text, rows)
+
+const HELLO: &str =
+    r#"{"mediaType":"application/vnd.dev.sigstore.bundle.v0.3+json","verificationMaterial":{"publicKey":{"hint":"k"}},"messageSignature":{"messageDigest":{"algorithm":"SHA2_256","digest":"LPJNul+wow4m6DsqxbninhsWHlwfp0JecwQzYpOLmCQ="},"signature":"AQ=="}}"#;
+
+// A copy of a bundle, and whether it has the structure that is wanted where the log is verified or not.
+fn over_hello<X: AllocGlobal + Abort>(rt: &X, call: &str) -> String {
+    let bundle = copied(
+        rt,
+        good(rt, Bundle::from_json(rt.alloc(), HELLO.as_bytes())),
+    );
+    match call {
+        "log" => structure(rt, bundle, true),
+        "no log" => structure(rt, bundle, false),
+        _ => printed(rt, bundle),
+    }
 }
 
-fn bundle_copied(alloc: Global, text: &str) -> Result<Bundle, TypesError> {
-    Ok(Bundle::from_json(alloc, text.as_bytes())?.duplicate(alloc)?)
+fn structure<X: AllocGlobal + Abort>(rt: &X, bundle: Bundle, verifies_log: bool) -> String {
+    let answer = validate_structure(&bundle, verifies_log);
+    drop(bundle);
+    printed(rt, answer)
 }
 
-#[test]
-fn a_bundle_over_hello(rt: HostRuntime) -> Result<(), Fail> {
-    let alloc = rt.alloc();
-    let text =
-        r#"{"mediaType":"application/vnd.dev.sigstore.bundle.v0.3+json","verificationMaterial":{"publicKey":{"hint":"k"}},"messageSignature":{"messageDigest":{"algorithm":"SHA2_256","digest":"LPJNul+wow4m6DsqxbninhsWHlwfp0JecwQzYpOLmCQ="},"signature":"AQ=="}}"#;
-    let bundle = bundle_copied(alloc, text)?;
-    // The digest's bytes are those of the base64 text.
-    let wanted =
-        r#"Bundle { media_type: "application/vnd.dev.sigstore.bundle.v0.3+json", content: MessageSignature(MessageSignature { message_digest: Some(MessageDigest { algorithm: Sha2256, digest: [44, 242, 77, 186, 95, 176, 163, 14, 38, 232, 59, 42, 197, 185, 226, 158, 27, 22, 30, 92, 31, 167, 66, 94, 115, 4, 51, 98, 147, 139, 152, 36] }), signature: [1] }), verification_material: VerificationMaterial { content: PublicKey { hint: Some("k") } } }"#;
-    assert_eq!(rt; printed(alloc, &bundle)?.as_str(), wanted);
-    assert_eq!(rt; validate_structure(&bundle, false), Ok(()));
-    assert_eq!(rt; validate_structure(&bundle, true), Err(TypesError::NoEntry));
-    Ok(())
+// The digest's bytes are those of the base64 text.
+const OVER_HELLO: &str =
+    r#"copy => Bundle { media_type: "application/vnd.dev.sigstore.bundle.v0.3+json", content: MessageSignature(MessageSignature { message_digest: Some(MessageDigest { algorithm: Sha2256, digest: [44, 242, 77, 186, 95, 176, 163, 14, 38, 232, 59, 42, 197, 185, 226, 158, 27, 22, 30, 92, 31, 167, 66, 94, 115, 4, 51, 98, 147, 139, 152, 36] }), signature: [1] }), verification_material: VerificationMaterial { content: PublicKey { hint: Some("k") } } }
+no log => Ok(())
+log => Err(NoEntry)"#;
+
+// Whether a copy of a trust file is the empty one.
+fn trust_copied<X: AllocGlobal + Abort>(rt: &X, text: &str) -> String {
+    let file = good(rt, TrustedRoot::from_json(rt.alloc(), text.as_bytes()));
+    printed(rt, copied(rt, file) == TrustedRoot {})
 }
 
-#[test]
-fn trust_files(rt: HostRuntime) -> Result<(), Fail> {
-    let alloc = rt.alloc();
-    let rows = r#"{} => Ok
+const TRUST_FILES: &str = r#"{} => Ok
 [] => Json
 { => Json
 {"tlogs":[]} => Ok
@@ -142,8 +133,14 @@ fn trust_files(rt: HostRuntime) -> Result<(), Fail> {
 {"timestampAuthorities":null} => Ok
 {"timestampAuthorities":{}} => Field { member: TimestampAuthorities }
 {"timestampAuthorities":[0]} => Unbuilt(Trust)"#;
-    check(&rt, "trust file", "*", rows)?;
-    let file = TrustedRoot::from_json(alloc, b"{}")?.duplicate(alloc)?;
-    assert_eq!(rt; file, TrustedRoot {});
-    Ok(())
+
+#[test]
+fn bundles(rt: HostRuntime) {
+    hold(&rt, "bundle", MEDIA_TYPES);
+    hold(&rt, "bundle of byte ff", " => Json");
+    hold_filled(&rt, "bundle", MATERIAL, MATERIALS);
+    hold_filled(&rt, "bundle", CONTENT, CONTENTS);
+    hold(&rt, "bundle over hello", OVER_HELLO);
+    hold(&rt, "trust file", TRUST_FILES);
+    hold(&rt, "copied trust file", "{} => true");
 }

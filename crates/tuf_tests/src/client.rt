@@ -2,15 +2,24 @@
 ghost use Rattle.std.specs.Prelude.{Some, true};
 
 use crate::provider::{One, p256};
-use crate::words::{hold, word};
+use crate::words::{check, good, halves, hold, key_bytes, printed, string, there, word};
 use foundation::{Duplicate, NoMemory};
 use jiff::Timestamp;
 use sigstore_crypto::CryptoProvider;
 use sigstore_tuf::*;
-use sigstore_types_parts::{Armor, Bytes, DerPublicKey, FailList};
+use sigstore_tuf_parts::Role;
+use sigstore_types_parts::{Armor, Bytes, FailList};
 use std::alloc::Global;
 use std::process::Abort;
-use std::test::Fail;
+
+/// The answer of a call by this name.
+pub fn answer<X: AllocGlobal + Abort>(rt: &X, call: &str) -> String {
+    match call {
+        "limits by default" => printed(rt, UpdaterConfig::default()),
+        "set of the root" => versions_of_a_set(rt),
+        _ => panic!(rt; "no call {call}"),
+    }
+}
 
 // Every text holds the same key.
 #[derive(Drop)]
@@ -54,158 +63,135 @@ const SNAPSHOT: &str =
 const TARGETS: &str =
     r#"{"signatures":[{"keyid":"k","sig":"01"}],"signed":{"_type":"targets","spec_version":"1.0.0","version":4,"expires":"2031-01-01T00:00:00Z","targets":{"a":{"length":2,"hashes":{"sha256":"44136fa355b3678a1146ad16f7e8649e94fb4fc21fe77e8310c060f61caaff8a"}}}}}"#;
 
-fn armor(alloc: Global) -> Result<OneKey, Fail> {
-    let key = DerPublicKey::from_base64(alloc, p256())?;
-    Ok(OneKey {
-        key: Bytes::new(alloc, key.as_bytes())?,
-    })
-}
-
-// Puts the documents, of which the timestamp may be absent.
-fn fill(alloc: Global, repo: &mut MemoryRepository, timestamp: &str) -> Result<(), Fail> {
-    if timestamp == "there" {
-        repo.put_metadata(alloc, "timestamp.json", TIMESTAMP.as_bytes())?;
+fn armor<X: AllocGlobal + Abort>(rt: &X) -> OneKey {
+    OneKey {
+        key: key_bytes(rt, p256()),
     }
-    repo.put_metadata(alloc, "snapshot.json", SNAPSHOT.as_bytes())?;
-    repo.put_metadata(alloc, "targets.json", TARGETS.as_bytes())?;
-    repo.put_target(alloc, "a", b"{}")?;
-    Ok(())
 }
 
-fn repository(alloc: Global, timestamp: &str) -> Result<MemoryRepository, Fail> {
-    let failures = FailList::new(Vec::new(alloc)).ok_or("a list")?;
-    let mut repo = MemoryRepository::new(alloc, failures);
-    fill(alloc, &mut repo, timestamp)?;
-    Ok(repo)
+fn put<X: AllocGlobal + Abort>(rt: &X, repo: &mut MemoryRepository, name: &str, text: &str) {
+    good(rt, repo.put_metadata(rt.alloc(), name, text.as_bytes()));
 }
 
-#[test]
-fn limits_by_default(rt: HostRuntime) -> Result<(), Fail> {
-    let limits = format!(in rt.alloc(); "{:?}", UpdaterConfig::default())?;
-    let wanted =
-        "UpdaterConfig { root_max_length: 512000, timestamp_max_length: 16384, snapshot_max_length: 2000000, targets_max_length: 5000000, target_max_length: 50000000, max_root_rotations: 32, max_delegations: 32 }";
-    assert_eq!(rt; limits.as_str(), wanted);
-    Ok(())
+// The documents, of which the timestamp may be absent.
+fn repository<X: AllocGlobal + Abort>(rt: &X, timestamp: &str) -> MemoryRepository {
+    let failures = there(rt, FailList::new(Vec::new(rt.alloc())));
+    let mut repo = MemoryRepository::new(rt.alloc(), failures);
+    if timestamp == "there" {
+        put(rt, &mut repo, "timestamp.json", TIMESTAMP);
+    }
+    put(rt, &mut repo, "snapshot.json", SNAPSHOT);
+    put(rt, &mut repo, "targets.json", TARGETS);
+    good(rt, repo.put_target(rt.alloc(), "a", b"{}"));
+    repo
+}
+
+const LIMITS: &str =
+    " => UpdaterConfig { root_max_length: 512000, timestamp_max_length: 16384, snapshot_max_length: 2000000, targets_max_length: 5000000, target_max_length: 50000000, max_root_rotations: 32, max_delegations: 32 }";
+
+fn version<T: Role>(document: Option<&T>) -> Option<u64> {
+    match document {
+        Some(document) => Some(document.version()),
+        None => None,
+    }
 }
 
 // The versions of the documents that are there.
-fn versions<C: CryptoProvider, M: Armor>(
-    alloc: Global,
+fn versions<X: AllocGlobal + Abort, C: CryptoProvider, M: Armor>(
+    rt: &X,
     set: &TrustedMetadataSet<C, M>,
-) -> Result<String, Fail> {
+) -> String {
     let root = set.root().version;
-    let timestamp = set.timestamp().map(|it| it.version);
-    let snapshot = set.snapshot().map(|it| it.version);
-    let targets = set.targets_role("targets").map(|it| it.version);
-    Ok(format!(in alloc; "{root} {timestamp:?} {snapshot:?} {targets:?}")?)
+    let (timestamp, snapshot) = (version(set.timestamp()), version(set.snapshot()));
+    let targets = version(set.targets_role("targets"));
+    printed(rt, (root, timestamp, snapshot, targets))
 }
 
-#[test]
-fn a_set_of_a_root(rt: HostRuntime) -> Result<(), Fail> {
-    let alloc = rt.alloc();
-    let armor = armor(alloc)?;
-    let set = TrustedMetadataSet::from_root(alloc, &One, &armor, ROOT.as_bytes())?;
-    assert_eq!(rt; versions(alloc, &set)?.as_str(), "1 None None None");
-    Ok(())
+fn versions_of_a_set<X: AllocGlobal + Abort>(rt: &X) -> String {
+    let armor = armor(rt);
+    let made = TrustedMetadataSet::from_root(rt.alloc(), &One, &armor, ROOT.as_bytes());
+    let set = good(rt, made);
+    let answer = versions(rt, &set);
+    drop(set);
+    drop(armor);
+    answer
 }
 
 // How many roots and roles a chain has, whether its documents are those of the repository, the length of
 // its target, and its file.
-fn shown(alloc: Global, chain: &TrustChain) -> Result<String, Fail> {
+fn shown<X: AllocGlobal + Abort>(rt: &X, chain: &TrustChain) -> String {
     let (roots, roles, length) = (chain.roots.len(), chain.roles.len(), chain.target.length);
     let timestamp = chain.timestamp.as_bytes() == TIMESTAMP.as_bytes();
     let snapshot = chain.snapshot.as_bytes() == SNAPSHOT.as_bytes();
     let file = &chain.file;
-    Ok(format!(in alloc; "{roots} {roles} {timestamp} {snapshot} {length} {file:?}")?)
+    printed(rt, (roots, roles, timestamp, snapshot, length, file))
 }
 
-fn chain_shown(
-    alloc: Global,
-    client: &Updater<One, OneKey, MemoryRepository, NoStore>,
-) -> Result<String, Fail> {
-    match client.chain(alloc)? {
-        Some(chain) => shown(alloc, &chain),
-        None => Ok(String::from_str(alloc, "none")?),
+type Client<'a> = Updater<'a, One, OneKey, MemoryRepository, NoStore>;
+
+fn chain_shown<X: AllocGlobal + Abort>(rt: &X, client: &Client) -> String {
+    match good(rt, client.chain(rt.alloc())) {
+        Some(chain) => {
+            let answer = shown(rt, &chain);
+            drop(chain);
+            answer
+        }
+        None => string(rt, "none"),
     }
 }
 
-fn told(
-    alloc: Global,
-    client: &mut Updater<One, OneKey, MemoryRepository, NoStore>,
-    call: &str,
-    now: Timestamp,
-) -> Result<String, Fail> {
+fn told<X: AllocGlobal + Abort>(rt: &X, client: &mut Client, call: &str, now: Timestamp) -> String {
     match call {
-        "chain" => chain_shown(alloc, client),
-        "refresh" => word(alloc, &client.refresh(alloc, now)),
-        "versions" => versions(alloc, client.trusted()),
-        path => Ok(format!(in alloc; "{:?}", client.get_target(alloc, path, now))?),
+        "chain" => chain_shown(rt, client),
+        "refresh" => word(rt, client.refresh(rt.alloc(), now)),
+        "versions" => versions(rt, client.trusted()),
+        path => printed(rt, client.get_target(rt.alloc(), path, now)),
     }
 }
 
-// Tries calls of one client of the root, one after the other, with so many next roots at most.
-fn called<X: AllocGlobal + Abort>(
-    rt: &X,
-    armor: &OneKey,
-    repo: &mut MemoryRepository,
-    now: Timestamp,
-    max_root_rotations: u32,
-    rows: &str,
-) -> Result<(), Fail> {
+fn told_all<X: AllocGlobal + Abort>(rt: &X, client: &mut Client, now: Timestamp, rows: &str) {
+    for row in rows.lines() {
+        let (call, wanted) = halves(rt, row, " => ");
+        check(rt, row, wanted, told(rt, client, call, now));
+    }
+}
+
+// Tries calls of one client of the root, one after the other, at a moment, over a repository in which the
+// timestamp is there or absent, with so many next roots at most.
+fn called<X: AllocGlobal + Abort>(rt: &X, timestamp: &str, now: &str, most: u32, rows: &str) {
     let config = UpdaterConfig {
-        max_root_rotations,
+        max_root_rotations: most,
         ..UpdaterConfig::default()
     };
-    match Updater::new(rt.alloc(), &One, armor, repo, ROOT.as_bytes()) {
-        Ok(client) => {
-            let mut client: Updater<One, OneKey, MemoryRepository, NoStore> = client.with_config(
-                config,
-            );
-            hold(rt, rows, |alloc, call| told(alloc, &mut client, call, now))
-        }
-        Err(refusal) => Err(refusal)?,
-    }
-}
-
-// The same at a moment, over a repository in which the timestamp is there or absent.
-fn called_over<X: AllocGlobal + Abort>(
-    rt: &X,
-    timestamp: &str,
-    now: &str,
-    max_root_rotations: u32,
-    rows: &str,
-) -> Result<(), Fail> {
-    let armor = armor(rt.alloc())?;
-    let mut repo = repository(rt.alloc(), timestamp)?;
-    called(
-        rt,
-        &armor,
-        &mut repo,
-        now.parse()?,
-        max_root_rotations,
-        rows,
-    )
+    let (armor, mut repo) = (armor(rt), repository(rt, timestamp));
+    let made = Updater::new(rt.alloc(), &One, &armor, &mut repo, ROOT.as_bytes());
+    let mut client: Client = good(rt, made).with_config(config);
+    told_all(rt, &mut client, good(rt, now.parse()), rows);
+    drop(client);
+    drop(repo);
+    drop(armor);
 }
 
 // The file `a` is `{}`.
 const CALLS: &str = "chain => none
 refresh => Ok
-versions => 1 Some(2) Some(3) Some(4)
+versions => (1, Some(2), Some(3), Some(4))
 a => Ok([123, 125])
-chain => 1 1 true true 2 [123, 125]";
+chain => (1, 1, true, true, 2, [123, 125])";
+
+const EXPIRED: &str = r#"refresh => Expired { role: "timestamp", expires: 2030-01-01T00:00:00Z }"#;
+
+const LIMITED: &str = "refresh => Transport(Rotations { max: 0 })";
+
+const ABSENT: &str = "refresh => Transport(Absent)";
 
 #[test]
-fn a_client_gets_a_target(rt: HostRuntime) -> Result<(), Fail> {
-    called_over(&rt, "there", "2025-01-01T00:00:00Z", 32, CALLS)
-}
-
-#[test]
-fn refreshes_are_judged(rt: HostRuntime) -> Result<(), Fail> {
-    let expired = r#"refresh => Expired { role: "timestamp", expires: 2030-01-01T00:00:00Z }"#;
-    let limited = "refresh => Transport(Rotations { max: 0 })";
-    let absent = "refresh => Transport(Absent)";
-    called_over(&rt, "there", "2030-01-01T00:00:00Z", 32, "refresh => Ok")?;
-    called_over(&rt, "there", "2030-01-01T00:00:01Z", 32, expired)?;
-    called_over(&rt, "there", "2025-01-01T00:00:00Z", 0, limited)?;
-    called_over(&rt, "absent", "2025-01-01T00:00:00Z", 32, absent)
+fn clients(rt: HostRuntime) {
+    hold(&rt, "limits by default", LIMITS);
+    hold(&rt, "set of the root", " => (1, None, None, None)");
+    called(&rt, "there", "2025-01-01T00:00:00Z", 32, CALLS);
+    called(&rt, "there", "2030-01-01T00:00:00Z", 32, "refresh => Ok");
+    called(&rt, "there", "2030-01-01T00:00:01Z", 32, EXPIRED);
+    called(&rt, "there", "2025-01-01T00:00:00Z", 0, LIMITED);
+    called(&rt, "absent", "2025-01-01T00:00:00Z", 32, ABSENT);
 }

@@ -2,16 +2,34 @@
 ghost use Rattle.std.specs.Prelude.{bytes_eq};
 ghost use Rattle.sigstore_crypto.specs.Good.{subject_of};
 
-use crate::words::{hold, printed};
+use crate::refusals;
+use crate::words::{
+    check, displayed, good, halves, hold, key_in, number, numbered, printed, text, there,
+};
 use foundation::Duplicate;
 use sigstore_crypto::*;
-use sigstore_types_parts::{
-    Bytes, DerPublicKey, FailList, Form, HashAlgorithm, SignatureBytes, Text,
-};
-use std::alloc::Global;
+use sigstore_types_parts::{Bytes, FailList, Form, HashAlgorithm, SignatureBytes, Text};
+use std::fmt::Debug;
 use std::fs;
 use std::num::NonZeroU32;
-use std::test::Fail;
+use std::process::Abort;
+
+/// The answer of a call that is given a text; for any other name that of a call of sigstore_tuf_parts.
+pub fn answer<X: AllocGlobal + Abort>(rt: &X, call: &str, given: &str) -> String {
+    match call {
+        "refusal of crypto" => named(rt, given),
+        "scheme" => scheme(rt, given),
+        "key algorithm" => resolved(rt, given),
+        "sha256" => hexadecimal(rt, sha256(given.as_bytes()).to_hex(rt.alloc())),
+        "sha384" => hexadecimal(rt, sha384(given.as_bytes()).to_hex(rt.alloc())),
+        "sha512" => hexadecimal(rt, sha512(given.as_bytes()).to_hex(rt.alloc())),
+        "from_spki" => key(rt, given),
+        "judgement" => judged(rt, given),
+        "answers_alike" => alike(rt, given.as_bytes()),
+        "source" => source_read(rt, given),
+        _ => refusals::answer(rt, call, given),
+    }
+}
 
 // Accepts a signature that equals its subject.
 struct Echo;
@@ -45,30 +63,24 @@ impl CryptoProvider for Echo {
     }
 }
 
-fn shown(alloc: Global, error: &Error) -> Result<String, Fail> {
-    let number = error.number();
-    Ok(format!(in alloc; "{number} {error}")?)
-}
-
-fn displayed(alloc: Global, error: &ReadError) -> Result<String, Fail> {
-    Ok(format!(in alloc; "{error}")?)
+fn shown<X: AllocGlobal + Abort>(rt: &X, error: Error) -> String {
+    numbered(rt, error.number(), error)
 }
 
 // The number and the display text of a refusal, or the display text of one of a reading.
-fn named(alloc: Global, name: &str) -> Result<String, Fail> {
+fn named<X: AllocGlobal + Abort>(rt: &X, name: &str) -> String {
     match name {
-        "Signing" => shown(alloc, &Error::Signing),
-        "Verification" => shown(alloc, &Error::Verification(VerificationFault::Refused)),
-        "InvalidKeyFormat" => shown(alloc, &Error::InvalidKeyFormat),
-        "UnsupportedAlgorithm" => shown(alloc, &Error::UnsupportedAlgorithm),
-        "Checkpoint" => shown(alloc, &Error::Checkpoint(CheckpointFault::NoHint)),
-        "InvalidCertificate" => shown(alloc, &Error::InvalidCertificate(CertificateFault::San)),
-        "InvalidKey" => shown(alloc, &Error::InvalidKey(KeyRule::RawKey)),
-        "NoMemory" => shown(alloc, &Error::NoMemory),
-        "Unbuilt" => shown(alloc, &Error::Unbuilt(Form::Key)),
-        "Failed" => displayed(alloc, &ReadError::Failed),
-        "TooLong" => displayed(alloc, &ReadError::TooLong { max: 1 }),
-        _ => Err("no refusal")?,
+        "Signing" => shown(rt, Error::Signing),
+        "Verification" => shown(rt, Error::Verification(VerificationFault::Refused)),
+        "InvalidKeyFormat" => shown(rt, Error::InvalidKeyFormat),
+        "UnsupportedAlgorithm" => shown(rt, Error::UnsupportedAlgorithm),
+        "Checkpoint" => shown(rt, Error::Checkpoint(CheckpointFault::NoHint)),
+        "InvalidCertificate" => shown(rt, Error::InvalidCertificate(CertificateFault::San)),
+        "InvalidKey" => shown(rt, Error::InvalidKey(KeyRule::RawKey)),
+        "NoMemory" => shown(rt, Error::NoMemory),
+        "Failed" => displayed(rt, ReadError::Failed),
+        "TooLong" => displayed(rt, ReadError::TooLong { max: 1 }),
+        _ => shown(rt, Error::Unbuilt(Form::Key)),
     }
 }
 
@@ -83,11 +95,6 @@ NoMemory => 8 NoMemory
 Unbuilt => 90 Unbuilt
 Failed => Failed
 TooLong => TooLong";
-
-#[test]
-fn errors_print_their_names(rt: HostRuntime) -> Result<(), Fail> {
-    hold(&rt, REFUSALS, named)
-}
 
 fn scheme_of(name: &str) -> Option<SigningScheme> {
     match name {
@@ -110,32 +117,27 @@ fn scheme_of(name: &str) -> Option<SigningScheme> {
 }
 
 // The name of a scheme, its keys, its digest, and whether it signs digests.
-fn scheme(alloc: Global, name: &str) -> Result<String, Fail> {
-    let scheme = scheme_of(name).ok_or("a scheme")?;
+fn scheme<X: AllocGlobal + Abort>(rt: &X, name: &str) -> String {
+    let scheme = there(rt, scheme_of(name));
     let (name, key) = (scheme.name(), scheme.key_algorithm());
     let (digest, prehashed) = (scheme.hash_algorithm(), scheme.supports_prehashed());
-    Ok(format!(in alloc; "{name} {key:?} {digest:?} {prehashed}")?)
+    printed(rt, (name, key, digest, prehashed))
 }
 
-const SCHEMES: &str = "EcdsaP256Sha256 => ECDSA_P256_SHA256 EcdsaP256 Some(Sha2256) true
-EcdsaP256Sha384 => ECDSA_P256_SHA384 EcdsaP256 Some(Sha2384) true
-EcdsaP384Sha256 => ECDSA_P384_SHA256 EcdsaP384 Some(Sha2256) true
-EcdsaP384Sha384 => ECDSA_P384_SHA384 EcdsaP384 Some(Sha2384) true
-Ed25519 => ED25519 Ed25519 None false
-RsaPssSha256 => RSA_PSS_SHA256 Rsa Some(Sha2256) true
-RsaPssSha384 => RSA_PSS_SHA384 Rsa Some(Sha2384) true
-RsaPssSha512 => RSA_PSS_SHA512 Rsa Some(Sha2512) true
-RsaPkcs1Sha256 => RSA_PKCS1_SHA256 Rsa Some(Sha2256) true
-RsaPkcs1Sha384 => RSA_PKCS1_SHA384 Rsa Some(Sha2384) true
-RsaPkcs1Sha512 => RSA_PKCS1_SHA512 Rsa Some(Sha2512) true
-MlDsa44 => ML_DSA_44 MlDsa44 None false
-MlDsa65 => ML_DSA_65 MlDsa65 None false
-MlDsa87 => ML_DSA_87 MlDsa87 None false";
-
-#[test]
-fn schemes_stand_in_the_table(rt: HostRuntime) -> Result<(), Fail> {
-    hold(&rt, SCHEMES, scheme)
-}
+const SCHEMES: &str = r#"EcdsaP256Sha256 => ("ECDSA_P256_SHA256", EcdsaP256, Some(Sha2256), true)
+EcdsaP256Sha384 => ("ECDSA_P256_SHA384", EcdsaP256, Some(Sha2384), true)
+EcdsaP384Sha256 => ("ECDSA_P384_SHA256", EcdsaP384, Some(Sha2256), true)
+EcdsaP384Sha384 => ("ECDSA_P384_SHA384", EcdsaP384, Some(Sha2384), true)
+Ed25519 => ("ED25519", Ed25519, None, false)
+RsaPssSha256 => ("RSA_PSS_SHA256", Rsa, Some(Sha2256), true)
+RsaPssSha384 => ("RSA_PSS_SHA384", Rsa, Some(Sha2384), true)
+RsaPssSha512 => ("RSA_PSS_SHA512", Rsa, Some(Sha2512), true)
+RsaPkcs1Sha256 => ("RSA_PKCS1_SHA256", Rsa, Some(Sha2256), true)
+RsaPkcs1Sha384 => ("RSA_PKCS1_SHA384", Rsa, Some(Sha2384), true)
+RsaPkcs1Sha512 => ("RSA_PKCS1_SHA512", Rsa, Some(Sha2512), true)
+MlDsa44 => ("ML_DSA_44", MlDsa44, None, false)
+MlDsa65 => ("ML_DSA_65", MlDsa65, None, false)
+MlDsa87 => ("ML_DSA_87", MlDsa87, None, false)"#;
 
 fn algorithm_of(name: &str) -> Option<KeyAlgorithm> {
     match name {
@@ -151,12 +153,12 @@ fn algorithm_of(name: &str) -> Option<KeyAlgorithm> {
 }
 
 // The scheme of an algorithm by default, or with a digest.
-fn resolved(alloc: Global, row: &str) -> Result<String, Fail> {
-    let (name, digest) = row.split_once(' ').ok_or("an algorithm and a digest")?;
-    let key = algorithm_of(name).ok_or("an algorithm")?;
+fn resolved<X: AllocGlobal + Abort>(rt: &X, row: &str) -> String {
+    let (name, digest) = halves(rt, row, " ");
+    let key = there(rt, algorithm_of(name));
     match HashAlgorithm::from_name(digest) {
-        Some(digest) => Ok(printed(alloc, &key.resolve_signing_scheme(digest))?),
-        None => Ok(printed(alloc, &key.default_signing_scheme())?),
+        Some(digest) => printed(rt, key.resolve_signing_scheme(digest)),
+        None => printed(rt, key.default_signing_scheme()),
     }
 }
 
@@ -184,57 +186,47 @@ MlDsa65 SHA3_384 => Ok(MlDsa65)
 MlDsa87 default => MlDsa87
 MlDsa87 SHA3_384 => Ok(MlDsa87)";
 
-#[test]
-fn keys_have_their_schemes(rt: HostRuntime) -> Result<(), Fail> {
-    hold(&rt, RESOLVED, resolved)
+fn hexadecimal<X: Abort, E: Debug>(rt: &X, text: Result<Text, E>) -> String {
+    good(rt, text).into_string()
 }
 
-fn digest(alloc: Global, row: &str) -> Result<String, Fail> {
-    let (name, text) = row.split_once(' ').ok_or("a digest and a text")?;
-    match name {
-        "sha256" => Ok(sha256(text.as_bytes()).to_hex(alloc)?.into_string()),
-        "sha384" => Ok(sha384(text.as_bytes()).to_hex(alloc)?.into_string()),
-        _ => Ok(sha512(text.as_bytes()).to_hex(alloc)?.into_string()),
-    }
-}
+const SHA256: &str = "hello => 2cf24dba5fb0a30e26e83b2ac5b9e29e1b161e5c1fa7425e73043362938b9824
+ => e3b0c44298fc1c149afbf4c8996fb92427ae41e4649b934ca495991b7852b855";
 
-const DIGESTS: &str =
-    "sha256 hello => 2cf24dba5fb0a30e26e83b2ac5b9e29e1b161e5c1fa7425e73043362938b9824
-sha256  => e3b0c44298fc1c149afbf4c8996fb92427ae41e4649b934ca495991b7852b855
-sha384 abc => cb00753f45a35e8bb5a03d699ac65007272c32ab0eded1631a8b605a43ff5bed8086072ba1e7cc2358baeca134c825a7
-sha512 abc => ddaf35a193617abacc417349ae20413112e6fa4e89a97ea20a9eeee64b55d39a2192992a274fc1a836ba3c23a3feebbd454d4423643ce80e2a9ac94fa54ca49f";
+const SHA384: &str =
+    "abc => cb00753f45a35e8bb5a03d699ac65007272c32ab0eded1631a8b605a43ff5bed8086072ba1e7cc2358baeca134c825a7";
 
-#[test]
-fn digests_are_the_standards(rt: HostRuntime) -> Result<(), Fail> {
-    hold(&rt, DIGESTS, digest)
-}
-
-fn spki_key(alloc: Global, base64: &str) -> Result<Result<VerificationKey, Error>, Fail> {
-    Ok(VerificationKey::from_spki(alloc, &DerPublicKey::from_base64(alloc, base64)?))
-}
+const SHA512: &str =
+    "abc => ddaf35a193617abacc417349ae20413112e6fa4e89a97ea20a9eeee64b55d39a2192992a274fc1a836ba3c23a3feebbd454d4423643ce80e2a9ac94fa54ca49f";
 
 // The length and the first byte of a raw key, its scheme, whether it passes its test, and whether a copy
 // equals it.
-fn key_shown(alloc: Global, key: &VerificationKey) -> Result<String, Fail> {
+fn key_shown<X: AllocGlobal + Abort>(rt: &X, key: &VerificationKey) -> String {
     let (length, first, scheme) = (key.as_bytes().len(), key.as_bytes().first(), key.scheme());
     let test = validate_raw_public_key(scheme, key.as_bytes());
-    let is_copied = key.duplicate(alloc)? == *key;
-    Ok(format!(in alloc; "{length} {first:?} {scheme:?} {test:?} {is_copied}")?)
+    let copy = good(rt, key.duplicate(rt.alloc()));
+    let is_copied = copy == *key;
+    drop(copy);
+    printed(rt, (length, first, scheme, test, is_copied))
 }
 
-fn key(alloc: Global, base64: &str) -> Result<String, Fail> {
-    match spki_key(alloc, base64)? {
-        Ok(key) => key_shown(alloc, &key),
-        Err(refusal) => Ok(printed(alloc, &refusal)?),
+fn key<X: AllocGlobal + Abort>(rt: &X, base64: &str) -> String {
+    match VerificationKey::from_spki(rt.alloc(), &key_in(rt, base64)) {
+        Ok(key) => {
+            let shown = key_shown(rt, &key);
+            drop(key);
+            shown
+        }
+        Err(refusal) => printed(rt, refusal),
     }
 }
 
 // Keys in base64: P-256 with 65, with one and with no key bytes, with an unused bit, and with a byte
 // behind it; on the curve P-384; Ed25519; no bytes, and a byte.
 const KEYS: &str =
-    "MFkwEwYHKoZIzj0CAQYIKoZIzj0DAQcDQgAEAAAAAAAAAAAAAAAAAAAAAAAAAAAAAAAAAAAAAAAAAAAAAAAAAAAAAAAAAAAAAAAAAAAAAAAAAAAAAAAAAAAAAA== => 65 Some(4) EcdsaP256Sha256 Ok(()) true
-MBkwEwYHKoZIzj0CAQYIKoZIzj0DAQcDAgAF => 1 Some(5) EcdsaP256Sha256 Err(InvalidKey(RawKey)) true
-MBgwEwYHKoZIzj0CAQYIKoZIzj0DAQcDAQA= => 0 None EcdsaP256Sha256 Err(InvalidKey(RawKey)) true
+    "MFkwEwYHKoZIzj0CAQYIKoZIzj0DAQcDQgAEAAAAAAAAAAAAAAAAAAAAAAAAAAAAAAAAAAAAAAAAAAAAAAAAAAAAAAAAAAAAAAAAAAAAAAAAAAAAAAAAAAAAAA== => (65, Some(4), EcdsaP256Sha256, Ok(()), true)
+MBkwEwYHKoZIzj0CAQYIKoZIzj0DAQcDAgAF => (1, Some(5), EcdsaP256Sha256, Err(InvalidKey(RawKey)), true)
+MBgwEwYHKoZIzj0CAQYIKoZIzj0DAQcDAQA= => (0, None, EcdsaP256Sha256, Err(InvalidKey(RawKey)), true)
 MBkwEwYHKoZIzj0CAQYIKoZIzj0DAQcDAgEE => InvalidKey(UnusedBits)
 MBkwEwYHKoZIzj0CAQYIKoZIzj0DAQcDAgAFAA== => InvalidKey(Encoding)
 MBYwEAYHKoZIzj0CAQYFK4EEACIDAgAE => Unbuilt(Key)
@@ -242,42 +234,38 @@ MCowBQYDK2VwAyEAAAAAAAAAAAAAAAAAAAAAAAAAAAAAAAAAAAAAAAAAAAA= => Unbuilt(Key)
  => InvalidKey(Encoding)
 AA== => InvalidKey(Encoding)";
 
-#[test]
-fn keys_are_told_apart(rt: HostRuntime) -> Result<(), Fail> {
-    hold(&rt, KEYS, key)
-}
-
-// What a key answers to a signature that equals the SHA-256 value of `hello`.
-fn verified(alloc: Global, key: &VerificationKey, call: &str) -> Result<String, Fail> {
+// What a key answers to a signature over `hello`, or over its digest.
+fn verified(key: &VerificationKey, signature: &SignatureBytes, call: &str) -> Result<(), Error> {
     let digest = sha256(b"hello");
-    let signature = SignatureBytes::from_bytes(alloc, digest.as_bytes())?;
     match call {
-        "verify" => Ok(printed(alloc, &key.verify(&Echo, b"hello", &signature))?),
-        "verify the digest" => {
-            let answer = key.verify(&Echo, digest.as_bytes(), &signature);
-            Ok(printed(alloc, &answer)?)
-        }
-        "verify_prehashed" => {
-            let answer = key.verify_prehashed(&Echo, digest.as_bytes(), &signature);
-            Ok(printed(alloc, &answer)?)
-        }
-        "verify_prehashed a byte" => {
-            let answer = key.verify_prehashed(&Echo, b"s", &signature);
-            Ok(printed(alloc, &answer)?)
-        }
-        _ => Ok(printed(alloc, &validate_raw_public_key(key.scheme, key.as_bytes()))?),
+        "verify" => key.verify(&Echo, b"hello", signature),
+        "verify the digest" => key.verify(&Echo, digest.as_bytes(), signature),
+        "verify_prehashed" => key.verify_prehashed(&Echo, digest.as_bytes(), signature),
+        "verify_prehashed a byte" => key.verify_prehashed(&Echo, b"s", signature),
+        _ => validate_raw_public_key(key.scheme, key.as_bytes()),
     }
 }
 
-// A row: a scheme, a raw key, a call, and the answer.
-fn judged(alloc: Global, row: &str) -> Result<String, Fail> {
-    let (name, asked) = row.split_once(' ').ok_or("a scheme")?;
-    let (raw, call) = asked.split_once(' ').ok_or("a raw key and a call")?;
-    let key = VerificationKey {
-        scheme: scheme_of(name).ok_or("a scheme")?,
-        key: Bytes::new(alloc, raw.as_bytes())?,
-    };
-    verified(alloc, &key, call)
+fn raw_key<X: AllocGlobal + Abort>(rt: &X, name: &str, raw: &str) -> VerificationKey {
+    VerificationKey {
+        scheme: there(rt, scheme_of(name)),
+        key: good(rt, Bytes::new(rt.alloc(), raw.as_bytes())),
+    }
+}
+
+// A row: a scheme, a raw key, a call, and the answer. The signature equals the SHA-256 value of `hello`.
+fn judged<X: AllocGlobal + Abort>(rt: &X, row: &str) -> String {
+    let (name, asked) = halves(rt, row, " ");
+    let (raw, call) = halves(rt, asked, " ");
+    let key = raw_key(rt, name, raw);
+    let signature = good(
+        rt,
+        SignatureBytes::from_bytes(rt.alloc(), sha256(b"hello").as_bytes()),
+    );
+    let answer = verified(&key, &signature, call);
+    drop(key);
+    drop(signature);
+    printed(rt, answer)
 }
 
 const JUDGED: &str = "EcdsaP256Sha256 \u{4} verify => Ok(())
@@ -290,45 +278,47 @@ EcdsaP256Sha256 raw verify => Err(Verification(RawKey))
 EcdsaP256Sha256 raw verify_prehashed a byte => Err(Verification(DigestLength))
 Ed25519 raw verify_prehashed a byte => Err(UnsupportedAlgorithm)";
 
-#[test]
-fn keys_judge_signatures(rt: HostRuntime) -> Result<(), Fail> {
-    hold(&rt, JUDGED, judged)
-}
-
-#[test]
-fn messages_are_answered_as_their_digests(rt: HostRuntime) {
-    let digest = sha256(b"hello");
+// Whether a message is answered as its digest.
+fn alike<X: AllocGlobal + Abort>(rt: &X, message: &[u8]) -> String {
+    let digest = sha256(message);
     let (scheme, digest) = (SigningScheme::EcdsaP256Sha256, digest.as_bytes());
-    assert!(rt; answers_alike(&Echo, scheme, &[4], b"hello", digest, digest));
+    printed(
+        rt,
+        answers_alike(&Echo, scheme, &[4], message, digest, digest),
+    )
 }
 
-// The digest of a source that gives `hello` in steps, by whether it is that of `hello`.
-fn digested(alloc: Global, source: &mut MemorySource, max: u64) -> Result<String, Fail> {
+// The digest of a source, by whether it is that of `hello`.
+fn digested<X: AllocGlobal + Abort>(rt: &X, source: &mut MemorySource, max: u64) -> String {
     match sha256_reader(source, max) {
-        Ok(digest) => Ok(printed(alloc, &(digest == sha256(b"hello")))?),
-        Err(fault) => Ok(printed(alloc, &fault)?),
+        Ok(digest) => printed(rt, digest == sha256(b"hello")),
+        Err(fault) => printed(rt, fault),
     }
 }
 
-fn failures(alloc: Global, call: u64) -> Result<FailList, Fail> {
-    let mut calls = Vec::new(alloc);
+fn failures<X: AllocGlobal + Abort>(rt: &X, call: u64) -> FailList {
+    let mut calls = Vec::new(rt.alloc());
     if call > 0 {
-        calls.push(call)?;
+        good(rt, calls.push(call));
     }
-    Ok(FailList::new(calls).ok_or("a list")?)
+    there(rt, FailList::new(calls))
 }
 
-fn source(alloc: Global, step: &str, call: &str) -> Result<MemorySource, Fail> {
-    let step = NonZeroU32::new(step.parse::<u32>()?).ok_or("a step")?;
-    let failures = failures(alloc, call.parse::<u64>()?)?;
-    Ok(MemorySource::new(Bytes::new(alloc, b"hello")?, step, failures))
+// A source that gives `hello` in steps.
+fn source<X: AllocGlobal + Abort>(rt: &X, step: u32, call: u64) -> MemorySource {
+    let step = there(rt, NonZeroU32::new(step));
+    let bytes = good(rt, Bytes::new(rt.alloc(), b"hello"));
+    MemorySource::new(bytes, step, failures(rt, call))
 }
 
-fn source_read(alloc: Global, row: &str) -> Result<String, Fail> {
-    let (step, asked) = row.split_once(' ').ok_or("a step")?;
-    let (call, max) = asked.split_once(' ').ok_or("a call and a length")?;
-    let mut source = source(alloc, step, call)?;
-    digested(alloc, &mut source, max.parse::<u64>()?)
+fn source_read<X: AllocGlobal + Abort>(rt: &X, row: &str) -> String {
+    let (step, asked) = halves(rt, row, " ");
+    let (call, max) = halves(rt, asked, " ");
+    let step = good(rt, step.parse::<u32>());
+    let mut source = source(rt, step, number(rt, call));
+    let answer = digested(rt, &mut source, number(rt, max));
+    drop(source);
+    answer
 }
 
 // A row: how many bytes a call gives, which call fails or 0, the greatest length, and the answer.
@@ -339,21 +329,36 @@ const SOURCES: &str = "1 0 5 => true
 2 9 5 => true";
 
 #[test]
-fn sources_are_digested(rt: HostRuntime) -> Result<(), Fail> {
-    hold(&rt, SOURCES, source_read)
+fn keys(rt: HostRuntime) {
+    hold(&rt, "refusal of crypto", REFUSALS);
+    hold(&rt, "scheme", SCHEMES);
+    hold(&rt, "key algorithm", RESOLVED);
+    hold(&rt, "sha256", SHA256);
+    hold(&rt, "sha384", SHA384);
+    hold(&rt, "sha512", SHA512);
+    hold(&rt, "from_spki", KEYS);
+    hold(&rt, "judgement", JUDGED);
+    hold(&rt, "answers_alike", "hello => true");
+    hold(&rt, "source", SOURCES);
 }
 
 #[test]
-fn files_are_digested(rt: HostRuntime) -> Result<(), Fail> {
-    let alloc = rt.alloc();
+fn files_are_digested(rt: HostRuntime) {
     let name = "sigstore_crypto_artifact";
-    let bytes = vec![in alloc; 7u8; 150000]?;
-    fs::write(&rt, name, bytes.as_slice())?;
-    let mut source = FileSource::new(&rt, Text::new(alloc, name)?);
-    let answer = sha256_reader(&mut source, 150000);
-    fs::remove_file(&rt, name)?;
-    assert_eq!(rt; answer, Ok(sha256(&bytes)));
-    let mut absent = FileSource::new(&rt, Text::new(alloc, name)?);
-    assert_eq!(rt; sha256_reader(&mut absent, 1), Err(ReadError::Failed));
-    Ok(())
+    let bytes = good(&rt, vec![in rt.alloc(); 7u8; 150000]);
+    good(&rt, fs::write(&rt, name, bytes.as_slice()));
+    let mut source = FileSource::new(&rt, text(&rt, name));
+    let is_whole = sha256_reader(&mut source, 150000) == Ok(sha256(&bytes));
+    drop(source);
+    drop(bytes);
+    good(&rt, fs::remove_file(&rt, name));
+    let mut absent = FileSource::new(&rt, text(&rt, name));
+    let other = sha256_reader(&mut absent, 1);
+    drop(absent);
+    check(
+        &rt,
+        name,
+        "(true, Err(Failed))",
+        printed(&rt, (is_whole, other)),
+    );
 }

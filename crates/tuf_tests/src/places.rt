@@ -1,70 +1,94 @@
 // Each object of the outside, at its type and through its trait.
-use crate::words::{hold, printed, text_of};
+use crate::client;
+use crate::words::{
+    check, displayed, good, halves, hold, number, printed, string, text, text_of, there,
+};
 use sigstore_tuf::*;
-use sigstore_types_parts::{Bytes, FailList, Text};
-use std::alloc::Global;
-use std::fmt::{Debug, Display};
+use sigstore_types_parts::{Bytes, FailList};
+use std::fmt::Debug;
 use std::fs;
-use std::test::Fail;
+use std::process::Abort;
 
-fn display<T: Display>(alloc: Global, value: &T) -> Result<String, Fail> {
-    Ok(format!(in alloc; "{value}")?)
-}
-
-fn named(alloc: Global, fault: &str) -> Result<String, Fail> {
-    match fault {
-        "FetchFault::Failed" => display(alloc, &FetchFault::Failed),
-        "FetchFault::TooLong" => display(alloc, &FetchFault::TooLong { seen: 1 }),
-        "FetchFault::NoMemory" => display(alloc, &FetchFault::NoMemory),
-        "StoreFault::Failed" => display(alloc, &StoreFault::Failed),
-        "StoreFault::BadName" => display(alloc, &StoreFault::BadName),
-        "StoreFault::NoMemory" => display(alloc, &StoreFault::NoMemory),
-        _ => Err("no fault")?,
+/// The display text of a fault; for any other name the answer of a call of the client.
+pub fn answer<X: AllocGlobal + Abort>(rt: &X, call: &str, given: &str) -> String {
+    match call {
+        "FetchFault" => match given {
+            "Failed" => displayed(rt, FetchFault::Failed),
+            "TooLong" => displayed(rt, FetchFault::TooLong { seen: 1 }),
+            _ => displayed(rt, FetchFault::NoMemory),
+        },
+        "StoreFault" => match given {
+            "Failed" => displayed(rt, StoreFault::Failed),
+            "BadName" => displayed(rt, StoreFault::BadName),
+            _ => displayed(rt, StoreFault::NoMemory),
+        },
+        _ => client::answer(rt, call),
     }
 }
 
-const NAMES: &str = "FetchFault::Failed => Failed
-FetchFault::TooLong => TooLong
-FetchFault::NoMemory => NoMemory
-StoreFault::Failed => Failed
-StoreFault::BadName => BadName
-StoreFault::NoMemory => NoMemory";
+const FETCH_FAULTS: &str = "Failed => Failed
+TooLong => TooLong
+NoMemory => NoMemory";
 
-#[test]
-fn faults_print_their_names(rt: HostRuntime) -> Result<(), Fail> {
-    hold(&rt, NAMES, named)
+const STORE_FAULTS: &str = "Failed => Failed
+BadName => BadName
+NoMemory => NoMemory";
+
+// The text of a short file, or the length of a long one.
+fn shown<X: AllocGlobal + Abort>(rt: &X, bytes: &[u8]) -> String {
+    if bytes.len() < 100 {
+        text_of(rt, bytes)
+    } else {
+        printed(rt, bytes.len())
+    }
 }
 
-// What was found: the text of a short file, the length of a long one, none, or the fault.
-fn found<E: Debug + Drop>(alloc: Global, answer: Result<Option<Bytes>, E>) -> Result<String, Fail> {
+// What was found, none, or the fault.
+fn found<X: AllocGlobal + Abort, E: Debug + Drop>(
+    rt: &X,
+    answer: Result<Option<Bytes>, E>,
+) -> String {
     match answer {
-        Ok(Some(bytes)) if bytes.as_bytes().len() < 100 => text_of(alloc, bytes.as_bytes()),
-        Ok(Some(bytes)) => Ok(printed(alloc, &bytes.as_bytes().len())?),
-        Ok(None) => Ok(String::from_str(alloc, "none")?),
-        Err(fault) => Ok(printed(alloc, &fault)?),
+        Ok(Some(bytes)) => shown(rt, bytes.as_bytes()),
+        Ok(None) => string(rt, "none"),
+        Err(fault) => printed(rt, fault),
     }
 }
 
 // A fetch of a document or of a target, of at most so many bytes.
-fn fetched<R: Repository>(alloc: Global, repo: &mut R, row: &str) -> Result<String, Fail> {
-    let (call, asked) = row.split_once(' ').ok_or("a call")?;
-    let (max, name) = asked.split_once(' ').ok_or("a length and a name")?;
-    let max = max.parse::<u64>()?;
+fn fetched<X: AllocGlobal + Abort, R: Repository>(rt: &X, repo: &mut R, row: &str) -> String {
+    let (call, asked) = halves(rt, row, " ");
+    let (max, name) = halves(rt, asked, " ");
+    let max = number(rt, max);
     match call {
-        "metadata" => found(alloc, repo.fetch_metadata(alloc, name, max)),
-        _ => found(alloc, repo.fetch_target(alloc, name, max)),
+        "metadata" => found(rt, repo.fetch_metadata(rt.alloc(), name, max)),
+        _ => found(rt, repo.fetch_target(rt.alloc(), name, max)),
+    }
+}
+
+fn fetch_all<X: AllocGlobal + Abort, R: Repository>(rt: &X, repo: &mut R, rows: &str) {
+    for row in rows.lines() {
+        let (asked, wanted) = halves(rt, row, " => ");
+        check(rt, row, wanted, fetched(rt, repo, asked));
     }
 }
 
 // A load, or the store of a text under a name.
-fn stored<S: MetadataStore>(alloc: Global, store: &mut S, row: &str) -> Result<String, Fail> {
-    let (call, asked) = row.split_once(' ').ok_or("a call")?;
+fn stored<X: AllocGlobal + Abort, S: MetadataStore>(rt: &X, store: &mut S, row: &str) -> String {
+    let (call, asked) = halves(rt, row, " ");
     match call {
-        "load" => found(alloc, store.load(alloc, asked)),
+        "load" => found(rt, store.load(rt.alloc(), asked)),
         _ => {
-            let (name, text) = asked.split_once(' ').ok_or("a name and a text")?;
-            Ok(printed(alloc, &store.store(alloc, name, text.as_bytes()))?)
+            let (name, text) = halves(rt, asked, " ");
+            printed(rt, store.store(rt.alloc(), name, text.as_bytes()))
         }
+    }
+}
+
+fn store_all<X: AllocGlobal + Abort, S: MetadataStore>(rt: &X, store: &mut S, rows: &str) {
+    for row in rows.lines() {
+        let (asked, wanted) = halves(rt, row, " => ");
+        check(rt, row, wanted, stored(rt, store, asked));
     }
 }
 
@@ -85,21 +109,17 @@ load a/.. => BadName
 load a/../b => BadName
 load a/b/../..c => BadName";
 
-#[test]
-fn no_store_at_all(rt: HostRuntime) -> Result<(), Fail> {
-    hold(&rt, NOTHING, |alloc, row| stored(alloc, &mut NoStore, row))
+fn second_fails<X: AllocGlobal + Abort>(rt: &X) -> FailList {
+    let calls = good(rt, Vec::from_slice(rt.alloc(), &[2]));
+    there(rt, FailList::new(calls))
 }
 
-fn second_fails(alloc: Global) -> Result<FailList, Fail> {
-    Ok(FailList::new(Vec::from_slice(alloc, &[2])?).ok_or("ascending")?)
-}
-
-fn repository(alloc: Global) -> Result<MemoryRepository, Fail> {
-    let mut repo = MemoryRepository::new(alloc, second_fails(alloc)?);
-    repo.put_metadata(alloc, "timestamp.json", b"old")?;
-    repo.put_metadata(alloc, "timestamp.json", b"ab")?;
-    repo.put_target(alloc, "a/b", b"file")?;
-    Ok(repo)
+fn repository<X: AllocGlobal + Abort>(rt: &X) -> MemoryRepository {
+    let mut repo = MemoryRepository::new(rt.alloc(), second_fails(rt));
+    good(rt, repo.put_metadata(rt.alloc(), "timestamp.json", b"old"));
+    good(rt, repo.put_metadata(rt.alloc(), "timestamp.json", b"ab"));
+    good(rt, repo.put_target(rt.alloc(), "a/b", b"file"));
+    repo
 }
 
 // The second call fails.
@@ -109,12 +129,6 @@ metadata 1 timestamp.json => TooLong { seen: 2 }
 metadata 9 a/b => none
 target 9 a/b => file
 target 9 timestamp.json => none";
-
-#[test]
-fn a_repository_in_memory(rt: HostRuntime) -> Result<(), Fail> {
-    let mut repo = repository(rt.alloc())?;
-    hold(&rt, IN_MEMORY, |alloc, row| fetched(alloc, &mut repo, row))
-}
 
 // The second call fails.
 const STORED: &str = "store root.json old => Ok(())
@@ -127,15 +141,19 @@ const STORED_ELSEWHERE: &str = "load root.json => none
 store ../a  => Err(BadName)";
 
 #[test]
-fn stores_in_memory(rt: HostRuntime) -> Result<(), Fail> {
-    let mut store = MemoryStore::with_failures(rt.alloc(), second_fails(rt.alloc())?);
-    hold(&rt, STORED, |alloc, row| stored(alloc, &mut store, row))?;
+fn objects_in_memory(rt: HostRuntime) {
+    hold(&rt, "FetchFault", FETCH_FAULTS);
+    hold(&rt, "StoreFault", STORE_FAULTS);
+    store_all(&rt, &mut NoStore, NOTHING);
+    let mut repo = repository(&rt);
+    fetch_all(&rt, &mut repo, IN_MEMORY);
+    drop(repo);
+    let mut store = MemoryStore::with_failures(rt.alloc(), second_fails(&rt));
+    store_all(&rt, &mut store, STORED);
+    drop(store);
     let mut other = MemoryStore::new(rt.alloc());
-    hold(
-        &rt,
-        STORED_ELSEWHERE,
-        |alloc, row| stored(alloc, &mut other, row),
-    )
+    store_all(&rt, &mut other, STORED_ELSEWHERE);
+    drop(other);
 }
 
 const IN_A_FOLDER: &str = "metadata 2 1.root.json => ab
@@ -146,21 +164,6 @@ metadata 2 targets => Failed
 target 70000 a/b => 70000
 target 69999 a/b => TooLong { seen: 70000 }";
 
-#[test]
-fn a_repository_in_a_folder(rt: HostRuntime) -> Result<(), Fail> {
-    let alloc = rt.alloc();
-    let long = vec![in alloc; b'7'; 70_000]?;
-    fs::create_dir_all(&rt, "repo/targets/a")?;
-    fs::write(&rt, "repo/1.root.json", "ab")?;
-    fs::write(&rt, "repo/targets/a/b", long.as_slice())?;
-    let mut repo = FileRepository::new(&rt, Text::new(alloc, "repo")?);
-    hold(
-        &rt,
-        IN_A_FOLDER,
-        |alloc, row| fetched(alloc, &mut repo, row),
-    )
-}
-
 const STORED_IN_A_FOLDER: &str = "load root_history/1.root.json => none
 store root_history/1.root.json a longer one => Ok(())
 store root_history/1.root.json ab => Ok(())
@@ -169,16 +172,26 @@ store root_history ab => Err(Failed)
 load a/../b => BadName";
 
 #[test]
-fn a_store_in_a_folder(rt: HostRuntime) -> Result<(), Fail> {
-    let mut store = FileStore::new(&rt, Text::new(rt.alloc(), "store")?);
-    hold(
-        &rt,
-        STORED_IN_A_FOLDER,
-        |alloc, row| stored(alloc, &mut store, row),
-    )?;
-    let written = fs::read_to_string(&rt, "store/root_history/1.root.json")?;
-    assert_eq!(rt; written.as_str(), "ab");
-    assert!(rt; !fs::exists(&rt, "store/root_history/1.root.json.new~")?);
-    assert!(rt; !fs::exists(&rt, "store/root_history.new~")?);
-    Ok(())
+fn a_repository_in_a_folder(rt: HostRuntime) {
+    let long = good(&rt, vec![in rt.alloc(); b'7'; 70_000]);
+    good(&rt, fs::create_dir_all(&rt, "repo/targets/a"));
+    good(&rt, fs::write(&rt, "repo/1.root.json", "ab"));
+    good(&rt, fs::write(&rt, "repo/targets/a/b", long.as_slice()));
+    let mut repo = FileRepository::new(&rt, text(&rt, "repo"));
+    drop(long);
+    fetch_all(&rt, &mut repo, IN_A_FOLDER);
+    drop(repo);
+}
+
+#[test]
+fn a_store_in_a_folder(rt: HostRuntime) {
+    let mut store = FileStore::new(&rt, text(&rt, "store"));
+    store_all(&rt, &mut store, STORED_IN_A_FOLDER);
+    drop(store);
+    let name = "store/root_history/1.root.json";
+    let written = good(&rt, fs::read_to_string(&rt, name));
+    let is_there = good(&rt, fs::exists(&rt, "store/root_history/1.root.json.new~"));
+    let is_left = good(&rt, fs::exists(&rt, "store/root_history.new~"));
+    let found = printed(&rt, (written, is_there, is_left));
+    check(&rt, name, r#"("ab", false, false)"#, found);
 }

@@ -1,11 +1,22 @@
 // Names and numbers of refusals, canonical texts, names of files, and members that are kept.
-use crate::words::{hold, printed, text_of};
-use foundation::Duplicate;
+use crate::thresholds;
+use crate::words::{copied, good, halves, hold, number, printed, string, text, text_of};
 use serde_json::Value;
 use sigstore_tuf_parts::*;
 use sigstore_types_parts::{Form, FromValue, Json, Text, TextMap, parse_json};
-use std::alloc::Global;
-use std::test::Fail;
+use std::fmt::Debug;
+use std::process::Abort;
+
+/// The answer of a call that is given a text; for any other name that of a call that judges documents.
+pub fn answer<X: AllocGlobal + Abort>(rt: &X, call: &str, given: &str) -> String {
+    match call {
+        "refusal of tuf" => shown(rt, sample(rt, given)),
+        "canonical text" => canonical(rt, given),
+        "file name" => file_name(rt, given),
+        "other members" => kept(rt, given),
+        _ => thresholds::answer(rt, call, given),
+    }
+}
 
 // The refusals that hold no text.
 fn plain(number: u8) -> Error {
@@ -65,22 +76,20 @@ fn with_texts(number: u8, first: Text, second: Text) -> Error {
 }
 
 // A refusal of each number.
-fn sample(alloc: Global, number: u8) -> Result<Error, Fail> {
+fn sample<X: AllocGlobal + Abort>(rt: &X, given: &str) -> Error {
+    let number = good(rt, given.parse::<u8>());
     match number {
-        5 | 7 => Ok(with_texts(number, Text::new(alloc, "r")?, Text::new(alloc, "k")?)),
-        4 | 6 | 8 | 9 | 10 | 12 | 16 => Ok(with_text(number, Text::new(alloc, "r")?)),
-        _ => Ok(plain(number)),
+        5 | 7 => with_texts(number, text(rt, "r"), text(rt, "k")),
+        4 | 6 | 8 | 9 | 10 | 12 | 16 => with_text(number, text(rt, "r")),
+        _ => plain(number),
     }
 }
 
-fn shown(alloc: Global, error: &Error) -> Result<String, Fail> {
+fn shown<X: AllocGlobal + Abort>(rt: &X, error: Error) -> String {
     let (number, name) = (error.number(), error.name());
-    Ok(format!(in alloc; "{number} {name} {error}")?)
-}
-
-fn named(alloc: Global, number: &str) -> Result<String, Fail> {
-    let error = sample(alloc, number.parse::<u8>()?)?;
-    shown(alloc, &error)
+    let shown = good(rt, format!(in rt.alloc(); "{number} {name} {error}"));
+    drop(error);
+    shown
 }
 
 // A row: which refusal, and its number, its name and its display text.
@@ -104,16 +113,13 @@ const REFUSALS: &str = "1 => 1 Json Json
 19 => 19 NoMemory NoMemory
 90 => 90 Unbuilt Unbuilt";
 
-#[test]
-fn refusals_have_their_names(rt: HostRuntime) -> Result<(), Fail> {
-    hold(&rt, REFUSALS, named)
-}
-
-fn canonical(alloc: Global, text: &str) -> Result<String, Fail> {
-    let value = Value::from_str(alloc, text)?;
-    match to_canonical_bytes(alloc, &value) {
-        Ok(bytes) => text_of(alloc, bytes.as_bytes()),
-        Err(refusal) => Ok(printed(alloc, &refusal)?),
+fn canonical<X: AllocGlobal + Abort>(rt: &X, text: &str) -> String {
+    let value = good(rt, Value::from_str(rt.alloc(), text));
+    let answer = to_canonical_bytes(rt.alloc(), &value);
+    drop(value);
+    match answer {
+        Ok(bytes) => text_of(rt, bytes.as_bytes()),
+        Err(refusal) => printed(rt, refusal),
     }
 }
 
@@ -122,26 +128,22 @@ const CANONICAL: &str =
 "a\\b\"c" => "a\\b\"c"
 1.5 => NonIntegerNumber"#;
 
-#[test]
-fn canonical_texts(rt: HostRuntime) -> Result<(), Fail> {
-    hold(&rt, CANONICAL, canonical)
-}
-
 // The name of a root of a version, of the file of a pinned role, or the name that is meant by a word.
-fn file_name(alloc: Global, row: &str) -> Result<String, Fail> {
-    let (call, given) = row.split_once(' ').ok_or("a call")?;
+fn file_name<X: AllocGlobal + Abort>(rt: &X, row: &str) -> String {
+    let (call, given) = halves(rt, row, " ");
     match call {
-        "root" => text_of(
-            alloc,
-            root_name(alloc, given.parse::<u64>()?)?.as_str().as_bytes(),
-        ),
-        "pin" => text_of(alloc, pin_name(alloc, given)?.as_str().as_bytes()),
+        "root" => text_in(rt, root_name(rt.alloc(), number(rt, given))),
+        "pin" => text_in(rt, pin_name(rt.alloc(), given)),
         _ => match given {
-            "targets" => text_of(alloc, TARGETS_NAME.as_bytes()),
-            "snapshot" => text_of(alloc, SNAPSHOT_NAME.as_bytes()),
-            _ => text_of(alloc, TIMESTAMP_NAME.as_bytes()),
+            "targets" => string(rt, TARGETS_NAME),
+            "snapshot" => string(rt, SNAPSHOT_NAME),
+            _ => string(rt, TIMESTAMP_NAME),
         },
     }
+}
+
+fn text_in<X: Abort, E: Debug>(rt: &X, text: Result<Text, E>) -> String {
+    good(rt, text).into_string()
 }
 
 const FILES: &str = "root 12 => 12.root.json
@@ -152,33 +154,38 @@ name targets => targets.json
 name snapshot => snapshot.json
 name timestamp => timestamp.json";
 
-#[test]
-fn files_are_named(rt: HostRuntime) -> Result<(), Fail> {
-    hold(&rt, FILES, file_name)
-}
-
 // Which of the members `public` and `x-note` are there.
-fn members(alloc: Global, extra: &TextMap<Json>) -> Result<String, Fail> {
+fn members<X: AllocGlobal + Abort>(rt: &X, extra: TextMap<Json>) -> String {
     let (public, note) = (extra.get("public").is_some(), extra.get("x-note").is_some());
-    Ok(format!(in alloc; "{public} {note}")?)
+    drop(extra);
+    printed(rt, (public, note))
 }
 
-// The other members of a key's value, as they are read and as they stand in a copy of the value.
-fn kept(alloc: Global, call: &str) -> Result<String, Fail> {
-    let value = parse_json(alloc, b"{\"public\":\"p\",\"x-note\":7}")?;
+fn others_of<X: AllocGlobal + Abort>(rt: &X, value: &Value, call: &str) -> TextMap<Json> {
     match call {
-        "others" => members(alloc, &others(alloc, &value, &[DocumentMember::Public])?),
-        _ => members(
-            alloc,
-            &KeyVal::from_value(alloc, &value)?.duplicate(alloc)?.extra,
-        ),
+        "others" => good(rt, others(rt.alloc(), value, &[DocumentMember::Public])),
+        _ => copied(rt, good(rt, KeyVal::from_value(rt.alloc(), value))).extra,
     }
 }
 
-const KEPT: &str = "others => false true
-copy => false true";
+// The other members of a key's value, as they are read and as they stand in a copy of the value.
+fn kept<X: AllocGlobal + Abort>(rt: &X, call: &str) -> String {
+    let value = good(
+        rt,
+        parse_json(rt.alloc(), b"{\"public\":\"p\",\"x-note\":7}"),
+    );
+    let extra = others_of(rt, &value, call);
+    drop(value);
+    members(rt, extra)
+}
+
+const KEPT: &str = "others => (false, true)
+copy => (false, true)";
 
 #[test]
-fn others_are_kept(rt: HostRuntime) -> Result<(), Fail> {
-    hold(&rt, KEPT, kept)
+fn refusals(rt: HostRuntime) {
+    hold(&rt, "refusal of tuf", REFUSALS);
+    hold(&rt, "canonical text", CANONICAL);
+    hold(&rt, "file name", FILES);
+    hold(&rt, "other members", KEPT);
 }

@@ -1,14 +1,25 @@
 // Thresholds and declared keys, judged by a provider and an armour of a few texts.
 ghost use Rattle.std.specs.Prelude.{◌||◌, Some, bytes_eq, if◌then◌else◌};
 
+use crate::documents;
 use crate::provider::{One, p256};
-use crate::words::{filled, hold, printed, word};
+use crate::words::{filled, good, halves, hold, is_good, key_bytes, printed, text, there, word};
 use foundation::{Duplicate, NoMemory};
 use serde_json::Value;
 use sigstore_tuf_parts::*;
-use sigstore_types_parts::{Armor, Bytes, DerPublicKey, FromValue, Text};
+use sigstore_types_parts::{Armor, Bytes, FromValue, Text};
 use std::alloc::Global;
-use std::test::Fail;
+use std::process::Abort;
+
+/// The answer of a call that is given a text; for any other name that of a document.
+pub fn answer<X: AllocGlobal + Abort>(rt: &X, call: &str, given: &str) -> String {
+    match call {
+        "signatures" => judged(rt, given),
+        "role" => by_role(rt, given),
+        "declared key" => declared(rt, given),
+        _ => documents::answer(rt, call, given),
+    }
+}
 
 // Three texts are armoured, each with bytes of its own.
 #[derive(Drop)]
@@ -53,25 +64,20 @@ impl Armor for Three {
     }
 }
 
-fn key_bytes(alloc: Global, base64: &str) -> Result<Bytes, Fail> {
-    let key = DerPublicKey::from_base64(alloc, base64)?;
-    Ok(Bytes::new(alloc, key.as_bytes())?)
-}
-
 // The text p holds a P-256 key, q an Ed25519 key of 32 zero bytes (RFC 8410), and b one byte that is no
 // key.
-fn armor(alloc: Global) -> Result<Three, Fail> {
-    Ok(Three {
-        known: Text::new(alloc, "p")?,
-        other: Text::new(alloc, "q")?,
-        broken: Text::new(alloc, "b")?,
-        key: key_bytes(alloc, p256())?,
+fn armor<X: AllocGlobal + Abort>(rt: &X) -> Three {
+    Three {
+        known: text(rt, "p"),
+        other: text(rt, "q"),
+        broken: text(rt, "b"),
+        key: key_bytes(rt, p256()),
         other_key: key_bytes(
-            alloc,
+            rt,
             "MCowBQYDK2VwAyEAAAAAAAAAAAAAAAAAAAAAAAAAAAAAAAAAAAAAAAAAAAA=",
-        )?,
-        no_key: key_bytes(alloc, "AA==")?,
-    })
+        ),
+        no_key: key_bytes(rt, "AA=="),
+    }
 }
 
 // A root with the keys k and l, whose timestamp role names k, l and n. Its stars are the threshold and
@@ -83,58 +89,64 @@ const ROOT: &str =
 const TIMESTAMP: &str =
     r#"{"signatures":[{"keyid":"*"}],"signed":{"_type":"timestamp","spec_version":"1.0","version":1,"expires":"2030-01-01T00:00:00Z","meta":{}}}"#;
 
-fn read<T: Role>(alloc: Global, text: &str, cells: &str) -> Result<Metadata<T>, Fail> {
-    let text = filled(alloc, text, cells)?;
-    Ok(Metadata::from_slice(alloc, text.as_bytes())?)
+fn read<X: AllocGlobal + Abort, T: Role>(rt: &X, text: &str, cells: &str) -> Metadata<T> {
+    let text = filled(rt, text, cells);
+    let document = good(rt, Metadata::from_slice(rt.alloc(), text.as_bytes()));
+    drop(text);
+    document
 }
 
 // A root, from its threshold and the public text of its keys.
-fn root(alloc: Global, cells: &str) -> Result<Metadata<Root>, Fail> {
-    let (_, public) = cells.split_once(" | ").ok_or("a public text")?;
-    let cells = format!(in alloc; "{cells} | {public}")?;
-    read(alloc, ROOT, cells.as_str())
+fn root<X: AllocGlobal + Abort>(rt: &X, cells: &str) -> Root {
+    let (_, public) = halves(rt, cells, " | ");
+    let cells = good(rt, format!(in rt.alloc(); "{cells} | {public}"));
+    let root = read::<X, Root>(rt, ROOT, cells.as_str());
+    drop(cells);
+    root.into_signed()
 }
 
 // A timestamp signed by words of an id, `=` and a signature.
-fn signed_by(alloc: Global, words: &str) -> Result<Metadata<Timestamp>, Fail> {
-    let signatures = words.replace(alloc, '=', "\",\"sig\":\"")?;
-    let signatures = signatures
+fn signed_by<X: AllocGlobal + Abort>(rt: &X, words: &str) -> Metadata<Timestamp> {
+    let signatures = good(rt, words.replace(rt.alloc(), '=', "\",\"sig\":\""));
+    let more = signatures
         .as_str()
-        .replace(alloc, ' ', "\"},{\"keyid\":\"")?;
-    read(alloc, TIMESTAMP, signatures.as_str())
+        .replace(rt.alloc(), ' ', "\"},{\"keyid\":\"");
+    read(rt, TIMESTAMP, good(rt, more).as_str())
 }
 
 // Whether the document meets the role as it stands in the root.
 fn is_met(alloc: Global, document: &Metadata<Timestamp>, armor: &Three, root: &Root) -> bool {
     match root.role("timestamp") {
-        Some(role) => document
-            .verify_threshold(alloc, &One, armor, &root.keys, role, "timestamp")
-            .is_ok(),
+        Some(role) => is_good(document.verify_threshold(
+            alloc,
+            &One,
+            armor,
+            &root.keys,
+            role,
+            "timestamp",
+        )),
         None => false,
     }
 }
 
 // The word for the document by the role's name, which the role itself has to tell of it too.
-fn told(alloc: Global, document: &Metadata<Timestamp>, root: &Root) -> Result<String, Fail> {
-    let armor = armor(alloc)?;
-    let is_met = is_met(alloc, document, &armor, root);
-    let answer = document.verify_role(alloc, &One, &armor, root, "timestamp");
-    if answer.is_ok() == is_met {
-        word(alloc, &answer)
-    } else {
-        Err(Fail::from("two answers"))
-    }
+fn told<X: AllocGlobal + Abort>(rt: &X, document: &Metadata<Timestamp>, root: &Root) -> String {
+    let armor = armor(rt);
+    let is_met = is_met(rt.alloc(), document, &armor, root);
+    let answer = document.verify_role(rt.alloc(), &One, &armor, root, "timestamp");
+    drop(armor);
+    assert!(rt; answer.is_ok() == is_met);
+    word(rt, answer)
 }
 
-fn judged_under(alloc: Global, root: &Root, words: &str) -> Result<String, Fail> {
-    let document = signed_by(alloc, words)?;
-    told(alloc, &document, root)
-}
-
-fn judged(alloc: Global, row: &str) -> Result<String, Fail> {
-    let (cells, words) = row.rsplit_once(" | ").ok_or("signatures")?;
-    let root = root(alloc, cells)?;
-    judged_under(alloc, root.signed(), words)
+fn judged<X: AllocGlobal + Abort>(rt: &X, row: &str) -> String {
+    let (cells, words) = there(rt, row.rsplit_once(" | "));
+    let root = root(rt, cells);
+    let document = signed_by(rt, words);
+    let answer = told(rt, &document, &root);
+    drop(root);
+    drop(document);
+    answer
 }
 
 // A row: a threshold, the public text of the keys, the signatures, and the word for them.
@@ -153,34 +165,32 @@ const SIGNATURES: &str = r#"2 | p | k=01 l=01 => Ok
 1 | q | k=01 => Unbuilt(Key)
 1 | q | k=zz => ThresholdNotMet { role: "timestamp", found: 0, threshold: 1 }"#;
 
-#[test]
-fn signatures_are_counted(rt: HostRuntime) -> Result<(), Fail> {
-    hold(&rt, SIGNATURES, judged)
-}
-
-#[test]
-fn unknown_roles_are_refused(rt: HostRuntime) -> Result<(), Fail> {
-    let alloc = rt.alloc();
+// The word for an unsigned root by a role's name.
+fn by_role<X: AllocGlobal + Abort>(rt: &X, name: &str) -> String {
     meets_exactly::<Root>();
-    let root = root(alloc, "1 | p")?;
-    let answer = root.verify_role(alloc, &One, &armor(alloc)?, root.signed(), "targets");
-    let wanted = r#"UnknownRole { name: "targets" }"#;
-    assert_eq!(rt; word(alloc, &answer)?.as_str(), wanted);
-    Ok(())
+    let (root, armor) = (read::<X, Root>(rt, ROOT, "1 | p | p"), armor(rt));
+    let answer = root.verify_role(rt.alloc(), &One, &armor, root.signed(), name);
+    drop(root);
+    drop(armor);
+    word(rt, answer)
 }
 
-fn fault(alloc: Global, key: &Key) -> Result<String, Fail> {
-    let armor = armor(alloc)?;
-    Ok(printed(alloc, &key.verification_key(alloc, &armor).err())?)
-}
+const ROLES: &str = r#"targets => UnknownRole { name: "targets" }"#;
 
 // A declared key, whose stars are its scheme and its public text.
 const KEY: &str = r#"{"keytype":"t","scheme":"*","keyval":{"public":"*"}}"#;
 
-fn declared(alloc: Global, cells: &str) -> Result<String, Fail> {
-    let text = filled(alloc, KEY, cells)?;
-    let value = Value::from_str(alloc, text.as_str())?;
-    fault(alloc, &Key::from_value(alloc, &value)?)
+fn declared<X: AllocGlobal + Abort>(rt: &X, cells: &str) -> String {
+    let text = filled(rt, KEY, cells);
+    let value = good(rt, Value::from_str(rt.alloc(), text.as_str()));
+    let key = good(rt, Key::from_value(rt.alloc(), &value));
+    drop(text);
+    drop(value);
+    let armor = armor(rt);
+    let fault = key.verification_key(rt.alloc(), &armor).err();
+    drop(key);
+    drop(armor);
+    printed(rt, fault)
 }
 
 // A row: a scheme, a public text, and why there is no key.
@@ -196,6 +206,8 @@ ed25519 | 0 => Some(Unusable)
 rsa | p => Some(Unsupported)";
 
 #[test]
-fn keys_are_told_apart(rt: HostRuntime) -> Result<(), Fail> {
-    hold(&rt, KEYS, declared)
+fn thresholds(rt: HostRuntime) {
+    hold(&rt, "signatures", SIGNATURES);
+    hold(&rt, "role", ROLES);
+    hold(&rt, "declared key", KEYS);
 }

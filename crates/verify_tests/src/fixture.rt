@@ -1,13 +1,12 @@
 // A run of the program over objects in memory: the fixture, with one of its parts changed.
-use crate::tables::{Change, change_in, failures, source, words};
+use crate::tables::{Change, bytes, change_in, failures, good, source, text_of, words};
 use jiff::Timestamp;
 use sigstore_app_parts::{MemoryInputs, MemorySink, Which};
 use sigstore_crypto::sha256;
 use sigstore_run::{Status, run};
 use sigstore_tuf::{MemoryRepository, MemoryStore};
 use sigstore_types_parts::{Bytes, DigestBytes, Text};
-use std::alloc::Global;
-use std::test::Fail;
+use std::process::Abort;
 
 // The raw key 04 and 64 zero bytes.
 const RAW_KEY: &str =
@@ -63,128 +62,127 @@ artifact fails
 sink fails
 room";
 
-fn root(alloc: Global, change: Change) -> Result<String, Fail> {
+fn root<X: AllocGlobal + Abort>(rt: &X, change: Change) -> String {
     let consistent = change.of("consistent", "false");
     let scheme = change.of("scheme", "ecdsa-sha2-nistp256");
     let public = change.of("declared key", SPKI);
-    Ok(format!(in alloc;
+    let text = format!(in rt.alloc();
         r#"{{"_type":"root","consistent_snapshot":{consistent},"expires":"2031-01-01T00:00:00Z","keys":{{"k":{{"keytype":"ecdsa","keyval":{{"public":"der:{public}"}},"scheme":"{scheme}"}}}},{ROLES},"spec_version":"1.0.0","version":1}}"#
-    )?)
+    );
+    good(rt, text)
 }
 
 // The entry of the trust file, with its length and digest.
-fn listed(alloc: Global, trust: &str) -> Result<String, Fail> {
-    let digest = sha256(trust.as_bytes()).to_hex(alloc)?;
-    let (digest, length) = (digest.as_str(), trust.len());
-    Ok(format!(in alloc;
-        r#""trusted_root.json":{{"hashes":{{"sha256":"{digest}"}},"length":{length}}}"#
-    )?)
+fn listed<X: AllocGlobal + Abort>(rt: &X, trust: &str) -> String {
+    let digest = good(rt, sha256(trust.as_bytes()).to_hex(rt.alloc()));
+    let (sha256, length) = (digest.as_str(), trust.len());
+    let text = format!(in rt.alloc();
+        r#""trusted_root.json":{{"hashes":{{"sha256":"{sha256}"}},"length":{length}}}"#
+    );
+    drop(digest);
+    good(rt, text)
 }
 
-fn targets(alloc: Global, change: Change) -> Result<String, Fail> {
-    let listed = listed(alloc, change.of("trust", "{}"))?;
-    let listed = change.of("listed", listed.as_str());
+fn targets<X: AllocGlobal + Abort>(rt: &X, change: Change) -> String {
+    let entry = listed(rt, change.of("trust", "{}"));
+    let listed = change.of("listed", entry.as_str());
     let delegations = change.of("delegations", "");
-    Ok(format!(in alloc;
+    let text = format!(in rt.alloc();
         r#"{{"_type":"targets",{delegations}"expires":"2031-01-01T00:00:00Z","spec_version":"1.0.0","targets":{{{listed}}},"version":1}}"#
-    )?)
+    );
+    drop(entry);
+    good(rt, text)
 }
 
-fn document(alloc: Global, signed: &str) -> Result<String, Fail> {
-    Ok(format!(in alloc; r#"{{"signatures":[{{"keyid":"k","sig":"01"}}],"signed":{signed}}}"#)?)
+fn document<X: AllocGlobal + Abort>(rt: &X, signed: &str) -> String {
+    let text = format!(in rt.alloc();
+        r#"{{"signatures":[{{"keyid":"k","sig":"01"}}],"signed":{signed}}}"#
+    );
+    good(rt, text)
 }
 
 // Puts a document in its place; an empty text is none.
-fn put(alloc: Global, repo: &mut MemoryRepository, name: &str, signed: &str) -> Result<(), Fail> {
+fn put<X: AllocGlobal + Abort>(rt: &X, repo: &mut MemoryRepository, name: &str, signed: &str) {
     if !signed.is_empty() {
-        repo.put_metadata(alloc, name, document(alloc, signed)?.as_bytes())?;
+        let document = document(rt, signed);
+        good(rt, repo.put_metadata(rt.alloc(), name, document.as_bytes()));
+        drop(document);
     }
-    Ok(())
 }
 
-fn fill(
-    alloc: Global,
-    change: Change,
-    targets: &str,
-    repo: &mut MemoryRepository,
-) -> Result<(), Fail> {
-    put(alloc, repo, "2.root.json", change.of("next root", ""))?;
+fn repository<X: AllocGlobal + Abort>(rt: &X, change: Change, targets: &str) -> MemoryRepository {
+    let failures = failures(rt, change.of("repository fails", ""));
+    let mut repo = MemoryRepository::new(rt.alloc(), failures);
+    put(rt, &mut repo, "2.root.json", change.of("next root", ""));
     put(
-        alloc,
-        repo,
+        rt,
+        &mut repo,
         "timestamp.json",
         change.of("timestamp", TIMESTAMP),
-    )?;
-    put(alloc, repo, "snapshot.json", SNAPSHOT)?;
-    put(alloc, repo, "targets.json", targets)?;
+    );
+    put(rt, &mut repo, "snapshot.json", SNAPSHOT);
+    put(rt, &mut repo, "targets.json", targets);
     let trust = change.of("file", change.of("trust", "{}"));
-    repo.put_target(alloc, "trusted_root.json", trust.as_bytes())?;
-    Ok(())
+    good(
+        rt,
+        repo.put_target(rt.alloc(), "trusted_root.json", trust.as_bytes()),
+    );
+    repo
 }
 
-fn repository(alloc: Global, change: Change, targets: &str) -> Result<MemoryRepository, Fail> {
-    let failures = failures(alloc, change.of("repository fails", ""))?;
-    let mut repo = MemoryRepository::new(alloc, failures);
-    fill(alloc, change, targets, &mut repo)?;
-    Ok(repo)
-}
-
-fn digest(alloc: Global, subject: &str) -> Result<Text, Fail> {
-    let digest = DigestBytes::from_bytes(alloc, sha256(subject.as_bytes()).as_bytes())?;
-    Ok(digest.to_base64(alloc)?)
+fn digest<X: AllocGlobal + Abort>(rt: &X, subject: &str) -> Text {
+    let digest = sha256(subject.as_bytes());
+    let digest = good(rt, DigestBytes::from_bytes(rt.alloc(), digest.as_bytes()));
+    let base64 = digest.to_base64(rt.alloc());
+    drop(digest);
+    good(rt, base64)
 }
 
 // Adds the provider's row for what is signed, unless the change leaves it out.
-fn sign(
-    alloc: Global,
+fn sign<X: AllocGlobal + Abort>(
+    rt: &X,
     change: Change,
     rows: &mut String,
     name: &str,
     subject: &str,
-) -> Result<(), Fail> {
+) {
     if change.of("unsigned", "") != name {
-        let digest = digest(alloc, subject)?;
-        let digest = digest.as_str();
-        write!(rows, "accept ECDSA_P256_SHA256 {RAW_KEY} {digest} AQ==\n")?;
+        let digest = digest(rt, subject);
+        let base64 = digest.as_str();
+        good(
+            rt,
+            write!(rows, "accept ECDSA_P256_SHA256 {RAW_KEY} {base64} AQ==\n"),
+        );
+        drop(digest);
     }
-    Ok(())
 }
 
-fn sign_all(
-    alloc: Global,
-    change: Change,
-    rows: &mut String,
-    root: &str,
-    targets: &str,
-) -> Result<(), Fail> {
-    sign(alloc, change, rows, "root", root)?;
-    sign(alloc, change, rows, "timestamp", TIMESTAMP)?;
-    sign(alloc, change, rows, "snapshot", SNAPSHOT)?;
-    sign(alloc, change, rows, "targets", targets)?;
+fn provider<X: AllocGlobal + Abort>(rt: &X, change: Change, root: &str, targets: &str) -> Bytes {
+    let mut rows = String::new(rt.alloc());
+    sign(rt, change, &mut rows, "root", root);
+    sign(rt, change, &mut rows, "timestamp", TIMESTAMP);
+    sign(rt, change, &mut rows, "snapshot", SNAPSHOT);
+    sign(rt, change, &mut rows, "targets", targets);
     sign(
-        alloc,
+        rt,
         change,
-        rows,
+        &mut rows,
         "hello",
         change.of("signed artifact", "hello"),
-    )
+    );
+    Bytes::from_vec(rows.into_bytes())
 }
 
-fn provider(alloc: Global, change: Change, root: &str, targets: &str) -> Result<Bytes, Fail> {
-    let mut rows = String::new(alloc);
-    sign_all(alloc, change, &mut rows, root, targets)?;
-    Ok(Bytes::from_vec(rows.into_bytes()))
-}
-
-fn policy(alloc: Global, change: Change) -> Result<Bytes, Fail> {
+fn policy<X: AllocGlobal + Abort>(rt: &X, change: Change) -> Bytes {
     let (key, skip) = (change.of("key", SPKI), change.of("skip", "skip tlog\n"));
-    let text = format!(in alloc; "key {key}\n{skip}")?;
-    Ok(Bytes::from_vec(text.into_bytes()))
+    let text = good(rt, format!(in rt.alloc(); "key {key}\n{skip}"));
+    Bytes::from_vec(text.into_bytes())
 }
 
 // That many blanks.
-fn blanks(alloc: Global, count: usize) -> Result<Bytes, Fail> {
-    Ok(Bytes::from_vec(vec![in alloc; b' '; count]?))
+fn blanks<X: AllocGlobal + Abort>(rt: &X, count: &str) -> Bytes {
+    let count = good(rt, count.parse::<usize>());
+    Bytes::from_vec(good(rt, vec![in rt.alloc(); b' '; count]))
 }
 
 fn message(change: Change) -> &str {
@@ -194,59 +192,55 @@ fn message(change: Change) -> &str {
     change.of("content", MESSAGE)
 }
 
-fn made_bundle(alloc: Global, change: Change) -> Result<Bytes, Fail> {
+fn made_bundle<X: AllocGlobal + Abort>(rt: &X, change: Change) -> Bytes {
     let material = change.of("material", r#""publicKey":{"hint":"k"}"#);
     let content = message(change);
-    let text = format!(in alloc;
+    let text = format!(in rt.alloc();
         r#"{{"mediaType":"application/vnd.dev.sigstore.bundle.v0.3+json","verificationMaterial":{{{material}}},{content}}}"#
-    )?;
-    Ok(Bytes::from_vec(text.into_bytes()))
+    );
+    Bytes::from_vec(good(rt, text).into_bytes())
 }
 
-fn bundle(alloc: Global, change: Change) -> Result<Bytes, Fail> {
+fn bundle<X: AllocGlobal + Abort>(rt: &X, change: Change) -> Bytes {
     match change.part {
-        "bundle" => Ok(Bytes::new(alloc, change.text.as_bytes())?),
-        "bundle of blanks" => blanks(alloc, change.text.parse::<usize>()?),
-        _ => made_bundle(alloc, change),
+        "bundle" => bytes(rt, change.text.as_bytes()),
+        "bundle of blanks" => blanks(rt, change.text),
+        _ => made_bundle(rt, change),
     }
 }
 
-fn put_inputs(
-    alloc: Global,
+fn inputs<X: AllocGlobal + Abort>(
+    rt: &X,
     change: Change,
     root: &str,
     targets: &str,
-    inputs: &mut MemoryInputs,
-) -> Result<(), Fail> {
-    let root_document = document(alloc, root)?;
-    inputs.put(Which::Root, Bytes::from_vec(root_document.into_bytes()));
-    inputs.put(Which::Policy, policy(alloc, change)?);
-    inputs.put(Which::Provider, provider(alloc, change, root, targets)?);
-    inputs.put(Which::Bundle, bundle(alloc, change)?);
-    Ok(())
-}
-
-fn inputs(alloc: Global, change: Change, root: &str, targets: &str) -> Result<MemoryInputs, Fail> {
-    let mut inputs = MemoryInputs::new(failures(alloc, change.of("inputs fail", ""))?);
-    put_inputs(alloc, change, root, targets, &mut inputs)?;
-    Ok(inputs)
+) -> MemoryInputs {
+    let mut inputs = MemoryInputs::new(failures(rt, change.of("inputs fail", "")));
+    inputs.put(
+        Which::Root,
+        Bytes::from_vec(document(rt, root).into_bytes()),
+    );
+    inputs.put(Which::Policy, policy(rt, change));
+    inputs.put(Which::Provider, provider(rt, change, root, targets));
+    inputs.put(Which::Bundle, bundle(rt, change));
+    inputs
 }
 
 // How a run over these inputs and this repository ends.
-fn ended(
-    alloc: Global,
+fn ended<X: AllocGlobal + Abort>(
+    rt: &X,
     change: Change,
     inputs: &mut MemoryInputs,
     repo: &mut MemoryRepository,
     sink: &mut MemorySink,
-) -> Result<Status, Fail> {
-    let words = words(alloc, change.of("words", WORDS))?;
+) -> Status {
+    let words = words(rt, change.of("words", WORDS));
     let artifact = change.of("artifact", change.of("signed artifact", "hello"));
-    let mut artifact = source(alloc, artifact, change.of("artifact fails", ""))?;
-    let mut store = MemoryStore::new(alloc);
+    let mut artifact = source(rt, artifact, change.of("artifact fails", ""));
+    let mut store = MemoryStore::new(rt.alloc());
     let clock = Timestamp::UNIX_EPOCH;
-    Ok(run(
-        alloc,
+    let status = run(
+        rt.alloc(),
         &words,
         clock,
         inputs,
@@ -254,35 +248,37 @@ fn ended(
         &mut store,
         &mut artifact,
         sink,
-    ))
-}
-
-fn run_over(
-    alloc: Global,
-    change: Change,
-    root: &str,
-    targets: &str,
-    sink: &mut MemorySink,
-) -> Result<Status, Fail> {
-    let mut repo = repository(alloc, change, targets)?;
-    let mut inputs = inputs(alloc, change, root, targets)?;
-    ended(alloc, change, &mut inputs, &mut repo, sink)
+    );
+    drop(words);
+    drop(store);
+    drop(artifact);
+    status
 }
 
 // How a run over the changed fixture ends.
-fn run_with(alloc: Global, change: Change, sink: &mut MemorySink) -> Result<Status, Fail> {
-    let root = root(alloc, change)?;
-    let targets = targets(alloc, change)?;
-    run_over(alloc, change, root.as_str(), targets.as_str(), sink)
+fn run_with<X: AllocGlobal + Abort>(rt: &X, change: Change, sink: &mut MemorySink) -> Status {
+    let (root, targets) = (root(rt, change), targets(rt, change));
+    let mut repo = repository(rt, change, targets.as_str());
+    let mut inputs = inputs(rt, change, root.as_str(), targets.as_str());
+    let status = ended(rt, change, &mut inputs, &mut repo, sink);
+    drop(inputs);
+    drop(repo);
+    drop(root);
+    drop(targets);
+    status
 }
 
 // The status of a run over the changed fixture, and what the sink took, as Debug prints them.
-pub(crate) fn said(alloc: Global, row: &str) -> Result<String, Fail> {
-    let change = change_in(row, PARTS)?;
-    let room = change.of("room", "1024").parse::<u32>()?;
-    let failures = failures(alloc, change.of("sink fails", ""))?;
-    let mut sink = MemorySink::new(alloc, room, failures)?;
-    let status = run_with(alloc, change, &mut sink)?;
-    let taken = str::from_utf8(sink.bytes())?;
-    Ok(format!(in alloc; "{status:?} {taken:?}")?)
+pub(crate) fn said<X: AllocGlobal + Abort>(rt: &X, row: &str) -> String {
+    let change = change_in(rt, row, PARTS);
+    let room = change.of("room", "1024");
+    let failures = failures(rt, change.of("sink fails", ""));
+    let room = good(rt, room.parse::<u32>());
+    let mut sink = good(rt, MemorySink::new(rt.alloc(), room, failures));
+    let status = run_with(rt, change, &mut sink);
+    let taken = text_of(rt, sink.bytes());
+    drop(sink);
+    let said = format!(in rt.alloc(); "{status:?} {taken:?}");
+    drop(taken);
+    good(rt, said)
 }

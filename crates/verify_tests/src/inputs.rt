@@ -1,28 +1,43 @@
 // Display texts, and words, files and lines on outside values.
-use crate::tables::{debug, display, failures, hold, words};
+use crate::tables::{
+    answered, bytes, check, debug, display, failures, good, halves, hold, lines_of, number, string,
+    text, text_of, word, words,
+};
+use crate::verification;
 use foundation::NoMemory;
 use sigstore_app_parts::*;
 use sigstore_crypto::{CryptoProvider, SigningScheme, sha256};
-use sigstore_types_parts::{Armor, Bytes, Text};
+use sigstore_types_parts::{Armor, Bytes};
 use std::alloc::Global;
 use std::fs;
+use std::process::Abort;
 use std::rt::Files;
-use std::test::Fail;
 
-fn name(alloc: Global, fault: &str) -> Result<String, Fail> {
+// The answer of a call of sigstore_app_parts; for any other name that of a call of sigstore_verify.
+pub(crate) fn answer<X: AllocGlobal + Abort>(rt: &X, call: &str, given: &str) -> String {
+    match call {
+        "fault" => name(rt, given),
+        "reading" => read(rt, given),
+        "table" => table(rt, given),
+        "sink" => taken(rt, given),
+        "line" => pushed(rt, given),
+        _ => verification::answer(rt, call, given),
+    }
+}
+
+fn name<X: AllocGlobal + Abort>(rt: &X, fault: &str) -> String {
     match fault {
-        "InputFault::Failed" => display(alloc, &InputFault::Failed),
-        "InputFault::Absent" => display(alloc, &InputFault::Absent),
-        "InputFault::TooLong" => display(alloc, &InputFault::TooLong { seen: 1 }),
-        "InputFault::NoMemory" => display(alloc, &InputFault::NoMemory),
-        "UsageFault::Usage" => display(alloc, &UsageFault::Usage),
-        "UsageFault::NoMemory" => display(alloc, &UsageFault::NoMemory),
-        "Stop::Words" => display(alloc, &Stop::Words),
-        "Stop::Form" => display(alloc, &Stop::Form(Which::Policy)),
-        "Stop::Input" => display(alloc, &Stop::Input(Which::Root)),
-        "Stop::Memory" => display(alloc, &Stop::Memory),
-        "SinkFault::Failed" => display(alloc, &SinkFault::Failed),
-        _ => Err("no fault")?,
+        "InputFault::Failed" => display(rt, InputFault::Failed),
+        "InputFault::Absent" => display(rt, InputFault::Absent),
+        "InputFault::TooLong" => display(rt, InputFault::TooLong { seen: 1 }),
+        "InputFault::NoMemory" => display(rt, InputFault::NoMemory),
+        "UsageFault::Usage" => display(rt, UsageFault::Usage),
+        "UsageFault::NoMemory" => display(rt, UsageFault::NoMemory),
+        "Stop::Words" => display(rt, Stop::Words),
+        "Stop::Form" => display(rt, Stop::Form(Which::Policy)),
+        "Stop::Input" => display(rt, Stop::Input(Which::Root)),
+        "Stop::Memory" => display(rt, Stop::Memory),
+        _ => display(rt, SinkFault::Failed),
     }
 }
 
@@ -38,63 +53,61 @@ Stop::Input | Input
 Stop::Memory | Memory
 SinkFault::Failed | Failed";
 
-#[test]
-fn errors_print_their_names(rt: HostRuntime) -> Result<(), Fail> {
-    hold(&rt, NAMES, name)
-}
-
 const WHOLE: &str =
     "verify --root=a --repository=b --store=c --bundle=d --artifact=e --policy=f=g --provider=h";
 
-fn shown(alloc: Global, layout: &Layout) -> Result<String, Fail> {
-    let (root, policy, now) = (layout.root.as_str(), layout.policy.as_str(), layout.now);
-    Ok(format!(in alloc; "{root} {policy} {now:?}")?)
-}
-
 // The layout's root, policy and instant.
-fn layout(alloc: Global, line: &str) -> Result<String, Fail> {
-    let words = words(alloc, line)?;
-    match read_layout(alloc, &words)? {
-        Some(layout) => shown(alloc, &layout),
-        None => display(alloc, &"none"),
+fn shown<X: AllocGlobal + Abort>(rt: &X, layout: Layout) -> String {
+    let (root, policy, now) = (layout.root.as_str(), layout.policy.as_str(), layout.now);
+    let shown = debug(rt, (root, policy, now));
+    drop(layout);
+    shown
+}
+
+fn layout<X: AllocGlobal + Abort>(rt: &X, line: &str) -> String {
+    let words = words(rt, line);
+    let layout = good(rt, read_layout(rt.alloc(), &words));
+    drop(words);
+    match layout {
+        Some(layout) => shown(rt, layout),
+        None => string(rt, "none"),
     }
 }
 
-fn whole_layout(alloc: Global, more: &str) -> Result<String, Fail> {
-    layout(alloc, format!(in alloc; "{WHOLE} {more}")?.as_str())
+fn whole_layout<X: AllocGlobal + Abort>(rt: &X, more: &str) -> String {
+    let line = good(rt, format!(in rt.alloc(); "{WHOLE} {more}"));
+    let answer = layout(rt, line.as_str());
+    drop(line);
+    answer
 }
 
-fn policy(alloc: Global, text: &str) -> Result<String, Fail> {
-    debug(
-        alloc,
-        &read_policy(alloc, text.replace(alloc, ';', "\n")?.as_str().as_bytes()),
-    )
+fn policy<X: AllocGlobal + Abort>(rt: &X, text: String) -> String {
+    let answer = read_policy(rt.alloc(), text.as_bytes());
+    drop(text);
+    debug(rt, answer)
 }
 
-fn provider(alloc: Global, text: &str) -> Result<String, Fail> {
-    let text = text.replace(alloc, ';', "\n")?;
-    match read_provider(alloc, text.as_str().as_bytes()) {
-        Ok(_) => display(alloc, &"tables"),
-        Err(fault) => debug(alloc, &fault),
-    }
+fn provider<X: AllocGlobal + Abort>(rt: &X, text: String) -> String {
+    let answer = read_provider(rt.alloc(), text.as_bytes());
+    drop(text);
+    word(rt, "tables", answer)
 }
 
 // What is read of words, of words after a whole layout, of a policy file and of a provider file.
-fn read(alloc: Global, row: &str) -> Result<String, Fail> {
-    let (call, text) = row.split_once(" | ").ok_or("a call and a text")?;
+fn read<X: AllocGlobal + Abort>(rt: &X, row: &str) -> String {
+    let (call, text) = halves(rt, row, " | ");
     match call {
-        "words" => layout(alloc, text),
-        "more words" => whole_layout(alloc, text),
-        "policy" => policy(alloc, text),
-        "policy of byte ff" => debug(alloc, &read_policy(alloc, b"key AQI=\n#\xff\n")),
-        "provider" => provider(alloc, text),
-        _ => Err("no call")?,
+        "words" => layout(rt, text),
+        "more words" => whole_layout(rt, text),
+        "policy" => policy(rt, lines_of(rt, text)),
+        "policy of byte ff" => debug(rt, read_policy(rt.alloc(), b"key AQI=\n#\xff\n")),
+        _ => provider(rt, lines_of(rt, text)),
     }
 }
 
 // A row: what is read, its text with `;` for the end of a line, and what is read of it.
-const READINGS: &str = "more words |  | a f=g None
-more words | --now=2025-01-01T00:00:00Z | a f=g Some(2025-01-01T00:00:00Z)
+const READINGS: &str = "more words |  | (\"a\", \"f=g\", None)
+more words | --now=2025-01-01T00:00:00Z | (\"a\", \"f=g\", Some(2025-01-01T00:00:00Z))
 more words | --now=x | none
 more words | --root=a | none
 more words | --now= | none
@@ -135,11 +148,6 @@ provider | armor key ZGVyOg== AQ==; | Usage
 provider | armor other YQ== AQ==; | Usage
 provider | refuse; | Usage";
 
-#[test]
-fn words_and_files_are_read(rt: HostRuntime) -> Result<(), Fail> {
-    hold(&rt, READINGS, read)
-}
-
 const PROVIDER: &str =
     "accept ECDSA_P256_SHA256 BAA= LPJNul+wow4m6DsqxbninhsWHlwfp0JecwQzYpOLmCQ= AQ==
 accept ED25519 - aGVsbG8= -
@@ -147,45 +155,55 @@ armor key a2V5 AQI=
 armor certificate Y2VydA== Aw==
 ";
 
-// Whether the provider accepts a signature over a message, or over the message's digest.
-fn is_accepted(provider: &TableProvider, call: &str, text: &str) -> Result<bool, Fail> {
-    let (key, text) = text.split_once('/').ok_or("a key")?;
-    let (message, signature) = text.split_once('/').ok_or("a message")?;
-    let (key, message, signature) = (key.as_bytes(), message.as_bytes(), signature.as_bytes());
-    let scheme = match call {
-        "digest" => {
-            let digest = sha256(message);
-            let scheme = SigningScheme::EcdsaP256Sha256;
-            return Ok(provider.verify_prehashed(scheme, key, digest.as_bytes(), signature));
-        }
+fn scheme_of(name: &str) -> SigningScheme {
+    match name {
         "EcdsaP256Sha256" => SigningScheme::EcdsaP256Sha256,
         "RsaPssSha256" => SigningScheme::RsaPssSha256,
-        "Ed25519" => SigningScheme::Ed25519,
-        _ => return Err("no call")?,
-    };
-    Ok(provider.verify_raw(scheme, key, message, signature))
-}
-
-fn text(alloc: Global, bytes: &[u8]) -> Result<String, Fail> {
-    display(alloc, &str::from_utf8(bytes)?)
-}
-
-// What a table answers.
-fn answer(alloc: Global, tables: &Tables, call: &str, asked: &str) -> Result<String, Fail> {
-    let (armor, bytes) = (&tables.armor, asked.as_bytes());
-    match call {
-        "is_armored" => debug(alloc, &armor.is_armored(bytes)),
-        "read_key" => debug(alloc, &armor.read_key(alloc, bytes)?.is_some()),
-        "read_certificate" => debug(alloc, &armor.read_certificate(alloc, bytes)?.is_some()),
-        "write_certificate" => text(alloc, armor.write_certificate(alloc, bytes)?.as_bytes()),
-        _ => debug(alloc, &is_accepted(&tables.provider, call, asked)?),
+        _ => SigningScheme::Ed25519,
     }
 }
 
-fn table(alloc: Global, row: &str) -> Result<String, Fail> {
-    let (call, asked) = row.split_once(" | ").ok_or("a call and a text")?;
-    let tables = read_provider(alloc, PROVIDER.as_bytes())?;
-    answer(alloc, &tables, call, asked)
+// Whether the provider accepts a signature over a message, or over the message's digest.
+fn is_accepted<X: Abort>(rt: &X, provider: &TableProvider, call: &str, text: &str) -> bool {
+    let (key, text) = halves(rt, text, "/");
+    let (message, signature) = halves(rt, text, "/");
+    let (key, message, signature) = (key.as_bytes(), message.as_bytes(), signature.as_bytes());
+    if call == "digest" {
+        let digest = sha256(message);
+        let scheme = SigningScheme::EcdsaP256Sha256;
+        provider.verify_prehashed(scheme, key, digest.as_bytes(), signature)
+    } else {
+        provider.verify_raw(scheme_of(call), key, message, signature)
+    }
+}
+
+fn is_there<X: Abort>(rt: &X, read: Result<Option<Bytes>, NoMemory>) -> bool {
+    good(rt, read).is_some()
+}
+
+// What a table answers.
+fn asked<X: AllocGlobal + Abort>(rt: &X, tables: &Tables, call: &str, asked: &str) -> String {
+    let (armor, bytes) = (&tables.armor, asked.as_bytes());
+    match call {
+        "is_armored" => debug(rt, armor.is_armored(bytes)),
+        "read_key" => debug(rt, is_there(rt, armor.read_key(rt.alloc(), bytes))),
+        "read_certificate" => debug(rt, is_there(rt, armor.read_certificate(rt.alloc(), bytes))),
+        "write_certificate" => {
+            let written = good(rt, armor.write_certificate(rt.alloc(), bytes));
+            let text = text_of(rt, written.as_bytes());
+            drop(written);
+            text
+        }
+        _ => debug(rt, is_accepted(rt, &tables.provider, call, asked)),
+    }
+}
+
+fn table<X: AllocGlobal + Abort>(rt: &X, row: &str) -> String {
+    let (call, text) = halves(rt, row, " | ");
+    let tables = good(rt, read_provider(rt.alloc(), PROVIDER.as_bytes()));
+    let answer = asked(rt, &tables, call, text);
+    drop(tables);
+    answer
 }
 
 // A row: a scheme, or the digest under ECDSA, with a key, a message and a signature; or a call of the
@@ -213,39 +231,31 @@ read_key | other | false
 read_certificate | other | false
 write_certificate | \u{1}\u{2} | der:AQI=";
 
-#[test]
-fn tables_answer_by_their_rows(rt: HostRuntime) -> Result<(), Fail> {
-    hold(&rt, TABLES, table)
-}
-
-fn write_texts(sink: &mut MemorySink, texts: &str, answers: &mut String) -> Result<(), Fail> {
+fn write_texts<X: AllocGlobal + Abort>(rt: &X, sink: &mut MemorySink, texts: &str) -> String {
+    let mut answers = String::new(rt.alloc());
     for text in texts.split_whitespace() {
         let answer = write_all(sink, text.as_bytes());
-        write!(answers, "{answer:?} ")?;
+        good(rt, write!(answers, "{answer:?} "));
     }
-    let taken = str::from_utf8(sink.bytes())?;
-    write!(answers, "{taken:?}")?;
-    Ok(())
+    answers
 }
 
 // The answers of a sink with room for seven bytes, and what it took.
-fn taken(alloc: Global, row: &str) -> Result<String, Fail> {
-    let (texts, call) = row.split_once(" | ").ok_or("texts and a call")?;
-    let mut sink = MemorySink::new(alloc, 7, failures(alloc, call)?)?;
-    let mut answers = String::new(alloc);
-    write_texts(&mut sink, texts, &mut answers)?;
-    Ok(answers)
+fn taken<X: AllocGlobal + Abort>(rt: &X, row: &str) -> String {
+    let (texts, call) = halves(rt, row, " | ");
+    let mut sink = good(rt, MemorySink::new(rt.alloc(), 7, failures(rt, call)));
+    let answers = write_texts(rt, &mut sink, texts);
+    let taken = text_of(rt, sink.bytes());
+    drop(sink);
+    let text = format!(in rt.alloc(); "{answers}{taken:?}");
+    drop(answers);
+    drop(taken);
+    good(rt, text)
 }
 
 // A row: texts, the call that fails, and the answers with what was taken.
 const TAKEN: &str = r#"hello hello |  | Ok(()) Err(Failed) "hellohe"
 hello | 1 | Err(Failed) """#;
-
-#[test]
-fn sinks_take_texts(rt: HostRuntime) -> Result<(), Fail> {
-    assert!(rt; write_all(&mut StdoutSink::new(&rt), b"").is_ok());
-    hold(&rt, TAKEN, taken)
-}
 
 fn which(name: &str) -> Which {
     match name {
@@ -257,11 +267,22 @@ fn which(name: &str) -> Which {
 }
 
 // What an input of at most that many bytes reads as.
-fn input<I: Inputs>(alloc: Global, inputs: &mut I, row: &str) -> Result<String, Fail> {
-    let (name, max) = row.split_once(" | ").ok_or("an input and a length")?;
-    match inputs.read(alloc, which(name), max.parse::<u64>()?) {
-        Ok(bytes) => text(alloc, bytes.as_bytes()),
-        Err(fault) => debug(alloc, &fault),
+fn input<X: AllocGlobal + Abort, I: Inputs>(rt: &X, inputs: &mut I, row: &str) -> String {
+    let (name, max) = halves(rt, row, " | ");
+    match inputs.read(rt.alloc(), which(name), number(rt, max)) {
+        Ok(bytes) => {
+            let text = text_of(rt, bytes.as_bytes());
+            drop(bytes);
+            text
+        }
+        Err(fault) => debug(rt, fault),
+    }
+}
+
+fn read_all<X: AllocGlobal + Abort, I: Inputs>(rt: &X, inputs: &mut I, rows: &str) {
+    for row in rows.lines() {
+        let (asked, wanted) = answered(rt, row);
+        check(rt, row, wanted, input(rt, inputs, asked));
     }
 }
 
@@ -271,20 +292,11 @@ Root | 4 | TooLong { seen: 5 }
 Policy | 4 | Absent
 Root | 5 | Failed";
 
-#[test]
-fn inputs_are_read(rt: HostRuntime) -> Result<(), Fail> {
-    let mut inputs = MemoryInputs::new(failures(rt.alloc(), "4")?);
-    inputs.put(Which::Root, Bytes::new(rt.alloc(), b"hello")?);
-    hold(&rt, MEMORY, |alloc, row| input(alloc, &mut inputs, row))
-}
-
 // The root is a file, the bundle is no file, and the policy is a folder.
-fn file_inputs<'r, X: Files>(rt: &'r X, alloc: Global) -> Result<FileInputs<'r, X>, Fail> {
-    let root = Text::new(alloc, "an_input")?;
-    let bundle = Text::new(alloc, "no_such_input")?;
-    let policy = Text::new(alloc, "/")?;
-    let provider = Text::from_string(String::new(alloc));
-    Ok(FileInputs::new(rt, root, bundle, policy, provider))
+fn file_inputs<'r, X: Files + AllocGlobal + Abort>(rt: &'r X) -> FileInputs<'r, X> {
+    let (root, bundle) = (text(rt, "an_input"), text(rt, "no_such_input"));
+    let (policy, provider) = (text(rt, "/"), text(rt, ""));
+    FileInputs::new(rt, root, bundle, policy, provider)
 }
 
 const FILES: &str = "Root | 5 | hello
@@ -292,21 +304,21 @@ Root | 4 | TooLong { seen: 5 }
 Bundle | 4 | Absent
 Policy | 4 | Failed";
 
-#[test]
-fn files_are_inputs(rt: HostRuntime) -> Result<(), Fail> {
-    fs::write(&rt, "an_input", "hello")?;
-    let mut inputs = file_inputs(&rt, rt.alloc())?;
-    hold(&rt, FILES, |alloc, row| input(alloc, &mut inputs, row))?;
-    fs::remove_file(&rt, "an_input")?;
-    Ok(())
+// Puts an input, and says why the inputs aren't gathered then.
+fn gathered<X: AllocGlobal + Abort>(rt: &X, inputs: &mut MemoryInputs, row: &str) -> String {
+    let (name, text) = halves(rt, row, " | ");
+    inputs.put(
+        which(name),
+        Bytes::from_vec(lines_of(rt, text).into_bytes()),
+    );
+    debug(rt, gather_inputs(rt.alloc(), inputs).err())
 }
 
-// Puts an input, and says why the inputs aren't gathered then.
-fn gathered(alloc: Global, inputs: &mut MemoryInputs, row: &str) -> Result<String, Fail> {
-    let (name, text) = row.split_once(" | ").ok_or("an input and a text")?;
-    let text = text.replace(alloc, ';', "\n")?;
-    inputs.put(which(name), Bytes::from_vec(text.into_bytes()));
-    debug(alloc, &gather_inputs(alloc, inputs).err())
+fn gather_all<X: AllocGlobal + Abort>(rt: &X, inputs: &mut MemoryInputs, rows: &str) {
+    for row in rows.lines() {
+        let (asked, wanted) = answered(rt, row);
+        check(rt, row, wanted, gathered(rt, inputs, asked));
+    }
 }
 
 // A row: an input that is put, its text with `;` for the end of a line, and why the inputs aren't gathered.
@@ -316,16 +328,6 @@ Policy | key AQI=; | Some(Input(Provider))
 Provider | refuse; | Some(Form(Provider))
 Provider |  | Some(Input(Root))
 Root | {} | None";
-
-#[test]
-fn inputs_are_gathered(rt: HostRuntime) -> Result<(), Fail> {
-    let mut inputs = MemoryInputs::new(failures(rt.alloc(), "")?);
-    hold(
-        &rt,
-        GATHERED,
-        |alloc, row| gathered(alloc, &mut inputs, row),
-    )
-}
 
 // Adds what a call writes.
 fn push(alloc: Global, text: &mut String, call: &str) -> Result<(), NoMemory> {
@@ -346,10 +348,10 @@ fn push(alloc: Global, text: &mut String, call: &str) -> Result<(), NoMemory> {
 }
 
 // What a call adds to a text, as Debug prints it.
-fn pushed(alloc: Global, call: &str) -> Result<String, Fail> {
-    let mut text = display(alloc, &"> ")?;
-    push(alloc, &mut text, call)?;
-    debug(alloc, &text.as_str())
+fn pushed<X: AllocGlobal + Abort>(rt: &X, call: &str) -> String {
+    let mut text = string(rt, "> ");
+    good(rt, push(rt.alloc(), &mut text, call));
+    debug(rt, text)
 }
 
 // A row: a call, and the text `> ` after it.
@@ -366,6 +368,31 @@ printed | "> a"
 decimal | "> 0""#;
 
 #[test]
-fn lines_are_written(rt: HostRuntime) -> Result<(), Fail> {
-    hold(&rt, LINES, pushed)
+fn parts_of_the_program(rt: HostRuntime) {
+    hold(&rt, "fault", NAMES);
+    hold(&rt, "reading", READINGS);
+    hold(&rt, "table", TABLES);
+    hold(&rt, "sink", TAKEN);
+    hold(&rt, "line", LINES);
+    assert!(rt; write_all(&mut StdoutSink::new(&rt), b"").is_ok());
+}
+
+#[test]
+fn inputs_in_memory(rt: HostRuntime) {
+    let mut inputs = MemoryInputs::new(failures(&rt, "4"));
+    inputs.put(Which::Root, bytes(&rt, b"hello"));
+    read_all(&rt, &mut inputs, MEMORY);
+    drop(inputs);
+    let mut gathered = MemoryInputs::new(failures(&rt, ""));
+    gather_all(&rt, &mut gathered, GATHERED);
+    drop(gathered);
+}
+
+#[test]
+fn files_are_inputs(rt: HostRuntime) {
+    good(&rt, fs::write(&rt, "an_input", "hello"));
+    let mut inputs = file_inputs(&rt);
+    read_all(&rt, &mut inputs, FILES);
+    good(&rt, fs::remove_file(&rt, "an_input"));
+    drop(inputs);
 }

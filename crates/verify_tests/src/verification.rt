@@ -2,12 +2,11 @@
 ghost use Rattle.std.specs.Prelude.{bytes_eq, Some, None, false};
 ghost use Rattle.sigstore_crypto.specs.Good.{subject_of};
 
-use crate::tables::{Change, change_in, debug, display, hold, source};
+use crate::fixture;
+use crate::tables::{Change, change_in, debug, good, hold, number, source, text, there, word};
 use foundation::NoMemory;
 use jiff::Timestamp;
-use sigstore_crypto::{
-    CryptoProvider, MemorySource, ReadError, SigningScheme, sha256, sha384, sha512,
-};
+use sigstore_crypto::{CryptoProvider, ReadError, SigningScheme, sha256, sha384, sha512};
 use sigstore_types::{
     Armor, Bundle, Bytes, DerPublicKey, DigestBytes, Form, HashAlgorithm, LogKeyId, MessageDigest,
     MessageSignature, SignatureBytes, SignatureContent, Text, TrustedRoot, VerificationMaterial,
@@ -16,7 +15,17 @@ use sigstore_types::{
 use sigstore_verify::*;
 use std::alloc::Global;
 use std::process::Abort;
-use std::test::Fail;
+
+// The answer of a call by this name; for any other name that of a run.
+pub(crate) fn answer<X: AllocGlobal + Abort>(rt: &X, call: &str, given: &str) -> String {
+    match call {
+        "refusal" => shown(rt, sample(rt, given)),
+        "judgement" => judged(rt, given),
+        "policy" => policy_shown(rt),
+        "acceptance" => accepted(rt, given),
+        _ => fixture::said(rt, given),
+    }
+}
 
 struct Echo;
 
@@ -136,40 +145,45 @@ fn plain(number: u8) -> Error {
 }
 
 // A refusal of each number.
-fn sample(alloc: Global, number: u8) -> Result<Error, Fail> {
+fn sample<X: AllocGlobal + Abort>(rt: &X, given: &str) -> Error {
+    let number = good(rt, given.parse::<u8>());
     match number {
-        1 => Ok(Error::IdentityMismatch {
-            expected: Text::new(alloc, "a")?,
+        1 => Error::IdentityMismatch {
+            expected: text(rt, "a"),
             actual: None,
-        }),
-        2 => Ok(Error::IssuerMismatch {
-            expected: Text::new(alloc, "a")?,
+        },
+        2 => Error::IssuerMismatch {
+            expected: text(rt, "a"),
             actual: None,
+        },
+        6..=11 => Error::Certificate(certificate(number)),
+        12 => Error::TransparencyLog(TransparencyLogError::UnknownLog {
+            log_id: good(rt, LogKeyId::from_bytes(rt.alloc(), b"log")),
         }),
-        6..=11 => Ok(Error::Certificate(certificate(number))),
-        12 => Ok(Error::TransparencyLog(TransparencyLogError::UnknownLog {
-            log_id: LogKeyId::from_bytes(alloc, b"log")?,
-        })),
-        13..=18 => Ok(Error::TransparencyLog(log(number))),
-        19..=21 => Ok(Error::Timestamp(timestamp(number))),
-        _ => Ok(plain(number)),
+        13..=18 => Error::TransparencyLog(log(number)),
+        19..=21 => Error::Timestamp(timestamp(number)),
+        _ => plain(number),
     }
+}
+
+// The display text of a refusal's part, with a blank before it.
+fn part<X: Abort>(rt: &X, alloc: Global, error: &Error) -> String {
+    let shown = match error {
+        Error::Certificate(part) => format!(in alloc; " {part}"),
+        Error::TransparencyLog(part) => format!(in alloc; " {part}"),
+        Error::Timestamp(part) => format!(in alloc; " {part}"),
+        _ => return String::new(alloc),
+    };
+    good(rt, shown)
 }
 
 // The number and the name of a refusal, its display text, and that of its part.
-fn shown(alloc: Global, error: &Error) -> Result<String, Fail> {
-    let (number, name) = (error.number(), error.name());
-    match error {
-        Error::Certificate(part) => Ok(format!(in alloc; "{number} {name} {error} {part}")?),
-        Error::TransparencyLog(part) => Ok(format!(in alloc; "{number} {name} {error} {part}")?),
-        Error::Timestamp(part) => Ok(format!(in alloc; "{number} {name} {error} {part}")?),
-        _ => Ok(format!(in alloc; "{number} {name} {error}")?),
-    }
-}
-
-fn named(alloc: Global, number: &str) -> Result<String, Fail> {
-    let error = sample(alloc, number.parse::<u8>()?)?;
-    shown(alloc, &error)
+fn shown<X: AllocGlobal + Abort>(rt: &X, error: Error) -> String {
+    let (number, name, part) = (error.number(), error.name(), part(rt, rt.alloc(), &error));
+    let shown = format!(in rt.alloc(); "{number} {name} {error}{part}");
+    drop(error);
+    drop(part);
+    good(rt, shown)
 }
 
 // A row: which refusal, and its number, its name, its display text and that of its part.
@@ -206,11 +220,6 @@ const REFUSALS: &str = "1 | 1 IdentityMismatch IdentityMismatch
 31 | 31 NoMemory NoMemory
 90 | 90 Unbuilt Unbuilt";
 
-#[test]
-fn refusals_have_their_names(rt: HostRuntime) -> Result<(), Fail> {
-    hold(&rt, REFUSALS, named)
-}
-
 // The parts of a verification that a change names; nothing is unchanged.
 const PARTS: &str = "nothing
 key
@@ -225,77 +234,68 @@ failing read";
 const KEY: &str =
     "MFkwEwYHKoZIzj0CAQYIKoZIzj0DAQcDQgAEAAAAAAAAAAAAAAAAAAAAAAAAAAAAAAAAAAAAAAAAAAAAAAAAAAAAAAAAAAAAAAAAAAAAAAAAAAAAAAAAAAAAAA==";
 
-fn policy(alloc: Global, change: Change) -> Result<PublicKeyVerificationPolicy, Fail> {
-    let key = DerPublicKey::from_base64(alloc, change.of("key", KEY))?;
+fn policy<X: AllocGlobal + Abort>(rt: &X, change: Change) -> PublicKeyVerificationPolicy {
+    let key = good(
+        rt,
+        DerPublicKey::from_base64(rt.alloc(), change.of("key", KEY)),
+    );
     let policy = PublicKeyVerificationPolicy::new(key);
     if change.part == "log" {
-        return Ok(policy);
+        policy
+    } else {
+        policy.skip_tlog_unsafe()
     }
-    Ok(policy.skip_tlog_unsafe())
 }
 
 // The SHA-256 value that a bundle tells under an algorithm; under no algorithm it tells none.
-fn told(alloc: Global, change: Change) -> Result<Option<MessageDigest>, Fail> {
+fn told<X: AllocGlobal + Abort>(rt: &X, change: Change) -> Option<MessageDigest> {
     let digest = sha256(change.of("told and signed", "hello").as_bytes());
     match HashAlgorithm::from_name(change.of("algorithm", "SHA2_256")) {
-        None => Ok(None),
-        Some(algorithm) => Ok(Some(MessageDigest {
+        None => None,
+        Some(algorithm) => Some(MessageDigest {
             algorithm,
-            digest: DigestBytes::from_bytes(alloc, digest.as_bytes())?,
-        })),
+            digest: good(rt, DigestBytes::from_bytes(rt.alloc(), digest.as_bytes())),
+        }),
     }
 }
 
 // A bundle over what it tells and over the SHA-256 value of what is signed.
-fn bundle(alloc: Global, change: Change) -> Result<Bundle, Fail> {
-    let signed = change.of("signed", change.of("told and signed", "hello"));
-    let message_digest = told(alloc, change)?;
-    let signature = SignatureBytes::from_bytes(alloc, sha256(signed.as_bytes()).as_bytes())?;
-    Ok(Bundle {
-        media_type: Text::from_string(String::new(alloc)),
+fn bundle<X: AllocGlobal + Abort>(rt: &X, change: Change) -> Bundle {
+    let signed = sha256(
+        change
+            .of("signed", change.of("told and signed", "hello"))
+            .as_bytes(),
+    );
+    let signature = SignatureBytes::from_bytes(rt.alloc(), signed.as_bytes());
+    Bundle {
+        media_type: Text::from_string(String::new(rt.alloc())),
         content: SignatureContent::MessageSignature(MessageSignature {
-            message_digest,
-            signature,
+            message_digest: told(rt, change),
+            signature: good(rt, signature),
         }),
         verification_material: VerificationMaterial {
             content: VerificationMaterialContent::PublicKey { hint: None },
         },
-    })
-}
-
-// The refusal under a policy.
-fn refusal(
-    alloc: Global,
-    policy: &PublicKeyVerificationPolicy,
-    bundle: &Bundle,
-    max: u64,
-    source: &mut MemorySource,
-) -> Result<String, Fail> {
-    let verifier = Verifier::new(alloc, &Echo, &Bare, &TrustedRoot {})?;
-    let now = Timestamp::UNIX_EPOCH;
-    match verifier.verify_reader(alloc, source, max, bundle, policy, now) {
-        Ok(_) => display(alloc, &"accepted"),
-        Err(e) => debug(alloc, &e),
     }
 }
 
-fn refusal_of(
-    alloc: Global,
-    change: Change,
-    policy: &PublicKeyVerificationPolicy,
-    bundle: &Bundle,
-) -> Result<String, Fail> {
-    let max = change.of("greatest length", "5").parse::<u64>()?;
-    let mut source = source(alloc, "hello", change.of("failing read", ""))?;
-    refusal(alloc, policy, bundle, max, &mut source)
+// What the verifier keeps of the changed bundle over the artifact `hello`, or its refusal.
+fn verified<X: AllocGlobal + Abort>(rt: &X, change: Change) -> Result<VerificationResult, Error> {
+    let max = number(rt, change.of("greatest length", "5"));
+    let mut source = source(rt, "hello", change.of("failing read", ""));
+    let (policy, bundle) = (policy(rt, change), bundle(rt, change));
+    let verifier = good(rt, Verifier::new(rt.alloc(), &Echo, &Bare, &TrustedRoot {}));
+    let now = Timestamp::UNIX_EPOCH;
+    let answer = verifier.verify_reader(rt.alloc(), &mut source, max, &bundle, &policy, now);
+    drop(verifier);
+    drop(bundle);
+    drop(policy);
+    drop(source);
+    answer
 }
 
-// The refusal of the changed bundle over the artifact `hello`.
-fn judged(alloc: Global, row: &str) -> Result<String, Fail> {
-    let change = change_in(row, PARTS)?;
-    let policy = policy(alloc, change)?;
-    let bundle = bundle(alloc, change)?;
-    refusal_of(alloc, change, &policy, &bundle)
+fn judged<X: AllocGlobal + Abort>(rt: &X, row: &str) -> String {
+    word(rt, "accepted", verified(rt, change_in(rt, row, PARTS)))
 }
 
 // A row: the part, the text in its place, and the refusal. The keys are no key, the P-256 key with one
@@ -313,68 +313,70 @@ algorithm | SHA2_512 | Crypto
 told and signed | jello | ArtifactMismatch
 signed | jello | SignatureInvalid";
 
-#[test]
-fn bundles_are_judged(rt: HostRuntime) -> Result<(), Fail> {
-    hold(&rt, JUDGED, judged)
-}
+const UNCHANGED: Change = Change {
+    part: "nothing",
+    text: "",
+};
 
-fn kept(
-    alloc: Global,
-    policy: &PublicKeyVerificationPolicy,
-    bundle: &Bundle,
-) -> Result<Kept, Fail> {
-    let mut source = source(alloc, "hello", "")?;
-    let verifier = Verifier::new(alloc, &Echo, &Bare, &TrustedRoot {})?;
+fn kept<X: AllocGlobal + Abort>(rt: &X) -> Kept {
+    let mut source = source(rt, "hello", "");
+    let (policy, bundle) = (policy(rt, UNCHANGED), bundle(rt, UNCHANGED));
+    let verifier = good(rt, Verifier::new(rt.alloc(), &Echo, &Bare, &TrustedRoot {}));
     let now = Timestamp::UNIX_EPOCH;
-    Ok(verifier.verify_reader_kept(alloc, &mut source, 5, bundle, policy, now)?)
-}
-
-fn check_digests<X: AllocGlobal + Abort>(rt: &X, kept: &Kept) -> Result<(), Fail> {
-    let digest = kept.digests.as_slice().first().ok_or("a digest")?;
-    assert!(rt; kept.digests.len() == 1 && digest.algorithm() == HashAlgorithm::Sha2256);
-    assert!(rt; digest.as_bytes() == sha256(b"hello").as_bytes());
-    Ok(())
-}
-
-fn check_result<X: AllocGlobal + Abort>(rt: &X, shown: &VerificationResult) {
-    assert!(rt; shown.issuer().is_none() && shown.integrated_time().is_none());
-    assert!(rt; !shown.certificate_verified() && !shown.sct_verified());
-    assert!(rt; !shown.tlog_verified() && !shown.identity_policy_checked());
-    assert!(rt; shown.verified_timestamps().is_empty());
-}
-
-fn check_policy<X: AllocGlobal + Abort>(rt: &X, policy: &PublicKeyVerificationPolicy) {
-    assert!(rt; policy.public_key().as_bytes().len() == 91 && !policy.verifies_tlog());
-}
-
-fn accepted(alloc: Global) -> Result<Kept, Fail> {
-    let unchanged = Change {
-        part: "nothing",
-        text: "",
-    };
-    let policy = policy(alloc, unchanged)?;
-    let bundle = bundle(alloc, unchanged)?;
-    let kept = kept(alloc, &policy, &bundle);
+    let kept = verifier.verify_reader_kept(rt.alloc(), &mut source, 5, &bundle, &policy, now);
+    drop(verifier);
     drop(bundle);
-    kept
+    drop(policy);
+    drop(source);
+    good(rt, kept)
 }
 
-#[test]
-fn a_policy_is_shown(rt: HostRuntime) -> Result<(), Fail> {
-    let unchanged = Change {
-        part: "nothing",
-        text: "",
+// The number of digests, the algorithm of the first one, and whether its bytes are those of `hello`.
+fn digests_shown<X: AllocGlobal + Abort>(rt: &X, kept: &Kept) -> String {
+    let digests = kept.digests.as_slice();
+    let digest = there(rt, digests.first());
+    let (count, algorithm) = (digests.len(), digest.algorithm());
+    let is_hello = digest.as_bytes() == sha256(b"hello").as_bytes();
+    debug(rt, (count, algorithm, is_hello))
+}
+
+// Whether an issuer, an integrated time and a verified time are there, and what was verified.
+fn result_shown<X: AllocGlobal + Abort>(rt: &X, shown: &VerificationResult) -> String {
+    let (issuer, integrated) = (shown.issuer().is_some(), shown.integrated_time().is_some());
+    let (certificate, sct) = (shown.certificate_verified(), shown.sct_verified());
+    let (tlog, identity) = (shown.tlog_verified(), shown.identity_policy_checked());
+    let times = shown.verified_timestamps().len();
+    debug(
+        rt,
+        (issuer, integrated, times, certificate, sct, tlog, identity),
+    )
+}
+
+fn accepted<X: AllocGlobal + Abort>(rt: &X, part: &str) -> String {
+    let kept = kept(rt);
+    let shown = match part {
+        "digests" => digests_shown(rt, &kept),
+        _ => result_shown(rt, &kept.result),
     };
-    let policy = policy(rt.alloc(), unchanged)?;
-    check_policy(&rt, &policy);
-    Ok(())
+    drop(kept);
+    shown
+}
+
+const ACCEPTANCE: &str = "digests | (1, Sha2256, true)
+result | (false, false, 0, false, false, false, false)";
+
+// The length of a policy's key, and whether the log is to be verified.
+fn policy_shown<X: AllocGlobal + Abort>(rt: &X) -> String {
+    let policy = policy(rt, UNCHANGED);
+    let (length, verifies) = (policy.public_key().as_bytes().len(), policy.verifies_tlog());
+    drop(policy);
+    debug(rt, (length, verifies))
 }
 
 #[test]
-fn an_acceptance_is_shown(rt: HostRuntime) -> Result<(), Fail> {
-    let kept = accepted(rt.alloc())?;
-    check_result(&rt, &kept.result);
-    let checked = check_digests(&rt, &kept);
-    drop(kept);
-    checked
+fn verifications(rt: HostRuntime) {
+    hold(&rt, "refusal", REFUSALS);
+    hold(&rt, "judgement", JUDGED);
+    hold(&rt, "policy", " | (91, false)");
+    hold(&rt, "acceptance", ACCEPTANCE);
 }

@@ -1,0 +1,28 @@
+-- What the top call is given, and what it finds and leaves of the outside.
+use Rattle.std.specs.Prelude.{ℕ, List}
+use Rattle.jiff_core.specs.declared.timestamp.Timestamp as jiff
+use Rattle.foundation.specs.Watched.{Watched}
+use Rattle.sigstore_tuf_parts.specs.Crypto.{Crypto}
+use Rattle.sigstore_tuf.specs.Repository.{Files, Folders}
+use Rattle.sigstore_tuf.specs.declared.config.UpdaterConfig.{UpdaterConfig}
+use Rattle.sigstore_verify.specs.Policy.{Meaning}
+
+-- from what a chain of documents is trusted: who decides signatures, the pinned root, the limits, the moment
+pub record Anchor : Type 0 where
+  pub crypto : Crypto
+  pub root : List ℕ
+  pub config : UpdaterConfig
+  pub now : jiff.Timestamp
+
+-- and what is asked: the bundle's bytes, under which policy, and the greatest length of the artifact
+pub record Given : Type 0 where
+  pub anchor : Anchor
+  pub policy : Meaning
+  pub bundle : List ℕ
+  pub max : ℕ
+
+-- the outside at one moment
+pub record Outside : Type 0 where
+  pub repo : Watched Folders
+  pub store : Watched Files
+  pub source : Watched (List ℕ)
