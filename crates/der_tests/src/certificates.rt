@@ -1,7 +1,8 @@
 // Certificates that OpenSSL made, changes of them, and encodings worked out by hand.
 use crate::certificate_data::{ISSUER, LOG};
 use crate::tables::{
-    Hexadecimal, check_rows, debug, encoded, good, halves, in_hexadecimal, number, shown, tagged, there,
+    Hexadecimal, check_rows, debug, encoded, good, halves, in_hexadecimal, number, shown, tagged,
+    there,
 };
 use der_core::{DerError, ObjectIdentifier, OctetString};
 use foundation::Duplicate;
@@ -180,10 +181,7 @@ fn refusal_of<X: AllocGlobal + Abort>(rt: &X, bytes: &[u8], words: &str) -> Stri
 
 fn changed<X: AllocGlobal + Abort>(rt: &X, bytes: &[u8], words: &str) -> Vec<u8> {
     let (place, octet) = halves(rt, words, " ");
-    let (at, octet) = (
-        number(rt, place),
-        good(rt, u8::from_str_radix(octet, 16)),
-    );
+    let (at, octet) = (number(rt, place), good(rt, u8::from_str_radix(octet, 16)));
     let mut changed = good(rt, bytes.to_vec(rt.alloc()));
     if at < changed.len() {
         changed[at] = octet;

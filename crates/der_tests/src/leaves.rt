@@ -252,10 +252,7 @@ fn set_from<X: AllocGlobal + Abort>(rt: &X, octets: &[u8]) -> Result<SetOfVec<In
 /// Whether the first half of the octets, put in one after the other, makes the set of the second.
 fn are_equal<X: AllocGlobal + Abort>(rt: &X, octets: &[u8]) -> String {
     let (first, second) = octets.split_at(octets.len() / 2);
-    let (set, other) = (
-        set_with(rt, first),
-        good(rt, set_from(rt, second)),
-    );
+    let (set, other) = (set_with(rt, first), good(rt, set_from(rt, second)));
     let are_equal = set == other;
     drop(set);
     drop(other);
@@ -304,7 +301,10 @@ fn truth_written<X: AllocGlobal + Abort>(rt: &X, truth: bool) -> String {
 fn number_written<X: AllocGlobal + Abort>(rt: &X, number: Int) -> OctetString {
     let zero = int(rt, &[0]);
     let mut out = OctetString::empty(rt.alloc());
-    good(rt, append_explicit_default(rt.alloc(), Tag(0xa0), &zero, &number, &mut out));
+    good(
+        rt,
+        append_explicit_default(rt.alloc(), Tag(0xa0), &zero, &number, &mut out),
+    );
     drop(zero);
     drop(number);
     out
@@ -331,8 +331,7 @@ GeneralizedTime::moment 180f39393939313233313233353935395a => (253402207200, tru
 
 /// The moment of a time in seconds from the start of 1970 on, and whether it is the last one.
 fn second_of<X: AllocGlobal + Abort, K: TimeKind>(rt: &X, bytes: &[u8]) -> String {
-    let moment = good(rt, Time::<K>::from_der(rt.alloc(), bytes))
-        .moment();
+    let moment = good(rt, Time::<K>::from_der(rt.alloc(), bytes)).moment();
     debug(rt, (moment.as_second(), moment == Timestamp::MAX))
 }
 
@@ -352,7 +351,10 @@ fn moment_of<X: Abort>(rt: &X, text: &str) -> Timestamp {
     if text == "MIN" {
         Timestamp::MIN
     } else {
-        good(rt, Timestamp::from_millisecond(good(rt, text.parse::<i64>())))
+        good(
+            rt,
+            Timestamp::from_millisecond(good(rt, text.parse::<i64>())),
+        )
     }
 }
 
