@@ -2,10 +2,9 @@
 ghost use Rattle.std.specs.Prelude.{◌≡◌};
 ghost use Rattle.std.specs.Option.{option_copied};
 
-use foundation::{Duplicate, NoMemory, Sequence};
+use foundation::Sequence;
 use jiff::Timestamp;
 use sigstore_types_parts::{ArtifactDigest, Text};
-use std::alloc::Global;
 
 /// What an accepted bundle shows, and which checks were made.
 #[derive(PartialEq, Drop)]
@@ -78,27 +77,4 @@ impl VerificationResult {
 pub struct Kept {
     pub result: VerificationResult,
     pub digests: Sequence<ArtifactDigest>,
-}
-
-impl Duplicate for VerificationResult {
-    fn duplicate(&self, alloc: Global) -> Result<VerificationResult, NoMemory> {
-        Ok(VerificationResult {
-            integrated_time: self.integrated_time,
-            issuer: self.issuer.duplicate(alloc)?,
-            certificate_verified: self.certificate_verified,
-            sct_verified: self.sct_verified,
-            tlog_verified: self.tlog_verified,
-            identity_policy_checked: self.identity_policy_checked,
-            verified_timestamps: self.verified_timestamps.duplicate(alloc)?,
-        })
-    }
-}
-
-impl Duplicate for Kept {
-    fn duplicate(&self, alloc: Global) -> Result<Kept, NoMemory> {
-        Ok(Kept {
-            result: self.result.duplicate(alloc)?,
-            digests: self.digests.duplicate(alloc)?,
-        })
-    }
 }

@@ -11,7 +11,7 @@ use crate::error::{Error, lowered};
 use crate::policy::Policy;
 use crate::report::{Kept, VerificationResult};
 use crate::verifier::Verifier;
-use foundation::{Duplicate, NoMemory, Sequence};
+use foundation::Sequence;
 use jiff::Timestamp;
 use sigstore_crypto::{ArtifactSource, CryptoProvider};
 use sigstore_tuf::{
@@ -246,16 +246,6 @@ impl fmt::Display for RootFault {
             RootFault::Tuf(_) => "Tuf",
             RootFault::Verify { .. } => "Verify",
             RootFault::NoMemory => "NoMemory",
-        })
-    }
-}
-
-impl Duplicate for Rooted {
-    fn duplicate(&self, alloc: Global) -> Result<Rooted, NoMemory> {
-        Ok(Rooted {
-            result: self.result.duplicate(alloc)?,
-            chain: self.chain.duplicate(alloc)?,
-            digests: self.digests.duplicate(alloc)?,
         })
     }
 }
