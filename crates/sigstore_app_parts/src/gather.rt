@@ -18,9 +18,13 @@ use std::{error, fmt};
 /// its own, an input isn't there, can't be read or is too long, or memory is wanting.
 #[derive(Clone, Copy, Debug, PartialEq, Eq, Drop)]
 pub enum Stop {
+    /// The words are outside their grammar.
     Words,
+    /// The input is outside its grammar.
     Form(Which),
+    /// The input isn't there, can't be read or is too long.
     Input(Which),
+    /// An allocation was refused.
     Memory,
 }
 

@@ -21,9 +21,13 @@ pub enum Which {
 /// Why an input wasn't given.
 #[derive(Clone, Copy, Debug, PartialEq, Eq, Drop)]
 pub enum InputFault {
+    /// A read failed.
     Failed,
+    /// The input isn't there.
     Absent,
+    /// The input is longer than its limit.
     TooLong { seen: u64 },
+    /// An allocation was refused.
     NoMemory,
 }
 

@@ -8,7 +8,9 @@ use std::{error, fmt};
 /// Why words or a file aren't read: they are outside their grammar, or memory is wanting.
 #[derive(Clone, Copy, Debug, PartialEq, Eq, Drop)]
 pub enum UsageFault {
+    /// The bytes or words are outside their grammar.
     Usage,
+    /// An allocation was refused.
     NoMemory,
 }
 

@@ -11,46 +11,67 @@ use std::{error, fmt};
 /// another length than its scheme's, or no key is known.
 #[derive(Clone, Copy, Debug, PartialEq, Eq, Drop)]
 pub enum VerificationFault {
+    /// The provider doesn't accept.
     Refused,
+    /// The raw key fails its test.
     RawKey,
+    /// The digest has another length than its scheme's.
     DigestLength,
+    /// No key is known.
     NoKey,
 }
 
 /// Why a checkpoint's signatures show nothing: none has the key's hint, or all with it are refused.
 #[derive(Clone, Copy, Debug, PartialEq, Eq, Drop)]
 pub enum CheckpointFault {
+    /// No signature has the key's hint.
     NoHint,
+    /// Each signature with the key's hint is refused.
     Refused,
 }
 
 /// The part of a certificate that isn't read.
 #[derive(Clone, Copy, Debug, PartialEq, Eq, Drop)]
 pub enum CertificateFault {
+    /// The certificate's DER.
     Der,
+    /// Its subject alternative name.
     San,
+    /// Its issuer of identities.
     Issuer,
 }
 
 /// The rule of keys that a key breaks.
 #[derive(Clone, Copy, Debug, PartialEq, Eq, Drop)]
 pub enum KeyRule {
+    /// The raw key fails its test.
     RawKey,
+    /// The bytes are no SubjectPublicKeyInfo (RFC 5280, section 4.1).
     Encoding,
+    /// The key's bit string has unused bits.
     UnusedBits,
 }
 
 /// Why a key, a signature or a digest is refused.
 #[derive(Clone, Copy, Debug, PartialEq, Eq, Drop)]
 pub enum Error {
+    /// A signature can't be made.
     Signing,
+    /// A signature isn't good.
     Verification(VerificationFault),
+    /// A key's text is of no known form.
     InvalidKeyFormat,
+    /// A key and a digest algorithm have no scheme.
     UnsupportedAlgorithm,
+    /// A checkpoint's signatures show nothing.
     Checkpoint(CheckpointFault),
+    /// A certificate isn't read.
     InvalidCertificate(CertificateFault),
+    /// A key isn't read, or fails its test.
     InvalidKey(KeyRule),
+    /// An allocation was refused.
     NoMemory,
+    /// The key is of a form that is known and isn't built yet.
     Unbuilt(Form),
 }
 

@@ -9,7 +9,9 @@ use std::{error, fmt};
 /// Why a source isn't read to its end: a read failed, or it gave more bytes than the limit.
 #[derive(Clone, Copy, Debug, PartialEq, Eq, Drop)]
 pub enum ReadError {
+    /// A read failed.
     Failed,
+    /// More bytes than the limit were given.
     TooLong { max: u64 },
 }
 

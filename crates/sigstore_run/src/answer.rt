@@ -14,11 +14,17 @@ use std::alloc::Global;
 /// grammar; an input isn't there, can't be read or is too long; a write failed; or memory was wanting.
 #[derive(Clone, Copy, Debug, PartialEq, Eq, Drop)]
 pub enum Status {
+    /// The bundle is accepted, and the report was written whole.
     Accepted,
+    /// The bundle is refused, and the line that says why was written whole.
     Refused,
+    /// The words or a file are outside their grammar.
     Usage,
+    /// An input isn't there, can't be read or is too long.
     Input,
+    /// A write failed.
     Output,
+    /// An allocation was refused, and nothing was written.
     Memory,
 }
 

@@ -12,8 +12,11 @@ use std::{error, fmt};
 /// Why nothing is fetched: the call failed, the file is longer than the limit, or memory is wanting.
 #[derive(Clone, Copy, Debug, PartialEq, Eq, Drop)]
 pub enum FetchFault {
+    /// The call failed.
     Failed,
+    /// The file is longer than the limit.
     TooLong { seen: u64 },
+    /// An allocation was refused.
     NoMemory,
 }
 

@@ -14,8 +14,11 @@ use std::{error, fmt};
 /// memory is wanting.
 #[derive(Clone, Copy, Debug, PartialEq, Eq, Drop)]
 pub enum StoreFault {
+    /// The call failed.
     Failed,
+    /// The name is absolute or has a component `..`, and nothing was touched.
     BadName,
+    /// An allocation was refused.
     NoMemory,
 }
 

@@ -36,7 +36,8 @@ digest_of digest text = if agrees digest text then Ok tt else Err (IntegrityMism
 abbrev pub supported_of : Hashes → Result ⊤ Error
 supported_of hashes = if is_some (at_name (codes "sha256") hashes) || is_some (at_name (codes "sha512") hashes) then Ok tt else Err (IntegrityMismatch NoDigest)
 
--- each sha256 and sha512 that the map has; a map with neither is refused
+-- Each sha256 and sha512 that the map has (else a file that fits the weaker one alone would do); a map with neither is refused,
+-- since it would let every file through.
 abbrev pub digests_of : Hashes → List ℕ → Result ⊤ Error
 digests_of hashes bytes = do
   _ ← digest_of (sha256 bytes) (at_name (codes "sha256") hashes)
@@ -54,10 +55,10 @@ integrity_of size hashes bytes = do
   _ ← length_of size bytes
   where_pinned hashes bytes
 
--- a document's version is its pin's
+-- A document's version is its pin's (5.5 and 5.6, 'mix-and-match attack').
 abbrev pub version_of : MetaFile → ℕ → Result ⊤ Error
 version_of pin version = if version == pin.version then Ok tt else Err (IntegrityMismatch Version)
 
--- the document of that role doesn't expire before now
+-- The document of that role doesn't expire before now ('freeze attack': else a repository that stands still hides every release).
 unfoldable pub fresh_of : List ℕ → Timestamp → Timestamp → Result ⊤ Error
 fresh_of role expires now = if int_lt expires.nanosecond now.nanosecond then Err (Expired role expires) else Ok tt

@@ -34,14 +34,15 @@ is_among known name = list_any (λ k. bytes_eq k name) known
 abbrev pub is_counted : RoleKeys → Signature → Bool
 is_counted role s = is_among role.keyids s.keyid && not (length s.sig == 0)
 
--- the signatures that count; those of other ids and empty ones are passed over
+-- The signatures that count. Those of other ids are passed over: anyone may sign. Empty ones too: signing ceremonies leave a
+-- placeholder for each key holder who hasn't signed yet, and none of these is a signature.
 abbrev pub counted_of : RoleKeys → List Signature → List Signature
 counted_of role signatures = filter (is_counted role) signatures
 
 abbrev pub ids_of : List Signature → List (List ℕ)
 ids_of signatures = map (λ s. s.keyid) signatures
 
--- the first id that stands there a second time, after these were seen
+-- The first id that stands there a second time, after these were seen: else one key holder who signs twice meets a threshold of two.
 abbrev pub second_after : List (List ℕ) → List (List ℕ) → Option (List ℕ)
 second_after seen [] = None
 second_after seen (id ∷ ids) = if is_among seen id then Some id else second_after (id ∷ seen) ids
@@ -104,6 +105,7 @@ no_second name (Some id) = Err (tuf.DuplicateSignature name id)
 abbrev pub enough_of : List ℕ → ℕ → ℕ → Result ⊤ Error
 enough_of name found threshold = if nat_le threshold found then Ok tt else Err (tuf.ThresholdNotMet name found threshold)
 
+-- A threshold of 0 would be met without any signature, so it is refused first.
 -- The document meets the role: its threshold isn't 0; no id that it names signed twice; no key of one that signed isn't
 -- built yet; and at least threshold ids signed.
 unfoldable pub meets_of : {T : Type 0} → Crypto → Keys → RoleKeys → List ℕ → Document T → Result ⊤ Error

@@ -12,15 +12,25 @@ use std::{error, fmt};
 /// threshold of 0, a pattern, or what has to be in force before it.
 #[derive(Clone, Copy, Debug, PartialEq, Eq, Drop)]
 pub enum Rule {
+    /// The top level is no object, or lacks `signed` or `signatures`.
     Frame,
+    /// `_type` is another kind's.
     Kind,
+    /// `spec_version` isn't version 1 of the specification.
     SpecVersion,
+    /// The role's threshold is 0, which nobody's signature would meet as well.
     Threshold,
+    /// A delegation's pattern is outside its grammar.
     Pattern,
+    /// No timestamp is in force.
     NoTimestamp,
+    /// No snapshot is in force.
     NoSnapshot,
+    /// The document before it doesn't pin the one that is wanted.
     Unpinned,
+    /// A delegated role has the name of a top-level one.
     TopLevel,
+    /// The delegator's document has no delegations.
     NoDelegations,
 }
 
@@ -28,11 +38,17 @@ pub enum Rule {
 /// version, by a pin that vanished, or by a listed length over the limit.
 #[derive(Clone, Copy, Debug, PartialEq, Eq, Drop)]
 pub enum Mismatch {
+    /// The file has another length.
     Length,
+    /// The file has another digest.
     Digest,
+    /// Digests are pinned, and none of them is SHA-256 or SHA-512.
     NoDigest,
+    /// The document has another version.
     Version,
+    /// A pin of the trusted snapshot isn't in the new one.
     Vanished,
+    /// The listed length is over the client's limit.
     TooLong,
 }
 
@@ -40,62 +56,85 @@ pub enum Mismatch {
 /// there are more roots than the limit.
 #[derive(Clone, Copy, Debug, PartialEq, Eq, Drop)]
 pub enum TransportFault {
+    /// The call failed.
     Failed,
+    /// The file isn't there.
     Absent,
+    /// The file is longer than its limit.
     TooLong { max: u64, seen: u64 },
+    /// There are more next roots than the limit.
     Rotations { max: u32 },
 }
 
 /// Why a document, a key or a chain of documents is refused.
 #[derive(Debug, Drop)]
 pub enum Error {
+    /// The bytes are no JSON, or a member is missing or of another type.
     Json,
+    /// The document breaks a rule of documents.
     Malformed(Rule),
+    /// A number is no integer from -2^63 to 2^64-1, so the document has no canonical text.
     NonIntegerNumber,
+    /// A declared key's text holds no key.
     UnusableKey {
         key_id: Text,
     },
+    /// A declared key's scheme is none of the nine.
     UnsupportedScheme {
         keytype: Text,
         scheme: Text,
     },
+    /// The root doesn't name the role.
     UnknownRole {
         name: Text,
     },
+    /// An id of the role has two nonempty signatures in one document.
     DuplicateSignature {
         role: Text,
         key_id: Text,
     },
+    /// Fewer different ids of the role signed well than its threshold asks for.
     ThresholdNotMet {
         role: Text,
         found: u64,
         threshold: u64,
     },
+    /// A newer document has a lower number than the trusted one.
     Rollback {
         role: Text,
         trusted: u64,
         new: u64,
     },
+    /// A newer timestamp has the trusted one's number.
     EqualVersion {
         role: Text,
         version: u64,
     },
+    /// A next root hasn't the next number.
     BadRootVersion {
         trusted: u64,
         new: u64,
     },
+    /// The document expires before the moment.
     Expired {
         role: Text,
         expires: jiff::Timestamp,
     },
+    /// A file or document isn't the one that is pinned.
     IntegrityMismatch(Mismatch),
+    /// A declared key was refused by the maker of keys.
     Crypto,
+    /// A search before the documents it needs are in force.
     NotRefreshed,
+    /// No document of the search lists the path.
     TargetNotFound {
         path: Text,
     },
+    /// The repository didn't give a file.
     Transport(TransportFault),
+    /// An allocation was refused.
     NoMemory,
+    /// The document or a key is of a form that is known and isn't built yet.
     Unbuilt(Form),
 }
 

@@ -17,10 +17,15 @@ use std::alloc::Global;
 /// keys refuses it, it isn't built yet, or memory is wanting.
 #[derive(Clone, Copy, Debug, PartialEq, Eq, Drop)]
 pub enum KeyFault {
+    /// The text holds no key.
     Unusable,
+    /// The scheme is none of the nine.
     Unsupported,
+    /// The maker of keys refuses the bytes.
     Refused,
+    /// The key is of a form that isn't built yet.
     Unbuilt(Form),
+    /// An allocation was refused.
     NoMemory,
 }
 

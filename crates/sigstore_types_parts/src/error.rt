@@ -13,28 +13,46 @@ use std::{error, fmt};
 /// The rule of checkpoints (C2SP tlog-checkpoint) that a text breaks.
 #[derive(Clone, Copy, Debug, PartialEq, Eq, Drop)]
 pub enum CheckpointRule {
+    /// The first line.
     Origin,
+    /// The tree's size.
     Size,
+    /// The tree's root hash.
     Root,
+    /// A line behind these.
     Extension,
+    /// A line of signatures.
     Signature,
 }
 
 /// Why a bundle, a trust file, a statement or a part of one isn't read.
 #[derive(Clone, Copy, Debug, PartialEq, Eq, Drop)]
 pub enum TypesError {
+    /// The bytes are no JSON, or a value has another JSON type and isn't placed at a member yet.
     Json,
+    /// A number isn't an integer from -2^63 to 2^64-1.
     Float,
+    /// The member is missing where it is required, or of another type or value.
     Field { member: TypesMember },
+    /// A text isn't base64 with padding (RFC 4648, section 4).
     Base64,
+    /// A text isn't hexadecimal.
     Hex,
+    /// Bytes have another length than their type's.
     Length { expected: u64, actual: u64 },
+    /// The bundle's media type is none of those that are known.
     MediaType,
+    /// An entry is of another kind or version.
     Kind,
+    /// A checkpoint breaks a rule of its grammar.
     Checkpoint(CheckpointRule),
+    /// The log is to be verified, and the bundle has no entry.
     NoEntry,
+    /// An entry has no inclusion proof where one is needed.
     NoProof,
+    /// An allocation was refused.
     NoMemory,
+    /// The value is of a form that is known and isn't built yet.
     Unbuilt(Form),
 }
 
