@@ -1,5 +1,5 @@
 -- A signed document, from its bytes (TUF specification, section 4.2).
-use Rattle.std.specs.Prelude.{ℕ, List, Result, Ok, Err, ok_or, codes}
+use Rattle.std.specs.Prelude.{◌≡◌, ℕ, List, Result, Ok, Err, ok_or, codes}
 use Rattle.serde_json.specs.Data.{Data}
 use Rattle.serde_json.specs.Find.{get}
 use Rattle.foundation.specs.Steps.{◌>>=◌}
@@ -13,6 +13,7 @@ use Rattle.sigstore_tuf_parts.specs.declared.member.DocumentMember.TheVariants a
 use Rattle.sigstore_tuf_parts.specs.Error.{error_of_fault}
 use Rattle.sigstore_tuf_parts.specs.Words.{required, text, sequence}
 use Rattle.sigstore_tuf_parts.specs.Canon.{canon}
+use Rattle.sigstore_tuf_parts.specs.Exact.{IsExact}
 use Rattle.sigstore_tuf_parts.specs.Header.{header_of}
 
 -- a document that was read: its content, its signatures, and the canonical text that they sign
@@ -61,6 +62,18 @@ document_in kind reads d = do
   signatures ← frame_of (codes "signatures") d
   content_of kind reads signed signatures
 
+-- The canonical text is that of what stands under `signed`, in which every number is an integer of 64 bits: so equal texts are
+-- of equal contents.
+pub record HasExactText (d : Data) (text : List ℕ) : Type 0 where
+  pub signed : Data
+  pub framed : frame_of (codes "signed") d ≡ Ok signed
+  pub exact : IsExact signed
+  pub spelled : text ≡ canon signed
+
 -- a document
 unfoldable pub document_of : {T : Type 0} → List ℕ → (Data → Result T Error) → List ℕ → Result (Document T) Error
 document_of kind reads bytes = value_of bytes >>= document_in kind reads
+
+-- the canonical text of a document that was read is exact
+abbrev pub IsExactly : {T : Type 0} → List ℕ → Document T → Type 0
+IsExactly bytes doc = (d : Data) × (value_of bytes ≡ Ok d) × HasExactText d (text_in doc)

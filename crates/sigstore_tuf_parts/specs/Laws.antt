@@ -5,7 +5,7 @@ use Rattle.jiff_core.specs.declared.timestamp.Timestamp.{Timestamp}
 use Rattle.sigstore_tuf_parts.specs.declared.keys.RoleKeys.{RoleKeys}
 use Rattle.sigstore_tuf_parts.specs.declared.error.Error.{Error}
 use Rattle.sigstore_tuf_parts.specs.declared.root.Root.{Root}
-use Rattle.sigstore_tuf_parts.specs.Document.{Document, document_of}
+use Rattle.sigstore_tuf_parts.specs.Document.{Document, document_of, HasExactText}
 use Rattle.sigstore_tuf_parts.specs.RootRoles.{meets_role_of}
 use Rattle.sigstore_tuf_parts.specs.Cause.{ReadCause, RoleCause, IntegrityCause, ExpiryCause}
 use Rattle.sigstore_tuf_parts.specs.Canon.{canon}
@@ -35,6 +35,10 @@ FitsExactly = (pieces : List Piece) (text : List ℕ) → (fits pieces text ≡ 
 -- values whose numbers are integers of 64 bits, and whose canonical texts are equal, are equal
 abbrev pub TellsValues : Type 0
 TellsValues = (a b : Data) → IsExact a → IsExact b → canon a ≡ canon b → a ≡ b
+
+-- documents that were read and have one canonical text have one `signed`: who signs a text signs one content
+abbrev pub TellsDocuments : Type 0
+TellsDocuments = (a b : Data) (text : List ℕ) (first : HasExactText a text) (second : HasExactText b text) → first.signed ≡ second.signed
 
 -- ---- each refusal of a definition has its cause
 

@@ -4,7 +4,8 @@ ghost use Rattle.serde_json.specs.View.{view};
 ghost use Rattle.serde_json.specs.Written.{has_float};
 ghost use Rattle.sigstore_tuf_parts.specs.declared.error.Error.TheVariants.{NoMemory as Want};
 ghost use Rattle.sigstore_tuf_parts.specs.Canon.{canon};
-ghost use Rattle.sigstore_tuf_parts.specs.Document.{document_of, signature_of, value_of, frame_of, content_of, document_in};
+ghost use Rattle.sigstore_tuf_parts.specs.Document.{document_of, signature_of, value_of, frame_of, content_of, document_in, text_in, HasExactText, IsExactly};
+ghost use Rattle.sigstore_tuf_parts.specs.Exact.{IsExact};
 
 use crate::canonical::to_canonical_bytes;
 use crate::error::{Error, Rule};
@@ -112,6 +113,7 @@ impl<T: Role> Metadata<T> {
     pub fn from_slice(alloc: Global, bytes: &[u8]) -> Result<Metadata<T>, Error>
         ensures ok { IfOk result (λ m. document_of T.kind T.reads bytes.now ≡ Ok m) }
         ensures err { IfErr result (λ e. e ≢ Want → document_of T.kind T.reads bytes.now ≡ Err e) }
+        ensures exact { IfOk result (λ m. IsExactly bytes.now m) }
     {
         let value = parsed(alloc, bytes)?;
         Ok(read_frame(alloc, &value)?)
@@ -123,6 +125,7 @@ fn read_frame<T: Role>(alloc: Global, value: &Value) -> Result<Metadata<T>, Erro
     requires { has_float (view value.now) ≡ false }
     ensures ok { IfOk result (λ m. document_in T.kind T.reads (view value.now) ≡ Ok m) }
     ensures err { IfErr result (λ e. e ≢ Want → document_in T.kind T.reads (view value.now) ≡ Err e) }
+    ensures exact { IfOk result (λ m. HasExactText (view value.now) (text_in m)) }
 {
     let signed = framed(value, "signed")?;
     let signatures = framed(value, "signatures")?;
@@ -140,6 +143,8 @@ fn assembled<T: Role>(
         (λ m. content_of T.kind T.reads (view signed.now) (view signatures.now) ≡ Ok m) }
     ensures err { IfErr result (λ e. e ≢ Want
         → content_of T.kind T.reads (view signed.now) (view signatures.now) ≡ Err e) }
+    ensures exact { IfOk result
+        (λ m. IsExact (view signed.now) × (text_in m ≡ canon (view signed.now))) }
 {
     check_header::<T>(signed)?;
     let signatures = Sequence::from_value(alloc, signatures)?;
@@ -178,6 +183,7 @@ fn framed<'v>(value: &'v Value, name: &str) -> Result<&'v Value, Error>
 fn canonical_text(alloc: Global, value: &Value) -> Result<Bytes, Error>
     requires { has_float (view value.now) ≡ false }
     ensures ok { IfOk result (λ b. b ≡ canon (view value.now)) }
+    ensures exact { IfOk result (λ b. IsExact (view value.now)) }
     ensures err { IfErr result (λ e. e ≡ Want) }
 {
     match to_canonical_bytes(alloc, value) {

@@ -1,6 +1,6 @@
 // Laws of the definitions. A call does nothing.
 ghost use Rattle.std.specs.Prelude.{codes};
-ghost use Rattle.sigstore_tuf_parts.specs.Laws.{MeetsExactly, IntactExactly, FreshExactly, FitsExactly, TellsValues, ReadsWithCause, MeetsWithCause, IntactWithCause, FreshWithCause};
+ghost use Rattle.sigstore_tuf_parts.specs.Laws.{MeetsExactly, IntactExactly, FreshExactly, FitsExactly, TellsValues, TellsDocuments, ReadsWithCause, MeetsWithCause, IntactWithCause, FreshWithCause};
 ghost use Rattle.sigstore_tuf_parts.specs.Root.{root_of};
 ghost use Rattle.sigstore_tuf_parts.specs.Timestamp.{timestamp_of};
 ghost use Rattle.sigstore_tuf_parts.specs.Snapshot.{snapshot_of};
@@ -19,10 +19,12 @@ pub fn relations_exactly()
     ensures fits { FitsExactly }
 {}
 
-/// Equal canonical texts are of equal values; `to_canonical_bytes` takes no other values than those of
-/// the law.
+/// Equal canonical texts are of equal values, and documents that were read and have one text have one
+/// `signed`; `to_canonical_bytes` takes no other values than those of the law, and each document that
+/// `Metadata::from_slice` gives is of such a one.
 pub fn canonical_text_tells()
-    ensures { TellsValues }
+    ensures values { TellsValues }
+    ensures documents { TellsDocuments }
 {}
 
 /// Bytes that aren't read as a root, timestamp, snapshot or targets document have the cause of their
