@@ -80,6 +80,7 @@ fn named<X: AllocGlobal + Abort>(rt: &X, name: &str) -> String {
         "NoMemory" => shown(rt, Error::NoMemory),
         "Failed" => displayed(rt, ReadError::Failed),
         "TooLong" => displayed(rt, ReadError::TooLong { max: 1 }),
+        "ReadFault" => displayed(rt, ReadFault::Failed),
         _ => shown(rt, Error::Unbuilt(Form::Key)),
     }
 }
@@ -94,7 +95,8 @@ InvalidKey => 7 InvalidKey
 NoMemory => 8 NoMemory
 Unbuilt => 90 Unbuilt
 Failed => Failed
-TooLong => TooLong";
+TooLong => TooLong
+ReadFault => Failed";
 
 fn scheme_of(name: &str) -> Option<SigningScheme> {
     match name {

@@ -228,7 +228,12 @@ fn numbers<X: AllocGlobal + Abort>(rt: &X, words: &str) -> Vec<u64> {
 
 fn listed<X: AllocGlobal + Abort>(rt: &X, words: &str) -> String {
     match FailList::new(numbers(rt, words)) {
-        Some(list) => four_calls(rt, list),
+        Some(list) => {
+            let copy = good(rt, list.duplicate(rt.alloc()));
+            assert!(rt; copy == list, "a copy");
+            drop(copy);
+            four_calls(rt, list)
+        }
         None => string(rt, "no list"),
     }
 }

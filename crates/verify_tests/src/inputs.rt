@@ -8,6 +8,7 @@ use foundation::NoMemory;
 use sigstore_app_parts::*;
 use sigstore_crypto::{CryptoProvider, SigningScheme, sha256};
 use sigstore_types_parts::{Armor, Bytes};
+use sigstore_verify::RootFault;
 use std::alloc::Global;
 use std::fs;
 use std::process::Abort;
@@ -37,6 +38,8 @@ fn name<X: AllocGlobal + Abort>(rt: &X, fault: &str) -> String {
         "Stop::Form" => display(rt, Stop::Form(Which::Policy)),
         "Stop::Input" => display(rt, Stop::Input(Which::Root)),
         "Stop::Memory" => display(rt, Stop::Memory),
+        "RootFault::Tuf" => display(rt, RootFault::Tuf(sigstore_tuf::Error::Json)),
+        "RootFault::NoMemory" => display(rt, RootFault::NoMemory),
         _ => display(rt, SinkFault::Failed),
     }
 }
@@ -51,6 +54,8 @@ Stop::Words | Words
 Stop::Form | Form
 Stop::Input | Input
 Stop::Memory | Memory
+RootFault::Tuf | Tuf
+RootFault::NoMemory | NoMemory
 SinkFault::Failed | Failed";
 
 const WHOLE: &str =

@@ -4,7 +4,7 @@ ghost use Rattle.sigstore_crypto.specs.Good.{subject_of};
 
 use crate::fixture;
 use crate::tables::{Change, change_in, debug, good, hold, number, source, text, there, word};
-use foundation::NoMemory;
+use foundation::{Duplicate, NoMemory};
 use jiff::Timestamp;
 use sigstore_crypto::{CryptoProvider, ReadError, SigningScheme, sha256, sha384, sha512};
 use sigstore_types::{
@@ -331,13 +331,17 @@ fn kept<X: AllocGlobal + Abort>(rt: &X) -> Kept {
     good(rt, kept)
 }
 
-// The number of digests, the algorithm of the first one, and whether its bytes are those of `hello`.
+// The number of digests, the algorithm of the first one, whether its bytes are those of `hello`, and
+// whether a copy equals it.
 fn digests_shown<X: AllocGlobal + Abort>(rt: &X, kept: &Kept) -> String {
     let digests = kept.digests.as_slice();
     let digest = there(rt, digests.first());
     let (count, algorithm) = (digests.len(), digest.algorithm());
     let is_hello = digest.as_bytes() == sha256(b"hello").as_bytes();
-    debug(rt, (count, algorithm, is_hello))
+    let copy = good(rt, digest.duplicate(rt.alloc()));
+    let is_copied = copy == *digest;
+    drop(copy);
+    debug(rt, (count, algorithm, is_hello, is_copied))
 }
 
 // Whether an issuer, an integrated time and a verified time are there, and what was verified.
@@ -362,21 +366,24 @@ fn accepted<X: AllocGlobal + Abort>(rt: &X, part: &str) -> String {
     shown
 }
 
-const ACCEPTANCE: &str = "digests | (1, Sha2256, true)
+const ACCEPTANCE: &str = "digests | (1, Sha2256, true, true)
 result | (false, false, 0, false, false, false, false)";
 
-// The length of a policy's key, and whether the log is to be verified.
+// The length of a policy's key, whether the log is to be verified, and whether a copy equals it.
 fn policy_shown<X: AllocGlobal + Abort>(rt: &X) -> String {
     let policy = policy(rt, UNCHANGED);
     let (length, verifies) = (policy.public_key().as_bytes().len(), policy.verifies_tlog());
+    let copy = good(rt, policy.duplicate(rt.alloc()));
+    let is_copied = copy == policy;
+    drop(copy);
     drop(policy);
-    debug(rt, (length, verifies))
+    debug(rt, (length, verifies, is_copied))
 }
 
 #[test]
 fn verifications(rt: HostRuntime) {
     hold(&rt, "refusal", REFUSALS);
     hold(&rt, "judgement", JUDGED);
-    hold(&rt, "policy", " | (91, false)");
+    hold(&rt, "policy", " | (91, false, true)");
     hold(&rt, "acceptance", ACCEPTANCE);
 }
