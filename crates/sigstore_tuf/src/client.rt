@@ -1,7 +1,7 @@
 // A refresh, step by step: over an owned set of documents, and a lent repository and store.
 ghost use Rattle.std.specs.Prelude.{◌≡◌, ◌≢◌, ◌⊎◌, Ok, Err, IfErr, OnOk, OnErr, option_copied};
 ghost use Rattle.sigstore_tuf_parts.specs.declared.error.Error.TheVariants.{NoMemory as Want};
-ghost use Rattle.sigstore_tuf_parts.specs.Crypto.{crypto_of};
+ghost use Rattle.sigstore_tuf_parts.specs.By.{crypto_by};
 ghost use Rattle.sigstore_tuf.specs.Repository.{metadata_files};
 ghost use Rattle.sigstore_tuf.specs.Update.{new_timestamp_of, targets_pin_of, with_snapshot, with_targets};
 ghost use Rattle.sigstore_tuf.specs.Client.{FetchesFile, WalksRoots, transport_of, root_serves_of, adoption_of, after_timestamp, timestamp_serves_of, is_snapshot_kept, is_targets_kept, serves, top_targets, undelegated_of};
@@ -94,9 +94,9 @@ fn adopt_timestamp<C: CryptoProvider, M: Armor>(
     bytes: Bytes,
     now: jiff::Timestamp,
 ) -> Result<(), Error>
-    ensures ok { let new = new_timestamp_of (crypto_of (C.accepts provider.now) (M.armored armor.now) (M.key_in armor.now)) documents.old bytes now in
+    ensures ok { let new = new_timestamp_of (crypto_by C.CryptoProvider M.Armor provider.now armor.now) documents.old bytes now in
         OnOk result ((adoption_of new ≡ Ok tt) × (documents.new ≡ after_timestamp documents.old new)) }
-    ensures err { let new = new_timestamp_of (crypto_of (C.accepts provider.now) (M.armored armor.now) (M.key_in armor.now)) documents.old bytes now in
+    ensures err { let new = new_timestamp_of (crypto_by C.CryptoProvider M.Armor provider.now armor.now) documents.old bytes now in
         IfErr result (λ e. e ≢ Want → adoption_of new ≡ Err e) }
     ensures kept { OnErr result (documents.new ≡ documents.old) }
 {
@@ -138,7 +138,7 @@ fn take_timestamp<C: CryptoProvider, M: Armor>(
     bytes: Bytes,
     now: jiff::Timestamp,
 ) -> Result<(), Error>
-    ensures { TakesTimestamp (crypto_of (C.accepts provider.now) (M.armored armor.now) (M.key_in armor.now))
+    ensures { TakesTimestamp (crypto_by C.CryptoProvider M.Armor provider.now armor.now)
         now documents.old documents.new bytes result }
 {
     match adopt_timestamp(alloc, provider, armor, documents, bytes, now) {
@@ -160,7 +160,7 @@ fn refresh_timestamp<C: CryptoProvider, M: Armor, R: Repository>(
     config: &UpdaterConfig,
     now: jiff::Timestamp,
 ) -> Result<(), Error>
-    ensures { RefreshesTimestamp (crypto_of (C.accepts provider.now) (M.armored armor.now) (M.key_in armor.now))
+    ensures { RefreshesTimestamp (crypto_by C.CryptoProvider M.Armor provider.now armor.now)
         config.now now documents.old documents.new (R.seen repo.old) (R.seen repo.new) result }
 {
     match fetch_document(alloc, repo, "timestamp.json", config.timestamp_max_length) {
@@ -219,7 +219,7 @@ fn fetch_snapshot<C: CryptoProvider, M: Armor, R: Repository>(
     config: &UpdaterConfig,
     now: jiff::Timestamp,
 ) -> Result<(), Error>
-    ensures { FetchesSnapshot (crypto_of (C.accepts provider.now) (M.armored armor.now) (M.key_in armor.now))
+    ensures { FetchesSnapshot (crypto_by C.CryptoProvider M.Armor provider.now armor.now)
         config.now now documents.old documents.new (R.seen repo.old) (R.seen repo.new) result }
 {
     match fetch_document(alloc, repo, "snapshot.json", config.snapshot_max_length) {
@@ -244,7 +244,7 @@ fn refresh_snapshot<C: CryptoProvider, M: Armor, R: Repository>(
     config: &UpdaterConfig,
     now: jiff::Timestamp,
 ) -> Result<(), Error>
-    ensures { RefreshesSnapshot (crypto_of (C.accepts provider.now) (M.armored armor.now) (M.key_in armor.now))
+    ensures { RefreshesSnapshot (crypto_by C.CryptoProvider M.Armor provider.now armor.now)
         config.now now documents.old documents.new (R.seen repo.old) (R.seen repo.new) result }
 {
     if keeps_snapshot(documents, now) {
@@ -297,7 +297,7 @@ fn take_targets<C: CryptoProvider, M: Armor>(
     bytes: Bytes,
     now: jiff::Timestamp,
 ) -> Result<(), Error>
-    ensures { TakesTargets (crypto_of (C.accepts provider.now) (M.armored armor.now) (M.key_in armor.now))
+    ensures { TakesTargets (crypto_by C.CryptoProvider M.Armor provider.now armor.now)
         now documents.old documents.new bytes result }
 {
     match new_targets(alloc, provider, armor, documents, bytes, now) {
@@ -330,7 +330,7 @@ fn fetch_pinned<C: CryptoProvider, M: Armor, R: Repository>(
     config: &UpdaterConfig,
     now: jiff::Timestamp,
 ) -> Result<(), Error>
-    ensures { FetchesPinned (crypto_of (C.accepts provider.now) (M.armored armor.now) (M.key_in armor.now))
+    ensures { FetchesPinned (crypto_by C.CryptoProvider M.Armor provider.now armor.now)
         config.now now documents.old documents.new (R.seen repo.old) (R.seen repo.new) result }
 {
     match fetch_document(alloc, repo, "targets.json", config.targets_max_length) {
@@ -352,7 +352,7 @@ fn fetch_targets<C: CryptoProvider, M: Armor, R: Repository>(
     config: &UpdaterConfig,
     now: jiff::Timestamp,
 ) -> Result<(), Error>
-    ensures { FetchesTargets (crypto_of (C.accepts provider.now) (M.armored armor.now) (M.key_in armor.now))
+    ensures { FetchesTargets (crypto_by C.CryptoProvider M.Armor provider.now armor.now)
         config.now now documents.old documents.new (R.seen repo.old) (R.seen repo.new) result }
 {
     match check_targets_pin(alloc, documents, now) {
@@ -391,7 +391,7 @@ fn refresh_pinned<C: CryptoProvider, M: Armor, R: Repository>(
     config: &UpdaterConfig,
     now: jiff::Timestamp,
 ) -> Result<(), Error>
-    ensures { RefreshesPinned (crypto_of (C.accepts provider.now) (M.armored armor.now) (M.key_in armor.now))
+    ensures { RefreshesPinned (crypto_by C.CryptoProvider M.Armor provider.now armor.now)
         config.now now documents.old documents.new (R.seen repo.old) (R.seen repo.new) result }
 {
     if keeps_targets(documents, now) {
@@ -413,7 +413,7 @@ fn refresh_targets<C: CryptoProvider, M: Armor, R: Repository>(
     config: &UpdaterConfig,
     now: jiff::Timestamp,
 ) -> Result<(), Error>
-    ensures { RefreshesTargets (crypto_of (C.accepts provider.now) (M.armored armor.now) (M.key_in armor.now))
+    ensures { RefreshesTargets (crypto_by C.CryptoProvider M.Armor provider.now armor.now)
         config.now now documents.old documents.new (R.seen repo.old) (R.seen repo.new) result }
 {
     match refresh_pinned(alloc, provider, armor, documents, repo, config, now) {
@@ -435,7 +435,7 @@ fn run_steps<C: CryptoProvider, M: Armor, R: Repository>(
     config: &UpdaterConfig,
     now: jiff::Timestamp,
 ) -> Result<(), Error>
-    ensures { Refreshes (crypto_of (C.accepts provider.now) (M.armored armor.now) (M.key_in armor.now))
+    ensures { Refreshes (crypto_by C.CryptoProvider M.Armor provider.now armor.now)
         config.now now documents.old documents.new (R.seen repo.old) (R.seen repo.new) result }
 {
     walk_roots(alloc, repo, config, documents.root.signed().version)?;
@@ -460,9 +460,9 @@ pub fn refresh_parts<C: CryptoProvider, M: Armor, R: Repository, S: MetadataStor
     config: &UpdaterConfig,
     now: jiff::Timestamp,
 ) -> Result<(), Error>
-    ensures refreshes { Refreshes (crypto_of (C.accepts provider.now) (M.armored armor.now) (M.key_in armor.now))
+    ensures refreshes { Refreshes (crypto_by C.CryptoProvider M.Armor provider.now armor.now)
         config.now now documents.old documents.new (R.seen repo.old) (R.seen repo.new) result }
-    ensures authorised { StaysAuthorised (crypto_of (C.accepts provider.now) (M.armored armor.now) (M.key_in armor.now)) documents.old documents.new }
+    ensures authorised { StaysAuthorised (crypto_by C.CryptoProvider M.Armor provider.now armor.now) documents.old documents.new }
     ensures serves { OnOk result (Serve now documents.new) }
     ensures store { S.seen _store.new ≡ S.seen _store.old }
 {

@@ -1,7 +1,7 @@
 // The documents in force, with who judges their signatures.
 ghost use Rattle.std.specs.Prelude.{◌≡◌, ◌≢◌, Ok, Err, IfOk, IfErr, option_copied, option_map};
 ghost use Rattle.sigstore_tuf_parts.specs.declared.error.Error.TheVariants.{NoMemory as Want};
-ghost use Rattle.sigstore_tuf_parts.specs.Crypto.{crypto_of};
+ghost use Rattle.sigstore_tuf_parts.specs.By.{crypto_by};
 ghost use Rattle.sigstore_tuf_parts.specs.Document.{content_in};
 ghost use Rattle.sigstore_types_parts.specs.Entries.{at_name};
 ghost use Rattle.sigstore_tuf.specs.Documents.{content_of};
@@ -33,12 +33,12 @@ impl<'p, C: CryptoProvider, M: Armor> TrustedMetadataSet<'p, C, M> {
         bytes: &[u8],
     ) -> Result<TrustedMetadataSet<'p, C, M>, Error>
         ensures ok { IfOk result (λ set.
-            first_root_of (crypto_of (C.accepts provider.now) (M.armored armor.now) (M.key_in armor.now)) bytes.now ≡ Ok set.documents) }
+            first_root_of (crypto_by C.CryptoProvider M.Armor provider.now armor.now) bytes.now ≡ Ok set.documents) }
         ensures authorised { IfOk result (λ set.
-            AreAuthorised (crypto_of (C.accepts provider.now) (M.armored armor.now) (M.key_in armor.now)) bytes.now set.documents) }
+            AreAuthorised (crypto_by C.CryptoProvider M.Armor provider.now armor.now) bytes.now set.documents) }
         ensures same { IfOk result (λ set. (set.provider.now ≡ provider.now) × (set.armor.now ≡ armor.now)) }
         ensures err { IfErr result (λ e. e ≢ Want →
-            first_root_of (crypto_of (C.accepts provider.now) (M.armored armor.now) (M.key_in armor.now)) bytes.now ≡ Err e) }
+            first_root_of (crypto_by C.CryptoProvider M.Armor provider.now armor.now) bytes.now ≡ Err e) }
     {
         match first_root(alloc, provider, armor, bytes) {
             Ok(documents) => Ok(TrustedMetadataSet {

@@ -1,7 +1,7 @@
 // Each update of the documents in force: the document that is adopted, or the first check that fails.
 ghost use Rattle.std.specs.Prelude.{◌≡◌, ◌≢◌, [], ◌∷◌, Ok, Err, IfOk, IfErr, OnOk, codes, option_copied};
 ghost use Rattle.sigstore_tuf_parts.specs.declared.error.Error.TheVariants.{NoMemory as Want};
-ghost use Rattle.sigstore_tuf_parts.specs.Crypto.{crypto_of};
+ghost use Rattle.sigstore_tuf_parts.specs.By.{crypto_by};
 ghost use Rattle.sigstore_tuf_parts.specs.Document.{content_in};
 ghost use Rattle.sigstore_tuf_parts.specs.RootRoles.{root_document, meets_role_of};
 ghost use Rattle.sigstore_tuf.specs.Update.{first_root_of, not_below_of, other_of, newer_than_of, newer_of, pins_not_below_of, timestamp_checks_of, new_timestamp_of, snapshot_pin_of, kept_pin_of, kept_pins_in, kept_pins_of, snapshot_checks_of, new_snapshot_of, targets_pin_of, targets_checks_of, new_targets_of};
@@ -36,9 +36,9 @@ fn own_root<C: CryptoProvider, M: Armor>(
 ) -> Result<Metadata<Root>, Error>
     ensures read { IfOk result (λ root. root_document bytes.now ≡ Ok root) }
     ensures met { IfOk result (λ root.
-        meets_role_of (crypto_of (C.accepts provider.now) (M.armored armor.now) (M.key_in armor.now)) (content_in root) (codes "root") root ≡ Ok tt) }
+        meets_role_of (crypto_by C.CryptoProvider M.Armor provider.now armor.now) (content_in root) (codes "root") root ≡ Ok tt) }
     ensures err { IfErr result (λ e. e ≢ Want →
-        first_root_of (crypto_of (C.accepts provider.now) (M.armored armor.now) (M.key_in armor.now)) bytes.now ≡ Err e) }
+        first_root_of (crypto_by C.CryptoProvider M.Armor provider.now armor.now) bytes.now ≡ Err e) }
 {
     let root = Metadata::from_slice(alloc, bytes)?;
     match root.verify_role(alloc, provider, armor, root.signed(), "root") {
@@ -60,9 +60,9 @@ pub(crate) fn first_root<C: CryptoProvider, M: Armor>(
     bytes: &[u8],
 ) -> Result<InForce, Error>
     ensures ok { IfOk result (λ set.
-        first_root_of (crypto_of (C.accepts provider.now) (M.armored armor.now) (M.key_in armor.now)) bytes.now ≡ Ok set) }
+        first_root_of (crypto_by C.CryptoProvider M.Armor provider.now armor.now) bytes.now ≡ Ok set) }
     ensures err { IfErr result (λ e. e ≢ Want →
-        first_root_of (crypto_of (C.accepts provider.now) (M.armored armor.now) (M.key_in armor.now)) bytes.now ≡ Err e) }
+        first_root_of (crypto_by C.CryptoProvider M.Armor provider.now armor.now) bytes.now ≡ Err e) }
 {
     let roots = alone(alloc, bytes)?;
     let root = own_root(alloc, provider, armor, bytes)?;
@@ -152,9 +152,9 @@ fn check_timestamp<C: CryptoProvider, M: Armor>(
     now: jiff::Timestamp,
 ) -> Result<(), Error>
     ensures ok { OnOk result
-        (timestamp_checks_of (crypto_of (C.accepts provider.now) (M.armored armor.now) (M.key_in armor.now)) documents.now document.now now ≡ Ok tt) }
+        (timestamp_checks_of (crypto_by C.CryptoProvider M.Armor provider.now armor.now) documents.now document.now now ≡ Ok tt) }
     ensures err { IfErr result (λ e. e ≢ Want →
-        timestamp_checks_of (crypto_of (C.accepts provider.now) (M.armored armor.now) (M.key_in armor.now)) documents.now document.now now ≡ Err e) }
+        timestamp_checks_of (crypto_by C.CryptoProvider M.Armor provider.now armor.now) documents.now document.now now ≡ Err e) }
 {
     let content = document.signed();
     document.verify_role(alloc, provider, armor, documents.root.signed(), "timestamp")?;
@@ -174,9 +174,9 @@ pub(crate) fn new_timestamp<C: CryptoProvider, M: Armor>(
     now: jiff::Timestamp,
 ) -> Result<Held<Timestamp>, Error>
     ensures ok { IfOk result (λ held.
-        new_timestamp_of (crypto_of (C.accepts provider.now) (M.armored armor.now) (M.key_in armor.now)) documents.now bytes now ≡ Ok held) }
+        new_timestamp_of (crypto_by C.CryptoProvider M.Armor provider.now armor.now) documents.now bytes now ≡ Ok held) }
     ensures err { IfErr result (λ e. e ≢ Want →
-        new_timestamp_of (crypto_of (C.accepts provider.now) (M.armored armor.now) (M.key_in armor.now)) documents.now bytes now ≡ Err e) }
+        new_timestamp_of (crypto_by C.CryptoProvider M.Armor provider.now armor.now) documents.now bytes now ≡ Err e) }
 {
     let document = Metadata::<Timestamp>::from_slice(alloc, bytes.as_bytes())?;
     match check_timestamp(alloc, provider, armor, documents, &document, now) {
@@ -265,9 +265,9 @@ fn check_snapshot<C: CryptoProvider, M: Armor>(
     now: jiff::Timestamp,
 ) -> Result<(), Error>
     ensures ok { OnOk result
-        (snapshot_checks_of (crypto_of (C.accepts provider.now) (M.armored armor.now) (M.key_in armor.now)) documents.now pin.now document.now now ≡ Ok tt) }
+        (snapshot_checks_of (crypto_by C.CryptoProvider M.Armor provider.now armor.now) documents.now pin.now document.now now ≡ Ok tt) }
     ensures err { IfErr result (λ e. e ≢ Want →
-        snapshot_checks_of (crypto_of (C.accepts provider.now) (M.armored armor.now) (M.key_in armor.now)) documents.now pin.now document.now now ≡ Err e) }
+        snapshot_checks_of (crypto_by C.CryptoProvider M.Armor provider.now armor.now) documents.now pin.now document.now now ≡ Err e) }
 {
     let content = document.signed();
     document.verify_role(alloc, provider, armor, documents.root.signed(), "snapshot")?;
@@ -288,9 +288,9 @@ pub(crate) fn new_snapshot<C: CryptoProvider, M: Armor>(
     now: jiff::Timestamp,
 ) -> Result<Held<Snapshot>, Error>
     ensures ok { IfOk result (λ held.
-        new_snapshot_of (crypto_of (C.accepts provider.now) (M.armored armor.now) (M.key_in armor.now)) documents.now bytes now ≡ Ok held) }
+        new_snapshot_of (crypto_by C.CryptoProvider M.Armor provider.now armor.now) documents.now bytes now ≡ Ok held) }
     ensures err { IfErr result (λ e. e ≢ Want →
-        new_snapshot_of (crypto_of (C.accepts provider.now) (M.armored armor.now) (M.key_in armor.now)) documents.now bytes now ≡ Err e) }
+        new_snapshot_of (crypto_by C.CryptoProvider M.Armor provider.now armor.now) documents.now bytes now ≡ Err e) }
 {
     let pin = snapshot_pin(alloc, documents, now)?;
     check_integrity(pin.length, pin.hashes.as_ref(), bytes.as_bytes())?;
@@ -336,9 +336,9 @@ fn check_targets<C: CryptoProvider, M: Armor>(
     now: jiff::Timestamp,
 ) -> Result<(), Error>
     ensures ok { OnOk result
-        (targets_checks_of (crypto_of (C.accepts provider.now) (M.armored armor.now) (M.key_in armor.now)) documents.now pin.now document.now now ≡ Ok tt) }
+        (targets_checks_of (crypto_by C.CryptoProvider M.Armor provider.now armor.now) documents.now pin.now document.now now ≡ Ok tt) }
     ensures err { IfErr result (λ e. e ≢ Want →
-        targets_checks_of (crypto_of (C.accepts provider.now) (M.armored armor.now) (M.key_in armor.now)) documents.now pin.now document.now now ≡ Err e) }
+        targets_checks_of (crypto_by C.CryptoProvider M.Armor provider.now armor.now) documents.now pin.now document.now now ≡ Err e) }
 {
     check_version(pin, document.signed().version)?;
     document.verify_role(alloc, provider, armor, documents.root.signed(), "targets")?;
@@ -357,9 +357,9 @@ pub(crate) fn new_targets<C: CryptoProvider, M: Armor>(
     now: jiff::Timestamp,
 ) -> Result<Held<Targets>, Error>
     ensures ok { IfOk result (λ held.
-        new_targets_of (crypto_of (C.accepts provider.now) (M.armored armor.now) (M.key_in armor.now)) documents.now bytes now ≡ Ok held) }
+        new_targets_of (crypto_by C.CryptoProvider M.Armor provider.now armor.now) documents.now bytes now ≡ Ok held) }
     ensures err { IfErr result (λ e. e ≢ Want →
-        new_targets_of (crypto_of (C.accepts provider.now) (M.armored armor.now) (M.key_in armor.now)) documents.now bytes now ≡ Err e) }
+        new_targets_of (crypto_by C.CryptoProvider M.Armor provider.now armor.now) documents.now bytes now ≡ Err e) }
 {
     let pin = targets_pin(alloc, documents, now)?;
     check_integrity(pin.length, pin.hashes.as_ref(), bytes.as_bytes())?;

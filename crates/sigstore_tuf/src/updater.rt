@@ -1,7 +1,7 @@
 // The client over a lent repository.
 ghost use Rattle.std.specs.Prelude.{◌≡◌, ◌≢◌, Some, None, Ok, Err, IfOk, IfErr, OnOk, OnErr, option_map};
 ghost use Rattle.sigstore_tuf_parts.specs.declared.error.Error.TheVariants.{NoMemory as Want};
-ghost use Rattle.sigstore_tuf_parts.specs.Crypto.{crypto_of};
+ghost use Rattle.sigstore_tuf_parts.specs.By.{crypto_by};
 ghost use Rattle.sigstore_tuf.specs.Config.{default_config};
 ghost use Rattle.sigstore_tuf.specs.Update.{first_root_of};
 ghost use Rattle.sigstore_tuf.specs.Authorised.{AreAuthorised, StaysAuthorised, Serve, TrustsFrom, KeepsTrusted};
@@ -38,9 +38,9 @@ fn refresh_held<C: CryptoProvider, M: Armor, R: Repository, S: MetadataStore>(
 ) -> Result<(), Error>
     ensures same_store { SameOption store.old store.new }
     ensures store { option_seen S.seen store.new ≡ option_seen S.seen store.old }
-    ensures refreshes { Refreshes (crypto_of (C.accepts provider.now) (M.armored armor.now) (M.key_in armor.now))
+    ensures refreshes { Refreshes (crypto_by C.CryptoProvider M.Armor provider.now armor.now)
         config.now now documents.old documents.new (R.seen repo.old) (R.seen repo.new) result }
-    ensures authorised { StaysAuthorised (crypto_of (C.accepts provider.now) (M.armored armor.now) (M.key_in armor.now)) documents.old documents.new }
+    ensures authorised { StaysAuthorised (crypto_by C.CryptoProvider M.Armor provider.now armor.now) documents.old documents.new }
     ensures serves { OnOk result (Serve now documents.new) }
 {
     match store {
@@ -102,9 +102,9 @@ impl<'a, C: CryptoProvider, M: Armor, R: Repository, S: MetadataStore> Updater<'
         root_bytes: &[u8],
     ) -> Result<Updater<'a, C, M, R, S>, Error>
         ensures set { IfOk result (λ u.
-            first_root_of (crypto_of (C.accepts provider.now) (M.armored armor.now) (M.key_in armor.now)) root_bytes.now ≡ Ok u.set.documents) }
+            first_root_of (crypto_by C.CryptoProvider M.Armor provider.now armor.now) root_bytes.now ≡ Ok u.set.documents) }
         ensures authorised { IfOk result (λ u.
-            AreAuthorised (crypto_of (C.accepts provider.now) (M.armored armor.now) (M.key_in armor.now)) root_bytes.now u.set.documents) }
+            AreAuthorised (crypto_by C.CryptoProvider M.Armor provider.now armor.now) root_bytes.now u.set.documents) }
         ensures same { IfOk result (λ u. (u.set.provider.now ≡ provider.now) × (u.set.armor.now ≡ armor.now)) }
         ensures repo { IfOk result (λ u. u.repo.now ≡ repo.old) }
         ensures same_repo { IfOk result (λ u. u.repo.ghost_name ≡ repo.entry.ghost_name) }
@@ -112,7 +112,7 @@ impl<'a, C: CryptoProvider, M: Armor, R: Repository, S: MetadataStore> Updater<'
         ensures config { IfOk result (λ u. u.config ≡ default_config) }
         ensures chain { IfOk result (λ u. u.chain ≡ None) }
         ensures err { IfErr result (λ e. e ≢ Want →
-            first_root_of (crypto_of (C.accepts provider.now) (M.armored armor.now) (M.key_in armor.now)) root_bytes.now ≡ Err e) }
+            first_root_of (crypto_by C.CryptoProvider M.Armor provider.now armor.now) root_bytes.now ≡ Err e) }
     {
         match TrustedMetadataSet::from_root(alloc, provider, armor, root_bytes) {
             Ok(set) => Ok(Updater {
@@ -165,10 +165,10 @@ impl<'a, C: CryptoProvider, M: Armor, R: Repository, S: MetadataStore> Updater<'
         ensures same_store { SameOption self.old.store self.new.store }
         ensures store { option_seen S.seen self.new.store ≡ option_seen S.seen self.old.store }
         ensures refreshes { Refreshes
-            (crypto_of (C.accepts self.old.set.provider.now) (M.armored self.old.set.armor.now) (M.key_in self.old.set.armor.now))
+            (crypto_by C.CryptoProvider M.Armor self.old.set.provider.now self.old.set.armor.now)
             self.old.config now self.old.set.documents self.new.set.documents (R.seen self.old.repo.now) (R.seen self.new.repo.now) result }
         ensures authorised { StaysAuthorised
-            (crypto_of (C.accepts self.old.set.provider.now) (M.armored self.old.set.armor.now) (M.key_in self.old.set.armor.now))
+            (crypto_by C.CryptoProvider M.Armor self.old.set.provider.now self.old.set.armor.now)
             self.old.set.documents self.new.set.documents }
         ensures serves { OnOk result (Serve now self.new.set.documents) }
         ensures same { (self.new.set.provider.now ≡ self.old.set.provider.now) × (self.new.set.armor.now ≡ self.old.set.armor.now)

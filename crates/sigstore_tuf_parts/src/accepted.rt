@@ -4,7 +4,8 @@ ghost use Rattle.std.specs.Result.{result_ok};
 ghost use Rattle.sha2.specs.Sha512.{sha512};
 ghost use Rattle.hex.specs.Hex.{decode_of};
 ghost use Rattle.sigstore_crypto.specs.Good.{is_good};
-ghost use Rattle.sigstore_tuf_parts.specs.Crypto.{crypto_of, key_of, is_ml_dsa, signed_text};
+ghost use Rattle.sigstore_tuf_parts.specs.Crypto.{is_ml_dsa, signed_text};
+ghost use Rattle.sigstore_tuf_parts.specs.By.{key_by, crypto_by};
 ghost use Rattle.sigstore_tuf_parts.specs.Threshold.{is_accepted, is_accepted_raw, is_accepted_under};
 
 use crate::document::Signature;
@@ -38,7 +39,7 @@ pub(crate) fn is_accepted<C: CryptoProvider, M: Armor>(
     signature: &Signature,
 ) -> Result<bool, NoMemory>
     ensures { IfOk result (λ b. b ≡
-        is_accepted (crypto_of (C.accepts provider.now) (M.armored armor.now) (M.key_in armor.now))
+        is_accepted (crypto_by C.CryptoProvider M.Armor provider.now armor.now)
         keys.now text.now signature.now) }
 {
     match keys.get(signature.keyid.as_str()) {
@@ -56,7 +57,7 @@ fn is_accepted_by<C: CryptoProvider, M: Armor>(
     sig: &Text,
 ) -> Result<bool, NoMemory>
     ensures { IfOk result (λ b. b ≡ is_accepted_under (C.accepts provider.now) text.now sig.now
-        (key_of (M.armored armor.now) (M.key_in armor.now) key.now)) }
+        (key_by M.Armor armor.now key.now)) }
 {
     match key.verification_key(alloc, armor) {
         Ok(key) => is_accepted_under(alloc, provider, &key, text, sig),

@@ -1,7 +1,7 @@
 // Whether a document meets a role of a root.
 ghost use Rattle.std.specs.Prelude.{◌≡◌, ◌≢◌, Ok, Err, IfErr, OnOk};
 ghost use Rattle.sigstore_tuf_parts.specs.declared.error.Error.TheVariants.{NoMemory as Want};
-ghost use Rattle.sigstore_tuf_parts.specs.Crypto.{crypto_of};
+ghost use Rattle.sigstore_tuf_parts.specs.By.{crypto_by};
 ghost use Rattle.sigstore_tuf_parts.specs.RootRoles.{meets_role_of};
 
 use crate::document::Metadata;
@@ -24,10 +24,10 @@ impl<T> Metadata<T> {
         name: &str,
     ) -> Result<(), Error>
         ensures ok { OnOk result
-            (meets_role_of (crypto_of (C.accepts provider.now) (M.armored armor.now) (M.key_in armor.now))
+            (meets_role_of (crypto_by C.CryptoProvider M.Armor provider.now armor.now)
             root.now name.now self.now ≡ Ok tt) }
         ensures err { IfErr result (λ e. e ≢ Want →
-            meets_role_of (crypto_of (C.accepts provider.now) (M.armored armor.now) (M.key_in armor.now))
+            meets_role_of (crypto_by C.CryptoProvider M.Armor provider.now armor.now)
             root.now name.now self.now ≡ Err e) }
     {
         match root.role(name) {

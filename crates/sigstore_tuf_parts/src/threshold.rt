@@ -1,7 +1,7 @@
 // Whether a document meets a role.
 ghost use Rattle.std.specs.Prelude.{◌≡◌, ◌≢◌, [], Ok, Err, IfOk, IfErr, map, count_by};
 ghost use Rattle.sigstore_tuf_parts.specs.declared.error.Error.TheVariants.{NoMemory as Want};
-ghost use Rattle.sigstore_tuf_parts.specs.Crypto.{key_of, crypto_of};
+ghost use Rattle.sigstore_tuf_parts.specs.By.{key_by, crypto_by};
 ghost use Rattle.sigstore_tuf_parts.specs.Threshold.{ids_of, second_after, unbuilt_in, built_of, all_built, is_accepted, threshold_of, no_second, enough_of, meets_of};
 
 use crate::accepted::{decoded, is_accepted};
@@ -30,10 +30,10 @@ impl<T> Metadata<T> {
         role: &str,
     ) -> Result<(), Error>
         ensures ok { IfOk result (λ v.
-            meets_of (crypto_of (C.accepts provider.now) (M.armored armor.now) (M.key_in armor.now))
+            meets_of (crypto_by C.CryptoProvider M.Armor provider.now armor.now)
             keys.now role_keys.now role.now self.now ≡ Ok v) }
         ensures err { IfErr result (λ e. e ≢ Want →
-            meets_of (crypto_of (C.accepts provider.now) (M.armored armor.now) (M.key_in armor.now))
+            meets_of (crypto_by C.CryptoProvider M.Armor provider.now armor.now)
             keys.now role_keys.now role.now self.now ≡ Err e) }
     {
         let signatures = self.signatures();
@@ -76,9 +76,9 @@ fn check_once(alloc: Global, role: &str, signatures: &[&Signature]) -> Result<()
 
 fn check_key<M: Armor>(alloc: Global, armor: &M, key: &Key) -> Result<(), Error>
     ensures ok { IfOk result
-        (λ v. unbuilt_in (key_of (M.armored armor.now) (M.key_in armor.now) key.now) ≡ Ok v) }
+        (λ v. unbuilt_in (key_by M.Armor armor.now key.now) ≡ Ok v) }
     ensures err { IfErr result (λ e. e ≢ Want
-        → unbuilt_in (key_of (M.armored armor.now) (M.key_in armor.now) key.now) ≡ Err e) }
+        → unbuilt_in (key_by M.Armor armor.now key.now) ≡ Err e) }
 {
     match key.verification_key(alloc, armor) {
         Err(KeyFault::Unbuilt(form)) => Err(Error::Unbuilt(form)),
@@ -94,9 +94,9 @@ fn check_signature<M: Armor>(
     signature: &Signature,
 ) -> Result<(), Error>
     ensures ok { IfOk result
-        (λ v. built_of (key_of (M.armored armor.now) (M.key_in armor.now)) keys.now signature.now ≡ Ok v) }
+        (λ v. built_of (key_by M.Armor armor.now) keys.now signature.now ≡ Ok v) }
     ensures err { IfErr result (λ e. e ≢ Want
-        → built_of (key_of (M.armored armor.now) (M.key_in armor.now)) keys.now signature.now ≡ Err e) }
+        → built_of (key_by M.Armor armor.now) keys.now signature.now ≡ Err e) }
 {
     if decoded(alloc, &signature.sig)?.is_none() {
         return Ok(());
@@ -113,9 +113,9 @@ fn check_built<M: Armor>(
     keys: &TextMap<Key>,
     signatures: &[&Signature],
 ) -> Result<(), Error>
-    ensures ok { IfOk result (λ v. all_built (key_of (M.armored armor.now) (M.key_in armor.now))
+    ensures ok { IfOk result (λ v. all_built (key_by M.Armor armor.now)
         keys.now (map (λ s. s.now) signatures.now) ≡ Ok v) }
-    ensures err { IfErr result (λ e. e ≢ Want → all_built (key_of (M.armored armor.now) (M.key_in armor.now))
+    ensures err { IfErr result (λ e. e ≢ Want → all_built (key_by M.Armor armor.now)
         keys.now (map (λ s. s.now) signatures.now) ≡ Err e) }
 {
     for signature in signatures {
@@ -133,7 +133,7 @@ fn count_accepted<C: CryptoProvider, M: Armor>(
     text: &[u8],
 ) -> Result<u64, NoMemory>
     ensures { IfOk result (λ n. n ≡ count_by
-        (is_accepted (crypto_of (C.accepts provider.now) (M.armored armor.now) (M.key_in armor.now)) keys.now text.now)
+        (is_accepted (crypto_by C.CryptoProvider M.Armor provider.now armor.now) keys.now text.now)
         (map (λ s. s.now) signatures.now)) }
 {
     let mut found = 0u64;

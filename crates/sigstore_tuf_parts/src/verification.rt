@@ -5,7 +5,8 @@ ghost use Rattle.std.specs.Char.{is_ascii_hexdigit};
 ghost use Rattle.std.specs.Str.{trim};
 ghost use Rattle.sigstore_crypto.specs.Key.{spki_key_of};
 ghost use Rattle.sigstore_tuf_parts.specs.declared.verification.KeyFault.TheVariants.{NoMemory as Want};
-ghost use Rattle.sigstore_tuf_parts.specs.Crypto.{scheme_named, spki_fault, der_key_of, under_scheme, or_spki_fault, is_bare_key, bare_key_of, text_key_of, key_of};
+ghost use Rattle.sigstore_tuf_parts.specs.Crypto.{text_key_of, scheme_named, spki_fault, der_key_of, under_scheme, or_spki_fault, is_bare_key, bare_key_of};
+ghost use Rattle.sigstore_tuf_parts.specs.By.{key_by};
 
 use crate::keys::Key;
 use foundation::NoMemory;
@@ -58,9 +59,9 @@ impl Key {
         alloc: Global,
         armor: &M,
     ) -> Result<VerificationKey, KeyFault>
-        ensures ok { IfOk result (λ v. key_of (M.armored armor.now) (M.key_in armor.now) self.now ≡ Ok v) }
+        ensures ok { IfOk result (λ v. key_by M.Armor armor.now self.now ≡ Ok v) }
         ensures err { IfErr result
-            (λ e. e ≢ Want → key_of (M.armored armor.now) (M.key_in armor.now) self.now ≡ Err e) }
+            (λ e. e ≢ Want → key_by M.Armor armor.now self.now ≡ Err e) }
     {
         match scheme_named(self.scheme.as_str()) {
             Some(scheme) => text_key(alloc, armor, scheme, trimmed(self.keyval.public.as_str())),

@@ -1,6 +1,6 @@
 // The top call: from a pinned root down to one artifact.
 ghost use Rattle.std.specs.Prelude.{◌≡◌, ◌≢◌, ℕ, List, Ok, Err, IfOk, IfErr};
-ghost use Rattle.sigstore_tuf_parts.specs.Crypto.{crypto_of};
+ghost use Rattle.sigstore_tuf_parts.specs.By.{crypto_by};
 ghost use Rattle.sigstore_tuf.specs.Update.{first_root_of};
 ghost use Rattle.sigstore_verify.specs.declared.error.Error.TheVariants.{NoMemory as Want};
 ghost use Rattle.sigstore_verify.specs.Root.{trust_of, bundle_of, GivesChain, JudgesBundle, root_of_tuf, root_of_verify};
@@ -99,7 +99,7 @@ fn chain_by<C: CryptoProvider, M: Armor, R: Repository, S: MetadataStore>(
     config: &UpdaterConfig,
     now: Timestamp,
 ) -> Result<TrustChain, sigstore_tuf_parts::Error>
-    ensures gives { let crypto = crypto_of (C.accepts provider.now) (M.armored armor.now) (M.key_in armor.now) in
+    ensures gives { let crypto = crypto_by C.CryptoProvider M.Armor provider.now armor.now in
         (root : List ℕ) → first_root_of crypto root ≡ Ok documents.old
         → GivesChain (record { crypto = crypto; root = root; config = config.now; now = now }) (R.seen repo.old) (R.seen repo.new) result }
     ensures store { S.seen store.new ≡ S.seen store.old }
@@ -124,7 +124,7 @@ fn trust_chain<'p, C: CryptoProvider, M: Armor, R: Repository, S: MetadataStore>
     config: &UpdaterConfig,
     now: Timestamp,
 ) -> Result<TrustChain, sigstore_tuf_parts::Error>
-    ensures gives { let crypto = crypto_of (C.accepts provider.now) (M.armored armor.now) (M.key_in armor.now) in
+    ensures gives { let crypto = crypto_by C.CryptoProvider M.Armor provider.now armor.now in
         GivesChain (record { crypto = crypto; root = root_bytes.now; config = config.now; now = now }) (R.seen repo.old) (R.seen repo.new) result }
     ensures store { S.seen store.new ≡ S.seen store.old }
 {
@@ -204,7 +204,7 @@ pub fn verify_from_root<
     max_artifact: u64,
     policy: &P,
 ) -> Result<Rooted, RootFault>
-    ensures { let crypto = crypto_of (C.accepts provider.now) (M.armored armor.now) (M.key_in armor.now) in
+    ensures { let crypto = crypto_by C.CryptoProvider M.Armor provider.now armor.now in
         let anchor : Anchor = record { crypto = crypto; root = root_bytes.now; config = config; now = now } in
         let given : Given = record { anchor = anchor; policy = P.meant policy.now; bundle = bundle_bytes.now; max = max_artifact } in
         let before : Outside = record { repo = R.seen repo.old; store = S.seen store.old; source = A.seen artifact.old } in
