@@ -1,9 +1,11 @@
 -- OBJECT IDENTIFIER (X.690, 8.19), of at most 39 octets and with arcs below 2^32.
-use Rattle.std.specs.Prelude.{ℕ, zero, suc, ◌+◌, ◌-◌, ◌*◌, ◌/◌, ◌%◌, Bool, false, ◌&&◌, ◌||◌, ◌==◌, nat_lt, not, List, [], ◌∷◌, ◌++◌, length, take, Option, Some, None, Ok, Err, is_ok, if◌then◌else◌, refl}
+use Rattle.std.specs.Prelude.{ℕ, zero, suc, ◌+◌, ◌-◌, ◌*◌, ◌/◌, ◌%◌, Bool, false, ◌&&◌, ◌||◌, ◌==◌, nat_lt, not, List,
+    [], ◌∷◌, ◌++◌, length, take, Option, Some, None, Ok, Err, is_ok, if◌then◌else◌, refl}
 use Rattle.foundation.specs.Steps.{◌>>=◌}
 use Rattle.der_core_parts.specs.declared.error.DerError.TheVariants.{Value, Oid}
 use Rattle.der_core_parts.specs.Outcome.{Outcome}
 use Rattle.der_core_parts.specs.Types.{AsnType, primitive_type}
+use Rattle.der_core_parts.specs.Tags.{oid_tag}
 
 -- ---- reading
 
@@ -57,7 +59,7 @@ unfoldable pub is_oid : List ℕ → Bool
 is_oid contents = nat_lt (length contents) 40 && is_ok (arcs_of contents)
 
 abbrev pub oid_type : AsnType (List ℕ)
-oid_type = primitive_type 6 is_oid refl
+oid_type = primitive_type oid_tag is_oid refl
 
 -- the arcs of an identifier
 abbrev pub arcs : List ℕ → List ℕ

@@ -3,6 +3,7 @@ use Rattle.std.specs.Prelude.{ℕ, ◌+◌, ◌^◌, ◌%◌, Bool, true, false,
 use Rattle.std.specs.List.{list_all}
 use Rattle.std.specs.Str.{is_utf8}
 use Rattle.der_core_parts.specs.Types.{AsnType, primitive_type}
+use Rattle.der_core_parts.specs.Tags.{bit_string_tag, ia5_tag, integer_tag, utf8_tag}
 
 -- at least one octet; the first nine bits are neither all zeros nor all ones (X.690, 8.3.2)
 abbrev pub is_int : List ℕ → Bool
@@ -25,13 +26,13 @@ abbrev pub is_ia5_string : List ℕ → Bool
 is_ia5_string contents = list_all (λ b. nat_lt b 128) contents
 
 abbrev pub int_type : AsnType (List ℕ)
-int_type = primitive_type 2 is_int refl
+int_type = primitive_type integer_tag is_int refl
 
 abbrev pub bit_string_type : AsnType (List ℕ)
-bit_string_type = primitive_type 3 is_bit_string refl
+bit_string_type = primitive_type bit_string_tag is_bit_string refl
 
 abbrev pub utf8_type : AsnType (List ℕ)
-utf8_type = primitive_type 12 is_utf8_string refl
+utf8_type = primitive_type utf8_tag is_utf8_string refl
 
 abbrev pub ia5_type : AsnType (List ℕ)
-ia5_type = primitive_type 22 is_ia5_string refl
+ia5_type = primitive_type ia5_tag is_ia5_string refl

@@ -1,5 +1,6 @@
 -- Proofs: what is read as a time is a real civil time, with its year.
-use Rattle.std.proofs.Common.{◌≡◌, ℕ, ◌+◌, ◌-◌, ◌*◌, ◌<◌, ◌≤◌, Bool, true, false, ltb, eqb, List, length, Ok, refl, ap, subst, arith, inl, inr}
+use Rattle.std.proofs.Common.{◌≡◌, ℕ, ◌+◌, ◌-◌, ◌*◌, ◌<◌, ◌≤◌, Bool, true, false, ltb, eqb, List, length, Ok, refl, ap,
+    subst, arith, inl, inr}
 use Rattle.std.specs.Prelude.{◌&&◌, slice_index, nat_lt}
 use Rattle.std.proofs.lemmas.Bool.{cases_lt, lt-ltb, le-ltb, ltb-true}
 use Rattle.der_core_parts.specs.declared.error.DerError.TheVariants.{Value}
@@ -19,7 +20,8 @@ right false b e = absurd cc
 -- ---- what is read is real, and has the year
 
 real_is : (c d : Civil) → real c ≡ Ok d → (c ≡ d) × (is_civil d ≡ true)
-real_is c d e = let p = passed (is_civil c) Value (Ok c) d e in let is = ok_is c d p.1 in (is, subst (λ (z : Civil). is_civil z ≡ true) is p.0)
+real_is c d e = let p = passed (is_civil c) Value (Ok c) d e in let is = ok_is c d p.1 in
+    (is, subst (λ (z : Civil). is_civil z ≡ true) is p.0)
 
 pub civil_at-is : (y : ℕ) (bytes : List ℕ) (i : ℕ) (c : Civil) → civil_at y bytes i ≡ Ok c → (y ≡ c.year) × (is_civil c ≡ true)
 unfolding civil_at

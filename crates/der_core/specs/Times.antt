@@ -1,11 +1,13 @@
 -- UTCTime and GeneralizedTime (X.690, 11.7 and 11.8): digits and Z, with seconds and no fraction.
-use Rattle.std.specs.Prelude.{ℕ, ◌+◌, ◌-◌, ◌*◌, ◌/◌, ◌%◌, ◌++◌, ◌∷◌, [], Bool, ◌&&◌, ◌==◌, nat_lt, nat_le, List, length, slice_index, Ok, Err, is_ok, if◌then◌else◌, refl, ℤ, pos, neg_ℤ, ◌+ℤ◌, ◌*ℤ◌, ◌≤ℤ◌, ◌<ℤ◌}
+use Rattle.std.specs.Prelude.{ℕ, ◌+◌, ◌-◌, ◌*◌, ◌/◌, ◌%◌, ◌++◌, ◌∷◌, [], Bool, ◌&&◌, ◌==◌, nat_lt, nat_le, List, length,
+    slice_index, Ok, Err, is_ok, if◌then◌else◌, refl, ℤ, pos, neg_ℤ, ◌+ℤ◌, ◌*ℤ◌, ◌≤ℤ◌, ◌<ℤ◌}
 use Rattle.std.specs.Int.{int_min, int_max}
 use Rattle.foundation.specs.Steps.{◌>>=◌}
 use Rattle.jiff_core.specs.Calendar.{days_in_month, days_from_civil}
 use Rattle.der_core_parts.specs.declared.error.DerError.TheVariants.{Value}
 use Rattle.der_core_parts.specs.Outcome.{Outcome}
 use Rattle.der_core_parts.specs.Types.{AsnType, primitive_type}
+use Rattle.der_core_parts.specs.Tags.{generalized_time_tag, utc_time_tag}
 use Rattle.der_core.specs.declared.civil.Civil.{Civil}
 use Rattle.der_core.specs.Oid.{is_digit}
 
@@ -28,14 +30,17 @@ real c = if is_civil c then Ok c else Err Value
 -- month, day, hour, minute and second from a place on, and Z behind them
 unfoldable pub civil_at : ℕ → List ℕ → ℕ → Outcome Civil
 civil_at year bytes i =
-    if slice_index bytes (i + 10) == 90 then (pair_at bytes i >>= λ month. pair_at bytes (i + 2) >>= λ day. pair_at bytes (i + 4) >>= λ hour. pair_at bytes (i + 6) >>= λ minute. pair_at bytes (i + 8) >>= λ second.
+    if slice_index bytes (i + 10) == 90 then
+        (pair_at bytes i >>= λ month. pair_at bytes (i + 2) >>= λ day. pair_at bytes (i + 4)
+        >>= λ hour. pair_at bytes (i + 6) >>= λ minute. pair_at bytes (i + 8) >>= λ second.
     real (record { year = year; month = month; day = day; hour = hour; minute = minute; second = second }))
     else Err Value
 
 -- YYYYMMDDHHMMSSZ
 unfoldable pub generalized_of : List ℕ → Outcome Civil
 generalized_of bytes =
-    if length bytes == 15 then (pair_at bytes 0 >>= λ century. pair_at bytes 2 >>= λ year. civil_at (100 * century + year) bytes 4) else Err Value
+    if length bytes == 15 then (pair_at bytes 0 >>= λ century. pair_at bytes 2
+        >>= λ year. civil_at (100 * century + year) bytes 4) else Err Value
 
 -- years 50 to 99 are those of 1900, and 00 to 49 those of 2000
 abbrev pub full_year : ℕ → ℕ
@@ -50,10 +55,10 @@ abbrev pub reads : (List ℕ → Outcome Civil) → List ℕ → Bool
 reads civil contents = is_ok (civil contents)
 
 abbrev pub generalized_time_type : AsnType (List ℕ)
-generalized_time_type = primitive_type 24 (reads generalized_of) refl
+generalized_time_type = primitive_type generalized_time_tag (reads generalized_of) refl
 
 abbrev pub utc_time_type : AsnType (List ℕ)
-utc_time_type = primitive_type 23 (reads utc_of) refl
+utc_time_type = primitive_type utc_time_tag (reads utc_of) refl
 
 -- ---- writing
 

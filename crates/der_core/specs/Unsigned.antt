@@ -3,6 +3,7 @@ use Rattle.std.specs.Prelude.{ℕ, Bool, false, ◌&&◌, ◌==◌, nat_lt, List
 use Rattle.der_core_parts.specs.declared.error.DerError.TheVariants.{Value}
 use Rattle.der_core_parts.specs.Outcome.{Outcome}
 use Rattle.der_core_parts.specs.Types.{AsnType, primitive_type}
+use Rattle.der_core_parts.specs.Tags.{integer_tag}
 use Rattle.der_core.specs.Strings.{is_int}
 
 -- the sign bit is 0
@@ -30,4 +31,4 @@ uint_of [] = Err Value
 uint_of (a ∷ more) = Ok (with_sign (without_zeros (a ∷ more)))
 
 abbrev pub uint_type : AsnType (List ℕ)
-uint_type = primitive_type 2 is_uint refl
+uint_type = primitive_type integer_tag is_uint refl

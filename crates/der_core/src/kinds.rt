@@ -3,6 +3,7 @@ ghost use Rattle.std.specs.Prelude.{◌≡◌, ℕ, refl};
 ghost use Rattle.der_core.specs.Strings.{is_int, is_bit_string, is_utf8_string, is_ia5_string};
 
 use crate::primitive::{Primitive, PrimitiveKind};
+use der_core_parts::tag;
 
 /// The kind of whole numbers.
 #[derive(Drop)]
@@ -17,7 +18,7 @@ impl PrimitiveKind for IntKind {
     ghost test = { is_int };
 
     fn tag_byte() -> u8 {
-        2
+        tag::INTEGER
     }
 
     fn allows(contents: &[u8]) -> bool {
@@ -46,7 +47,7 @@ impl PrimitiveKind for BitStringKind {
     ghost test = { is_bit_string };
 
     fn tag_byte() -> u8 {
-        3
+        tag::BIT_STRING
     }
 
     fn allows(contents: &[u8]) -> bool {
@@ -73,7 +74,7 @@ impl PrimitiveKind for Utf8Kind {
     ghost test = { is_utf8_string };
 
     fn tag_byte() -> u8 {
-        12
+        tag::UTF8
     }
 
     fn allows(contents: &[u8]) -> bool {
@@ -96,7 +97,7 @@ impl PrimitiveKind for Ia5Kind {
     ghost test = { is_ia5_string };
 
     fn tag_byte() -> u8 {
-        22
+        tag::IA5
     }
 
     fn allows(contents: &[u8]) -> bool {

@@ -19,7 +19,7 @@ pub use der_core_parts::{
     append_implicit, append_implicit_optional, append_optional, no_prefix, read_default, read_each,
     read_explicit, read_explicit_default, read_explicit_optional, read_implicit,
     read_implicit_optional, read_is_written, read_is_written_same, read_optional, read_value,
-    set_has_members, written_is_read,
+    set_has_members, tag, written_is_read,
 };
 pub use kinds::{BitString, BitStringKind, Ia5, Ia5Kind, Int, IntKind, Utf8, Utf8Kind};
 pub use oid::ObjectIdentifier;

@@ -3,12 +3,12 @@ ghost use Rattle.std.specs.Prelude.{◌≡◌, ◌<◌, bytes_eq, length, IfOk, 
 ghost use Rattle.std.specs.Bool.{OnTrue};
 ghost use Rattle.std.specs.Cmp.{partial_equiv_from_equiv};
 ghost use Rattle.std.specs.Cmp.Lexicographic.{nat_list_eq_equiv};
-ghost use Rattle.der_core_parts.specs.declared.error.DerError.TheVariants.{NoMemory as Want};
+ghost use Rattle.der_core_parts.specs.declared.error.DerError.TheVariants.{NoMemory};
 ghost use Rattle.der_core.specs.Oid.{oid_type, is_oid, arcs_of, arcs, oid_of, oid_of_text, without_last, if_ok};
 
 use crate::arcs::{Arcs, Contents, arcs_in, contents_of};
 use crate::dotted::arcs_of_text;
-use der_core_parts::{Der, DerError, OctetString, Tag};
+use der_core_parts::{Der, DerError, OctetString, Tag, tag};
 use foundation::{Duplicate, NoMemory};
 use std::alloc::Global;
 use std::fmt;
@@ -147,7 +147,7 @@ impl Der for ObjectIdentifier {
     }
 
     fn tag(&self) -> Tag {
-        Tag(6)
+        Tag(tag::OID)
     }
 
     fn contents(&self, alloc: Global) -> Result<OctetString, DerError> {

@@ -15,7 +15,7 @@ ghost use Rattle.der_core.specs.TimeLaws.{utc-real, generalized-real};
 use crate::civil::{Civil, EPOCH, generalized_in, utc_in};
 use crate::digits::{Contents, generalized_out, utc_out};
 use crate::moment::{civil_of, moment_of};
-use der_core_parts::{Der, DerError, OctetString, Tag};
+use der_core_parts::{Der, DerError, OctetString, Tag, tag};
 use foundation::{Duplicate, NoMemory};
 use jiff::Timestamp;
 use std::alloc::Global;
@@ -62,7 +62,7 @@ impl TimeKind for UtcTimeKind {
     ghost civil = { utc_of };
 
     fn tag_byte() -> u8 {
-        23
+        tag::UTC_TIME
     }
 
     fn read(contents: &[u8]) -> Result<Civil, DerError> {
@@ -91,7 +91,7 @@ impl TimeKind for GeneralizedTimeKind {
     ghost civil = { generalized_of };
 
     fn tag_byte() -> u8 {
-        24
+        tag::GENERALIZED_TIME
     }
 
     fn read(contents: &[u8]) -> Result<Civil, DerError> {

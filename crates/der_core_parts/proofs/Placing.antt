@@ -7,6 +7,7 @@ use Rattle.std.specs.Ordering.{nat_cmp, is_lt, ordering_reverse}
 use Rattle.std.specs.Cmp.Lexicographic.{slice_cmp, nat_list_cmp_total}
 use Rattle.std.proofs.lemmas.List.{drop_all}
 use Rattle.foundation.specs.Steps.{◌>>=◌}
+use Rattle.foundation.specs.Results.{and_true}
 use Rattle.der_core_parts.specs.declared.error.DerError.{DerError}
 use Rattle.der_core_parts.specs.declared.error.DerError.TheVariants.{SetDuplicate}
 use Rattle.der_core_parts.specs.Outcome.{Outcome}
@@ -15,10 +16,6 @@ use Rattle.der_core_parts.specs.Sets.{Keyed, is_before, keyed, place, ordered, r
 use Rattle.der_core_parts.specs.SetLaws.{AreKeyed, are_keyed, keyed-values, ordered-same, set_is_rising, set_from-is_set}
 use Rattle.der_core_parts.specs.Places.{by_order, place_of, put}
 use Rattle.der_core_parts.proofs.Loops.{Refuses, refuses_along, refuses_as, left}
-
-and_true : (a b : Bool) → (a && b) ≡ true → (a ≡ true) × (b ≡ true)
-and_true true b e = (refl, e)
-and_true false b e = absurd cc
 
 abbrev pub PlacesOn : {A : Type 0} → Grammar A → List ℕ → List A → ℕ → Type 0
 PlacesOn g key items i = (place_of g key (drop i items) >>= λ k. Ok (i + k)) ≡ place_of g key items

@@ -11,6 +11,7 @@ pub mod Outcome
 pub mod Places
 pub mod SetLaws
 pub mod Sets
+pub mod Tags
 pub mod Tlv
 pub mod TlvLaws
 pub mod Types

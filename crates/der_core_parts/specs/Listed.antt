@@ -26,14 +26,19 @@ with_number-is number (a ∷ values) n b e = elim (chosen (eqb (number a) n) _ _
   | inr p ↦ with_number-is number values n b p.1
 ]
 
-pub listed-again : {A : Type 0} (number : A → ℕ) (values : List A) (c : List ℕ) (b : A) → listed_of number values c ≡ Ok b → number b ∷ [] ≡ c
+pub listed-again : {A : Type 0} (number : A → ℕ) (values : List A) (c : List ℕ) (b : A)
+    → listed_of number values c ≡ Ok b → number b ∷ [] ≡ c
 listed-again number values [] b e = absurd cc
 listed-again number values (n ∷ []) b e = ap (λ (z : ℕ). z ∷ []) (with_number-is number values n b e)
 listed-again number values (n ∷ m ∷ more) b e = absurd cc
 
-pub listed-fixed : {A : Type 0} (number : A → ℕ) (values : List A) (b other : A) → with_number number values (number b) ≡ Ok b → with_number number values (number b) ≡ Ok other → other ≡ b
+pub listed-fixed : {A : Type 0} (number : A → ℕ) (values : List A) (b other : A)
+    → with_number number values (number b) ≡ Ok b → with_number number values (number b) ≡ Ok other → other ≡ b
 listed-fixed number values b other found e = ok_is other b (sym e ∙ found)
 
 -- the values under a tag; each is found by its number, which is `refl` in each case
-abbrev pub listed_type : {A : Type 0} (tag : ℕ) (number : A → ℕ) (values : List A) → is_tag tag ≡ true → ((a : A) → with_number number values (number a) ≡ Ok a) → AsnType A
-listed_type tag number values ok found = refined_type (listed_of number values) (λ a. number a ∷ []) (primitive_type tag (λ c. true) ok) (listed-again number values) (λ b other e. listed-fixed number values b other (found b) e)
+abbrev pub listed_type : {A : Type 0} (tag : ℕ) (number : A → ℕ) (values : List A) → is_tag tag ≡ true
+    → ((a : A) → with_number number values (number a) ≡ Ok a) → AsnType A
+listed_type tag number values ok found =
+    refined_type (listed_of number values) (λ a. number a ∷ []) (primitive_type tag (λ c. true) ok)
+    (listed-again number values) (λ b other e. listed-fixed number values b other (found b) e)

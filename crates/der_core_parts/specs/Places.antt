@@ -17,7 +17,8 @@ by_order Greater a b c = c
 -- the place of a member with this encoding, or SetDuplicate where an equal one is there
 unfoldable pub place_of : {A : Type 0} → Grammar A → List ℕ → List A → Outcome ℕ
 place_of g key [] = Ok 0
-place_of g key (y ∷ ys) = write g y >>= λ other. by_order (slice_cmp nat_cmp key other) (Ok 0) (Err SetDuplicate) (place_of g key ys >>= λ i. Ok (suc i))
+place_of g key (y ∷ ys) =
+    write g y >>= λ other. by_order (slice_cmp nat_cmp key other) (Ok 0) (Err SetDuplicate) (place_of g key ys >>= λ i. Ok (suc i))
 
 unfoldable pub put : {A : Type 0} → Grammar A → A → List A → Outcome (List A)
 put g x ys = write g x >>= λ key. place_of g key ys >>= λ i. Ok (insert ys i x)

@@ -9,8 +9,10 @@ use Rattle.std.specs.Cmp.Lexicographic.{slice_cmp}
 use Rattle.std.proofs.lemmas.Bool.{eqb-true}
 use Rattle.std.proofs.lemmas.List.{length-append}
 use Rattle.std.specs.List.Sorted.{IsPermutation}
-use Rattle.std.proofs.lemmas.List.Sorted.{IsPermutation-refl, IsPermutation-trans, IsPermutation-cons, IsPermutation-insert, IsPermutation-map}
+use Rattle.std.proofs.lemmas.List.Sorted.{IsPermutation-refl, IsPermutation-trans, IsPermutation-cons,
+    IsPermutation-insert, IsPermutation-map}
 use Rattle.foundation.specs.Steps.{◌>>=◌}
+use Rattle.foundation.specs.Results.{and_true}
 use Rattle.der_core_parts.specs.declared.error.DerError.TheVariants.{SetDuplicate, Value}
 use Rattle.der_core_parts.specs.Outcome.{Outcome}
 use Rattle.der_core_parts.specs.Tlv.{IsTag}
@@ -19,11 +21,13 @@ use Rattle.der_core_parts.specs.Law.{WritesAs, IsLawful}
 use Rattle.der_core_parts.specs.TlvLaws.{ok_is, bind_ok, passed}
 use Rattle.der_core_parts.specs.Many.{EachEncoded, many_of, write_each}
 use Rattle.der_core_parts.specs.ManyLaws.{many-found, many-only, each-written, each-writes}
-use Rattle.der_core_parts.specs.Sets.{Keyed, is_before, keyed, place, ordered, rises, values, distinct, set_from, rise, is_set, IsSetOf, set_of}
+use Rattle.der_core_parts.specs.Sets.{Keyed, is_before, keyed, place, ordered, rises, values, distinct, set_from, rise,
+    is_set, IsSetOf, set_of}
 
 -- ---- encodings and members
 
-pub keyed-cons : {A : Type 0} (g : Grammar A) (x : A) (xs : List A) (key : List ℕ) (ks : List (Keyed A)) → write g x ≡ Ok key → keyed g xs ≡ Ok ks → keyed g (x ∷ xs) ≡ Ok ((key, x) ∷ ks)
+pub keyed-cons : {A : Type 0} (g : Grammar A) (x : A) (xs : List A) (key : List ℕ) (ks : List (Keyed A))
+    → write g x ≡ Ok key → keyed g xs ≡ Ok ks → keyed g (x ∷ xs) ≡ Ok ((key, x) ∷ ks)
 unfolding keyed
 keyed-cons g x xs key ks p q = rw p (rw q refl)
 
@@ -58,7 +62,8 @@ choice-keyed : {A : Type 0} (g : Grammar A) (b : Bool) (xs ys : List (Keyed A)) 
 choice-keyed g true xs ys h k = h
 choice-keyed g false xs ys h k = k
 
-place-keyed : {A : Type 0} (g : Grammar A) (x : Keyed A) (ys : List (Keyed A)) → write g x.1 ≡ Ok x.0 → AreKeyed g ys → AreKeyed g (place x ys)
+place-keyed : {A : Type 0} (g : Grammar A) (x : Keyed A) (ys : List (Keyed A)) → write g x.1 ≡ Ok x.0 → AreKeyed g ys
+    → AreKeyed g (place x ys)
 place-keyed g x [] h k = (h, tt)
 place-keyed g x (y ∷ ys) h k = choice-keyed g (is_before y x) (y ∷ place x ys) (x ∷ y ∷ ys) (k.0, place-keyed g x ys h k.1) (h, k)
 
@@ -67,10 +72,6 @@ ordered-keyed g [] h = tt
 ordered-keyed g (k ∷ ks) h = place-keyed g k (ordered ks) h.0 (ordered-keyed g ks h.1)
 
 -- ---- a list that rises is in order
-
-and_true : (a b : Bool) → (a && b) ≡ true → (a ≡ true) × (b ≡ true)
-and_true true b e = (refl, e)
-and_true false b e = absurd cc
 
 less_from_test : (o : Ordering) → is_lt o ≡ true → o ≡ Less
 less_from_test Less e = refl
@@ -109,7 +110,8 @@ pub set_is_rising : {A : Type 0} (g : Grammar A) (xs : List A) → is_set g xs �
 unfolding is_set
 set_is_rising g xs e = rising g xs (keyed g xs) refl e
 
-pub rising_is_set : {A : Type 0} (g : Grammar A) (xs : List A) (ks : List (Keyed A)) → keyed g xs ≡ Ok ks → rises ks ≡ true → is_set g xs ≡ true
+pub rising_is_set : {A : Type 0} (g : Grammar A) (xs : List A) (ks : List (Keyed A)) → keyed g xs ≡ Ok ks
+    → rises ks ≡ true → is_set g xs ≡ true
 unfolding is_set
 rising_is_set g xs ks e r = rw e r
 
@@ -130,7 +132,8 @@ set_from-is_set {A} g members a e =
     let m = bind_ok (keyed g members) (λ ks. distinct (ordered ks)) a e in
     let p = passed (rises (ordered m.0)) SetDuplicate (Ok (values (ordered m.0))) a m.2 in
     let k = keyed-again g (ordered m.0) (ordered-keyed g m.0 (are_keyed g members m.0 m.1)) in
-    subst (λ (z : List A). is_set g z ≡ true) (ok_is (values (ordered m.0)) a p.1) (rising_is_set g (values (ordered m.0)) (ordered m.0) k p.0)
+    subst (λ (z : List A). is_set g z ≡ true) (ok_is (values (ordered m.0)) a p.1)
+        (rising_is_set g (values (ordered m.0)) (ordered m.0) k p.0)
 
 -- ---- lengths
 
@@ -138,7 +141,8 @@ abbrev pub texts : {A : Type 0} → List (Keyed A) → List ℕ
 texts [] = []
 texts (k ∷ ks) = k.0 ++ texts ks
 
-write_each-cons : {A : Type 0} (g : Grammar A) (y : A) (ys : List A) (a b : List ℕ) → write g y ≡ Ok a → write_each g ys ≡ Ok b → write_each g (y ∷ ys) ≡ Ok (a ++ b)
+write_each-cons : {A : Type 0} (g : Grammar A) (y : A) (ys : List A) (a b : List ℕ) → write g y ≡ Ok a
+    → write_each g ys ≡ Ok b → write_each g (y ∷ ys) ≡ Ok (a ++ b)
 unfolding write_each
 write_each-cons g y ys a b p q = rw p (rw q refl)
 
@@ -147,7 +151,8 @@ unfolding write_each
 write_each-values g [] h = refl
 write_each-values g (k ∷ ks) h = write_each-cons g k.1 (values ks) k.0 (texts ks) h.0 (write_each-values g ks h.1)
 
-choice-length : {A : Type 0} (b : Bool) (xs ys : List (Keyed A)) (n : ℕ) → length (texts xs) ≡ n → length (texts ys) ≡ n → length (texts (cond b xs ys)) ≡ n
+choice-length : {A : Type 0} (b : Bool) (xs ys : List (Keyed A)) (n : ℕ) → length (texts xs) ≡ n → length (texts ys) ≡ n
+    → length (texts (cond b xs ys)) ≡ n
 choice-length true xs ys n h k = h
 choice-length false xs ys n h k = k
 
@@ -155,27 +160,32 @@ place-length : {A : Type 0} (x : Keyed A) (ys : List (Keyed A)) → length (text
 place-length x [] = length-append x.0 []
 place-length x (y ∷ ys) =
     choice-length (is_before y x) (y ∷ place x ys) (x ∷ y ∷ ys) (length x.0 + length (y.0 ++ texts ys))
-    (omega (arith, length-append y.0 (texts (place x ys)), length-append y.0 (texts ys), place-length x ys)) (length-append x.0 (y.0 ++ texts ys))
+    (omega (arith, length-append y.0 (texts (place x ys)), length-append y.0 (texts ys), place-length x ys))
+        (length-append x.0 (y.0 ++ texts ys))
 
 ordered-length : {A : Type 0} (ks : List (Keyed A)) → length (texts (ordered ks)) ≡ length (texts ks)
 ordered-length [] = refl
 ordered-length (k ∷ ks) = omega (arith, place-length k (ordered ks), ordered-length ks, length-append k.0 (texts ks))
 
-pub set_from-length : {A : Type 0} (g : Grammar A) (members a : List A) (text : List ℕ) → set_from g members ≡ Ok a → write_each g members ≡ Ok text → WritesAs (write_each g a) text
+pub set_from-length : {A : Type 0} (g : Grammar A) (members a : List A) (text : List ℕ) → set_from g members ≡ Ok a
+    → write_each g members ≡ Ok text → WritesAs (write_each g a) text
 unfolding set_from
 set_from-length {A} g members a text e w =
     let m = bind_ok (keyed g members) (λ ks. distinct (ordered ks)) a e in
     let p = passed (rises (ordered m.0)) SetDuplicate (Ok (values (ordered m.0))) a m.2 in
     let k = are_keyed g members m.0 m.1 in
-    let before : Path (Outcome (List ℕ)) (Ok (texts m.0)) (Ok text) = sym (write_each-values g m.0 k) ∙ ap (write_each g) (keyed-values g members m.0 m.1) ∙ w in
+    let before : Path (Outcome (List ℕ)) (Ok (texts m.0)) (Ok text) =
+        sym (write_each-values g m.0 k) ∙ ap (write_each g) (keyed-values g members m.0 m.1) ∙ w in
     let after = write_each-values g (ordered m.0) (ordered-keyed g m.0 k) in
     subst (λ (z : List A). WritesAs (write_each g z) text) (ok_is (values (ordered m.0)) a p.1)
     (texts (ordered m.0), after, ordered-length m.0 ∙ ap length (ok_is (texts m.0) text before))
 
 -- ---- a set has the members that were put in
 
-placed-permutes : {A : Type 0} (x y : Keyed A) (ys others : List (Keyed A)) (b : Bool) → IsPermutation (x ∷ ys) others → IsPermutation (x ∷ y ∷ ys) (cond b (y ∷ others) (x ∷ y ∷ ys))
-placed-permutes x y ys others true h = IsPermutation-trans (x ∷ y ∷ ys) (y ∷ x ∷ ys) (y ∷ others) (IsPermutation-insert (y ∷ ys) 1 x) (IsPermutation-cons y (x ∷ ys) others h)
+placed-permutes : {A : Type 0} (x y : Keyed A) (ys others : List (Keyed A)) (b : Bool) → IsPermutation (x ∷ ys) others
+    → IsPermutation (x ∷ y ∷ ys) (cond b (y ∷ others) (x ∷ y ∷ ys))
+placed-permutes x y ys others true h =
+    IsPermutation-trans (x ∷ y ∷ ys) (y ∷ x ∷ ys) (y ∷ others) (IsPermutation-insert (y ∷ ys) 1 x) (IsPermutation-cons y (x ∷ ys) others h)
 placed-permutes x y ys others false h = IsPermutation-refl (x ∷ y ∷ ys)
 
 place-permutes : {A : Type 0} (x : Keyed A) (ys : List (Keyed A)) → IsPermutation (x ∷ ys) (place x ys)
@@ -184,7 +194,9 @@ place-permutes x (y ∷ ys) = placed-permutes x y ys (place x ys) (is_before y x
 
 ordered-permutes : {A : Type 0} (ks : List (Keyed A)) → IsPermutation ks (ordered ks)
 ordered-permutes [] = IsPermutation-refl []
-ordered-permutes (x ∷ xs) = IsPermutation-trans (x ∷ xs) (x ∷ ordered xs) (place x (ordered xs)) (IsPermutation-cons x xs (ordered xs) (ordered-permutes xs)) (place-permutes x (ordered xs))
+ordered-permutes (x ∷ xs) =
+    IsPermutation-trans (x ∷ xs) (x ∷ ordered xs) (place x (ordered xs))
+    (IsPermutation-cons x xs (ordered xs) (ordered-permutes xs)) (place-permutes x (ordered xs))
 
 set_from-permutes : {A : Type 0} (g : Grammar A) (members a : List A) → set_from g members ≡ Ok a → IsPermutation members a
 unfolding set_from
@@ -202,12 +214,14 @@ set_from-members g members a e =
 
 -- ---- the laws
 
-set-written : {A : Type 0} (g : Grammar A) (lawful : IsLawful g) (a : List A) (c : List ℕ) → cond (is_set g a) (write_each g a) (Err Value) ≡ Ok c → (members : List A) × EachEncoded g members c × (set_from g members ≡ Ok a)
+set-written : {A : Type 0} (g : Grammar A) (lawful : IsLawful g) (a : List A) (c : List ℕ)
+    → cond (is_set g a) (write_each g a) (Err Value) ≡ Ok c → (members : List A) × EachEncoded g members c × (set_from g members ≡ Ok a)
 set-written g lawful a c e =
     let p = passed (is_set g a) Value (write_each g a) c e in
     (a, each-written g lawful a c p.1, set_from-same g a p.0)
 
-set-writes : {A : Type 0} (g : Grammar A) (lawful : IsLawful g) (a : List A) (c : List ℕ) (members : List A) → EachEncoded g members c → set_from g members ≡ Ok a → WritesAs (cond (is_set g a) (write_each g a) (Err Value)) c
+set-writes : {A : Type 0} (g : Grammar A) (lawful : IsLawful g) (a : List A) (c : List ℕ) (members : List A)
+    → EachEncoded g members c → set_from g members ≡ Ok a → WritesAs (cond (is_set g a) (write_each g a) (Err Value)) c
 set-writes g lawful a c members s e =
     let w = each-writes g lawful members c s in
     let l = set_from-length g members a w.0 e w.1 in

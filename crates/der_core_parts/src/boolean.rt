@@ -5,6 +5,7 @@ use crate::der::Der;
 use crate::error::DerError;
 use crate::octet_string::OctetString;
 use crate::reader::Tag;
+use crate::tag;
 use std::alloc::Global;
 
 /// A BOOLEAN (X.690, 8.2 and 11.1).
@@ -24,7 +25,7 @@ impl Der for bool {
     }
 
     fn tag(&self) -> Tag {
-        Tag(1)
+        Tag(tag::BOOLEAN)
     }
 
     fn contents(&self, alloc: Global) -> Result<OctetString, DerError> {

@@ -12,6 +12,7 @@ mod octet_string;
 mod read;
 mod reader;
 mod set;
+pub mod tag;
 mod write;
 
 pub use any::Any;

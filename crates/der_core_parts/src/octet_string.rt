@@ -2,12 +2,13 @@
 ghost use Rattle.std.specs.Prelude.{◌≡◌, ◌++◌, [], IfOk, IfErr, OnOk, OnErr, bytes_eq};
 ghost use Rattle.std.specs.Cmp.{partial_equiv_from_equiv};
 ghost use Rattle.std.specs.Cmp.Lexicographic.{nat_list_eq_equiv};
-ghost use Rattle.der_core_parts.specs.declared.error.DerError.TheVariants.{NoMemory as Want};
+ghost use Rattle.der_core_parts.specs.declared.error.DerError.TheVariants.{NoMemory};
 ghost use Rattle.der_core_parts.specs.Octets.{octet_string_type};
 
 use crate::der::Der;
 use crate::error::DerError;
 use crate::reader::Tag;
+use crate::tag;
 use foundation::{Duplicate, NoMemory};
 use std::alloc::Global;
 use std::fmt;
@@ -31,7 +32,7 @@ impl OctetString {
     /// A copy of octets; NoMemory is its only refusal.
     pub fn new(alloc: Global, bytes: &[u8]) -> Result<OctetString, DerError>
         ensures ok { IfOk result (λ s. s ≡ bytes.now) }
-        ensures err { IfErr result (λ e. e ≡ Want) }
+        ensures err { IfErr result (λ e. e ≡ NoMemory) }
     {
         Ok(OctetString {
             bytes: Vec::from_slice(alloc, bytes)?,
@@ -104,7 +105,7 @@ impl Der for OctetString {
     }
 
     fn tag(&self) -> Tag {
-        Tag(4)
+        Tag(tag::OCTET_STRING)
     }
 
     fn contents(&self, alloc: Global) -> Result<OctetString, DerError> {

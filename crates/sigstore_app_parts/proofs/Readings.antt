@@ -6,7 +6,7 @@ use Rattle.foundation.specs.Watched.{Watched, Rose, IfTold, Since}
 use Rattle.sigstore_app_parts.specs.Inputs.{Held, Gives}
 use Rattle.sigstore_app_parts.specs.Policy.{policy_of}
 use Rattle.sigstore_app_parts.specs.Tables.{tables_of}
-use Rattle.sigstore_app_parts.specs.Gather.{limit_of, within_limit, input_of, stop_of, by_form, IsMalformed, FormCause, StopCause, ReadsAs}
+use Rattle.sigstore_app_parts.specs.Gather.{limit_of, within_limit, input_of, stop_of, by_form, IsMalformed, MalformedCause, StopCause, ReadsAs}
 use Rattle.sigstore_app_parts.specs.declared.inputs.Which.{Which}
 use Rattle.sigstore_app_parts.specs.declared.inputs.Which.TheVariants.{Root, Bundle, Policy, Provider}
 use Rattle.sigstore_app_parts.specs.declared.usage_fault.UsageFault.{UsageFault}
@@ -14,7 +14,7 @@ use Rattle.sigstore_app_parts.specs.declared.usage_fault.UsageFault.TheVariants 
 use Rattle.sigstore_app_parts.specs.declared.inputs.InputFault.{InputFault}
 use Rattle.sigstore_app_parts.specs.declared.inputs.InputFault.TheVariants as fault
 use Rattle.sigstore_app_parts.specs.declared.gather.Stop.{Stop}
-use Rattle.sigstore_app_parts.specs.declared.gather.Stop.TheVariants.{Words, Form, Input, Memory}
+use Rattle.sigstore_app_parts.specs.declared.gather.Stop.TheVariants.{Words, Malformed, Input, Memory}
 
 if_told : {A : Type 0} (o : Option A) (P Q : A → Type 0) → IfTold o P → ((a : A) → P a → Q a) → IfTold o Q
 if_told None P Q p f = tt
@@ -88,7 +88,7 @@ first_refused f k old new e r = record {
 malformed_earlier : {A : Type 0} (which : Which) (reads : List ℕ → Result A UsageFault) (old mid : Watched Held) → mid.told ≡ old.told → IsMalformed which reads mid → IsMalformed which reads old
 malformed_earlier which reads old mid e m = record { bytes = m.bytes; there = told_as (λ held. input_of which held ≡ Ok m.bytes) old.told mid.told e m.there; malformed = m.malformed }
 
-form_earlier : (which : Which) (old mid : Watched Held) → mid.told ≡ old.told → FormCause which mid → FormCause which old
+form_earlier : (which : Which) (old mid : Watched Held) → mid.told ≡ old.told → MalformedCause which mid → MalformedCause which old
 form_earlier Policy old mid e c = malformed_earlier Policy policy_of old mid e c
 form_earlier Provider old mid e c = malformed_earlier Provider tables_of old mid e c
 form_earlier Root old mid e c = absurd c
@@ -96,7 +96,7 @@ form_earlier Bundle old mid e c = absurd c
 
 cause_earlier : (old mid new : Watched Held) (s : Stop) → Since old mid → StopCause mid new s → StopCause old new s
 cause_earlier old mid new Words since c = absurd c
-cause_earlier old mid new (Form which) since c = form_earlier which old mid since.same c
+cause_earlier old mid new (Malformed which) since c = form_earlier which old mid since.same c
 cause_earlier old mid new (Input which) since (inl rose) = inl (rose_later old.faults mid.faults new.faults since.later rose)
 cause_earlier old mid new (Input which) since (inr is) = inr (told_as (λ held. input_of which held ≡ Err (Input which)) old.told mid.told since.same is)
 cause_earlier old mid new Memory since c = tt
@@ -139,7 +139,7 @@ then_err f k old new a e p h c = record {
 }
 
 -- a file that was read is outside its grammar
-formed_cause : {A : Type 0} (which : Which) (reads : List ℕ → Result A UsageFault) (old new : Watched Held) (bytes : List ℕ) (e : Stop) → (IsMalformed which reads old → FormCause which old)
+formed_cause : {A : Type 0} (which : Which) (reads : List ℕ → Result A UsageFault) (old new : Watched Held) (bytes : List ℕ) (e : Stop) → (IsMalformed which reads old → MalformedCause which old)
     → IfTold old.told (λ held. input_of which held ≡ Ok bytes) → (e ≢ Memory → by_form which (reads bytes) ≡ Err e) → StopCause old new e
 formed_cause {A = A} which reads old new bytes e f there h = by_stop e h
   where
@@ -148,17 +148,17 @@ formed_cause {A = A} which reads old new bytes e f there h = by_stop e h
 
     by_read : (e : Stop) (r : Result A UsageFault) → reads bytes ≡ r → by_form which r ≡ Err e → StopCause old new e
     by_read e (Ok x) p q = cc
-    by_read e (Err usage.Usage) p q = subst (StopCause old new) (same_stop (Form which) e q) (f (record { bytes = bytes; there = there; malformed = p }))
+    by_read e (Err usage.Usage) p q = subst (StopCause old new) (same_stop (Malformed which) e q) (f (record { bytes = bytes; there = there; malformed = p }))
     by_read e (Err usage.NoMemory) p q = subst (StopCause old new) (same_stop Memory e q) tt
 
     by_stop : (e : Stop) → (e ≢ Memory → by_form which (reads bytes) ≡ Err e) → StopCause old new e
     by_stop Words h = by_read Words (reads bytes) refl (h (λ m. cc))
-    by_stop (Form w) h = by_read (Form w) (reads bytes) refl (h (λ m. cc))
+    by_stop (Malformed w) h = by_read (Malformed w) (reads bytes) refl (h (λ m. cc))
     by_stop (Input w) h = by_read (Input w) (reads bytes) refl (h (λ m. cc))
     by_stop Memory h = tt
 
 -- the first reading gave a file that is outside its grammar
-pub then_malformed : {A : Type 0} (which : Which) (reads : List ℕ → Result A UsageFault) (old new : Watched Held) (bytes : List ℕ) (e : Stop) → (IsMalformed which reads old → FormCause which old)
+pub then_malformed : {A : Type 0} (which : Which) (reads : List ℕ → Result A UsageFault) (old new : Watched Held) (bytes : List ℕ) (e : Stop) → (IsMalformed which reads old → MalformedCause which old)
     → ReadsAs (input_of which) old new (Ok bytes) → (e ≢ Memory → by_form which (reads bytes) ≡ Err e) → ReadsAs (λ held. input_of which held >>= λ b. by_form which (reads b)) old new (Err e)
 then_malformed which reads old new bytes e f p h =
     then_err (input_of which) (λ b held. by_form which (reads b)) old new bytes e p (λ m held. h m) (formed_cause which reads old new bytes e f p.ok h)

@@ -1,5 +1,6 @@
 -- The inputs of a run, read in their order: the policy, the provider's tables, the root, the bundle.
-use Rattle.std.specs.Prelude.{◌≡◌, ◌≢◌, ◌⊎◌, ℕ, List, length, codes, nat_lt, if◌then◌else◌, Option, Some, None, Result, Ok, Err, IfOk, IfErr, ⊤}
+use Rattle.std.specs.Prelude.{◌≡◌, ◌≢◌, ◌⊎◌, ℕ, List, length, codes, nat_lt, if◌then◌else◌, Option, Some, None, Result,
+    Ok, Err, IfOk, IfErr, ⊤}
 use Rattle.foundation.specs.Steps.{◌>>=◌}
 use Rattle.foundation.specs.Watched.{Watched, Rose, IfTold, Since}
 use Rattle.sigstore_app_parts.specs.Inputs.{Held}
@@ -12,7 +13,7 @@ use Rattle.sigstore_app_parts.specs.declared.inputs.Which.TheVariants.{Root, Bun
 use Rattle.sigstore_app_parts.specs.declared.inputs.InputFault.{InputFault}
 use Rattle.sigstore_app_parts.specs.declared.inputs.InputFault.TheVariants as input
 use Rattle.sigstore_app_parts.specs.declared.gather.Stop.{Stop}
-use Rattle.sigstore_app_parts.specs.declared.gather.Stop.TheVariants.{Words, Form, Input, Memory}
+use Rattle.sigstore_app_parts.specs.declared.gather.Stop.TheVariants.{Words, Malformed, Input, Memory}
 use Rattle.sigstore_app_parts.specs.declared.gather.Gathered.{Gathered}
 use Rattle.sigstore_app_parts.specs.declared.policy.PolicyFile.{PolicyFile}
 use Rattle.sigstore_app_parts.specs.declared.tables.Tables.{Tables}
@@ -48,7 +49,7 @@ stop_of which input.NoMemory = Memory
 -- a file outside its grammar
 abbrev pub by_form : {A : Type 0} → Which → Result A UsageFault → Result A Stop
 by_form which (Ok x) = Ok x
-by_form which (Err usage.Usage) = Err (Form which)
+by_form which (Err usage.Usage) = Err (Malformed which)
 by_form which (Err usage.NoMemory) = Err Memory
 
 unfoldable pub policy_in : Held → Result PolicyFile Stop
@@ -81,17 +82,17 @@ pub record IsMalformed {A : Type 0} (which : Which) (reads : List ℕ → Result
   pub malformed : reads bytes ≡ Err usage.Usage
 
 -- the policy or the provider's file is outside its grammar
-abbrev pub FormCause : Which → Watched Held → Type 0
-FormCause Policy seen = IsMalformed Policy policy_of seen
-FormCause Provider seen = IsMalformed Provider tables_of seen
-FormCause Root seen = ⊥
-FormCause Bundle seen = ⊥
+abbrev pub MalformedCause : Which → Watched Held → Type 0
+MalformedCause Policy seen = IsMalformed Policy policy_of seen
+MalformedCause Provider seen = IsMalformed Provider tables_of seen
+MalformedCause Root seen = ⊥
+MalformedCause Bundle seen = ⊥
 
 -- Why the inputs stop a run: one is outside its grammar; or the count of faults rose, or told inputs lack one or hold it longer
 -- than its limit; or memory is wanting.
 abbrev pub StopCause : Watched Held → Watched Held → Stop → Type 0
 StopCause old new Words = ⊥
-StopCause old new (Form which) = FormCause which old
+StopCause old new (Malformed which) = MalformedCause which old
 StopCause old new (Input which) = Rose old.faults new.faults ⊎ IfTold old.told (λ held. input_of which held ≡ Err (Input which))
 StopCause old new Memory = ⊤
 

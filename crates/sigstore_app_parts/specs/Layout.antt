@@ -52,10 +52,12 @@ complete_of found = do
   artifact ← ok_or found.artifact Usage
   policy ← ok_or found.policy Usage
   provider ← ok_or found.provider Usage
-  Ok (record { root = root; repository = repository; store = store; bundle = bundle; artifact = artifact; policy = policy; provider = provider; now = found.now })
+  Ok (record { root = root; repository = repository; store = store; bundle = bundle; artifact = artifact;
+      policy = policy; provider = provider; now = found.now })
 
 abbrev pub nothing_found : Found
-nothing_found = record { root = None; repository = None; store = None; bundle = None; artifact = None; policy = None; provider = None; now = None }
+nothing_found =
+    record { root = None; repository = None; store = None; bundle = None; artifact = None; policy = None; provider = None; now = None }
 
 -- the layout of the words after the first, which is `verify`
 unfoldable pub layout_of : List (List ℕ) → Result Layout UsageFault

@@ -15,7 +15,8 @@ key_line_of line = do
 
 -- each line after it: `skip tlog`, at most once
 abbrev pub waiver_line_of : PolicyFile → List ℕ → Result PolicyFile UsageFault
-waiver_line_of policy line = if not policy.skip_tlog && bytes_eq line (codes "skip tlog") then Ok (record { key = policy.key; skip_tlog = true }) else Err Usage
+waiver_line_of policy line =
+    if not policy.skip_tlog && bytes_eq line (codes "skip tlog") then Ok (record { key = policy.key; skip_tlog = true }) else Err Usage
 
 abbrev pub policy_line_of : Option PolicyFile → List ℕ → Result (Option PolicyFile) UsageFault
 policy_line_of None line = key_line_of line >>= λ policy. Ok (Some policy)

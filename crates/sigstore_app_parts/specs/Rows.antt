@@ -1,10 +1,10 @@
 -- The rows of the provider file.
-use Rattle.std.specs.Prelude.{ℕ, List, [], ◌∷◌, length, take, bytes_eq, codes, not, nat_eq, Bool, ◌&&◌, ◌||◌, if◌then◌else◌, Option, Some, None, option_map, Result, Ok, Err, ok_or}
+use Rattle.std.specs.Prelude.{ℕ, List, length, take, bytes_eq, codes, not, nat_eq, Bool, ◌&&◌, ◌||◌, if◌then◌else◌,
+    Option, option_map, Result, Ok, Err, ok_or}
 use Rattle.std.specs.List.{list_any, find}
 use Rattle.foundation.specs.Steps.{◌>>=◌}
 use Rattle.sigstore_crypto.specs.declared.scheme.SigningScheme.{SigningScheme}
-use Rattle.sigstore_crypto.specs.declared.scheme.SigningScheme.TheVariants.{EcdsaP256Sha256, EcdsaP256Sha384, EcdsaP384Sha256, EcdsaP384Sha384, Ed25519, RsaPssSha256, RsaPssSha384, RsaPssSha512, RsaPkcs1Sha256, RsaPkcs1Sha384, RsaPkcs1Sha512, MlDsa44, MlDsa65, MlDsa87}
-use Rattle.sigstore_crypto.specs.Scheme.{scheme_name_of, has_digest, digest_size_of}
+use Rattle.sigstore_crypto.specs.Scheme.{scheme_name_of, scheme_named, has_digest, digest_size_of}
 use Rattle.sigstore_app_parts.specs.Lines.{cut_of}
 use Rattle.sigstore_app_parts.specs.Fields.{field_of}
 use Rattle.sigstore_app_parts.specs.declared.usage_fault.UsageFault.{UsageFault}
@@ -15,19 +15,6 @@ use Rattle.sigstore_app_parts.specs.declared.rows.ArmorRow.{ArmorRow}
 -- the field before the first blank and what stands behind it
 abbrev pub parted_of : List ℕ → Result (List ℕ × List ℕ) UsageFault
 parted_of text = ok_or (cut_of 32 text) Usage
-
--- the first of these schemes that has that name
-abbrev pub scheme_among : List SigningScheme → List ℕ → Option SigningScheme
-scheme_among [] name = None
-scheme_among (scheme ∷ others) name = if bytes_eq name (scheme_name_of scheme) then Some scheme else scheme_among others name
-
-abbrev pub schemes : List SigningScheme
-schemes =
-    EcdsaP256Sha256 ∷ EcdsaP256Sha384 ∷ EcdsaP384Sha256 ∷ EcdsaP384Sha384 ∷ Ed25519 ∷ RsaPssSha256 ∷ RsaPssSha384 ∷ RsaPssSha512 ∷ RsaPkcs1Sha256 ∷ RsaPkcs1Sha384 ∷ RsaPkcs1Sha512 ∷ MlDsa44 ∷ MlDsa65 ∷ MlDsa87 ∷ []
-
--- the scheme of that name
-abbrev pub scheme_named : List ℕ → Option SigningScheme
-scheme_named name = scheme_among schemes name
 
 -- a subject that the scheme can have: one of its digest's length, where it has a digest
 abbrev pub is_subject : SigningScheme → List ℕ → Bool
@@ -65,7 +52,8 @@ armor_row_of fields = do
 -- whether a row is that of a scheme, a raw key, a subject and a signature
 abbrev pub is_row : SigningScheme → List ℕ → List ℕ → List ℕ → AcceptRow → Bool
 is_row scheme key subject signature row =
-    bytes_eq (scheme_name_of row.scheme) (scheme_name_of scheme) && bytes_eq row.key key && bytes_eq row.subject subject && bytes_eq row.signature signature
+    bytes_eq (scheme_name_of row.scheme) (scheme_name_of scheme) && bytes_eq row.key key && bytes_eq row.subject subject
+        && bytes_eq row.signature signature
 
 -- some row is that of these
 abbrev pub accepts_of : List AcceptRow → SigningScheme → List ℕ → List ℕ → List ℕ → Bool

@@ -22,8 +22,10 @@ abbrev pub armor_line_of : TableArmor → List ℕ → Result TableArmor UsageFa
 armor_line_of armor text = do
   parts ← parted_of text
   row ← armor_row_of parts.1
-  if bytes_eq parts.0 (codes "key") then (with_armor_row armor.keys row >>= λ keys. Ok (record { keys = keys; certificates = armor.certificates })) else
-      if bytes_eq parts.0 (codes "certificate") then (with_armor_row armor.certificates row >>= λ certificates. Ok (record { keys = armor.keys; certificates = certificates })) else
+  if bytes_eq parts.0 (codes "key") then
+      (with_armor_row armor.keys row >>= λ keys. Ok (record { keys = keys; certificates = armor.certificates })) else
+      if bytes_eq parts.0 (codes "certificate") then
+          (with_armor_row armor.certificates row >>= λ certificates. Ok (record { keys = armor.keys; certificates = certificates })) else
       Err Usage
 
 abbrev pub accept_line_of : TableProvider → List ℕ → Result TableProvider UsageFault
@@ -35,8 +37,10 @@ accept_line_of provider text = do
 abbrev pub table_line_of : Tables → List ℕ → Result Tables UsageFault
 table_line_of tables line = do
   parts ← parted_of line
-  if bytes_eq parts.0 (codes "accept") then (accept_line_of tables.provider parts.1 >>= λ provider. Ok (record { provider = provider; armor = tables.armor })) else
-      if bytes_eq parts.0 (codes "armor") then (armor_line_of tables.armor parts.1 >>= λ armor. Ok (record { provider = tables.provider; armor = armor })) else
+  if bytes_eq parts.0 (codes "accept") then
+      (accept_line_of tables.provider parts.1 >>= λ provider. Ok (record { provider = provider; armor = tables.armor })) else
+      if bytes_eq parts.0 (codes "armor") then
+          (armor_line_of tables.armor parts.1 >>= λ armor. Ok (record { provider = tables.provider; armor = armor })) else
       Err Usage
 
 abbrev pub no_rows : Tables

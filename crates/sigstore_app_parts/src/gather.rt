@@ -21,7 +21,7 @@ pub enum Stop {
     /// The words are outside their grammar.
     Words,
     /// The input is outside its grammar.
-    Form(Which),
+    Malformed(Which),
     /// The input isn't there, can't be read or is too long.
     Input(Which),
     /// An allocation was refused.
@@ -89,7 +89,7 @@ fn formed_policy(alloc: Global, bytes: Bytes) -> Result<PolicyFile, Stop>
 {
     match read_policy(alloc, bytes.as_bytes()) {
         Ok(policy) => Ok(policy),
-        Err(UsageFault::Usage) => Err(Stop::Form(Which::Policy)),
+        Err(UsageFault::Usage) => Err(Stop::Malformed(Which::Policy)),
         Err(UsageFault::NoMemory) => Err(Stop::Memory),
     }
 }
@@ -100,7 +100,7 @@ fn formed_tables(alloc: Global, bytes: Bytes) -> Result<Tables, Stop>
 {
     match read_provider(alloc, bytes.as_bytes()) {
         Ok(tables) => Ok(tables),
-        Err(UsageFault::Usage) => Err(Stop::Form(Which::Provider)),
+        Err(UsageFault::Usage) => Err(Stop::Malformed(Which::Provider)),
         Err(UsageFault::NoMemory) => Err(Stop::Memory),
     }
 }
@@ -152,7 +152,7 @@ fn take_signed<I: Inputs>(
     }
 }
 
-/// The inputs in their order: policy, provider, root, bundle. Errors: `Form` or `Input` of the first that is refused; `Memory`.
+/// The inputs in their order: policy, provider, root, bundle. Errors: `Malformed` or `Input` of the first that is refused; `Memory`.
 pub fn gather_inputs<I: Inputs>(alloc: Global, inputs: &mut I) -> Result<Gathered, Stop>
     ensures { ReadsAs gathered_of (I.seen inputs.old) (I.seen inputs.new) result }
 {
@@ -172,7 +172,7 @@ impl fmt::Display for Stop {
     fn fmt<W: fmt::Write>(&self, f: &mut fmt::Formatter<W>) -> fmt::Result {
         f.write_str(match self {
             Stop::Words => "Words",
-            Stop::Form(_) => "Form",
+            Stop::Malformed(_) => "Malformed",
             Stop::Input(_) => "Input",
             Stop::Memory => "Memory",
         })

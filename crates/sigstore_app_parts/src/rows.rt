@@ -1,7 +1,7 @@
 // The rows of the provider file.
 ghost use Rattle.std.specs.Prelude.{◌≡◌, ◌≢◌, Ok, Err, Some, IfOk, IfErr, MatchResult, option_map};
-ghost use Rattle.sigstore_app_parts.specs.Rows.{parted_of, scheme_named, is_subject, accepted_row_of, accept_row_of, is_der, armor_row_of, is_row, held_of};
-ghost use Rattle.sigstore_app_parts.specs.declared.usage_fault.UsageFault.TheVariants.{NoMemory as Want};
+ghost use Rattle.sigstore_app_parts.specs.Rows.{parted_of, is_subject, accepted_row_of, accept_row_of, is_der, armor_row_of, is_row, held_of};
+ghost use Rattle.sigstore_app_parts.specs.declared.usage_fault.UsageFault.TheVariants.{NoMemory};
 ghost use Rattle.std.specs.Option.{option_copied};
 
 use crate::fields::field;
@@ -49,29 +49,7 @@ pub(crate) fn parted(text: &str) -> Result<(&str, &str), UsageFault>
     }
 }
 
-fn scheme_named(name: &str) -> Option<SigningScheme>
-    ensures { result ≡ scheme_named name.now }
-{
-    match name {
-        "ECDSA_P256_SHA256" => Some(SigningScheme::EcdsaP256Sha256),
-        "ECDSA_P256_SHA384" => Some(SigningScheme::EcdsaP256Sha384),
-        "ECDSA_P384_SHA256" => Some(SigningScheme::EcdsaP384Sha256),
-        "ECDSA_P384_SHA384" => Some(SigningScheme::EcdsaP384Sha384),
-        "ED25519" => Some(SigningScheme::Ed25519),
-        "RSA_PSS_SHA256" => Some(SigningScheme::RsaPssSha256),
-        "RSA_PSS_SHA384" => Some(SigningScheme::RsaPssSha384),
-        "RSA_PSS_SHA512" => Some(SigningScheme::RsaPssSha512),
-        "RSA_PKCS1_SHA256" => Some(SigningScheme::RsaPkcs1Sha256),
-        "RSA_PKCS1_SHA384" => Some(SigningScheme::RsaPkcs1Sha384),
-        "RSA_PKCS1_SHA512" => Some(SigningScheme::RsaPkcs1Sha512),
-        "ML_DSA_44" => Some(SigningScheme::MlDsa44),
-        "ML_DSA_65" => Some(SigningScheme::MlDsa65),
-        "ML_DSA_87" => Some(SigningScheme::MlDsa87),
-        _ => None,
-    }
-}
-
-// The length of the digest of a scheme, where it has one.
+// Whether a scheme can have the subject: one of its digest's length, where it has a digest.
 fn is_subject(scheme: SigningScheme, subject: &[u8]) -> bool
     ensures { result ≡ is_subject scheme subject.now }
 {
@@ -83,7 +61,7 @@ fn is_subject(scheme: SigningScheme, subject: &[u8]) -> bool
 
 fn accepted_row(alloc: Global, scheme: SigningScheme, text: &str) -> Result<AcceptRow, UsageFault>
     ensures ok { IfOk result (λ row. accepted_row_of scheme text.now ≡ Ok row) }
-    ensures err { IfErr result (λ e. e ≢ Want → accepted_row_of scheme text.now ≡ Err e) }
+    ensures err { IfErr result (λ e. e ≢ NoMemory → accepted_row_of scheme text.now ≡ Err e) }
 {
     let (key, rest) = parted(text)?;
     let (subject, signature) = parted(rest)?;
@@ -104,10 +82,10 @@ fn accepted_row(alloc: Global, scheme: SigningScheme, text: &str) -> Result<Acce
 // `SCHEME KEY SUBJECT SIGNATURE`.
 pub(crate) fn accept_row(alloc: Global, text: &str) -> Result<AcceptRow, UsageFault>
     ensures ok { IfOk result (λ row. accept_row_of text.now ≡ Ok row) }
-    ensures err { IfErr result (λ e. e ≢ Want → accept_row_of text.now ≡ Err e) }
+    ensures err { IfErr result (λ e. e ≢ NoMemory → accept_row_of text.now ≡ Err e) }
 {
     let (name, rest) = parted(text)?;
-    match scheme_named(name) {
+    match SigningScheme::from_name(name) {
         Some(scheme) => match accepted_row(alloc, scheme, rest) {
             Ok(row) => Ok(row),
             Err(e) => Err(e),
@@ -126,7 +104,7 @@ pub(crate) fn is_der(text: &[u8]) -> bool
 // `TEXT DER`.
 pub(crate) fn armor_row(alloc: Global, fields: &str) -> Result<ArmorRow, UsageFault>
     ensures ok { IfOk result (λ row. armor_row_of fields.now ≡ Ok row) }
-    ensures err { IfErr result (λ e. e ≢ Want → armor_row_of fields.now ≡ Err e) }
+    ensures err { IfErr result (λ e. e ≢ NoMemory → armor_row_of fields.now ≡ Err e) }
 {
     let (text, der) = parted(fields)?;
     let row = ArmorRow {

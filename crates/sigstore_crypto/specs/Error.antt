@@ -1,7 +1,8 @@
 -- The numbers of the refusals.
 use Rattle.std.specs.Prelude.{ℕ}
 use Rattle.sigstore_crypto.specs.declared.error.Error.{Error}
-use Rattle.sigstore_crypto.specs.declared.error.Error.TheVariants.{Signing, Verification, InvalidKeyFormat, UnsupportedAlgorithm, Checkpoint, InvalidCertificate, InvalidKey, NoMemory, Unbuilt}
+use Rattle.sigstore_crypto.specs.declared.error.Error.TheVariants.{Signing, Verification, InvalidKeyFormat,
+    UnsupportedAlgorithm, Checkpoint, InvalidCertificate, InvalidKey, NoMemory, Unbuilt}
 
 abbrev pub number_of : Error → ℕ
 number_of Signing = 1

@@ -1,5 +1,6 @@
 -- When a signature is good, over any provider's relation.
-use Rattle.std.specs.Prelude.{ℕ, List, [], ◌∷◌, length, nat_eq, Bool, true, false, ◌&&◌, ⊤, if◌then◌else◌, Option, Some, None, Result, Ok, Err, IsTrue}
+use Rattle.std.specs.Prelude.{ℕ, List, [], ◌∷◌, length, nat_eq, Bool, true, false, ◌&&◌, ⊤, if◌then◌else◌, Option, Some,
+    None, Result, Ok, Err, IsTrue}
 use Rattle.sha2.specs.Sha256.{sha256}
 use Rattle.sha2.specs.Sha512.{sha384, sha512}
 use Rattle.foundation.specs.Steps.{◌>>=◌}
@@ -11,7 +12,9 @@ use Rattle.sigstore_crypto.specs.declared.error.Error.TheVariants.{Verification,
 use Rattle.sigstore_crypto.specs.declared.error.VerificationFault.TheVariants as fault
 use Rattle.sigstore_crypto.specs.declared.error.KeyRule.TheVariants as rule
 use Rattle.sigstore_crypto.specs.declared.scheme.SigningScheme.{SigningScheme}
-use Rattle.sigstore_crypto.specs.declared.scheme.SigningScheme.TheVariants.{EcdsaP256Sha256, EcdsaP256Sha384, EcdsaP384Sha256, EcdsaP384Sha384, Ed25519, RsaPssSha256, RsaPssSha384, RsaPssSha512, RsaPkcs1Sha256, RsaPkcs1Sha384, RsaPkcs1Sha512, MlDsa44, MlDsa65, MlDsa87}
+use Rattle.sigstore_crypto.specs.declared.scheme.SigningScheme.TheVariants.{EcdsaP256Sha256, EcdsaP256Sha384,
+    EcdsaP384Sha256, EcdsaP384Sha384, Ed25519, RsaPssSha256, RsaPssSha384, RsaPssSha512, RsaPkcs1Sha256, RsaPkcs1Sha384,
+    RsaPkcs1Sha512, MlDsa44, MlDsa65, MlDsa87}
 use Rattle.sigstore_crypto.specs.declared.scheme.KeyAlgorithm.{KeyAlgorithm}
 use Rattle.sigstore_crypto.specs.declared.scheme.KeyAlgorithm.TheVariants as sort
 use Rattle.sigstore_crypto.specs.Scheme.{key_algorithm_of, digest_algorithm_of}
@@ -67,7 +70,8 @@ is_raw_key sort.MlDsa87 key = true
 
 -- the raw key passes its test and the provider accepts the signature over the subject
 abbrev pub is_good_over : Judge → VerificationKey → List ℕ → List ℕ → Bool
-is_good_over accepts key subject signature = is_raw_key (key_algorithm_of key.scheme) key.key && accepts key.scheme key.key subject signature
+is_good_over accepts key subject signature =
+    is_raw_key (key_algorithm_of key.scheme) key.key && accepts key.scheme key.key subject signature
 
 abbrev pub is_good : Judge → VerificationKey → List ℕ → List ℕ → Bool
 is_good accepts key message signature = is_good_over accepts key (subject_of key.scheme message) signature
@@ -93,7 +97,8 @@ verified_of accepts key message signature = judged_over accepts key (subject_of 
 -- the digest's length
 abbrev pub sized_digest_of : Option HashAlgorithm → List ℕ → Result ⊤ Error
 sized_digest_of None digest = Err UnsupportedAlgorithm
-sized_digest_of (Some algorithm) digest = if nat_eq (length digest) (digest_len_of algorithm) then Ok tt else Err (Verification fault.DigestLength)
+sized_digest_of (Some algorithm) digest =
+    if nat_eq (length digest) (digest_len_of algorithm) then Ok tt else Err (Verification fault.DigestLength)
 
 -- a signature of a message with that digest
 abbrev pub prehashed_of : Judge → VerificationKey → List ℕ → List ℕ → Result ⊤ Error

@@ -3,9 +3,8 @@ ghost use Rattle.std.specs.Io.{ReadsAtMost};
 ghost use Rattle.foundation.specs.Watched.{untold};
 
 use crate::source::{ArtifactSource, ReadFault};
-use sigstore_types_parts::Text;
+use sigstore_types_parts::{Text, read_piece};
 use std::fs;
-use std::io::{ErrorKind, Read};
 use std::rt::Files;
 
 /// The bytes of a file, which is opened at the first read; it tells nothing.
@@ -29,21 +28,7 @@ impl<'r, X: Files + AllocGlobal> FileSource<'r, X> {
     }
 }
 
-// An interrupted read is tried again, at most 100 times.
-fn read_patiently<F: Read>(file: &mut F, buf: &mut [u8]) -> Result<usize, ReadFault>
-    ensures { ReadsAtMost result buf.new }
-{
-    for _ in 0..100 {
-        match file.read(buf) {
-            Ok(count) => return Ok(count),
-            Err(e) if e.kind() == ErrorKind::Interrupted => {}
-            Err(_) => return Err(ReadFault::Failed),
-        }
-    }
-    Err(ReadFault::Failed)
-}
-
-// Opens the file at the first read.
+// Opens the file at the first read. Its fault is Failed in every case: a source has no other.
 fn read_opened<X: Files + AllocGlobal>(
     rt: &X,
     path: &str,
@@ -57,7 +42,10 @@ fn read_opened<X: Files + AllocGlobal>(
     }
     match file {
         None => Err(ReadFault::Failed),
-        Some(file) => read_patiently(file, buf),
+        Some(file) => match read_piece(file, buf) {
+            Ok(count) => Ok(count),
+            Err(_) => Err(ReadFault::Failed),
+        },
     }
 }
 

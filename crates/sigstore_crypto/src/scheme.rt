@@ -1,6 +1,6 @@
 // Signature schemes and the sorts of keys.
 ghost use Rattle.std.specs.Prelude.{◌≡◌};
-ghost use Rattle.sigstore_crypto.specs.Scheme.{key_algorithm_of, scheme_name_of, digest_algorithm_of, default_scheme_of, resolved_of, has_digest};
+ghost use Rattle.sigstore_crypto.specs.Scheme.{key_algorithm_of, scheme_name_of, scheme_named, digest_algorithm_of, default_scheme_of, resolved_of, has_digest};
 
 use crate::error::Error;
 use sigstore_types_parts::HashAlgorithm;
@@ -78,6 +78,29 @@ impl SigningScheme {
             SigningScheme::MlDsa44 => "ML_DSA_44",
             SigningScheme::MlDsa65 => "ML_DSA_65",
             SigningScheme::MlDsa87 => "ML_DSA_87",
+        }
+    }
+
+    /// The scheme of that name.
+    pub fn from_name(name: &str) -> Option<SigningScheme>
+        ensures { result ≡ scheme_named name.now }
+    {
+        match name {
+            "ECDSA_P256_SHA256" => Some(SigningScheme::EcdsaP256Sha256),
+            "ECDSA_P256_SHA384" => Some(SigningScheme::EcdsaP256Sha384),
+            "ECDSA_P384_SHA256" => Some(SigningScheme::EcdsaP384Sha256),
+            "ECDSA_P384_SHA384" => Some(SigningScheme::EcdsaP384Sha384),
+            "ED25519" => Some(SigningScheme::Ed25519),
+            "RSA_PSS_SHA256" => Some(SigningScheme::RsaPssSha256),
+            "RSA_PSS_SHA384" => Some(SigningScheme::RsaPssSha384),
+            "RSA_PSS_SHA512" => Some(SigningScheme::RsaPssSha512),
+            "RSA_PKCS1_SHA256" => Some(SigningScheme::RsaPkcs1Sha256),
+            "RSA_PKCS1_SHA384" => Some(SigningScheme::RsaPkcs1Sha384),
+            "RSA_PKCS1_SHA512" => Some(SigningScheme::RsaPkcs1Sha512),
+            "ML_DSA_44" => Some(SigningScheme::MlDsa44),
+            "ML_DSA_65" => Some(SigningScheme::MlDsa65),
+            "ML_DSA_87" => Some(SigningScheme::MlDsa87),
+            _ => None,
         }
     }
 

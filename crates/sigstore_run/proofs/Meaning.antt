@@ -3,10 +3,11 @@ use Rattle.std.proofs.Common.{◌≡◌, inl, inr, ℕ, List, Some, None, Result
 use Rattle.std.specs.Result.{result_ok}
 use Rattle.foundation.specs.Watched.{Watched}
 use Rattle.foundation.specs.declared.no_memory.NoMemory.{NoMemory}
-use Rattle.sigstore_verify.specs.declared.root.RootFault.{RootFault}
-use Rattle.sigstore_verify.specs.declared.root.RootFault.TheVariants as root
+use Rattle.foundation.specs.Results.{ok_same, some_same}
+use Rattle.sigstore_verify.specs.declared.from_root.RootFault.{RootFault}
+use Rattle.sigstore_verify.specs.declared.from_root.RootFault.TheVariants as root
 use Rattle.sigstore_verify.specs.Given.{Given}
-use Rattle.sigstore_verify.specs.Root.{Runs}
+use Rattle.sigstore_verify.specs.FromRoot.{Runs}
 use Rattle.sigstore_verify.specs.Cause.{RootCause}
 use Rattle.sigstore_verify.proofs.RootCauses.{runs_cause}
 use Rattle.sigstore_app_parts.specs.Layout.{layout_of}
@@ -14,17 +15,11 @@ use Rattle.sigstore_app_parts.specs.Gather.{gathered_of, StopCause, ReadsAs}
 use Rattle.sigstore_app_parts.specs.declared.layout.Layout.{Layout}
 use Rattle.sigstore_app_parts.specs.declared.gather.Gathered.{Gathered}
 use Rattle.sigstore_app_parts.specs.declared.gather.Stop.{Stop}
-use Rattle.sigstore_app_parts.specs.declared.gather.Stop.TheVariants.{Words, Form, Input, Memory}
+use Rattle.sigstore_app_parts.specs.declared.gather.Stop.TheVariants.{Words, Malformed, Input, Memory}
 use Rattle.sigstore_run.specs.declared.answer.Status.{Status}
 use Rattle.sigstore_run.specs.declared.answer.Status.TheVariants as status
 use Rattle.sigstore_run.specs.declared.answer.Answer.{Answer}
 use Rattle.sigstore_run.specs.Run.{answer, stop_answer, tuf_answer, verify_answer, refusal_answer, given_by, now_of, Command, Environment, Judges, want_judging, refused, reported, Proceeds, want_inputs, stopped, judged, Decides, want_words, misworded, worded, RunsTo, unwritten, cut, written, TakesAll, Means}
-
-some_same : (a b : Answer) → Some a ≡ Some b → a ≡ b
-some_same a b e = cc
-
-ok_same : (a b : Answer) → ◌≡◌ {A = Result Answer NoMemory} (Ok a) (Ok b) → a ≡ b
-ok_same a b e = cc
 
 module _ (command : Command) (before after : Environment) (out out' : Watched (List ℕ)) where
   abbrev M : Status → Type 0
@@ -44,7 +39,7 @@ module _ (command : Command) (before after : Environment) (out out' : Watched (L
   stopped_means : (stop : Stop) (said : Answer) → StopCause before.inputs after.inputs stop → after.outside ≡ before.outside → stop_answer stop ≡ Some said → W said.text → M said.status
   unfolding stop_answer
   stopped_means Words said c s h = absurd c
-  stopped_means (Form which) said c s h = as_said _ said (some_same _ said h) (λ w. inr (which, c, s, w))
+  stopped_means (Malformed which) said c s h = as_said _ said (some_same _ said h) (λ w. inr (which, c, s, w))
   stopped_means (Input which) said c s h = as_said _ said (some_same _ said h) (λ w. (which, c, s, w))
   stopped_means Memory said c s h = cc
 

@@ -7,10 +7,10 @@ use Rattle.sigstore_tuf.specs.Config.{default_config}
 use Rattle.sigstore_tuf.specs.declared.config.UpdaterConfig.{UpdaterConfig}
 use Rattle.sigstore_verify.specs.declared.policy.PublicKeyVerificationPolicy.{PublicKeyVerificationPolicy}
 use Rattle.sigstore_verify.specs.Policy.{PublicKey}
-use Rattle.sigstore_verify.specs.declared.root.Rooted.{Rooted}
-use Rattle.sigstore_verify.specs.declared.root.RootFault.{RootFault}
+use Rattle.sigstore_verify.specs.declared.from_root.Rooted.{Rooted}
+use Rattle.sigstore_verify.specs.declared.from_root.RootFault.{RootFault}
 use Rattle.sigstore_verify.specs.Given.{Outside}
-use Rattle.sigstore_verify.specs.Root.{trust_path, IsAccepted}
+use Rattle.sigstore_verify.specs.FromRoot.{trust_path, IsAccepted}
 use Rattle.sigstore_verify.specs.Promises.{Promises}
 use Rattle.sigstore_app_parts.specs.Layout.{layout_of}
 use Rattle.sigstore_app_parts.specs.Gather.{gathered_of, ReadsAs}

@@ -53,7 +53,9 @@ versions_of chain = do
   Ok (record { root = root; timestamp = timestamp; snapshot = snapshot })
 
 abbrev pub versions_text : Versions → List ℕ
-versions_text versions = number_line (codes "root") versions.root ++ number_line (codes "timestamp") versions.timestamp ++ number_line (codes "snapshot") versions.snapshot
+versions_text versions =
+    number_line (codes "root") versions.root ++ number_line (codes "timestamp") versions.timestamp
+    ++ number_line (codes "snapshot") versions.snapshot
 
 -- the line of a visit whose document is there
 abbrev pub role_added : List ℕ → List ℕ → Option (List ℕ) → Result (List ℕ) Error
@@ -96,14 +98,16 @@ answers_text result =
 
 abbrev pub times_text : List ℕ → VerificationResult → List ℕ
 times_text text result =
-    times_added (text ++ integrated_text result.integrated_time ++ number_line (codes "times") (length result.verified_timestamps)) result.verified_timestamps
+    times_added (text ++ integrated_text result.integrated_time
+        ++ number_line (codes "times") (length result.verified_timestamps)) result.verified_timestamps
 
 -- what stands behind the roles
 abbrev pub result_added : List ℕ → VerificationResult → List ℕ
 result_added text result = times_text (text ++ identity_text result ++ answers_text result) result
 
 abbrev pub tail_added : List ℕ → TrustChain → List (HashAlgorithm × List ℕ) → VerificationResult → List ℕ
-tail_added text chain digests result = result_added (digests_added (text ++ number_line (codes "target") chain.target.length) digests) result
+tail_added text chain digests result =
+    result_added (digests_added (text ++ number_line (codes "target") chain.target.length) digests) result
 
 -- the report of a chain, the artifact's digests and a result
 unfoldable pub report_of : TrustChain → List (HashAlgorithm × List ℕ) → VerificationResult → Result (List ℕ) Error

@@ -13,24 +13,24 @@ use Rattle.sigstore_verify.specs.declared.error.Error.{Error as VerifyError}
 use Rattle.sigstore_verify.specs.Error as verify
 use Rattle.sigstore_verify.specs.declared.policy.PublicKeyVerificationPolicy.{PublicKeyVerificationPolicy}
 use Rattle.sigstore_verify.specs.Policy.{PublicKey}
-use Rattle.sigstore_verify.specs.declared.root.Rooted.{Rooted}
-use Rattle.sigstore_verify.specs.declared.root.RootFault.{RootFault}
-use Rattle.sigstore_verify.specs.declared.root.RootFault.TheVariants as root
+use Rattle.sigstore_verify.specs.declared.from_root.Rooted.{Rooted}
+use Rattle.sigstore_verify.specs.declared.from_root.RootFault.{RootFault}
+use Rattle.sigstore_verify.specs.declared.from_root.RootFault.TheVariants as root
 use Rattle.sigstore_verify.specs.Given.{Given, Outside}
-use Rattle.sigstore_verify.specs.Root.{Runs, IsAccepted}
+use Rattle.sigstore_verify.specs.FromRoot.{Runs, IsAccepted}
 use Rattle.sigstore_verify.specs.Cause.{RootCause}
 use Rattle.sigstore_app_parts.specs.Inputs.{Held}
 use Rattle.sigstore_app_parts.specs.Sink.{WritesText}
 use Rattle.sigstore_app_parts.specs.Rows.{accepts_of}
 use Rattle.sigstore_app_parts.specs.Tables.{is_armored_by, armor_content}
 use Rattle.sigstore_app_parts.specs.Layout.{layout_of}
-use Rattle.sigstore_app_parts.specs.Gather.{word_of, gathered_of, FormCause, StopCause, ReadsAs}
+use Rattle.sigstore_app_parts.specs.Gather.{word_of, gathered_of, MalformedCause, StopCause, ReadsAs}
 use Rattle.sigstore_app_parts.specs.declared.inputs.Which.{Which}
 use Rattle.sigstore_app_parts.specs.Printed.{line_of, pair_line, refused_line}
 use Rattle.sigstore_app_parts.specs.declared.layout.Layout.{Layout}
 use Rattle.sigstore_app_parts.specs.declared.gather.Gathered.{Gathered}
 use Rattle.sigstore_app_parts.specs.declared.gather.Stop.{Stop}
-use Rattle.sigstore_app_parts.specs.declared.gather.Stop.TheVariants.{Words, Form, Input, Memory}
+use Rattle.sigstore_app_parts.specs.declared.gather.Stop.TheVariants.{Words, Malformed, Input, Memory}
 use Rattle.sigstore_app_parts.specs.declared.policy.PolicyFile.{PolicyFile}
 use Rattle.sigstore_app_parts.specs.declared.sink.SinkFault.{SinkFault}
 use Rattle.sigstore_run.specs.declared.answer.Status.{Status}
@@ -52,7 +52,7 @@ answer status text = record { status = status; text = text }
 -- what is said where the run ends before the verification; nothing where memory is wanting
 unfoldable pub stop_answer : Stop → Option Answer
 stop_answer Words = Some (answer status.Usage (line_of (codes "usage")))
-stop_answer (Form which) = Some (answer status.Usage (pair_line (codes "usage") (word_of which)))
+stop_answer (Malformed which) = Some (answer status.Usage (pair_line (codes "usage") (word_of which)))
 stop_answer (Input which) = Some (answer status.Input (pair_line (codes "input") (word_of which)))
 stop_answer Memory = None
 
@@ -126,28 +126,36 @@ pub record SaysReport (rooted : Rooted) (said : Answer) : Type 0 where
 
 -- What the verification makes the program say: the report of what was accepted, or the refusal.
 pub data Judges (gathered : Gathered) (now : jiff.Timestamp) (before after : Outside) (result : Result Answer NoMemory) : Type 0 where
-  want_judging : (judged : Result Rooted RootFault) (e : NoMemory) → Runs (given_by gathered now) before after judged → result ≡ Err e → Judges gathered now before after result
-  refused : (fault : RootFault) (said : Answer) → Runs (given_by gathered now) before after (Err fault) → refusal_answer fault ≡ Some said → result ≡ Ok said
+  want_judging : (judged : Result Rooted RootFault) (e : NoMemory) → Runs (given_by gathered now) before after judged
+      → result ≡ Err e → Judges gathered now before after result
+  refused : (fault : RootFault) (said : Answer) → Runs (given_by gathered now) before after (Err fault)
+      → refusal_answer fault ≡ Some said → result ≡ Ok said
       → Judges gathered now before after result
-  reported : (rooted : Rooted) (said : Answer) → Runs (given_by gathered now) before after (Ok rooted) → IsAccepted (given_by gathered now) before after rooted
+  reported : (rooted : Rooted) (said : Answer) → Runs (given_by gathered now) before after (Ok rooted)
+      → IsAccepted (given_by gathered now) before after rooted
       → SaysReport rooted said → result ≡ Ok said → Judges gathered now before after result
 
 -- What the program says once its words are read: its inputs first, then the verification. Where an input is refused nothing else is called.
 pub data Proceeds (now : jiff.Timestamp) (before after : Environment) (result : Result Answer NoMemory) : Type 0 where
-  want_inputs : (stop : Stop) (e : NoMemory) → ReadsAs gathered_of before.inputs after.inputs (Err stop) → after.outside ≡ before.outside → result ≡ Err e
+  want_inputs : (stop : Stop) (e : NoMemory) → ReadsAs gathered_of before.inputs after.inputs (Err stop)
+      → after.outside ≡ before.outside → result ≡ Err e
       → Proceeds now before after result
-  stopped : (stop : Stop) (said : Answer) → ReadsAs gathered_of before.inputs after.inputs (Err stop) → after.outside ≡ before.outside → stop_answer stop ≡ Some said
+  stopped : (stop : Stop) (said : Answer) → ReadsAs gathered_of before.inputs after.inputs (Err stop)
+      → after.outside ≡ before.outside → stop_answer stop ≡ Some said
       → result ≡ Ok said → Proceeds now before after result
-  judged : (gathered : Gathered) → ReadsAs gathered_of before.inputs after.inputs (Ok gathered) → Judges gathered now before.outside after.outside result
+  judged : (gathered : Gathered) → ReadsAs gathered_of before.inputs after.inputs (Ok gathered)
+      → Judges gathered now before.outside after.outside result
       → Proceeds now before after result
 
 -- What the program says: its words first, then its inputs, then the verification; the first that refuses answers. Where the words
 -- are refused nothing is called.
 pub data Decides (command : Command) (before after : Environment) (result : Result Answer NoMemory) : Type 0 where
   want_words : (e : NoMemory) → after ≡ before → result ≡ Err e → Decides command before after result
-  misworded : (said : Answer) → result_ok (layout_of command.words) ≡ None → after ≡ before → stop_answer Words ≡ Some said → result ≡ Ok said
+  misworded : (said : Answer) → result_ok (layout_of command.words) ≡ None → after ≡ before
+      → stop_answer Words ≡ Some said → result ≡ Ok said
       → Decides command before after result
-  worded : (layout : Layout) → layout_of command.words ≡ Ok layout → Proceeds (now_of layout command.clock) before after result → Decides command before after result
+  worded : (layout : Layout) → layout_of command.words ≡ Ok layout
+      → Proceeds (now_of layout command.clock) before after result → Decides command before after result
 
 -- the sink took exactly the text
 abbrev pub TakesAll : Watched (List ℕ) → Watched (List ℕ) → List ℕ → Type 0
@@ -155,10 +163,13 @@ TakesAll out out' text = WritesText {E = SinkFault} out out' text (Ok tt)
 
 -- A run: what is said is written; nothing is where memory is wanting, and a part of the text where a write failed.
 pub data RunsTo (command : Command) (before after : Environment) (out out' : Watched (List ℕ)) (ended : Status) : Type 0 where
-  unwritten : (e : NoMemory) → Decides command before after (Err e) → out' ≡ out → ended ≡ status.Memory → RunsTo command before after out out' ended
-  cut : (said : Answer) (fault : SinkFault) → Decides command before after (Ok said) → WritesText out out' said.text (Err fault) → ended ≡ status.Output
+  unwritten : (e : NoMemory) → Decides command before after (Err e) → out' ≡ out → ended ≡ status.Memory
       → RunsTo command before after out out' ended
-  written : (said : Answer) → Decides command before after (Ok said) → TakesAll out out' said.text → ended ≡ said.status → RunsTo command before after out out' ended
+  cut : (said : Answer) (fault : SinkFault) → Decides command before after (Ok said)
+      → WritesText out out' said.text (Err fault) → ended ≡ status.Output
+      → RunsTo command before after out out' ended
+  written : (said : Answer) → Decides command before after (Ok said) → TakesAll out out' said.text → ended ≡ said.status
+      → RunsTo command before after out out' ended
 
 -- What status 0 means: the words give a layout, the inputs were read, the verification from the root accepted, and the sink took
 -- exactly the report's text.
@@ -193,13 +204,15 @@ pub record Refuses (command : Command) (before after : Environment) (out out' : 
 abbrev pub Misuses : Command → Environment → Environment → Watched (List ℕ) → Watched (List ℕ) → Type 0
 Misuses command before after out out' =
     ((result_ok (layout_of command.words) ≡ None) × (after ≡ before) × TakesAll out out' (line_of (codes "usage")))
-    ⊎ ((which : Which) × FormCause which before.inputs × (after.outside ≡ before.outside) × TakesAll out out' (pair_line (codes "usage") (word_of which)))
+    ⊎ ((which : Which) × MalformedCause which before.inputs × (after.outside ≡ before.outside)
+    × TakesAll out out' (pair_line (codes "usage") (word_of which)))
 
 -- What status 3 means: the count of the inputs' faults rose, or told inputs lack this one or hold it longer than its limit; nothing
 -- but the inputs was called; and the sink took exactly the line that names it.
 abbrev pub LacksInput : Environment → Environment → Watched (List ℕ) → Watched (List ℕ) → Type 0
 LacksInput before after out out' =
-    (which : Which) × StopCause before.inputs after.inputs (Input which) × (after.outside ≡ before.outside) × TakesAll out out' (pair_line (codes "input") (word_of which))
+    (which : Which) × StopCause before.inputs after.inputs (Input which) × (after.outside ≡ before.outside)
+        × TakesAll out out' (pair_line (codes "input") (word_of which))
 
 -- What each status means. 4: the count of the sink's faults rose. 5: nothing was written.
 abbrev pub Means : Command → Environment → Environment → Watched (List ℕ) → Watched (List ℕ) → Status → Type 0

@@ -91,7 +91,7 @@ pub fn stopped(alloc: Global, stop: Stop) -> Result<Answer, NoMemory>
 {
     match stop {
         Stop::Words => Ok(line(alloc, Status::Usage, "usage")?),
-        Stop::Form(which) => Ok(pair(alloc, Status::Usage, "usage", which.word())?),
+        Stop::Malformed(which) => Ok(pair(alloc, Status::Usage, "usage", which.word())?),
         Stop::Input(which) => Ok(pair(alloc, Status::Input, "input", which.word())?),
         Stop::Memory => Err(NoMemory),
     }

@@ -5,6 +5,7 @@ use Rattle.std.proofs.lemmas.Bool.Decides.{nat_tests}
 use Rattle.jiff_core.specs.declared.timestamp.Timestamp as jiff
 use Rattle.foundation.specs.Steps.{◌>>=◌}
 use Rattle.foundation.specs.Watched.{Watched, Since}
+use Rattle.foundation.specs.Results.{step_ok, ok_same, err_same, some_same, refused_at}
 use Rattle.sigstore_types_parts.specs.Entries.{at_name}
 use Rattle.sigstore_types_parts.specs.declared.form.Form.TheVariants as form
 use Rattle.sigstore_tuf_parts.specs.declared.error.Error.{Error}
@@ -42,16 +43,11 @@ use Rattle.sigstore_tuf.specs.Refresh.{TookTimestamp, IsUnfetched, RefreshesTime
 use Rattle.sigstore_tuf.specs.Repository.{Folders, metadata_files, target_files}
 use Rattle.sigstore_tuf.specs.Target.{unexpired_of, pinned_by_of, search_serves_of, entry_in, listed_in, entry_of, within_of, target_of, chain_in, TookFile, IsUnfetchedFile, FetchesTarget, chain_of, GetsTarget, unlisted, unfetched, unchained, found}
 use Rattle.sigstore_tuf.specs.Update.{first_root_of, newer_of, timestamp_checks_of, new_timestamp_of, snapshot_pin_of, kept_pins_of, snapshot_checks_of, new_snapshot_of, targets_pin_of, targets_checks_of, new_targets_of, with_timestamp, with_snapshot}
-use Rattle.sigstore_tuf.proofs.Authorised.{step_ok, ok_same, ok_some, some_same, where_some, top_inserted, first_root_authorised, refresh_authorised}
+use Rattle.sigstore_tuf.proofs.Authorised.{ok_some, where_some, top_inserted, first_root_authorised, refresh_authorised}
 use Rattle.sigstore_tuf.proofs.CauseNumbers.{had_before, by_read, by_role, by_expiry, by_pin, by_none, by_form, by_fetch, by_walk, wanting, unadopted, adopted}
 use Rattle.sigstore_tuf.proofs.Serving.{refresh_serves}
 
 -- ---- steps that were refused
-
--- a step that is refused, or one after it
-refused_at : {A B E C : Type 0} (r : Result A E) (f : A → Result B E) (e : E) → (r >>= f) ≡ Err e → (r ≡ Err e → C) → ((x : A) → r ≡ Ok x → f x ≡ Err e → C) → C
-refused_at (Ok x) f e h here later = later x refl h
-refused_at (Err d) f e h here later = let same : d ≡ e = cc in here (ap Err same)
 
 missing : {A E C : Type 0} (o : Option A) (d e : E) → ok_or o d ≡ Err e → (o ≡ None → e ≡ d → C) → C
 missing None d e h f = f refl cc
@@ -87,9 +83,6 @@ since_twice a b c s t = record { same = t.same ∙ s.same; later = le_trans s.la
 
 since_same : {A : Type 0} (a b : Watched A) → b ≡ a → Since a b
 since_same a b h = record { same = ap (λ (w : Watched _). w.told) h; later = subst (λ (w : Watched _). a.faults ≤ w.faults) (sym h) (le_refl a.faults) }
-
-err_same : {A E : Type 0} (d e : E) → ◌≡◌ {A = Result A E} (Err d) (Err e) → d ≡ e
-err_same d e h = cc
 
 since_snapshot : (crypto : Crypto) (config : UpdaterConfig) (now : jiff.Timestamp) (s1 s2 : InForce) (r r' : Watched Folders) → RefreshesSnapshot crypto config now s1 s2 r r' (Ok tt) → Since r r'
 since_snapshot crypto config now s1 s2 r r' (inl same) = since_same r r' same.2

@@ -5,6 +5,7 @@ use Rattle.std.specs.Prelude.{⊤, ok_or, is_some, option_map, option_and_then, 
 use Rattle.std.proofs.lemmas.Bool.Decides.{nat_tests}
 use Rattle.jiff_core.specs.declared.timestamp.Timestamp as jiff
 use Rattle.foundation.specs.Watched.{Watched}
+use Rattle.foundation.specs.Results.{step_ok, ok_same, some_same, no_both, and_true, not_true}
 use Rattle.sigstore_types_parts.specs.Entries.{at_name}
 use Rattle.sigstore_tuf_parts.specs.declared.error.Error.{Error}
 use Rattle.sigstore_tuf_parts.specs.declared.error.Error.TheVariants.{Malformed, IntegrityMismatch, TargetNotFound}
@@ -34,20 +35,9 @@ use Rattle.sigstore_tuf.specs.Target.{fresh_timestamp_of, fresh_snapshot_of, une
 use Rattle.sigstore_tuf.specs.Order.{is_pinned, lists, first_visit, search_of, walk_of, order}
 use Rattle.sigstore_tuf.specs.Trusted.{documents_in, IsTrustedRole, Trusted}
 use Rattle.sigstore_tuf.specs.Authorised.{AreAuthorised, Serve}
-use Rattle.sigstore_tuf.proofs.Authorised.{step_ok, ok_same, some_same, ok_some, where_some, fresh_from, top_inserted, snapshot_adopted, targets_adopted}
+use Rattle.sigstore_tuf.proofs.Authorised.{ok_some, where_some, fresh_from, top_inserted, snapshot_adopted, targets_adopted}
 
 -- ---- tests
-
-no_both : {A E C : Type 0} (x : A) (e : E) → ◌≡◌ {A = Result A E} (Ok x) (Err e) → C
-no_both x e h = cc
-
-both_true : (a b : Bool) → (a && b) ≡ true → (a ≡ true) × (b ≡ true)
-both_true true b h = (refl, h)
-both_true false b h = cc
-
-not_true : (b : Bool) → not b ≡ true → b ≡ false
-not_true true h = cc
-not_true false h = refl
 
 at_most : (a b : ℤ) → int_lt a b ≡ false → b ≤ℤ a
 at_most a b e = grind (arith, arith)
@@ -56,7 +46,7 @@ at_most a b e = grind (arith, arith)
 served : (pin : Option MetaFile) (version : ℕ) (expires now : jiff.Timestamp) → serves pin version expires now ≡ true → (p : MetaFile) × (pin ≡ Some p) × (version ≡ p.version) × Fresh expires now
 served None version expires now h = cc
 served (Some p) version expires now h =
-    let t = both_true (p.version == version) (not (int_lt expires.nanosecond now.nanosecond)) h in
+    let t = and_true (p.version == version) (not (int_lt expires.nanosecond now.nanosecond)) h in
     (p, refl, same p.version version t.0, at_most expires.nanosecond now.nanosecond (not_true (int_lt expires.nanosecond now.nanosecond) t.1))
   where
     same : (m n : ℕ) → (m == n) ≡ true → n ≡ m

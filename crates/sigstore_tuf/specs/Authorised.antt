@@ -21,7 +21,8 @@ use Rattle.sigstore_tuf.specs.declared.chain.TrustChain.{TrustChain}
 use Rattle.sigstore_tuf.specs.Trusted.{AreRoots, Trusted}
 
 -- the bytes read as the document that is held, and that meets the root's role of this name
-pub record IsSigned {T : Type 0} (reads : List ℕ → Result (Document T) Error) (crypto : Crypto) (root : Root) (role : List ℕ) (held : Held T) : Type 0 where
+pub record IsSigned {T : Type 0} (reads : List ℕ → Result (Document T) Error) (crypto : Crypto) (root : Root)
+    (role : List ℕ) (held : Held T) : Type 0 where
   pub read : reads held.bytes ≡ Ok held.document
   pub met : MeetsRole crypto root role held.document
 
@@ -39,7 +40,8 @@ pub record AreAuthorised (crypto : Crypto) (given : List ℕ) (set : InForce) : 
   pub roots : AreRoots crypto given set.roots set.root
   pub timestamp : IfSome set.timestamp (IsSigned timestamp_document crypto (content_in set.root) (codes "timestamp"))
   pub snapshot : IfSome set.snapshot (IsSigned snapshot_document crypto (content_in set.root) (codes "snapshot"))
-  pub targets : IfSome (top_targets set) (λ held. IsSigned targets_document crypto (content_in set.root) (codes "targets") held × IsPinnedBy set.snapshot held)
+  pub targets : IfSome (top_targets set)
+      (λ held. IsSigned targets_document crypto (content_in set.root) (codes "targets") held × IsPinnedBy set.snapshot held)
 
 -- All four are there and fresh at this moment, and the snapshot has the version by which the timestamp pins it.
 pub record Serve (now : jiff.Timestamp) (set : InForce) : Type 0 where
@@ -71,4 +73,5 @@ TrustsFrom set config path now result =
 -- so is the chain that is kept
 abbrev pub KeepsTrusted : InForce → UpdaterConfig → List ℕ → jiff.Timestamp → Option TrustChain → Type 0
 KeepsTrusted set config path now kept =
-    (chain : TrustChain) × (kept ≡ Some chain) × ((crypto : Crypto) (given : List ℕ) → AreAuthorised crypto given set → Trusted crypto given now config.max_delegations path chain)
+    (chain : TrustChain) × (kept ≡ Some chain)
+        × ((crypto : Crypto) (given : List ℕ) → AreAuthorised crypto given set → Trusted crypto given now config.max_delegations path chain)

@@ -1,6 +1,7 @@
--- The client's steps: what is fetched, what each answer says of the repository and of the documents in force (TUF specification, section 5).
-use Rattle.std.specs.Prelude.{◌≡◌, ◌⊎◌, ℕ, ◌+◌, ◌-◌, ◌^◌, ◌<◌, ◌≤◌, ◌==◌, ◌&&◌, not, List, [], ◌∷◌, length, Bool, true, false, if◌then◌else◌, Option, Some, None, ok_or, Result, Ok, Err, IfOk, IfErr, OnOk, codes, ⊤}
-use Rattle.std.specs.Prelude.{int_lt}
+-- The client's steps: what is fetched, what each answer says of the repository and of the documents in force
+-- (TUF specification, section 5).
+use Rattle.std.specs.Prelude.{◌≡◌, ◌⊎◌, ℕ, ◌+◌, ◌-◌, ◌^◌, ◌<◌, ◌≤◌, ◌==◌, ◌&&◌, not, List, [], ◌∷◌, length, Bool, true,
+    false, if◌then◌else◌, Option, Some, None, ok_or, Result, Ok, Err, IfOk, IfErr, OnOk, codes, ⊤}
 use Rattle.jiff_core.specs.declared.timestamp.Timestamp as jiff
 use Rattle.foundation.specs.Steps.{◌>>=◌}
 use Rattle.foundation.specs.Watched.{Watched, Rose, IfTold, Since}
@@ -19,7 +20,7 @@ use Rattle.sigstore_tuf_parts.specs.declared.targets.Delegations.{Delegations}
 use Rattle.sigstore_tuf_parts.specs.declared.targets.DelegatedRole.{DelegatedRole}
 use Rattle.sigstore_tuf_parts.specs.Document.{content_in}
 use Rattle.sigstore_tuf_parts.specs.Crypto.{Crypto}
-use Rattle.sigstore_tuf_parts.specs.Integrity.{fresh_of}
+use Rattle.sigstore_tuf_parts.specs.Integrity.{is_past, fresh_of}
 use Rattle.sigstore_tuf_parts.specs.Names.{root_name}
 use Rattle.sigstore_tuf.specs.Repository.{Folders, Files, metadata_files}
 use Rattle.sigstore_tuf.specs.declared.repository.FetchFault.{FetchFault}
@@ -50,7 +51,8 @@ FetchCause part name max old new NoMemory = ⊤
 FetchCause part name max old new _ = ⊥
 
 -- the promise of a fetch that has to give a file
-pub record FetchesFile (part : Folders → Files) (old new : Watched Folders) (name : List ℕ) (max : ℕ) (result : Result (List ℕ) Error) : Type 0 where
+pub record FetchesFile (part : Folders → Files) (old new : Watched Folders) (name : List ℕ) (max : ℕ)
+    (result : Result (List ℕ) Error) : Type 0 where
   pub since : Since old new
   pub given : IfOk result (λ bytes. Has part old name bytes × (length bytes ≤ max))
   pub refused : IfErr result (FetchCause part name max old new)
@@ -59,9 +61,11 @@ pub record FetchesFile (part : Folders → Files) (old new : Watched Folders) (n
 
 -- why the walk over the next roots refuses; an absent next root ends it without a refusal
 abbrev pub WalkCause : UpdaterConfig → ℕ → Watched Folders → Watched Folders → Error → Type 0
-WalkCause config version old new (Transport (transport.Rotations max)) = (version < 2 ^ 64 - 1) × (config.max_root_rotations ≡ 0) × (max ≡ 0)
+WalkCause config version old new (Transport (transport.Rotations max)) =
+    (version < 2 ^ 64 - 1) × (config.max_root_rotations ≡ 0) × (max ≡ 0)
 WalkCause config version old new (Transport transport.Absent) = ⊥
-WalkCause config version old new (Transport fault) = (version < 2 ^ 64 - 1) × TransportCause metadata_files (root_name (version + 1)) config.root_max_length old new fault
+WalkCause config version old new (Transport fault) =
+    (version < 2 ^ 64 - 1) × TransportCause metadata_files (root_name (version + 1)) config.root_max_length old new fault
 WalkCause config version old new (Unbuilt form.Rotation) =
     (version < 2 ^ 64 - 1) × ((bytes : List ℕ) × Has metadata_files old (root_name (version + 1)) bytes)
 WalkCause config version old new NoMemory = ⊤
@@ -128,12 +132,13 @@ has_version (Some pin) version = pin.version == version
 
 -- The version of the pin, and not expired: a document that serves isn't fetched again, and one that doesn't is never used.
 abbrev pub serves : Option MetaFile → ℕ → jiff.Timestamp → jiff.Timestamp → Bool
-serves pin version expires now = has_version pin version && not (int_lt expires.nanosecond now.nanosecond)
+serves pin version expires now = has_version pin version && not (is_past expires now)
 
 abbrev pub snapshot_kept_in : Option (Held Timestamp) → Option (Held Snapshot) → jiff.Timestamp → Bool
 snapshot_kept_in None snapshot now = false
 snapshot_kept_in (Some timestamp) None now = false
-snapshot_kept_in (Some timestamp) (Some snapshot) now = serves (snapshot_pin (content_of timestamp)) (content_of snapshot).version (content_of snapshot).expires now
+snapshot_kept_in (Some timestamp) (Some snapshot) now =
+    serves (snapshot_pin (content_of timestamp)) (content_of snapshot).version (content_of snapshot).expires now
 
 -- the trusted snapshot has the pinned version and isn't expired, so it is kept
 abbrev pub is_snapshot_kept : InForce → jiff.Timestamp → Bool
@@ -151,7 +156,8 @@ after_targets set (Err e) = set
 abbrev pub targets_kept_in : Option (Held Snapshot) → Option (Held Targets) → jiff.Timestamp → Bool
 targets_kept_in None targets now = false
 targets_kept_in (Some snapshot) None now = false
-targets_kept_in (Some snapshot) (Some targets) now = serves (targets_pin (content_of snapshot)) (content_of targets).version (content_of targets).expires now
+targets_kept_in (Some snapshot) (Some targets) now =
+    serves (targets_pin (content_of snapshot)) (content_of targets).version (content_of targets).expires now
 
 abbrev pub is_targets_kept : InForce → jiff.Timestamp → Bool
 is_targets_kept set now = targets_kept_in set.snapshot (top_targets set) now

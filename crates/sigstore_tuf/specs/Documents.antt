@@ -10,6 +10,7 @@ use Rattle.sigstore_tuf_parts.specs.Document.{Document, content_in, document_of}
 use Rattle.sigstore_tuf_parts.specs.Timestamp.{timestamp_of}
 use Rattle.sigstore_tuf_parts.specs.Snapshot.{snapshot_of}
 use Rattle.sigstore_tuf_parts.specs.Targets.{targets_of}
+use Rattle.sigstore_tuf_parts.specs.Names.{snapshot_name, targets_name}
 use Rattle.sigstore_tuf.specs.declared.documents.Held.{Held}
 
 abbrev pub timestamp_document : List ℕ → Result (Document Timestamp) Error
@@ -27,8 +28,8 @@ content_of held = content_in held.document
 
 -- what a timestamp pins the snapshot by
 abbrev pub snapshot_pin : Timestamp → Option MetaFile
-snapshot_pin t = at_name (codes "snapshot.json") t.meta
+snapshot_pin t = at_name snapshot_name t.meta
 
 -- what a snapshot pins the top-level targets document by
 abbrev pub targets_pin : Snapshot → Option MetaFile
-targets_pin s = at_name (codes "targets.json") s.meta
+targets_pin s = at_name targets_name s.meta

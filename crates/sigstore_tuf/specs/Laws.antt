@@ -15,17 +15,22 @@ use Rattle.sigstore_tuf.specs.Update.{first_root_of}
 -- a first root that is refused
 abbrev pub FirstWithCause : Type 0
 FirstWithCause =
-    (crypto : Crypto) (given : List ℕ) (config : UpdaterConfig) (path : List ℕ) (now : jiff.Timestamp) (old new : Watched Folders) (e : Error)
+    (crypto : Crypto) (given : List ℕ) (config : UpdaterConfig) (path : List ℕ) (now : jiff.Timestamp)
+        (old new : Watched Folders) (e : Error)
     → first_root_of crypto given ≡ Err e → ClientCause crypto given config path now old new e
 
 -- a first refresh that is refused
 abbrev pub RefreshWithCause : Type 0
 RefreshWithCause =
-    (crypto : Crypto) (given : List ℕ) (config : UpdaterConfig) (path : List ℕ) (now : jiff.Timestamp) (old new : Watched Folders) (set later : InForce) (e : Error)
-    → first_root_of crypto given ≡ Ok set → Refreshes crypto config now set later old new (Err e) → ClientCause crypto given config path now old new e
+    (crypto : Crypto) (given : List ℕ) (config : UpdaterConfig) (path : List ℕ) (now : jiff.Timestamp)
+        (old new : Watched Folders) (set later : InForce) (e : Error)
+    → first_root_of crypto given ≡ Ok set → Refreshes crypto config now set later old new (Err e)
+    → ClientCause crypto given config path now old new e
 
 -- a search after a first refresh that is Ok, at the same moment
 abbrev pub SearchWithCause : Type 0
 SearchWithCause =
-    (crypto : Crypto) (given : List ℕ) (config : UpdaterConfig) (path : List ℕ) (now : jiff.Timestamp) (old mid new : Watched Folders) (set later : InForce) (e : Error)
-    → first_root_of crypto given ≡ Ok set → Refreshes crypto config now set later old mid (Ok tt) → GetsTarget later config path now mid new (Err e) → ClientCause crypto given config path now old new e
+    (crypto : Crypto) (given : List ℕ) (config : UpdaterConfig) (path : List ℕ) (now : jiff.Timestamp)
+        (old mid new : Watched Folders) (set later : InForce) (e : Error)
+    → first_root_of crypto given ≡ Ok set → Refreshes crypto config now set later old mid (Ok tt)
+    → GetsTarget later config path now mid new (Err e) → ClientCause crypto given config path now old new e

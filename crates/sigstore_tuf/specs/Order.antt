@@ -1,5 +1,6 @@
 -- The search for a target: which roles are visited, in which order (TUF specification, section 5.6: pre-order, depth first).
-use Rattle.std.specs.Prelude.{ℕ, zero, suc, ◌-◌, List, [], ◌∷◌, ◌++◌, Bool, true, false, ◌||◌, ◌==◌, if◌then◌else◌, Option, Some, None, is_some, ok_or, Result, Ok, Err, codes}
+use Rattle.std.specs.Prelude.{ℕ, zero, suc, ◌-◌, List, [], ◌∷◌, ◌++◌, Bool, true, false, ◌||◌, ◌==◌, if◌then◌else◌,
+    Option, Some, None, is_some, ok_or, Result, Ok, Err, codes}
 use Rattle.std.specs.Result.{result_ok}
 use Rattle.sigstore_types_parts.specs.Entries.{at_name}
 use Rattle.sigstore_tuf_parts.specs.declared.snapshot.Snapshot.{Snapshot}
@@ -78,7 +79,8 @@ matching path [] = Ok nothing_next
 matching path (d ∷ later) =
     if is_top_level d.name then matching path later
     else pattern_or (matches_path_of d path) >>= λ found.
-    (if found then (if d.terminating then Ok (record { names = d.name ∷ []; ends = true }) else (matching path later >>= λ next. Ok (with_name d.name next)))
+    (if found then (if d.terminating then Ok (record { names = d.name ∷ []; ends = true })
+        else (matching path later >>= λ next. Ok (with_name d.name next)))
     else matching path later)
 
 abbrev pub delegated_in : Option Delegations → List DelegatedRole
@@ -101,7 +103,8 @@ read_of tree doc w =
     if lists doc tree.path then Ok (still (ended w))
     else matching tree.path (delegated_in doc.delegations) >>= λ next. Ok (record { walk = w; next = next })
 
--- Nothing is visited after the end, nor a name that was read. A name that isn't pinned is visited and not read. A pinned one is visited and its document read.
+-- Nothing is visited after the end, nor a name that was read. A name that isn't pinned is visited and not read.
+-- A pinned one is visited and its document read.
 abbrev pub visit_of : Tree → Visit → Walk → Result Step Gap
 visit_of tree v w =
     if (w.left == 0) || is_among w.read v.name then Ok (still w)
@@ -114,7 +117,8 @@ visit_of tree v w =
 -- each of these names in order, delegated by one role
 abbrev pub walk_each : (Visit → Walk → Result Walk Gap) → List ℕ → List (List ℕ) → Walk → Result Walk Gap
 walk_each walk delegator [] w = Ok w
-walk_each walk delegator (name ∷ names) w = walk (record { name = name; delegator = delegator }) w >>= λ w'. walk_each walk delegator names w'
+walk_each walk delegator (name ∷ names) w =
+    walk (record { name = name; delegator = delegator }) w >>= λ w'. walk_each walk delegator names w'
 
 abbrev pub ended_if : Bool → Walk → Walk
 ended_if true w = ended w

@@ -41,7 +41,8 @@ FailsOnly P (Err Failed) = P
 FailsOnly P (Err NoMemory) = ⊤
 
 -- the promise of a fetch from the files that `part` names: told files stay as they were, and the answer is of them
-pub record Fetches (part : Folders → Files) (old new : Watched Folders) (name : List ℕ) (max : ℕ) (result : Result (Option (List ℕ)) FetchFault) : Type 0 where
+pub record Fetches (part : Folders → Files) (old new : Watched Folders) (name : List ℕ) (max : ℕ)
+    (result : Result (Option (List ℕ)) FetchFault) : Type 0 where
   pub same : new.told ≡ old.told
   pub later : old.faults ≤ new.faults
   pub failed : FailsOnly (Rose old.faults new.faults) result

@@ -1,5 +1,6 @@
 -- The search for a target and its file (TUF specification, sections 5.6.7 and 5.7).
-use Rattle.std.specs.Prelude.{◌≡◌, ◌≢◌, ◌⊎◌, ℕ, ◌≤◌, ◌==◌, nat_lt, List, [], ◌∷◌, length, if◌then◌else◌, Option, Some, None, Result, Ok, Err, IfOk, IfErr, codes, ⊤}
+use Rattle.std.specs.Prelude.{◌≡◌, ◌≢◌, ◌⊎◌, ℕ, ◌≤◌, ◌==◌, nat_lt, List, [], ◌∷◌, length, if◌then◌else◌, Option, Some,
+    None, Result, Ok, Err, IfOk, IfErr, codes, ⊤}
 use Rattle.jiff_core.specs.declared.timestamp.Timestamp as jiff
 use Rattle.foundation.specs.Steps.{◌>>=◌}
 use Rattle.foundation.specs.Watched.{Watched, Since}
@@ -55,7 +56,8 @@ abbrev pub all_pinned_of : Option (Held Timestamp) → Option (Held Snapshot) �
 all_pinned_of None snapshot targets now = Err NotRefreshed
 all_pinned_of (Some timestamp) None targets now = Err NotRefreshed
 all_pinned_of (Some timestamp) (Some snapshot) None now = Err NotRefreshed
-all_pinned_of (Some timestamp) (Some snapshot) (Some targets) now = pinned_by_of (content_of timestamp) (content_of snapshot) (content_of targets) now
+all_pinned_of (Some timestamp) (Some snapshot) (Some targets) now =
+    pinned_by_of (content_of timestamp) (content_of snapshot) (content_of targets) now
 
 -- the documents in force serve a search
 unfoldable pub search_serves_of : InForce → jiff.Timestamp → Result ⊤ Error
@@ -119,12 +121,14 @@ pub record FetchesTarget (entry : TargetFile) (path : List ℕ) (repo repo' : Wa
 abbrev pub visit_of : Held Targets → RoleDoc
 visit_of targets = record { name = codes "targets"; delegator = codes "root"; bytes = Some targets.bytes }
 
-abbrev pub chain_in : InForce → Option (Held Timestamp) → Option (Held Snapshot) → Option (Held Targets) → TargetFile → List ℕ → Result TrustChain Error
+abbrev pub chain_in : InForce → Option (Held Timestamp) → Option (Held Snapshot) → Option (Held Targets) → TargetFile
+    → List ℕ → Result TrustChain Error
 chain_in set None snapshot targets entry file = Err NotRefreshed
 chain_in set (Some timestamp) None targets entry file = Err NotRefreshed
 chain_in set (Some timestamp) (Some snapshot) None entry file = Err NotRefreshed
 chain_in set (Some timestamp) (Some snapshot) (Some targets) entry file =
-    Ok (record { roots = set.roots; timestamp = timestamp.bytes; snapshot = snapshot.bytes; roles = visit_of targets ∷ []; target = entry; file = file })
+    Ok (record { roots = set.roots; timestamp = timestamp.bytes; snapshot = snapshot.bytes;
+        roles = visit_of targets ∷ []; target = entry; file = file })
 
 -- the documents in force, with an entry and its file
 abbrev pub chain_of : InForce → TargetFile → List ℕ → Result TrustChain Error
@@ -133,10 +137,15 @@ chain_of set entry file = chain_in set set.timestamp set.snapshot (top_targets s
 -- ---- the whole
 
 -- a search for a target and its file is the run of its steps, by the step that refuses
-pub data GetsTarget (set : InForce) (config : UpdaterConfig) (path : List ℕ) (now : jiff.Timestamp) (repo repo' : Watched Folders) (result : Result TrustChain Error) : Type 0 where
-  unlisted : (e : Error) → (e ≢ NoMemory → target_of set config path now ≡ Err e) → repo' ≡ repo → result ≡ Err e → GetsTarget set config path now repo repo' result
-  unfetched : (entry : TargetFile) (e : Error) → target_of set config path now ≡ Ok entry → FetchesTarget entry path repo repo' (Err e) → result ≡ Err e → GetsTarget set config path now repo repo' result
-  unchained : (entry : TargetFile) (file : List ℕ) (e : Error) → target_of set config path now ≡ Ok entry → FetchesTarget entry path repo repo' (Ok file)
+pub data GetsTarget (set : InForce) (config : UpdaterConfig) (path : List ℕ) (now : jiff.Timestamp)
+    (repo repo' : Watched Folders) (result : Result TrustChain Error) : Type 0 where
+  unlisted : (e : Error) → (e ≢ NoMemory → target_of set config path now ≡ Err e) → repo' ≡ repo → result ≡ Err e
+      → GetsTarget set config path now repo repo' result
+  unfetched : (entry : TargetFile) (e : Error) → target_of set config path now ≡ Ok entry
+      → FetchesTarget entry path repo repo' (Err e) → result ≡ Err e → GetsTarget set config path now repo repo' result
+  unchained : (entry : TargetFile) (file : List ℕ) (e : Error) → target_of set config path now ≡ Ok entry
+      → FetchesTarget entry path repo repo' (Ok file)
       → (e ≢ NoMemory → chain_of set entry file ≡ Err e) → result ≡ Err e → GetsTarget set config path now repo repo' result
-  found : (entry : TargetFile) (file : List ℕ) (chain : TrustChain) → target_of set config path now ≡ Ok entry → FetchesTarget entry path repo repo' (Ok file)
+  found : (entry : TargetFile) (file : List ℕ) (chain : TrustChain) → target_of set config path now ≡ Ok entry
+      → FetchesTarget entry path repo repo' (Ok file)
       → chain_of set entry file ≡ Ok chain → result ≡ Ok chain → GetsTarget set config path now repo repo' result

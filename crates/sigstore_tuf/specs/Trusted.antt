@@ -1,5 +1,6 @@
 -- A chain of documents that is trusted (TUF specification, section 5).
-use Rattle.std.specs.Prelude.{◌≡◌, ℕ, false, List, [], ◌∷◌, map, find, bytes_eq, Option, Some, None, option_map, option_and_then, Ok, codes, if◌then◌else◌}
+use Rattle.std.specs.Prelude.{◌≡◌, ℕ, false, List, [], ◌∷◌, map, find, bytes_eq, Option, Some, None, option_map,
+    option_and_then, Ok, codes, if◌then◌else◌}
 use Rattle.std.specs.List.{AllByRecursion, AllZip, last_or, filter_map}
 use Rattle.std.specs.Result.{result_ok}
 use Rattle.jiff_core.specs.declared.timestamp.Timestamp as jiff
@@ -56,7 +57,8 @@ abbrev pub authority_in : List ℕ → Delegations → Option Authority
 authority_in name d = option_map (λ r. record { keys = d.keys; role = role_keys_in r }) (find (λ r. bytes_eq r.name name) d.roles)
 
 abbrev pub delegated_authority : (List ℕ → Option Targets) → Visit → Option Authority
-delegated_authority documents v = option_and_then (λ (doc : Targets). option_and_then (authority_in v.name) doc.delegations) (documents v.delegator)
+delegated_authority documents v =
+    option_and_then (λ (doc : Targets). option_and_then (authority_in v.name) doc.delegations) (documents v.delegator)
 
 abbrev pub root_authority : Root → List ℕ → Option Authority
 root_authority root name = option_map (λ role. record { keys = root.keys; role = role }) (at_name name root.roles)
@@ -68,7 +70,8 @@ authority_of root documents v = if bytes_eq v.name (codes "targets") then root_a
 -- ---- what holds of a trusted chain
 
 -- a document of a role is pinned by the snapshot, fresh, and meets its authority
-pub record IsTrustedRole (crypto : Crypto) (root : Root) (snapshot : Snapshot) (documents : List ℕ → Option Targets) (now : jiff.Timestamp) (v : Visit) (bytes : List ℕ) : Type 0 where
+pub record IsTrustedRole (crypto : Crypto) (root : Root) (snapshot : Snapshot) (documents : List ℕ → Option Targets)
+    (now : jiff.Timestamp) (v : Visit) (bytes : List ℕ) : Type 0 where
   pub doc : Document Targets
   pub pin : MetaFile
   pub authority : Authority
@@ -109,7 +112,8 @@ pub record Reading : Type 0 where
 -- The chain is trusted, read so: its roots begin with the given bytes; root, timestamp and snapshot are fresh; timestamp and
 -- snapshot meet the root's roles; the timestamp pins the snapshot at its version; the roles are the visits of the search, the
 -- last of which lists the target; each document of a role is trusted; and the file is the target's.
-pub record TrustedAs (crypto : Crypto) (given : List ℕ) (now : jiff.Timestamp) (max : ℕ) (path : List ℕ) (chain : TrustChain) (is : Reading) : Type 0 where
+pub record TrustedAs (crypto : Crypto) (given : List ℕ) (now : jiff.Timestamp) (max : ℕ) (path : List ℕ)
+    (chain : TrustChain) (is : Reading) : Type 0 where
   pub roots : AreRoots crypto given chain.roots is.root
   pub root_fresh : Fresh (content_in is.root).expires now
   pub timestamp_read : timestamp_document chain.timestamp ≡ Ok is.timestamp
@@ -122,7 +126,8 @@ pub record TrustedAs (crypto : Crypto) (given : List ℕ) (now : jiff.Timestamp)
   pub snapshot_version : (content_in is.snapshot).version ≡ is.pin.version
   pub order_is : order (documents_in chain.roles) (content_in is.snapshot) path max ≡ Some (map visit_in chain.roles)
   pub listed : option_and_then (λ (doc : Targets). at_name path doc.targets) (last_in chain.roles) ≡ Some chain.target
-  pub roles : AllByRecursion (λ (r : RoleDoc). IsTrustedVisit crypto (content_in is.root) (content_in is.snapshot) (documents_in chain.roles) now (visit_in r) r.bytes) chain.roles
+  pub roles : AllByRecursion (λ (r : RoleDoc). IsTrustedVisit crypto (content_in is.root) (content_in is.snapshot)
+      (documents_in chain.roles) now (visit_in r) r.bytes) chain.roles
   pub file : PinnedFile chain.file chain.target
 
 abbrev pub Trusted : Crypto → List ℕ → jiff.Timestamp → ℕ → List ℕ → TrustChain → Type 0

@@ -28,7 +28,8 @@ abbrev pub IsRefused : InForce → UpdaterConfig → List ℕ → jiff.Timestamp
 IsRefused set config path now repo repo' e = ((e ≡ tuf.NoMemory) × Since repo repo') ⊎ GetsTarget set config path now repo repo' (Err e)
 
 -- the file is that of the chain that is kept
-abbrev pub GivesFile : InForce → UpdaterConfig → List ℕ → jiff.Timestamp → Watched Folders → Watched Folders → Option TrustChain → Result (List ℕ) Error → Type 0
+abbrev pub GivesFile : InForce → UpdaterConfig → List ℕ → jiff.Timestamp → Watched Folders → Watched Folders
+    → Option TrustChain → Result (List ℕ) Error → Type 0
 GivesFile set config path now repo repo' kept (Ok file) =
     (chain : TrustChain) × (kept ≡ Some chain) × (file ≡ chain.file) × GetsTarget set config path now repo repo' (Ok chain)
 GivesFile set config path now repo repo' kept (Err e) = IsRefused set config path now repo repo' e

@@ -1,6 +1,6 @@
 // A refresh, step by step: over an owned set of documents, and a lent repository and store.
 ghost use Rattle.std.specs.Prelude.{◌≡◌, ◌≢◌, ◌⊎◌, Ok, Err, IfErr, OnOk, OnErr, option_copied};
-ghost use Rattle.sigstore_tuf_parts.specs.declared.error.Error.TheVariants.{NoMemory as Want};
+ghost use Rattle.sigstore_tuf_parts.specs.declared.error.Error.TheVariants.{NoMemory};
 ghost use Rattle.sigstore_tuf_parts.specs.By.{crypto_by};
 ghost use Rattle.sigstore_tuf.specs.Repository.{metadata_files};
 ghost use Rattle.sigstore_tuf.specs.Update.{new_timestamp_of, targets_pin_of, with_snapshot, with_targets};
@@ -15,7 +15,8 @@ use crate::store::MetadataStore;
 use crate::update::{new_snapshot, new_targets, new_timestamp, targets_pin};
 use sigstore_crypto::CryptoProvider;
 use sigstore_tuf_parts::{
-    Error, MetaFile, Rule, Snapshot, Targets, TransportFault, check_fresh, root_name,
+    Error, MetaFile, Role, Rule, SNAPSHOT_NAME, Snapshot, TARGETS_NAME, TIMESTAMP_NAME, Targets,
+    TransportFault, is_past, root_name,
 };
 use sigstore_types_parts::{Armor, Bytes, Form, Text, TextMap};
 use std::alloc::Global;
@@ -75,10 +76,10 @@ fn walk_roots<R: Repository>(
 #[tactic(auto, unfolding(crate::specs::Client::root_serves_of))]
 fn check_root(alloc: Global, documents: &InForce, now: jiff::Timestamp) -> Result<(), Error>
     ensures ok { OnOk result (root_serves_of documents.now now ≡ Ok tt) }
-    ensures err { IfErr result (λ e. e ≢ Want → root_serves_of documents.now now ≡ Err e) }
+    ensures err { IfErr result (λ e. e ≢ NoMemory → root_serves_of documents.now now ≡ Err e) }
 {
     let root = documents.root.signed();
-    check_fresh(alloc, "root", root.expires, now)?;
+    root.check_fresh(alloc, now)?;
     if root.consistent_snapshot {
         return Err(Error::Unbuilt(Form::Consistent));
     }
@@ -97,7 +98,7 @@ fn adopt_timestamp<C: CryptoProvider, M: Armor>(
     ensures ok { let new = new_timestamp_of (crypto_by C.CryptoProvider M.Armor provider.now armor.now) documents.old bytes now in
         OnOk result ((adoption_of new ≡ Ok tt) × (documents.new ≡ after_timestamp documents.old new)) }
     ensures err { let new = new_timestamp_of (crypto_by C.CryptoProvider M.Armor provider.now armor.now) documents.old bytes now in
-        IfErr result (λ e. e ≢ Want → adoption_of new ≡ Err e) }
+        IfErr result (λ e. e ≢ NoMemory → adoption_of new ≡ Err e) }
     ensures kept { OnErr result (documents.new ≡ documents.old) }
 {
     match new_timestamp(alloc, provider, armor, documents, bytes, now) {
@@ -114,14 +115,14 @@ fn adopt_timestamp<C: CryptoProvider, M: Armor>(
 #[tactic(auto, unfolding(crate::specs::Client::timestamp_serves_of))]
 fn check_timestamp(alloc: Global, documents: &InForce, now: jiff::Timestamp) -> Result<(), Error>
     ensures ok { OnOk result (timestamp_serves_of documents.now now ≡ Ok tt) }
-    ensures err { IfErr result (λ e. e ≢ Want → timestamp_serves_of documents.now now ≡ Err e) }
+    ensures err { IfErr result (λ e. e ≢ NoMemory → timestamp_serves_of documents.now now ≡ Err e) }
 {
     let Some(timestamp) = &documents.timestamp else {
         return Err(Error::Malformed(Rule::NoTimestamp));
     };
     let content = timestamp.document.signed();
     match content.snapshot_meta() {
-        Some(_) => match check_fresh(alloc, "timestamp", content.expires, now) {
+        Some(_) => match content.check_fresh(alloc, now) {
             Ok(()) => Ok(()),
             Err(e) => Err(e),
         },
@@ -163,7 +164,7 @@ fn refresh_timestamp<C: CryptoProvider, M: Armor, R: Repository>(
     ensures { RefreshesTimestamp (crypto_by C.CryptoProvider M.Armor provider.now armor.now)
         config.now now documents.old documents.new (R.seen repo.old) (R.seen repo.new) result }
 {
-    match fetch_document(alloc, repo, "timestamp.json", config.timestamp_max_length) {
+    match fetch_document(alloc, repo, TIMESTAMP_NAME, config.timestamp_max_length) {
         Ok(bytes) => match take_timestamp(alloc, provider, armor, documents, bytes, now) {
             Ok(()) => Ok(()),
             Err(e) => Err(e),
@@ -182,7 +183,7 @@ fn is_served(
     ensures { result ≡ serves (option_copied pin.entry) version expires now }
 {
     match pin {
-        Some(pin) => pin.version == version && expires >= now,
+        Some(pin) => pin.version == version && !is_past(expires, now),
         None => false,
     }
 }
@@ -222,7 +223,7 @@ fn fetch_snapshot<C: CryptoProvider, M: Armor, R: Repository>(
     ensures { FetchesSnapshot (crypto_by C.CryptoProvider M.Armor provider.now armor.now)
         config.now now documents.old documents.new (R.seen repo.old) (R.seen repo.new) result }
 {
-    match fetch_document(alloc, repo, "snapshot.json", config.snapshot_max_length) {
+    match fetch_document(alloc, repo, SNAPSHOT_NAME, config.snapshot_max_length) {
         Ok(bytes) => match new_snapshot(alloc, provider, armor, documents, bytes, now) {
             Ok(held) => {
                 put_snapshot(alloc, documents, held);
@@ -263,7 +264,7 @@ fn keeps_targets(documents: &InForce, now: jiff::Timestamp) -> bool
     match (&documents.snapshot, documents.targets.get("targets")) {
         (Some(snapshot), Some(targets)) => {
             let content = targets.document.signed();
-            let pin = snapshot.document.signed().meta.get("targets.json");
+            let pin = snapshot.document.signed().targets_meta();
             is_served(pin, content.version, content.expires, now)
         }
         _ => false,
@@ -273,7 +274,7 @@ fn keeps_targets(documents: &InForce, now: jiff::Timestamp) -> bool
 // Puts a targets document in force.
 fn put_targets(alloc: Global, documents: &mut InForce, held: Held<Targets>) -> Result<(), Error>
     ensures ok { OnOk result (documents.new ≡ with_targets documents.old held) }
-    ensures err { IfErr result (λ e. e ≡ Want) }
+    ensures err { IfErr result (λ e. e ≡ NoMemory) }
     ensures kept { OnErr result (documents.new ≡ documents.old) }
 {
     match Text::new(alloc, "targets") {
@@ -312,7 +313,7 @@ fn take_targets<C: CryptoProvider, M: Armor>(
 // The snapshot in force isn't expired, and pins the targets document.
 fn check_targets_pin(alloc: Global, documents: &InForce, now: jiff::Timestamp) -> Result<(), Error>
     ensures ok { OnOk result (IsPinning now documents.now) }
-    ensures err { IfErr result (λ e. e ≢ Want → targets_pin_of documents.now now ≡ Err e) }
+    ensures err { IfErr result (λ e. e ≢ NoMemory → targets_pin_of documents.now now ≡ Err e) }
 {
     match targets_pin(alloc, documents, now) {
         Ok(_) => Ok(()),
@@ -333,7 +334,7 @@ fn fetch_pinned<C: CryptoProvider, M: Armor, R: Repository>(
     ensures { FetchesPinned (crypto_by C.CryptoProvider M.Armor provider.now armor.now)
         config.now now documents.old documents.new (R.seen repo.old) (R.seen repo.new) result }
 {
-    match fetch_document(alloc, repo, "targets.json", config.targets_max_length) {
+    match fetch_document(alloc, repo, TARGETS_NAME, config.targets_max_length) {
         Ok(bytes) => match take_targets(alloc, provider, armor, documents, bytes, now) {
             Ok(()) => Ok(()),
             Err(e) => Err(e),

@@ -3,11 +3,10 @@ ghost use Rattle.std.specs.Prelude.{◌≡◌};
 ghost use Rattle.foundation.specs.Watched.{untold};
 ghost use Rattle.sigstore_tuf.specs.Repository.{WithinLimit};
 
-use crate::file::{path_of, read_file};
-use crate::name::is_bad_name;
+use crate::name::{is_bad_name, path_of};
 use crate::repository::{FetchFault, Repository};
 use foundation::NoMemory;
-use sigstore_types_parts::{Bytes, Text};
+use sigstore_types_parts::{Bytes, FileFault, Text, read_file};
 use std::alloc::Global;
 use std::rt::Files;
 
@@ -43,9 +42,16 @@ fn fetch<X: Files + AllocGlobal>(
     if is_bad_name(name) {
         return Ok(None);
     }
-    match path_of(alloc, dir, folder, name) {
-        Ok(path) => read_file(rt, alloc, path.as_str(), max),
-        Err(NoMemory) => Err(FetchFault::NoMemory),
+    let path = match path_of(alloc, dir, folder, name) {
+        Ok(path) => path,
+        Err(NoMemory) => return Err(FetchFault::NoMemory),
+    };
+    match read_file(rt, alloc, path.as_str(), max) {
+        Ok(bytes) => Ok(Some(bytes)),
+        Err(FileFault::Absent) => Ok(None),
+        Err(FileFault::TooLong { seen }) => Err(FetchFault::TooLong { seen }),
+        Err(FileFault::Failed) => Err(FetchFault::Failed),
+        Err(FileFault::NoMemory) => Err(FetchFault::NoMemory),
     }
 }
 

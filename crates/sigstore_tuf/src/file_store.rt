@@ -3,11 +3,9 @@ ghost use Rattle.std.specs.Prelude.{◌≡◌, ⊤};
 ghost use Rattle.foundation.specs.Watched.{untold};
 ghost use Rattle.sigstore_tuf.specs.Store.{HasStoreCause};
 
-use crate::file::{path_of, read_file};
-use crate::name::is_bad_name;
-use crate::repository::FetchFault;
+use crate::name::{is_bad_name, path_of};
 use crate::store::{MetadataStore, StoreFault};
-use sigstore_types_parts::{Bytes, Text};
+use sigstore_types_parts::{Bytes, FileFault, Text, read_file};
 use std::alloc::Global;
 use std::fs::OpenFile;
 use std::io::{ErrorKind, Write};
@@ -48,8 +46,9 @@ fn load<X: Files + AllocGlobal>(
         return Err(StoreFault::NoMemory);
     };
     match read_file(rt, alloc, path.as_str(), u64::MAX) {
-        Ok(file) => Ok(file),
-        Err(FetchFault::NoMemory) => Err(StoreFault::NoMemory),
+        Ok(bytes) => Ok(Some(bytes)),
+        Err(FileFault::Absent) => Ok(None),
+        Err(FileFault::NoMemory) => Err(StoreFault::NoMemory),
         Err(_) => Err(StoreFault::Failed),
     }
 }

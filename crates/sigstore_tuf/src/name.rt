@@ -1,7 +1,11 @@
-// The names that no store takes.
+// The names that no store takes, and the paths of the others.
 ghost use Rattle.std.specs.Prelude.{◌≡◌, ◌≤◌, length};
 ghost use Rattle.std.specs.List.{list_any, position_or_len};
 ghost use Rattle.sigstore_tuf.specs.Store.{is_slash, components, is_parent, is_bad_name};
+
+use foundation::NoMemory;
+use std::alloc::Global;
+use std::path::PathBuf;
 
 // Whether this component leads out of the folder.
 fn is_parent(part: &[u8]) -> bool
@@ -23,7 +27,7 @@ fn first_len(name: &[u8]) -> usize
     name.len()
 }
 
-// Whether a component of a name does.
+// Whether any component of a name is `..`.
 fn has_parent(name: &[u8]) -> bool
     ensures { result ≡ list_any is_parent (components name.now) }
 {
@@ -47,4 +51,17 @@ pub(crate) fn is_bad_name(name: &str) -> bool
     ensures { result ≡ is_bad_name name.now }
 {
     name.starts_with('/') || has_parent(name.as_bytes())
+}
+
+// The path of a name in a folder of a folder; an empty folder is the one above.
+pub(crate) fn path_of(
+    alloc: Global,
+    dir: &str,
+    folder: &str,
+    name: &str,
+) -> Result<PathBuf, NoMemory> {
+    let mut path = PathBuf::from_str(alloc, dir)?;
+    path.push(folder)?;
+    path.push(name)?;
+    Ok(path)
 }

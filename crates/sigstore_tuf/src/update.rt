@@ -1,6 +1,6 @@
 // Each update of the documents in force: the document that is adopted, or the first check that fails.
 ghost use Rattle.std.specs.Prelude.{◌≡◌, ◌≢◌, [], ◌∷◌, Ok, Err, IfOk, IfErr, OnOk, codes, option_copied};
-ghost use Rattle.sigstore_tuf_parts.specs.declared.error.Error.TheVariants.{NoMemory as Want};
+ghost use Rattle.sigstore_tuf_parts.specs.declared.error.Error.TheVariants.{NoMemory};
 ghost use Rattle.sigstore_tuf_parts.specs.By.{crypto_by};
 ghost use Rattle.sigstore_tuf_parts.specs.Document.{content_in};
 ghost use Rattle.sigstore_tuf_parts.specs.RootRoles.{root_document, meets_role_of};
@@ -10,7 +10,7 @@ use crate::documents::{Held, InForce};
 use foundation::Sequence;
 use sigstore_crypto::CryptoProvider;
 use sigstore_tuf_parts::{
-    Error, MetaFile, Metadata, Mismatch, Root, Rule, Snapshot, Targets, Timestamp, check_fresh,
+    Error, MetaFile, Metadata, Mismatch, Role, Root, Rule, Snapshot, Targets, Timestamp,
     check_integrity, check_version,
 };
 use sigstore_types_parts::{Armor, Bytes, Text, TextMap};
@@ -19,7 +19,7 @@ use std::alloc::Global;
 // A list of these bytes alone.
 fn alone(alloc: Global, bytes: &[u8]) -> Result<Sequence<Bytes>, Error>
     ensures ok { IfOk result (λ list. list ≡ bytes.now ∷ []) }
-    ensures err { IfErr result (λ e. e ≡ Want) }
+    ensures err { IfErr result (λ e. e ≡ NoMemory) }
 {
     let mut list = Sequence::new(alloc);
     list.push(Bytes::new(alloc, bytes)?)?;
@@ -37,7 +37,7 @@ fn own_root<C: CryptoProvider, M: Armor>(
     ensures read { IfOk result (λ root. root_document bytes.now ≡ Ok root) }
     ensures met { IfOk result (λ root.
         meets_role_of (crypto_by C.CryptoProvider M.Armor provider.now armor.now) (content_in root) (codes "root") root ≡ Ok tt) }
-    ensures err { IfErr result (λ e. e ≢ Want →
+    ensures err { IfErr result (λ e. e ≢ NoMemory →
         first_root_of (crypto_by C.CryptoProvider M.Armor provider.now armor.now) bytes.now ≡ Err e) }
 {
     let root = Metadata::from_slice(alloc, bytes)?;
@@ -61,7 +61,7 @@ pub(crate) fn first_root<C: CryptoProvider, M: Armor>(
 ) -> Result<InForce, Error>
     ensures ok { IfOk result (λ set.
         first_root_of (crypto_by C.CryptoProvider M.Armor provider.now armor.now) bytes.now ≡ Ok set) }
-    ensures err { IfErr result (λ e. e ≢ Want →
+    ensures err { IfErr result (λ e. e ≢ NoMemory →
         first_root_of (crypto_by C.CryptoProvider M.Armor provider.now armor.now) bytes.now ≡ Err e) }
 {
     let roots = alone(alloc, bytes)?;
@@ -77,7 +77,7 @@ pub(crate) fn first_root<C: CryptoProvider, M: Armor>(
 
 fn check_not_below(alloc: Global, role: &str, trusted: u64, new: u64) -> Result<(), Error>
     ensures ok { OnOk result (not_below_of role.now trusted new ≡ Ok tt) }
-    ensures err { IfErr result (λ e. e ≢ Want → not_below_of role.now trusted new ≡ Err e) }
+    ensures err { IfErr result (λ e. e ≢ NoMemory → not_below_of role.now trusted new ≡ Err e) }
 {
     if new < trusted {
         return Err(Error::Rollback {
@@ -91,7 +91,7 @@ fn check_not_below(alloc: Global, role: &str, trusted: u64, new: u64) -> Result<
 
 fn check_other(alloc: Global, role: &str, trusted: u64, new: u64) -> Result<(), Error>
     ensures ok { OnOk result (other_of role.now trusted new ≡ Ok tt) }
-    ensures err { IfErr result (λ e. e ≢ Want → other_of role.now trusted new ≡ Err e) }
+    ensures err { IfErr result (λ e. e ≢ NoMemory → other_of role.now trusted new ≡ Err e) }
 {
     if new == trusted {
         return Err(Error::EqualVersion {
@@ -105,7 +105,7 @@ fn check_other(alloc: Global, role: &str, trusted: u64, new: u64) -> Result<(), 
 fn check_pins(alloc: Global, old: Option<&MetaFile>, new: Option<&MetaFile>) -> Result<(), Error>
     ensures ok { OnOk result (pins_not_below_of (option_copied old.entry) (option_copied new.entry) ≡ Ok tt) }
     ensures err { IfErr result
-        (λ e. e ≢ Want → pins_not_below_of (option_copied old.entry) (option_copied new.entry) ≡ Err e) }
+        (λ e. e ≢ NoMemory → pins_not_below_of (option_copied old.entry) (option_copied new.entry) ≡ Err e) }
 {
     match (old, new) {
         (Some(old), Some(new)) => check_not_below(alloc, "snapshot", old.version, new.version),
@@ -116,7 +116,7 @@ fn check_pins(alloc: Global, old: Option<&MetaFile>, new: Option<&MetaFile>) -> 
 #[tactic(auto, unfolding(crate::specs::Update::newer_than_of))]
 fn check_newer(alloc: Global, old: &Timestamp, new: &Timestamp) -> Result<(), Error>
     ensures ok { OnOk result (newer_than_of old.now new.now ≡ Ok tt) }
-    ensures err { IfErr result (λ e. e ≢ Want → newer_than_of old.now new.now ≡ Err e) }
+    ensures err { IfErr result (λ e. e ≢ NoMemory → newer_than_of old.now new.now ≡ Err e) }
 {
     check_not_below(alloc, "timestamp", old.version, new.version)?;
     check_other(alloc, "timestamp", old.version, new.version)?;
@@ -130,7 +130,7 @@ fn check_newer_in(
     new: &Timestamp,
 ) -> Result<(), Error>
     ensures ok { OnOk result (newer_of old.now new.now ≡ Ok tt) }
-    ensures err { IfErr result (λ e. e ≢ Want → newer_of old.now new.now ≡ Err e) }
+    ensures err { IfErr result (λ e. e ≢ NoMemory → newer_of old.now new.now ≡ Err e) }
 {
     match old {
         Some(held) => {
@@ -153,13 +153,13 @@ fn check_timestamp<C: CryptoProvider, M: Armor>(
 ) -> Result<(), Error>
     ensures ok { OnOk result
         (timestamp_checks_of (crypto_by C.CryptoProvider M.Armor provider.now armor.now) documents.now document.now now ≡ Ok tt) }
-    ensures err { IfErr result (λ e. e ≢ Want →
+    ensures err { IfErr result (λ e. e ≢ NoMemory →
         timestamp_checks_of (crypto_by C.CryptoProvider M.Armor provider.now armor.now) documents.now document.now now ≡ Err e) }
 {
     let content = document.signed();
     document.verify_role(alloc, provider, armor, documents.root.signed(), "timestamp")?;
     check_newer_in(alloc, &documents.timestamp, content)?;
-    check_fresh(alloc, "timestamp", content.expires, now)?;
+    content.check_fresh(alloc, now)?;
     Ok(())
 }
 
@@ -175,7 +175,7 @@ pub(crate) fn new_timestamp<C: CryptoProvider, M: Armor>(
 ) -> Result<Held<Timestamp>, Error>
     ensures ok { IfOk result (λ held.
         new_timestamp_of (crypto_by C.CryptoProvider M.Armor provider.now armor.now) documents.now bytes now ≡ Ok held) }
-    ensures err { IfErr result (λ e. e ≢ Want →
+    ensures err { IfErr result (λ e. e ≢ NoMemory →
         new_timestamp_of (crypto_by C.CryptoProvider M.Armor provider.now armor.now) documents.now bytes now ≡ Err e) }
 {
     let document = Metadata::<Timestamp>::from_slice(alloc, bytes.as_bytes())?;
@@ -196,13 +196,13 @@ pub(crate) fn snapshot_pin<'d>(
     now: jiff::Timestamp,
 ) -> Result<&'d MetaFile, Error>
     ensures ok { IfOk result (λ pin. snapshot_pin_of documents.now now ≡ Ok pin.now) }
-    ensures err { IfErr result (λ e. e ≢ Want → snapshot_pin_of documents.now now ≡ Err e) }
+    ensures err { IfErr result (λ e. e ≢ NoMemory → snapshot_pin_of documents.now now ≡ Err e) }
 {
     let Some(timestamp) = &documents.timestamp else {
         return Err(Error::Malformed(Rule::NoTimestamp));
     };
     let content = timestamp.document.signed();
-    if let Err(e) = check_fresh(alloc, "timestamp", content.expires, now) {
+    if let Err(e) = content.check_fresh(alloc, now) {
         return Err(e);
     }
     match content.snapshot_meta() {
@@ -219,7 +219,7 @@ fn check_kept_pin(
 ) -> Result<(), Error>
     ensures ok { OnOk result (kept_pin_of name.now old.now (option_copied new.entry) ≡ Ok tt) }
     ensures err { IfErr result
-        (λ e. e ≢ Want → kept_pin_of name.now old.now (option_copied new.entry) ≡ Err e) }
+        (λ e. e ≢ NoMemory → kept_pin_of name.now old.now (option_copied new.entry) ≡ Err e) }
 {
     match new {
         Some(new) => {
@@ -232,7 +232,7 @@ fn check_kept_pin(
 
 fn check_kept_pins(alloc: Global, old: &TextMap<MetaFile>, new: &Snapshot) -> Result<(), Error>
     ensures ok { OnOk result (kept_pins_in old.now new.now ≡ Ok tt) }
-    ensures err { IfErr result (λ e. e ≢ Want → kept_pins_in old.now new.now ≡ Err e) }
+    ensures err { IfErr result (λ e. e ≢ NoMemory → kept_pins_in old.now new.now ≡ Err e) }
 {
     for (name, pin) in old.iter() {
         check_kept_pin(alloc, name.as_str(), pin, new.meta.get(name.as_str()))?;
@@ -242,7 +242,7 @@ fn check_kept_pins(alloc: Global, old: &TextMap<MetaFile>, new: &Snapshot) -> Re
 
 fn check_kept(alloc: Global, old: &Option<Held<Snapshot>>, new: &Snapshot) -> Result<(), Error>
     ensures ok { OnOk result (kept_pins_of old.now new.now ≡ Ok tt) }
-    ensures err { IfErr result (λ e. e ≢ Want → kept_pins_of old.now new.now ≡ Err e) }
+    ensures err { IfErr result (λ e. e ≢ NoMemory → kept_pins_of old.now new.now ≡ Err e) }
 {
     match old {
         Some(held) => {
@@ -266,14 +266,14 @@ fn check_snapshot<C: CryptoProvider, M: Armor>(
 ) -> Result<(), Error>
     ensures ok { OnOk result
         (snapshot_checks_of (crypto_by C.CryptoProvider M.Armor provider.now armor.now) documents.now pin.now document.now now ≡ Ok tt) }
-    ensures err { IfErr result (λ e. e ≢ Want →
+    ensures err { IfErr result (λ e. e ≢ NoMemory →
         snapshot_checks_of (crypto_by C.CryptoProvider M.Armor provider.now armor.now) documents.now pin.now document.now now ≡ Err e) }
 {
     let content = document.signed();
     document.verify_role(alloc, provider, armor, documents.root.signed(), "snapshot")?;
     check_version(pin, content.version)?;
     check_kept(alloc, &documents.snapshot, content)?;
-    check_fresh(alloc, "snapshot", content.expires, now)?;
+    content.check_fresh(alloc, now)?;
     Ok(())
 }
 
@@ -289,7 +289,7 @@ pub(crate) fn new_snapshot<C: CryptoProvider, M: Armor>(
 ) -> Result<Held<Snapshot>, Error>
     ensures ok { IfOk result (λ held.
         new_snapshot_of (crypto_by C.CryptoProvider M.Armor provider.now armor.now) documents.now bytes now ≡ Ok held) }
-    ensures err { IfErr result (λ e. e ≢ Want →
+    ensures err { IfErr result (λ e. e ≢ NoMemory →
         new_snapshot_of (crypto_by C.CryptoProvider M.Armor provider.now armor.now) documents.now bytes now ≡ Err e) }
 {
     let pin = snapshot_pin(alloc, documents, now)?;
@@ -312,13 +312,13 @@ pub(crate) fn targets_pin<'d>(
     now: jiff::Timestamp,
 ) -> Result<&'d MetaFile, Error>
     ensures ok { IfOk result (λ pin. targets_pin_of documents.now now ≡ Ok pin.now) }
-    ensures err { IfErr result (λ e. e ≢ Want → targets_pin_of documents.now now ≡ Err e) }
+    ensures err { IfErr result (λ e. e ≢ NoMemory → targets_pin_of documents.now now ≡ Err e) }
 {
     let Some(snapshot) = &documents.snapshot else {
         return Err(Error::Malformed(Rule::NoSnapshot));
     };
-    check_fresh(alloc, "snapshot", snapshot.document.signed().expires, now)?;
-    match snapshot.document.signed().meta.get("targets.json") {
+    snapshot.document.signed().check_fresh(alloc, now)?;
+    match snapshot.document.signed().targets_meta() {
         Some(pin) => Ok(pin),
         None => Err(Error::Malformed(Rule::Unpinned)),
     }
@@ -337,12 +337,12 @@ fn check_targets<C: CryptoProvider, M: Armor>(
 ) -> Result<(), Error>
     ensures ok { OnOk result
         (targets_checks_of (crypto_by C.CryptoProvider M.Armor provider.now armor.now) documents.now pin.now document.now now ≡ Ok tt) }
-    ensures err { IfErr result (λ e. e ≢ Want →
+    ensures err { IfErr result (λ e. e ≢ NoMemory →
         targets_checks_of (crypto_by C.CryptoProvider M.Armor provider.now armor.now) documents.now pin.now document.now now ≡ Err e) }
 {
     check_version(pin, document.signed().version)?;
     document.verify_role(alloc, provider, armor, documents.root.signed(), "targets")?;
-    check_fresh(alloc, "targets", document.signed().expires, now)?;
+    document.signed().check_fresh(alloc, now)?;
     Ok(())
 }
 
@@ -358,7 +358,7 @@ pub(crate) fn new_targets<C: CryptoProvider, M: Armor>(
 ) -> Result<Held<Targets>, Error>
     ensures ok { IfOk result (λ held.
         new_targets_of (crypto_by C.CryptoProvider M.Armor provider.now armor.now) documents.now bytes now ≡ Ok held) }
-    ensures err { IfErr result (λ e. e ≢ Want →
+    ensures err { IfErr result (λ e. e ≢ NoMemory →
         new_targets_of (crypto_by C.CryptoProvider M.Armor provider.now armor.now) documents.now bytes now ≡ Err e) }
 {
     let pin = targets_pin(alloc, documents, now)?;

@@ -1,15 +1,12 @@
 -- The test of a segment is true exactly where the text falls into parts for its pieces.
 use Rattle.std.proofs.Common.{◌≡◌, ◌↔◌, ℕ, List, [], ◌∷◌, ◌++◌, Bool, true, false, ◌&&◌, ◌||◌, ◌⊎◌, inl, inr, refl, ap, ◌∙◌, subst}
 use Rattle.std.specs.List.{AllZip, concat, list_any}
+use Rattle.foundation.specs.Results.{and_true}
 use Rattle.sigstore_tuf_parts.specs.Pattern.{Piece, run, one, StandsFor, Fits, suffixes, fits}
 
 or_true : (a b : Bool) → (a || b) ≡ true → (a ≡ true) ⊎ (b ≡ true)
 or_true true b h = inl refl
 or_true false b h = inr h
-
-and_true : (a b : Bool) → (a && b) ≡ true → (a ≡ true) × (b ≡ true)
-and_true true b h = (refl, h)
-and_true false b h = cc
 
 first_true : (a b : Bool) → a ≡ true → (a || b) ≡ true
 first_true a b h = rw h

@@ -10,6 +10,7 @@ use Rattle.sigstore_tuf_parts.specs.declared.error.Error.TheVariants.{IntegrityM
 use Rattle.jiff_core.specs.declared.timestamp.Timestamp.{Timestamp}
 use Rattle.sigstore_tuf_parts.specs.declared.error.Mismatch.TheVariants.{Length, Digest, NoDigest}
 use Rattle.foundation.specs.Steps.{◌>>=◌}
+use Rattle.foundation.specs.Results.{some_same}
 use Rattle.sigstore_tuf_parts.specs.Integrity.{Hashes, spells, agrees, length_of, digest_of, supported_of, digests_of, where_pinned, integrity_of, fresh_of}
 use Rattle.sigstore_tuf_parts.specs.Pinned.{HasDigests, IsIntact, Fresh}
 
@@ -27,9 +28,6 @@ same_number m n h = grind (arith, nat_tests)
 
 number_same : (m n : ℕ) → m ≡ n → (m == n) ≡ true
 number_same m n h = grind (arith, nat_tests)
-
-some_same : {A : Type 0} (a b : A) → Some a ≡ Some b → a ≡ b
-some_same a b e = cc
 
 length_from : (size : Option ℕ) (bytes : List ℕ) → length_of size bytes ≡ Ok tt → (n : ℕ) → size ≡ Some n → length bytes ≡ n
 length_from None bytes h n e = cc

@@ -18,6 +18,7 @@ use Rattle.sigstore_tuf_parts.specs.declared.error.Rule.TheVariants as rule
 use Rattle.sigstore_tuf_parts.specs.declared.keys.Key.{Key}
 use Rattle.sigstore_tuf_parts.specs.declared.keys.RoleKeys.{RoleKeys}
 use Rattle.foundation.specs.Steps.{◌>>=◌}
+use Rattle.foundation.specs.Results.{and_true, not_true}
 use Rattle.sigstore_crypto.specs.declared.key.VerificationKey.{VerificationKey}
 use Rattle.sigstore_tuf_parts.specs.declared.verification.KeyFault.{KeyFault}
 use Rattle.sigstore_tuf_parts.specs.Document.{Document, signatures_in, text_in}
@@ -101,14 +102,6 @@ length-ids_of [] = refl
 length-ids_of (s ∷ xs) = ap suc (length-ids_of xs)
 
 -- ---- one signature
-
-and_true : (a b : Bool) → (a && b) ≡ true → (a ≡ true) × (b ≡ true)
-and_true true b h = (refl, h)
-and_true false b h = cc
-
-not_true : (b : Bool) → not b ≡ true → b ≡ false
-not_true false h = refl
-not_true true h = cc
 
 module _ {T : Type 0} (crypto : Crypto) (keys : Keys) (role : RoleKeys) (doc : Document T) where
   signs_raw : (s : Signature) → Contains (signatures_in doc) s → is_counted role s ≡ true → (key : Key) → at_name s.keyid keys ≡ Some key → (v : VerificationKey) → crypto.key_of key ≡ Ok v

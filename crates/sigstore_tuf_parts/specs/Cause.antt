@@ -1,5 +1,7 @@
--- What each refusal of a document tells: of its bytes, of the role that it is to meet, of its pin, of its expiry (TUF specification, sections 4 and 5).
-use Rattle.std.specs.Prelude.{◌≡◌, ◌≢◌, ◌⊎◌, ℕ, ◌<◌, List, ◌∷◌, ◌++◌, length, true, false, bytes_eq, Option, Some, None, Result, Ok, Err, option_and_then, codes, ◌<ℤ◌, Contains}
+-- What each refusal of a document tells: of its bytes, of the role that it is to meet, of its pin, of its expiry
+-- (TUF specification, sections 4 and 5).
+use Rattle.std.specs.Prelude.{◌≡◌, ◌≢◌, ◌⊎◌, ℕ, ◌<◌, List, ◌∷◌, ◌++◌, length, true, false, bytes_eq, Option, Some, None,
+    Result, Ok, Err, option_and_then, codes, ◌<ℤ◌, Contains}
 use Rattle.std.specs.List.{AllByRecursion, IsDistinct}
 use Rattle.sha2.specs.Sha256.{sha256}
 use Rattle.sha2.specs.Sha512.{sha512}
@@ -147,7 +149,8 @@ IsMisspelt digest text = (t : List ℕ) × (text ≡ Some t) × (spells digest t
 abbrev pub IntegrityCause : Option ℕ → Option Hashes → List ℕ → Error → Type 0
 IntegrityCause size hashes bytes (tuf.IntegrityMismatch mismatch.Length) = (n : ℕ) × (size ≡ Some n) × (length bytes ≢ n)
 IntegrityCause size hashes bytes (tuf.IntegrityMismatch mismatch.Digest) =
-    (map : Hashes) × (hashes ≡ Some map) × (IsMisspelt (sha256 bytes) (at_name (codes "sha256") map) ⊎ IsMisspelt (sha512 bytes) (at_name (codes "sha512") map))
+    (map : Hashes) × (hashes ≡ Some map)
+        × (IsMisspelt (sha256 bytes) (at_name (codes "sha256") map) ⊎ IsMisspelt (sha512 bytes) (at_name (codes "sha512") map))
 IntegrityCause size hashes bytes (tuf.IntegrityMismatch mismatch.NoDigest) =
     (map : Hashes) × (hashes ≡ Some map) × (at_name (codes "sha256") map ≡ None) × (at_name (codes "sha512") map ≡ None)
 IntegrityCause size hashes bytes _ = ⊥

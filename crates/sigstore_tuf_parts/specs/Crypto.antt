@@ -1,5 +1,6 @@
 -- What a declared key gives, and what signatures are judged by (TUF specification, section 4.2).
-use Rattle.std.specs.Prelude.{ℕ, List, ◌∷◌, ◌++◌, length, nat_eq, bytes_eq, Bool, true, false, ◌&&◌, if◌then◌else◌, Option, Some, None, ok_or, Result, Ok, Err, codes}
+use Rattle.std.specs.Prelude.{ℕ, List, ◌∷◌, ◌++◌, length, nat_eq, bytes_eq, Bool, true, false, ◌&&◌, if◌then◌else◌,
+    Option, Some, None, ok_or, Result, Ok, Err, codes}
 use Rattle.std.specs.List.{list_all}
 use Rattle.std.specs.Char.{is_ascii_hexdigit}
 use Rattle.std.specs.Str.{trim}
@@ -7,7 +8,8 @@ use Rattle.sha2.specs.Sha512.{sha512}
 use Rattle.foundation.specs.Steps.{◌>>=◌}
 use Rattle.sigstore_types_parts.specs.declared.form.Form.TheVariants as form
 use Rattle.sigstore_crypto.specs.declared.scheme.SigningScheme.{SigningScheme}
-use Rattle.sigstore_crypto.specs.declared.scheme.SigningScheme.TheVariants.{EcdsaP256Sha256, EcdsaP384Sha384, Ed25519, RsaPssSha256, RsaPssSha384, RsaPssSha512, MlDsa44, MlDsa65, MlDsa87}
+use Rattle.sigstore_crypto.specs.declared.scheme.SigningScheme.TheVariants.{EcdsaP256Sha256, EcdsaP384Sha384, Ed25519,
+    RsaPssSha256, RsaPssSha384, RsaPssSha512, MlDsa44, MlDsa65, MlDsa87}
 use Rattle.sigstore_crypto.specs.declared.key.VerificationKey.{VerificationKey}
 use Rattle.sigstore_crypto.specs.declared.error.Error.TheVariants as crypto
 use Rattle.sigstore_crypto.specs.declared.error.Error as crypto_error
@@ -18,8 +20,8 @@ use Rattle.sigstore_tuf_parts.specs.declared.verification.KeyFault.{KeyFault}
 use Rattle.sigstore_tuf_parts.specs.declared.verification.KeyFault.TheVariants.{Unusable, Unsupported, Refused, Unbuilt, NoMemory}
 
 -- the scheme of that name
-abbrev pub scheme_named : List ℕ → Option SigningScheme
-scheme_named name =
+abbrev pub declared_scheme : List ℕ → Option SigningScheme
+declared_scheme name =
     if bytes_eq name (codes "ecdsa-sha2-nistp256") then Some EcdsaP256Sha256 else
     if bytes_eq name (codes "ecdsa-sha2-nistp384") then Some EcdsaP384Sha384 else
     if bytes_eq name (codes "ed25519") then Some Ed25519 else
@@ -70,12 +72,13 @@ bare_key_of scheme text = if is_ed25519 scheme && is_bare_key text then Err (Unb
 
 -- the key that a public text holds, under a scheme
 abbrev pub text_key_of : (List ℕ → Bool) → (List ℕ → Option (List ℕ)) → SigningScheme → List ℕ → Result VerificationKey KeyFault
-text_key_of armored key_in scheme text = if armored text then (ok_or (key_in text) Unusable >>= der_key_of scheme) else bare_key_of scheme text
+text_key_of armored key_in scheme text =
+    if armored text then (ok_or (key_in text) Unusable >>= der_key_of scheme) else bare_key_of scheme text
 
 -- What a declared key gives: its scheme is one of the nine, and its trimmed public text holds a key.
 unfoldable pub key_of : (List ℕ → Bool) → (List ℕ → Option (List ℕ)) → Key → Result VerificationKey KeyFault
 key_of armored key_in key = do
-  scheme ← ok_or (scheme_named key.scheme) Unsupported
+  scheme ← ok_or (declared_scheme key.scheme) Unsupported
   text_key_of armored key_in scheme (trim key.keyval.public)
 
 -- what signatures are judged by: the provider, and the key that a declared key gives

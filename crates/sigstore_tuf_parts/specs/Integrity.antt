@@ -1,5 +1,6 @@
 -- When a file is the one that was pinned (TUF specification, sections 5.5 to 5.7), and when a document is fresh (section 5).
-use Rattle.std.specs.Prelude.{ℕ, List, length, Bool, true, ◌||◌, ◌==◌, if◌then◌else◌, Option, Some, None, is_some, Result, Ok, Err, codes, int_lt, ⊤}
+use Rattle.std.specs.Prelude.{ℕ, List, length, Bool, true, ◌||◌, ◌==◌, if◌then◌else◌, Option, Some, None, is_some,
+    Result, Ok, Err, codes, int_lt, ⊤}
 use Rattle.std.specs.Str.{str_eq_ignore_ascii_case}
 use Rattle.sha2.specs.Sha256.{sha256}
 use Rattle.sha2.specs.Sha512.{sha512}
@@ -34,7 +35,9 @@ abbrev pub digest_of : List ℕ → Option (List ℕ) → Result ⊤ Error
 digest_of digest text = if agrees digest text then Ok tt else Err (IntegrityMismatch Digest)
 
 abbrev pub supported_of : Hashes → Result ⊤ Error
-supported_of hashes = if is_some (at_name (codes "sha256") hashes) || is_some (at_name (codes "sha512") hashes) then Ok tt else Err (IntegrityMismatch NoDigest)
+supported_of hashes =
+    if is_some (at_name (codes "sha256") hashes) || is_some (at_name (codes "sha512") hashes) then Ok tt
+    else Err (IntegrityMismatch NoDigest)
 
 -- Each sha256 and sha512 that the map has (else a file that fits the weaker one alone would do); a map with neither is refused,
 -- since it would let every file through.
@@ -59,6 +62,10 @@ integrity_of size hashes bytes = do
 abbrev pub version_of : MetaFile → ℕ → Result ⊤ Error
 version_of pin version = if version == pin.version then Ok tt else Err (IntegrityMismatch Version)
 
--- The document of that role doesn't expire before now ('freeze attack': else a repository that stands still hides every release).
+-- a document that expires at that moment has expired now; at the moment itself it has not
+abbrev pub is_past : Timestamp → Timestamp → Bool
+is_past expires now = int_lt expires.nanosecond now.nanosecond
+
+-- The document of that role hasn't expired now ('freeze attack': else a repository that stands still hides every release).
 unfoldable pub fresh_of : List ℕ → Timestamp → Timestamp → Result ⊤ Error
-fresh_of role expires now = if int_lt expires.nanosecond now.nanosecond then Err (Expired role expires) else Ok tt
+fresh_of role expires now = if is_past expires now then Err (Expired role expires) else Ok tt

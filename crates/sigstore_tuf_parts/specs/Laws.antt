@@ -19,11 +19,13 @@ use Rattle.sigstore_tuf_parts.specs.Pattern.{Piece, Fits, fits}
 
 -- the first check that fails is none exactly where the document meets the role
 abbrev pub MeetsExactly : Type 0 → Type 0
-MeetsExactly T = (crypto : Crypto) (keys : Keys) (role : RoleKeys) (name : List ℕ) (doc : Document T) → (meets_of crypto keys role name doc ≡ Ok tt) ↔ Meets crypto keys role doc
+MeetsExactly T = (crypto : Crypto) (keys : Keys) (role : RoleKeys) (name : List ℕ) (doc : Document T)
+    → (meets_of crypto keys role name doc ≡ Ok tt) ↔ Meets crypto keys role doc
 
 -- the checks of integrity and of an expiry fail nowhere exactly where the relations hold
 abbrev pub IntactExactly : Type 0
-IntactExactly = (size : Option ℕ) (hashes : Option Hashes) (bytes : List ℕ) → (integrity_of size hashes bytes ≡ Ok tt) ↔ IsIntact size hashes bytes
+IntactExactly = (size : Option ℕ) (hashes : Option Hashes) (bytes : List ℕ)
+    → (integrity_of size hashes bytes ≡ Ok tt) ↔ IsIntact size hashes bytes
 
 abbrev pub FreshExactly : Type 0
 FreshExactly = (role : List ℕ) (expires now : Timestamp) → (fresh_of role expires now ≡ Ok tt) ↔ Fresh expires now
@@ -47,10 +49,12 @@ abbrev pub ReadsWithCause : {T : Type 0} → List ℕ → (Data → Result T Err
 ReadsWithCause kind reads = (bytes : List ℕ) (e : Error) → document_of kind reads bytes ≡ Err e → ReadCause kind reads bytes e
 
 abbrev pub MeetsWithCause : Type 0 → Type 0
-MeetsWithCause T = (crypto : Crypto) (root : Root) (name : List ℕ) (doc : Document T) (e : Error) → meets_role_of crypto root name doc ≡ Err e → RoleCause crypto root name doc e
+MeetsWithCause T = (crypto : Crypto) (root : Root) (name : List ℕ) (doc : Document T) (e : Error)
+    → meets_role_of crypto root name doc ≡ Err e → RoleCause crypto root name doc e
 
 abbrev pub IntactWithCause : Type 0
-IntactWithCause = (size : Option ℕ) (hashes : Option Hashes) (bytes : List ℕ) (e : Error) → integrity_of size hashes bytes ≡ Err e → IntegrityCause size hashes bytes e
+IntactWithCause = (size : Option ℕ) (hashes : Option Hashes) (bytes : List ℕ) (e : Error)
+    → integrity_of size hashes bytes ≡ Err e → IntegrityCause size hashes bytes e
 
 abbrev pub FreshWithCause : Type 0
 FreshWithCause = (role : List ℕ) (expires now : Timestamp) (e : Error) → fresh_of role expires now ≡ Err e → ExpiryCause role expires now e

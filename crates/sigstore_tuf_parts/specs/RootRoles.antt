@@ -39,4 +39,5 @@ AreNextRoots crypto root (next ∷ later) = IsNextRoot crypto root next × AreNe
 -- the list begins with this root, which meets its own root role, and each later one is the next after its predecessor
 abbrev pub Roots : Crypto → Document Root → List (Document Root) → Type 0
 Roots crypto first [] = ⊥
-Roots crypto first (root ∷ later) = (root ≡ first) × MeetsRole crypto (content_in first) (codes "root") first × AreNextRoots crypto first later
+Roots crypto first (root ∷ later) =
+    (root ≡ first) × MeetsRole crypto (content_in first) (codes "root") first × AreNextRoots crypto first later

@@ -2,7 +2,7 @@
 ghost use Rattle.std.specs.Prelude.{◌≡◌, ◌≢◌, Ok, Err, IfOk, IfErr, false};
 ghost use Rattle.serde_json.specs.View.{view};
 ghost use Rattle.serde_json.specs.Written.{has_float};
-ghost use Rattle.sigstore_tuf_parts.specs.declared.error.Error.TheVariants.{NoMemory as Want};
+ghost use Rattle.sigstore_tuf_parts.specs.declared.error.Error.TheVariants.{NoMemory};
 ghost use Rattle.sigstore_tuf_parts.specs.Canon.{canon};
 ghost use Rattle.sigstore_tuf_parts.specs.Document.{document_of, signature_of, value_of, frame_of, content_of, document_in, text_in, HasExactText, IsExactly};
 ghost use Rattle.sigstore_tuf_parts.specs.Exact.{IsExact};
@@ -105,6 +105,16 @@ impl<T> Metadata<T> {
     }
 }
 
+impl<T: Duplicate> Duplicate for Metadata<T> {
+    fn duplicate(&self, alloc: Global) -> Result<Metadata<T>, NoMemory> {
+        Ok(Metadata::from_parts(
+            self.signed.duplicate(alloc)?,
+            self.signatures.duplicate(alloc)?,
+            self.canonical.duplicate(alloc)?,
+        ))
+    }
+}
+
 impl<T: Role> Metadata<T> {
     /// The document that bytes spell. Errors, the first that holds: `Json` for no JSON,
     /// `NonIntegerNumber`, `Malformed` for the frame, the kind, the version of the specification,
@@ -112,7 +122,7 @@ impl<T: Role> Metadata<T> {
     #[tactic(auto, unfolding(crate::specs::Document::document_of))]
     pub fn from_slice(alloc: Global, bytes: &[u8]) -> Result<Metadata<T>, Error>
         ensures ok { IfOk result (λ m. document_of T.kind T.reads bytes.now ≡ Ok m) }
-        ensures err { IfErr result (λ e. e ≢ Want → document_of T.kind T.reads bytes.now ≡ Err e) }
+        ensures err { IfErr result (λ e. e ≢ NoMemory → document_of T.kind T.reads bytes.now ≡ Err e) }
         ensures exact { IfOk result (λ m. IsExactly bytes.now m) }
     {
         let value = parsed(alloc, bytes)?;
@@ -124,7 +134,7 @@ impl<T: Role> Metadata<T> {
 fn read_frame<T: Role>(alloc: Global, value: &Value) -> Result<Metadata<T>, Error>
     requires { has_float (view value.now) ≡ false }
     ensures ok { IfOk result (λ m. document_in T.kind T.reads (view value.now) ≡ Ok m) }
-    ensures err { IfErr result (λ e. e ≢ Want → document_in T.kind T.reads (view value.now) ≡ Err e) }
+    ensures err { IfErr result (λ e. e ≢ NoMemory → document_in T.kind T.reads (view value.now) ≡ Err e) }
     ensures exact { IfOk result (λ m. HasExactText (view value.now) (text_in m)) }
 {
     let signed = framed(value, "signed")?;
@@ -141,7 +151,7 @@ fn assembled<T: Role>(
     requires { has_float (view signed.now) ≡ false }
     ensures ok { IfOk result
         (λ m. content_of T.kind T.reads (view signed.now) (view signatures.now) ≡ Ok m) }
-    ensures err { IfErr result (λ e. e ≢ Want
+    ensures err { IfErr result (λ e. e ≢ NoMemory
         → content_of T.kind T.reads (view signed.now) (view signatures.now) ≡ Err e) }
     ensures exact { IfOk result
         (λ m. IsExact (view signed.now) × (text_in m ≡ canon (view signed.now))) }
@@ -157,7 +167,7 @@ fn assembled<T: Role>(
 #[tactic(auto, unfolding(crate::specs::Document::value_of))]
 fn parsed(alloc: Global, bytes: &[u8]) -> Result<Value, Error>
     ensures ok { IfOk result (λ v. value_of bytes.now ≡ Ok (view v)) }
-    ensures err { IfErr result (λ e. e ≢ Want → value_of bytes.now ≡ Err e) }
+    ensures err { IfErr result (λ e. e ≢ NoMemory → value_of bytes.now ≡ Err e) }
     ensures whole { IfOk result (λ v. has_float (view v) ≡ false) }
 {
     match parse_json(alloc, bytes) {
@@ -184,7 +194,7 @@ fn canonical_text(alloc: Global, value: &Value) -> Result<Bytes, Error>
     requires { has_float (view value.now) ≡ false }
     ensures ok { IfOk result (λ b. b ≡ canon (view value.now)) }
     ensures exact { IfOk result (λ b. IsExact (view value.now)) }
-    ensures err { IfErr result (λ e. e ≡ Want) }
+    ensures err { IfErr result (λ e. e ≡ NoMemory) }
 {
     match to_canonical_bytes(alloc, value) {
         Ok(text) => Ok(text),

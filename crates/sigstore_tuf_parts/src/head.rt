@@ -5,6 +5,7 @@ ghost use Rattle.sigstore_tuf_parts.specs.Head.{head_of};
 
 use crate::error::Error;
 use crate::member::DocumentMember;
+use foundation::{Duplicate, NoMemory};
 use serde_json::Value;
 use sigstore_types_parts::{FromValue, Text, required};
 use std::alloc::Global;
@@ -16,6 +17,27 @@ pub struct Head {
     pub spec_version: Text,
     pub version: u64,
     pub expires: jiff::Timestamp,
+}
+
+impl Head {
+    /// A head of copies.
+    pub fn copied(
+        alloc: Global,
+        type_: &Text,
+        spec_version: &Text,
+        version: u64,
+        expires: jiff::Timestamp,
+    ) -> Result<Head, NoMemory>
+        ensures { IfOk result (λ head. head
+            ≡ (record { type_ = type_.now; spec_version = spec_version.now; version = version; expires = expires })) }
+    {
+        Ok(Head {
+            type_: type_.duplicate(alloc)?,
+            spec_version: spec_version.duplicate(alloc)?,
+            version,
+            expires,
+        })
+    }
 }
 
 impl FromValue<Error> for Head {

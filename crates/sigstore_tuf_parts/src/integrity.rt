@@ -3,8 +3,8 @@ ghost use Rattle.std.specs.Prelude.{◌≡◌, ◌≢◌, Ok, Err, IfOk, IfErr};
 ghost use Rattle.std.specs.Option.{option_copied};
 ghost use Rattle.sha2.specs.Sha256.{sha256};
 ghost use Rattle.sha2.specs.Sha512.{sha512};
-ghost use Rattle.sigstore_tuf_parts.specs.declared.error.Error.TheVariants.{NoMemory as Want};
-ghost use Rattle.sigstore_tuf_parts.specs.Integrity.{integrity_of, length_of, digests_of, digest_of, spells, version_of, fresh_of};
+ghost use Rattle.sigstore_tuf_parts.specs.declared.error.Error.TheVariants.{NoMemory};
+ghost use Rattle.sigstore_tuf_parts.specs.Integrity.{integrity_of, length_of, digests_of, digest_of, spells, version_of, is_past, fresh_of};
 
 use crate::error::{Error, Mismatch};
 use crate::timestamp::MetaFile;
@@ -114,7 +114,14 @@ pub fn check_version(pin: &MetaFile, version: u64) -> Result<(), Error>
     }
 }
 
-/// Whether a role's document doesn't expire before now. Errors: `Expired`.
+/// Whether a document that expires at that moment has expired now; at the moment itself it has not.
+pub fn is_past(expires: Timestamp, now: Timestamp) -> bool
+    ensures { result ≡ is_past expires now }
+{
+    expires < now
+}
+
+/// Whether a role's document hasn't expired now. Errors: `Expired`.
 #[tactic(auto, unfolding(crate::specs::Integrity::fresh_of))]
 pub fn check_fresh(
     alloc: Global,
@@ -123,9 +130,9 @@ pub fn check_fresh(
     now: Timestamp,
 ) -> Result<(), Error>
     ensures ok { IfOk result (λ v. fresh_of role.now expires now ≡ Ok v) }
-    ensures err { IfErr result (λ e. e ≢ Want → fresh_of role.now expires now ≡ Err e) }
+    ensures err { IfErr result (λ e. e ≢ NoMemory → fresh_of role.now expires now ≡ Err e) }
 {
-    if expires < now {
+    if is_past(expires, now) {
         return Err(Error::Expired {
             role: Text::new(alloc, role)?,
             expires,

@@ -28,7 +28,7 @@ pub use canonical::to_canonical_bytes;
 pub use document::{Metadata, Signature};
 pub use error::{Error, Mismatch, Rule, TransportFault};
 pub use extra::others;
-pub use integrity::{check_fresh, check_integrity, check_version};
+pub use integrity::{check_fresh, check_integrity, check_version, is_past};
 pub use keys::{Key, KeyVal, RoleKeys};
 pub use laws::{
     canonical_text_tells, meets_exactly, pins_have_causes, readings_have_causes, relations_exactly,

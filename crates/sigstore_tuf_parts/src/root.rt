@@ -10,7 +10,7 @@ use crate::head::Head;
 use crate::keys::{Key, RoleKeys};
 use crate::member::DocumentMember;
 use crate::role::Role;
-use foundation::NoMemory;
+use foundation::{Duplicate, NoMemory};
 use serde_json::Value;
 use sigstore_types_parts::{FromValue, Json, Text, TextMap, defaulted, required};
 use std::alloc::Global;
@@ -26,6 +26,27 @@ pub struct Root {
     pub keys: TextMap<Key>,
     pub roles: TextMap<RoleKeys>,
     pub extra: TextMap<Json>,
+}
+
+impl Duplicate for Root {
+    fn duplicate(&self, alloc: Global) -> Result<Root, NoMemory> {
+        let Head {
+            type_,
+            spec_version,
+            version,
+            expires,
+        } = Head::copied(alloc, &self.type_, &self.spec_version, self.version, self.expires)?;
+        Ok(Root {
+            type_,
+            spec_version,
+            version,
+            expires,
+            consistent_snapshot: self.consistent_snapshot,
+            keys: self.keys.duplicate(alloc)?,
+            roles: self.roles.duplicate(alloc)?,
+            extra: self.extra.duplicate(alloc)?,
+        })
+    }
 }
 
 const ROOT_MEMBERS: [DocumentMember; 7] = [

@@ -1,13 +1,18 @@
 // The snapshot document.
+ghost use Rattle.std.specs.Prelude.{◌≡◌};
+ghost use Rattle.std.specs.Option.{option_copied};
+ghost use Rattle.sigstore_types_parts.specs.Entries.{at_name};
+ghost use Rattle.sigstore_tuf_parts.specs.Names.{targets_name};
 ghost use Rattle.sigstore_tuf_parts.specs.Snapshot.{snapshot_of};
 
 use crate::error::Error;
 use crate::extra::others;
 use crate::head::Head;
 use crate::member::DocumentMember;
+use crate::names::TARGETS_NAME;
 use crate::role::Role;
 use crate::timestamp::MetaFile;
-use foundation::NoMemory;
+use foundation::{Duplicate, NoMemory};
 use serde_json::Value;
 use sigstore_types_parts::{FromValue, Json, Text, TextMap, required};
 use std::alloc::Global;
@@ -21,6 +26,25 @@ pub struct Snapshot {
     pub expires: jiff::Timestamp,
     pub meta: TextMap<MetaFile>,
     pub extra: TextMap<Json>,
+}
+
+impl Duplicate for Snapshot {
+    fn duplicate(&self, alloc: Global) -> Result<Snapshot, NoMemory> {
+        let Head {
+            type_,
+            spec_version,
+            version,
+            expires,
+        } = Head::copied(alloc, &self.type_, &self.spec_version, self.version, self.expires)?;
+        Ok(Snapshot {
+            type_,
+            spec_version,
+            version,
+            expires,
+            meta: self.meta.duplicate(alloc)?,
+            extra: self.extra.duplicate(alloc)?,
+        })
+    }
 }
 
 const SNAPSHOT_MEMBERS: [DocumentMember; 5] = [
@@ -57,6 +81,15 @@ impl FromValue<Error> for Snapshot {
                 Err(Error::NoMemory)
             }
         }
+    }
+}
+
+impl Snapshot {
+    /// The pin of the top-level targets document.
+    pub fn targets_meta(&self) -> Option<&MetaFile>
+        ensures { option_copied result ≡ at_name targets_name self.now.meta }
+    {
+        self.meta.get(TARGETS_NAME)
     }
 }
 

@@ -89,6 +89,30 @@ impl Duplicate for TargetFile {
     }
 }
 
+impl Duplicate for DelegatedRole {
+    fn duplicate(&self, alloc: Global) -> Result<DelegatedRole, NoMemory> {
+        Ok(DelegatedRole {
+            name: self.name.duplicate(alloc)?,
+            keyids: self.keyids.duplicate(alloc)?,
+            threshold: self.threshold,
+            terminating: self.terminating,
+            paths: self.paths.duplicate(alloc)?,
+            path_hash_prefixes: self.path_hash_prefixes.duplicate(alloc)?,
+            extra: self.extra.duplicate(alloc)?,
+        })
+    }
+}
+
+impl Duplicate for Delegations {
+    fn duplicate(&self, alloc: Global) -> Result<Delegations, NoMemory> {
+        Ok(Delegations {
+            keys: self.keys.duplicate(alloc)?,
+            roles: self.roles.duplicate(alloc)?,
+            extra: self.extra.duplicate(alloc)?,
+        })
+    }
+}
+
 // The name of a role, and what is asked of its documents.
 #[derive(Drop)]
 struct Grant {
@@ -187,6 +211,26 @@ impl FromValue<Error> for Delegations {
                 Err(Error::NoMemory)
             }
         }
+    }
+}
+
+impl Duplicate for Targets {
+    fn duplicate(&self, alloc: Global) -> Result<Targets, NoMemory> {
+        let Head {
+            type_,
+            spec_version,
+            version,
+            expires,
+        } = Head::copied(alloc, &self.type_, &self.spec_version, self.version, self.expires)?;
+        Ok(Targets {
+            type_,
+            spec_version,
+            version,
+            expires,
+            targets: self.targets.duplicate(alloc)?,
+            delegations: self.delegations.duplicate(alloc)?,
+            extra: self.extra.duplicate(alloc)?,
+        })
     }
 }
 

@@ -1,13 +1,15 @@
 // The timestamp document, and pins.
-ghost use Rattle.std.specs.Prelude.{◌≡◌, codes};
+ghost use Rattle.std.specs.Prelude.{◌≡◌};
 ghost use Rattle.std.specs.Option.{option_copied};
 ghost use Rattle.sigstore_types_parts.specs.Entries.{at_name};
+ghost use Rattle.sigstore_tuf_parts.specs.Names.{snapshot_name};
 ghost use Rattle.sigstore_tuf_parts.specs.Timestamp.{timestamp_of, meta_file_of};
 
 use crate::error::Error;
 use crate::extra::others;
 use crate::head::Head;
 use crate::member::DocumentMember;
+use crate::names::SNAPSHOT_NAME;
 use crate::role::Role;
 use foundation::{Duplicate, NoMemory};
 use serde_json::Value;
@@ -67,6 +69,25 @@ impl Duplicate for MetaFile {
     }
 }
 
+impl Duplicate for Timestamp {
+    fn duplicate(&self, alloc: Global) -> Result<Timestamp, NoMemory> {
+        let Head {
+            type_,
+            spec_version,
+            version,
+            expires,
+        } = Head::copied(alloc, &self.type_, &self.spec_version, self.version, self.expires)?;
+        Ok(Timestamp {
+            type_,
+            spec_version,
+            version,
+            expires,
+            meta: self.meta.duplicate(alloc)?,
+            extra: self.extra.duplicate(alloc)?,
+        })
+    }
+}
+
 const TIMESTAMP_MEMBERS: [DocumentMember; 5] = [
     DocumentMember::Type,
     DocumentMember::SpecVersion,
@@ -107,9 +128,9 @@ impl FromValue<Error> for Timestamp {
 impl Timestamp {
     /// The pin of the snapshot.
     pub fn snapshot_meta(&self) -> Option<&MetaFile>
-        ensures { option_copied result ≡ at_name (codes "snapshot.json") self.now.meta }
+        ensures { option_copied result ≡ at_name snapshot_name self.now.meta }
     {
-        self.meta.get("snapshot.json")
+        self.meta.get(SNAPSHOT_NAME)
     }
 }
 

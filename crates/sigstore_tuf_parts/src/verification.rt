@@ -4,8 +4,8 @@ ghost use Rattle.std.specs.List.{list_all};
 ghost use Rattle.std.specs.Char.{is_ascii_hexdigit};
 ghost use Rattle.std.specs.Str.{trim};
 ghost use Rattle.sigstore_crypto.specs.Key.{spki_key_of};
-ghost use Rattle.sigstore_tuf_parts.specs.declared.verification.KeyFault.TheVariants.{NoMemory as Want};
-ghost use Rattle.sigstore_tuf_parts.specs.Crypto.{text_key_of, scheme_named, spki_fault, der_key_of, under_scheme, or_spki_fault, is_bare_key, bare_key_of};
+ghost use Rattle.sigstore_tuf_parts.specs.declared.verification.KeyFault.TheVariants.{NoMemory};
+ghost use Rattle.sigstore_tuf_parts.specs.Crypto.{text_key_of, declared_scheme, spki_fault, der_key_of, under_scheme, or_spki_fault, is_bare_key, bare_key_of};
 ghost use Rattle.sigstore_tuf_parts.specs.By.{key_by};
 
 use crate::keys::Key;
@@ -31,7 +31,7 @@ pub enum KeyFault {
 }
 
 impl From<NoMemory> for KeyFault {
-    ghost from_gives = { λ _ e. e ≡ Want };
+    ghost from_gives = { λ _ e. e ≡ NoMemory };
 
     fn from(_: NoMemory) -> KeyFault {
         KeyFault::NoMemory
@@ -61,17 +61,17 @@ impl Key {
     ) -> Result<VerificationKey, KeyFault>
         ensures ok { IfOk result (λ v. key_by M.Armor armor.now self.now ≡ Ok v) }
         ensures err { IfErr result
-            (λ e. e ≢ Want → key_by M.Armor armor.now self.now ≡ Err e) }
+            (λ e. e ≢ NoMemory → key_by M.Armor armor.now self.now ≡ Err e) }
     {
-        match scheme_named(self.scheme.as_str()) {
+        match declared_scheme(self.scheme.as_str()) {
             Some(scheme) => text_key(alloc, armor, scheme, trimmed(self.keyval.public.as_str())),
             None => Err(KeyFault::Unsupported),
         }
     }
 }
 
-fn scheme_named(name: &str) -> Option<SigningScheme>
-    ensures { result ≡ scheme_named name.now }
+fn declared_scheme(name: &str) -> Option<SigningScheme>
+    ensures { result ≡ declared_scheme name.now }
 {
     match name {
         "ecdsa-sha2-nistp256" => Some(SigningScheme::EcdsaP256Sha256),
@@ -102,7 +102,7 @@ fn text_key<M: Armor>(
 ) -> Result<VerificationKey, KeyFault>
     ensures ok { IfOk result
         (λ v. text_key_of (M.armored armor.now) (M.key_in armor.now) scheme text.now ≡ Ok v) }
-    ensures err { IfErr result (λ e. e ≢ Want
+    ensures err { IfErr result (λ e. e ≢ NoMemory
         → text_key_of (M.armored armor.now) (M.key_in armor.now) scheme text.now ≡ Err e) }
 {
     let text = text.as_bytes();
@@ -141,7 +141,7 @@ fn are_digits(text: &[u8]) -> bool
 // The key of a SubjectPublicKeyInfo, under a scheme.
 fn der_key(alloc: Global, scheme: SigningScheme, der: Bytes) -> Result<VerificationKey, KeyFault>
     ensures ok { IfOk result (λ v. der_key_of scheme der ≡ Ok v) }
-    ensures err { IfErr result (λ e. e ≢ Want → der_key_of scheme der ≡ Err e) }
+    ensures err { IfErr result (λ e. e ≢ NoMemory → der_key_of scheme der ≡ Err e) }
 {
     let key = spki_key(alloc, der)?;
     under_scheme(scheme, key)
@@ -159,7 +159,7 @@ fn under_scheme(scheme: SigningScheme, key: VerificationKey) -> Result<Verificat
 
 fn spki_key(alloc: Global, der: Bytes) -> Result<VerificationKey, KeyFault>
     ensures ok { IfOk result (λ v. or_spki_fault (spki_key_of der) ≡ Ok v) }
-    ensures err { IfErr result (λ e. e ≢ Want → or_spki_fault (spki_key_of der) ≡ Err e) }
+    ensures err { IfErr result (λ e. e ≢ NoMemory → or_spki_fault (spki_key_of der) ≡ Err e) }
 {
     match VerificationKey::from_spki(alloc, &DerPublicKey::new(der)) {
         Ok(key) => Ok(key),

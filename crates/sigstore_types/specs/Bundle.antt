@@ -18,7 +18,7 @@ use Rattle.sigstore_types.specs.declared.material.VerificationMaterialContent.{V
 use Rattle.sigstore_types.specs.declared.material.VerificationMaterialContent.TheVariants as material
 use Rattle.sigstore_types.specs.declared.material.Hint.{Hint}
 use Rattle.sigstore_types.specs.declared.material.Tokens.{Tokens}
-use Rattle.sigstore_types.specs.Words.{required, optional, text, bytes, absent, without_items, json}
+use Rattle.sigstore_types.specs.Members.{required, optional, text, bytes, absent, without_items, json}
 
 abbrev pub is_media_type : List ℕ → Bool
 is_media_type name =

@@ -1,3 +1,3 @@
-pub mod Words
 pub mod Bundle
+pub mod Members
 pub mod TrustedRoot

@@ -6,7 +6,7 @@ use Rattle.sigstore_types_parts.specs.declared.form.Form.TheVariants as form
 use Rattle.sigstore_types_parts.specs.declared.member.TypesMember.TheVariants as m
 use Rattle.sigstore_types_parts.specs.declared.error.TypesError.{TypesError}
 use Rattle.sigstore_types.specs.declared.trusted_root.TrustedRoot.{TrustedRoot}
-use Rattle.sigstore_types.specs.Words.{without_items, json}
+use Rattle.sigstore_types.specs.Members.{without_items, json}
 
 unfoldable pub trusted_root_of : Data → Result TrustedRoot TypesError
 trusted_root_of d = do

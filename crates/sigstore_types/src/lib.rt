@@ -5,8 +5,8 @@
 mod bundle;
 mod content;
 mod material;
+mod members;
 mod trusted_root;
-mod words;
 
 pub use bundle::{Bundle, validate_structure};
 pub use content::{MessageDigest, MessageSignature, SignatureContent};

@@ -37,4 +37,5 @@ algorithm_named name =
 
 -- a digest of that algorithm
 abbrev pub artifact_digest_of : HashAlgorithm → List ℕ → Result (HashAlgorithm × List ℕ) TypesError
-artifact_digest_of algorithm bytes = if nat_eq (length bytes) (digest_len_of algorithm) then Ok (algorithm, bytes) else Err (Length (digest_len_of algorithm) (length bytes))
+artifact_digest_of algorithm bytes =
+    if nat_eq (length bytes) (digest_len_of algorithm) then Ok (algorithm, bytes) else Err (Length (digest_len_of algorithm) (length bytes))

@@ -7,3 +7,4 @@ pub mod Parse
 pub mod DataCode
 pub mod Calls
 pub mod HashAlgorithm
+pub mod File

@@ -7,6 +7,7 @@ mod byte_string;
 mod bytes;
 mod calls;
 mod error;
+mod file;
 mod float;
 mod form;
 mod hash;
@@ -29,6 +30,7 @@ pub use byte_string::{
 pub use bytes::Bytes;
 pub use calls::{Calls, FailList};
 pub use error::{CheckpointRule, TypesError};
+pub use file::{FileFault, PieceFault, read_file, read_piece};
 pub use float::contains_float;
 pub use form::Form;
 pub use hash::{Hash, KeyHint, Sha256Hash, Sha384Hash, Sha512Hash};

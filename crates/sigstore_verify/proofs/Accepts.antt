@@ -3,6 +3,7 @@ use Rattle.std.proofs.Common.{◌≡◌, ℕ, List, Bool, true, false, if◌then
 use Rattle.std.specs.Prelude.{⊤, IsTrue}
 use Rattle.std.proofs.lemmas.Slice.Eq.{bytes_eq-Decides}
 use Rattle.foundation.specs.Steps.{◌>>=◌}
+use Rattle.foundation.specs.Results.{step_ok}
 use Rattle.sigstore_types_parts.specs.declared.hash_algorithm.HashAlgorithm.{HashAlgorithm}
 use Rattle.sigstore_types_parts.specs.declared.hash_algorithm.HashAlgorithm.TheVariants.{Sha2256, Sha2384, Sha2512, Sha3256, Sha3384}
 use Rattle.sigstore_types_parts.specs.declared.error.TypesError.{TypesError}
@@ -24,18 +25,13 @@ use Rattle.sigstore_verify.specs.declared.report.VerificationResult.{Verificatio
 use Rattle.sigstore_verify.specs.Judged.{by_types, by_crypto, scheme_of, needed_of, prepared_of, is_bound, content_judged_of, key_judged_of, key_report_of}
 use Rattle.sigstore_verify.specs.Accepts.{signature_in, digest_in, IsBound, AcceptsKey, AcceptsExactly}
 
--- a step that is Ok, and what follows it
-pub step : {A B : Type 0} (r : Result A Error) (f : A → Result B Error) (y : B) → (r >>= f) ≡ Ok y → (x : A) × (r ≡ Ok x) × (f x ≡ Ok y)
-step (Ok x) f y h = (x, refl, h)
-step (Err e) f y h = cc
-
 through_types : {A : Type 0} (r : Result A TypesError) (x : A) → by_types r ≡ Ok x → r ≡ Ok x
 through_types (Ok y) x h = cc
 through_types (Err e) x h = cc
 
-through_crypto : {A : Type 0} (r : Result A CryptoError) (x : A) → by_crypto r ≡ Ok x → r ≡ Ok x
-through_crypto (Ok y) x h = cc
-through_crypto (Err e) x h = cc
+pub ok_crypto : {A : Type 0} (r : Result A CryptoError) (x : A) → by_crypto r ≡ Ok x → r ≡ Ok x
+ok_crypto (Ok y) x h = cc
+ok_crypto (Err e) x h = cc
 
 only_sha256 : (o : Option HashAlgorithm) (x : ⊤) → needed_of o ≡ Ok x → o ≡ Some Sha2256
 only_sha256 None x h = cc
@@ -99,16 +95,16 @@ same_ok x y h = cc
 pub prepared_means : (policy : PublicKeyVerificationPolicy) (bundle : Bundle) (ready : VerificationKey) → prepared_of policy bundle ≡ Ok ready → Prepared policy bundle ready
 unfolding prepared_of
 prepared_means policy bundle ready h =
-    let a = step (by_types (structure_of bundle policy.verify_tlog)) (λ _. after_structure policy bundle) ready h in
-    let b = step (by_crypto (spki_key_of policy.key)) (after_key bundle) ready a.2 in
-    let c = step (by_crypto (scheme_of (b.0).scheme bundle.content)) (after_scheme b.0) ready b.2 in
-    let d = step (needed_of (digest_algorithm_of c.0)) (λ _. Ok (key_under c.0 b.0)) ready c.2 in
+    let a = step_ok (by_types (structure_of bundle policy.verify_tlog)) (λ _. after_structure policy bundle) ready h in
+    let b = step_ok (by_crypto (spki_key_of policy.key)) (after_key bundle) ready a.2 in
+    let c = step_ok (by_crypto (scheme_of (b.0).scheme bundle.content)) (after_scheme b.0) ready b.2 in
+    let d = step_ok (needed_of (digest_algorithm_of c.0)) (λ _. Ok (key_under c.0 b.0)) ready c.2 in
     record {
       structure = through_types (structure_of bundle policy.verify_tlog) tt a.1;
       key = b.0;
-      read = through_crypto (spki_key_of policy.key) b.0 b.1;
+      read = ok_crypto (spki_key_of policy.key) b.0 b.1;
       scheme = c.0;
-      chosen = through_crypto (scheme_of (b.0).scheme bundle.content) c.0 c.1;
+      chosen = ok_crypto (scheme_of (b.0).scheme bundle.content) c.0 c.1;
       needed = only_sha256 (digest_algorithm_of c.0) d.0 d.1;
       same = same_ok (key_under c.0 b.0) ready d.2;
     }
@@ -120,8 +116,8 @@ means : (accepts : Judge) (policy : PublicKeyVerificationPolicy) (bundle : Bundl
     → key_judged_of accepts policy bundle digest ≡ Ok report → AcceptsKey accepts policy bundle digest × (report ≡ key_report_of policy)
 unfolding key_judged_of
 means accepts policy bundle digest report h =
-    let one = step (prepared_of policy bundle) (λ key. content_judged_of accepts key bundle.content digest >>= λ _. Ok (key_report_of policy)) report h in
-    let two = step (content_judged_of accepts one.0 bundle.content digest) (λ _. Ok (key_report_of policy)) report one.2 in
+    let one = step_ok (prepared_of policy bundle) (λ key. content_judged_of accepts key bundle.content digest >>= λ _. Ok (key_report_of policy)) report h in
+    let two = step_ok (content_judged_of accepts one.0 bundle.content digest) (λ _. Ok (key_report_of policy)) report one.2 in
     let p = prepared_means policy bundle one.0 one.1 in
     let q = content_means accepts one.0 bundle.content digest two.0 two.1 in (
       record {

@@ -5,6 +5,7 @@ use Rattle.std.proofs.lemmas.Slice.Eq.{bytes_eq-Decides}
 use Rattle.sha2.specs.Sha256.{sha256}
 use Rattle.foundation.specs.Steps.{◌>>=◌}
 use Rattle.foundation.specs.Watched.{Watched}
+use Rattle.foundation.specs.Results.{err_same, refused_at}
 use Rattle.sigstore_types_parts.specs.declared.form.Form.{Form}
 use Rattle.sigstore_types_parts.specs.declared.form.Form.TheVariants as form
 use Rattle.sigstore_types_parts.specs.declared.hash_algorithm.HashAlgorithm.{HashAlgorithm}
@@ -33,16 +34,8 @@ use Rattle.sigstore_verify.specs.Error.{error_of_crypto, lowered}
 use Rattle.sigstore_verify.specs.Judged.{by_crypto, by_types, scheme_of, needed_of, prepared_of, is_bound, content_judged_of, key_judged_of, ready_of}
 use Rattle.sigstore_verify.specs.Policy.{Meaning, PublicKey}
 use Rattle.sigstore_verify.specs.Promise as promise
-use Rattle.sigstore_verify.specs.Root.{or_fault, trust_fault, bundle_fault, JudgesBundle, trust_refused, verifier_refused, bundle_refused, judged}
-use Rattle.sigstore_verify.proofs.Accepts.{Prepared, prepared_means}
-
-err_same : {A E : Type 0} (d e : E) → ◌≡◌ {A = Result A E} (Err d) (Err e) → d ≡ e
-err_same d e h = cc
-
--- a step that is refused, or one after it
-refused_at : {A B C : Type 0} (r : Result A Error) (f : A → Result B Error) (e : Error) → (r >>= f) ≡ Err e → (r ≡ Err e → C) → ((x : A) → r ≡ Ok x → f x ≡ Err e → C) → C
-refused_at (Ok x) f e h here later = later x refl h
-refused_at (Err d) f e h here later = let same : d ≡ e = cc in here (ap Err same)
+use Rattle.sigstore_verify.specs.FromRoot.{or_fault, trust_fault, bundle_fault, JudgesBundle, trust_refused, verifier_refused, bundle_refused, judged}
+use Rattle.sigstore_verify.proofs.Accepts.{ok_crypto, Prepared, prepared_means}
 
 by_fault : {T : Type 0} (fault : TypesError → Error) (r : Result T TypesError) (e : Error) → or_fault fault r ≡ Err e → IsRefusedAs fault r e
 by_fault fault (Ok x) e h = cc
@@ -51,10 +44,6 @@ by_fault fault (Err t) e h = (t, refl, err_same (fault t) e h)
 through_crypto : {A : Type 0} (r : Result A CryptoError) (e : Error) → by_crypto r ≡ Err e → IsRefusedAs error_of_crypto r e
 through_crypto (Ok x) e h = cc
 through_crypto (Err t) e h = (t, refl, err_same (error_of_crypto t) e h)
-
-ok_crypto : {A : Type 0} (r : Result A CryptoError) (x : A) → by_crypto r ≡ Ok x → r ≡ Ok x
-ok_crypto (Ok y) x h = cc
-ok_crypto (Err t) x h = cc
 
 abbrev IsKind : Error → Type 0
 IsKind e = (e ≡ verify.Crypto) ⊎ (((f : Form) × (e ≡ verify.Unbuilt f)) ⊎ (e ≡ verify.NoMemory))

@@ -1,6 +1,7 @@
 -- Each refusal of the top call has its cause.
 use Rattle.std.proofs.Common.{◌≡◌, Result, Err, sym, subst}
 use Rattle.foundation.specs.Watched.{Watched}
+use Rattle.foundation.specs.Results.{err_same}
 use Rattle.sigstore_tuf_parts.specs.declared.error.Error.{Error as TufError}
 use Rattle.sigstore_tuf_parts.specs.declared.error.Error.TheVariants as tuf
 use Rattle.sigstore_tuf.specs.declared.chain.TrustChain.{TrustChain}
@@ -10,16 +11,13 @@ use Rattle.sigstore_tuf.proofs.CauseNumbers.{wanting}
 use Rattle.sigstore_tuf.proofs.Causes.{first_refused, refresh_refused, search_refused}
 use Rattle.sigstore_verify.specs.declared.error.Error.{Error}
 use Rattle.sigstore_verify.specs.declared.error.Error.TheVariants as verify
-use Rattle.sigstore_verify.specs.declared.root.RootFault.{RootFault}
+use Rattle.sigstore_verify.specs.declared.from_root.RootFault.{RootFault}
 use Rattle.sigstore_verify.specs.Cause.{JudgeCause, RootCause}
 use Rattle.sigstore_verify.specs.Given.{Anchor, Given, Outside}
-use Rattle.sigstore_verify.specs.Root as top
-use Rattle.sigstore_verify.specs.Root.{trust_path, TrustsChain, GivesChain, root_of_tuf, root_of_verify, Runs}
+use Rattle.sigstore_verify.specs.FromRoot as top
+use Rattle.sigstore_verify.specs.FromRoot.{trust_path, TrustsChain, GivesChain, root_of_tuf, root_of_verify, Runs}
 use Rattle.sigstore_verify.proofs.JudgeCauses.{judge_refused}
 use Rattle.sigstore_verify.proofs.RootFacts.{chain_trusts}
-
-err_same : {A E : Type 0} (d e : E) → ◌≡◌ {A = Result A E} (Err d) (Err e) → d ≡ e
-err_same d e h = cc
 
 -- a chain that isn't given has its cause in the root and the repository
 module _ (anchor : Anchor) (repo repo' : Watched Folders) where

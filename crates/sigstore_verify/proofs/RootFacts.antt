@@ -1,6 +1,7 @@
 -- What an acceptance of the top call means.
 use Rattle.std.proofs.Common.{◌≡◌, ℕ, List, Result, Ok, Err, ap, sym, subst}
 use Rattle.foundation.specs.Watched.{Watched}
+use Rattle.foundation.specs.Results.{no_both}
 use Rattle.sigstore_types_parts.specs.declared.error.TypesError.{TypesError}
 use Rattle.sigstore_crypto.specs.Good.{Judge}
 use Rattle.sigstore_tuf.specs.Repository.{Folders}
@@ -9,17 +10,14 @@ use Rattle.sigstore_tuf.specs.Target.{GetsTarget}
 use Rattle.sigstore_tuf.proofs.Authorised.{first_root_authorised, refresh_authorised}
 use Rattle.sigstore_tuf.proofs.Serving.{on_search}
 use Rattle.sigstore_verify.specs.declared.error.Error.{Error}
-use Rattle.sigstore_verify.specs.declared.root.Rooted.{Rooted}
+use Rattle.sigstore_verify.specs.declared.from_root.Rooted.{Rooted}
 use Rattle.sigstore_types.specs.declared.bundle.Bundle.{Bundle}
 use Rattle.sigstore_verify.specs.declared.report.VerificationResult.{VerificationResult}
 use Rattle.sigstore_verify.specs.Policy.{Meaning, PublicKey}
 use Rattle.sigstore_verify.specs.Given.{Anchor, Given, Outside}
 use Rattle.sigstore_verify.specs.Judged.{judged_of}
 use Rattle.sigstore_verify.proofs.Accepts.{accepts_exactly}
-use Rattle.sigstore_verify.specs.Root.{or_fault, trust_fault, bundle_fault, trust_path, TrustsChain, GivesChain, root_refused, refresh_refused, target_refused, chain_given, JudgesGiven, trust_refused, verifier_refused, bundle_refused, judged, AcceptsUnder, IsAccepted}
-
-no_both : {A E C : Type 0} (x : A) (e : E) → ◌≡◌ {A = Result A E} (Ok x) (Err e) → C
-no_both x e h = cc
+use Rattle.sigstore_verify.specs.FromRoot.{or_fault, trust_fault, bundle_fault, trust_path, TrustsChain, GivesChain, root_refused, refresh_refused, target_refused, chain_given, JudgesGiven, trust_refused, verifier_refused, bundle_refused, judged, AcceptsUnder, IsAccepted}
 
 read_of : {T : Type 0} (fault : TypesError → Error) (r : Result T TypesError) (x : T) → or_fault fault r ≡ Ok x → r ≡ Ok x
 read_of fault (Ok y) x h = let same : y ≡ x = cc in ap Ok same

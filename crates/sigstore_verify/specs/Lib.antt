@@ -1,10 +1,10 @@
-pub mod Error
-pub mod Policy
-pub mod Given
-pub mod Trust
-pub mod Judged
-pub mod Promise
 pub mod Accepts
-pub mod Root
 pub mod Cause
+pub mod Error
+pub mod FromRoot
+pub mod Given
+pub mod Judged
+pub mod Policy
+pub mod Promise
 pub mod Promises
+pub mod Trust

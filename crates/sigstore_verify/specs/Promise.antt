@@ -26,7 +26,8 @@ pub record ReadWhole (old new : Watched (List ℕ)) (max : ℕ) (bytes : List �
 -- why the reading failed: a read did, or more bytes than the limit were given
 abbrev pub ReadCause : Watched (List ℕ) → Watched (List ℕ) → ℕ → ReadError → Type 0
 ReadCause old new max Failed = Rose old.faults new.faults
-ReadCause old new max (TooLong limit) = (limit ≡ max) × (bytes : List ℕ) × (old.told ≡ prepend_known bytes new.told) × (length bytes ≡ max + 1)
+ReadCause old new max (TooLong limit) =
+    (limit ≡ max) × (bytes : List ℕ) × (old.told ≡ prepend_known bytes new.told) × (length bytes ≡ max + 1)
 
 -- refused before the artifact was read
 pub record BeforeReading (policy : Meaning) (bundle : Bundle) (old new : Watched (List ℕ)) (e : Error) : Type 0 where
@@ -39,33 +40,41 @@ pub record InReading (policy : Meaning) (bundle : Bundle) (old new : Watched (Li
   pub refusal : (fault : ReadError) × (e ≡ ArtifactRead fault) × ReadCause old new max fault
 
 -- refused by the digest of the bytes that were read
-pub record AfterReading (accepts : Judge) (policy : Meaning) (bundle : Bundle) (old new : Watched (List ℕ)) (max : ℕ) (e : Error) : Type 0 where
+pub record AfterReading (accepts : Judge) (policy : Meaning) (bundle : Bundle) (old new : Watched (List ℕ)) (max : ℕ)
+    (e : Error) : Type 0 where
   pub ready : ready_of policy bundle ≡ Ok tt
   pub refusal : (bytes : List ℕ) × ReadWhole old new max bytes × (judged_of accepts policy bundle (sha256 bytes) ≡ Err e)
 
 -- the cause of a refusal; want of memory needs none
 abbrev pub Cause : Judge → Meaning → Bundle → Watched (List ℕ) → Watched (List ℕ) → ℕ → Error → Type 0
 Cause accepts policy bundle old new max e =
-    (e ≡ NoMemory) ⊎ (BeforeReading policy bundle old new e ⊎ (InReading policy bundle old new max e ⊎ AfterReading accepts policy bundle old new max e))
+    (e ≡ NoMemory) ⊎ (BeforeReading policy bundle old new e
+        ⊎ (InReading policy bundle old new max e ⊎ AfterReading accepts policy bundle old new max e))
 
 -- the bytes were read to the end, and the bundle is accepted by their digest with this report
-pub record Accepted (accepts : Judge) (policy : Meaning) (bundle : Bundle) (old new : Watched (List ℕ)) (max : ℕ) (report : VerificationResult) (bytes : List ℕ) : Type 0 where
+pub record Accepted (accepts : Judge) (policy : Meaning) (bundle : Bundle) (old new : Watched (List ℕ)) (max : ℕ)
+    (report : VerificationResult) (bytes : List ℕ) : Type 0 where
   pub read : ReadWhole old new max bytes
   pub judged : judged_of accepts policy bundle (sha256 bytes) ≡ Ok report
 
 -- the promise of the judgement over the digest
-pub record Keeps (accepts : Judge) (policy : PublicKeyVerificationPolicy) (bundle : Bundle) (key : VerificationKey) (digest : List ℕ) (result : Result Kept Error) : Type 0 where
-  pub accepted : IfOk result (λ kept. (content_judged_of accepts key bundle.content digest ≡ Ok tt) × (kept.result ≡ key_report_of policy) × (kept.digests ≡ (Sha2256, digest) ∷ []))
+pub record Keeps (accepts : Judge) (policy : PublicKeyVerificationPolicy) (bundle : Bundle) (key : VerificationKey)
+    (digest : List ℕ) (result : Result Kept Error) : Type 0 where
+  pub accepted : IfOk result (λ kept. (content_judged_of accepts key bundle.content digest ≡ Ok tt)
+      × (kept.result ≡ key_report_of policy) × (kept.digests ≡ (Sha2256, digest) ∷ []))
   pub refused : IfErr result (λ e. (e ≡ NoMemory) ⊎ (content_judged_of accepts key bundle.content digest ≡ Err e))
 
 -- the promise of a verification
-pub record Verifies (accepts : Judge) (policy : Meaning) (bundle : Bundle) (old new : Watched (List ℕ)) (max : ℕ) (result : Result VerificationResult Error) : Type 0 where
+pub record Verifies (accepts : Judge) (policy : Meaning) (bundle : Bundle) (old new : Watched (List ℕ)) (max : ℕ)
+    (result : Result VerificationResult Error) : Type 0 where
   pub later : old.faults ≤ new.faults
   pub accepted : IfOk result (λ report. (bytes : List ℕ) × Accepted accepts policy bundle old new max report bytes)
   pub refused : IfErr result (Cause accepts policy bundle old new max)
 
 -- the promise of one that keeps the digests: they are those of the same bytes
-pub record VerifiesKept (accepts : Judge) (policy : Meaning) (bundle : Bundle) (old new : Watched (List ℕ)) (max : ℕ) (result : Result Kept Error) : Type 0 where
+pub record VerifiesKept (accepts : Judge) (policy : Meaning) (bundle : Bundle) (old new : Watched (List ℕ)) (max : ℕ)
+    (result : Result Kept Error) : Type 0 where
   pub later : old.faults ≤ new.faults
-  pub accepted : IfOk result (λ kept. (bytes : List ℕ) × Accepted accepts policy bundle old new max kept.result bytes × (kept.digests ≡ (Sha2256, sha256 bytes) ∷ []))
+  pub accepted : IfOk result (λ kept. (bytes : List ℕ) × Accepted accepts policy bundle old new max kept.result bytes
+      × (kept.digests ≡ (Sha2256, sha256 bytes) ∷ []))
   pub refused : IfErr result (Cause accepts policy bundle old new max)

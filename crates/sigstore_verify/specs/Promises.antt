@@ -1,9 +1,9 @@
 -- What the top call promises, whole: the theorem that users rest on.
 use Rattle.std.specs.Prelude.{◌≡◌, Result, IfOk, IfErr}
-use Rattle.sigstore_verify.specs.declared.root.Rooted.{Rooted}
-use Rattle.sigstore_verify.specs.declared.root.RootFault.{RootFault}
+use Rattle.sigstore_verify.specs.declared.from_root.Rooted.{Rooted}
+use Rattle.sigstore_verify.specs.declared.from_root.RootFault.{RootFault}
 use Rattle.sigstore_verify.specs.Given.{Given, Outside}
-use Rattle.sigstore_verify.specs.Root.{IsAccepted, Runs}
+use Rattle.sigstore_verify.specs.FromRoot.{IsAccepted, Runs}
 use Rattle.sigstore_verify.specs.Cause.{RootCause}
 
 -- what Ok means, what each refusal means, which call answers, and that the store stays as it was

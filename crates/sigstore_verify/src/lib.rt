@@ -2,16 +2,16 @@
 #![tactic(auto)]
 
 mod error;
+mod from_root;
 mod judge;
 mod laws;
 mod policy;
 mod report;
-mod root;
 mod verifier;
 
 pub use error::{CertificateError, Error, TimestampError, TransparencyLogError};
+pub use from_root::{RootFault, Rooted, verify_from_root};
 pub use laws::accepts_exactly;
 pub use policy::{Policy, PolicyKind, PublicKeyVerificationPolicy};
 pub use report::{Kept, VerificationResult};
-pub use root::{RootFault, Rooted, verify_from_root};
 pub use verifier::Verifier;

@@ -2,9 +2,10 @@
 ghost use Rattle.std.specs.Prelude.{◌≡◌};
 ghost use Rattle.std.specs.Option.{option_copied};
 
-use foundation::Sequence;
+use foundation::{Duplicate, NoMemory, Sequence};
 use jiff::Timestamp;
 use sigstore_types_parts::{ArtifactDigest, Text};
+use std::alloc::Global;
 
 /// What an accepted bundle shows, and which checks were made.
 #[derive(PartialEq, Drop)]
@@ -72,9 +73,32 @@ impl VerificationResult {
     }
 }
 
+impl Duplicate for VerificationResult {
+    fn duplicate(&self, alloc: Global) -> Result<VerificationResult, NoMemory> {
+        Ok(VerificationResult {
+            integrated_time: self.integrated_time,
+            issuer: self.issuer.duplicate(alloc)?,
+            certificate_verified: self.certificate_verified,
+            sct_verified: self.sct_verified,
+            tlog_verified: self.tlog_verified,
+            identity_policy_checked: self.identity_policy_checked,
+            verified_timestamps: self.verified_timestamps.copied(alloc)?,
+        })
+    }
+}
+
 /// What an accepted bundle shows, with the digests of the artifact that were taken.
 #[derive(Drop)]
 pub struct Kept {
     pub result: VerificationResult,
     pub digests: Sequence<ArtifactDigest>,
+}
+
+impl Duplicate for Kept {
+    fn duplicate(&self, alloc: Global) -> Result<Kept, NoMemory> {
+        Ok(Kept {
+            result: self.result.duplicate(alloc)?,
+            digests: self.digests.duplicate(alloc)?,
+        })
+    }
 }

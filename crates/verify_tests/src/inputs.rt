@@ -35,7 +35,7 @@ fn name<X: AllocGlobal + Abort>(rt: &X, fault: &str) -> String {
         "UsageFault::Usage" => display(rt, UsageFault::Usage),
         "UsageFault::NoMemory" => display(rt, UsageFault::NoMemory),
         "Stop::Words" => display(rt, Stop::Words),
-        "Stop::Form" => display(rt, Stop::Form(Which::Policy)),
+        "Stop::Malformed" => display(rt, Stop::Malformed(Which::Policy)),
         "Stop::Input" => display(rt, Stop::Input(Which::Root)),
         "Stop::Memory" => display(rt, Stop::Memory),
         "RootFault::Tuf" => display(rt, RootFault::Tuf(sigstore_tuf::Error::Json)),
@@ -51,7 +51,7 @@ InputFault::NoMemory | NoMemory
 UsageFault::Usage | Usage
 UsageFault::NoMemory | NoMemory
 Stop::Words | Words
-Stop::Form | Form
+Stop::Malformed | Malformed
 Stop::Input | Input
 Stop::Memory | Memory
 RootFault::Tuf | Tuf
@@ -328,9 +328,9 @@ fn gather_all<X: AllocGlobal + Abort>(rt: &X, inputs: &mut MemoryInputs, rows: &
 
 // A row: an input that is put, its text with `;` for the end of a line, and why the inputs aren't gathered.
 const GATHERED: &str = "Bundle | {} | Some(Input(Policy))
-Policy | key AQI= | Some(Form(Policy))
+Policy | key AQI= | Some(Malformed(Policy))
 Policy | key AQI=; | Some(Input(Provider))
-Provider | refuse; | Some(Form(Provider))
+Provider | refuse; | Some(Malformed(Provider))
 Provider |  | Some(Input(Root))
 Root | {} | None";
 

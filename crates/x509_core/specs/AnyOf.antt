@@ -36,12 +36,14 @@ in_tags : (t : ℕ) (tags : List ℕ) → are_tags tags ≡ true → is_in t tag
 in_tags t [] ok e = absurd cc
 in_tags t (u ∷ tags) ok e =
     let p = both_so (is_tag u) (are_tags tags) ok in
-    one_so (eqb t u) (is_in t tags) (IsTag t) (λ same. valid t (subst (λ (z : ℕ). is_tag z ≡ true) (sym (eqb-true t u same)) p.0)) (λ later. in_tags t tags p.1 later) e
+    one_so (eqb t u) (is_in t tags) (IsTag t)
+        (λ same. valid t (subst (λ (z : ℕ). is_tag z ≡ true) (sym (eqb-true t u same)) p.0)) (λ later. in_tags t tags p.1 later) e
 
 pub any_of-lawful : (tags : List ℕ) → are_tags tags ≡ true → IsLawful (any_of tags)
 any_of-lawful tags ok = record {
   tags = λ t e. in_tags t tags ok e;
-  found = λ t c a is fits e. let same = ok_is (t, c) a e in subst (λ (z : ℕ × List ℕ). (is_in z.0 tags ≡ true) × (z.0 ≡ t) × (z.1 ≡ c)) same (is, refl, refl);
+  found = λ t c a is fits e. let same = ok_is (t, c) a e in
+      subst (λ (z : ℕ × List ℕ). (is_in z.0 tags ≡ true) × (z.0 ≡ t) × (z.1 ≡ c)) same (is, refl, refl);
   only = λ t c a s. let e0 = s.0 in let e1 = s.1 in let e2 = s.2 in (subst (λ (z : ℕ). is_in z tags ≡ true) e1 e0, rw (← e1, ← e2) refl);
   written = λ a c e. let p = passed (is_in a.0 tags) Value (Ok a.1) c e in (p.0, refl, ok_is a.1 c p.1);
   writes = λ t c a s. let e0 = s.0 in (s.1, (a.1, rw e0 refl, ap length s.2));

@@ -5,6 +5,7 @@ use Rattle.der_core_parts.specs.Outcome.{Outcome}
 use Rattle.der_core_parts.specs.Tlv.{tlv_at}
 use Rattle.der_core_parts.specs.Grammar.{ended}
 use Rattle.der_core_parts.specs.Types.{AsnType, primitive_type}
+use Rattle.der_core_parts.specs.Tags.{integer_tag, octet_string_tag, sequence_tag}
 use Rattle.der_core.specs.Strings.{is_int}
 use Rattle.x509_core_parts.specs.Certificates.{parts_of}
 
@@ -31,16 +32,16 @@ abbrev pub is_certificate_list : List ℕ → Bool
 is_certificate_list contents = is_ok (three_values contents)
 
 abbrev pub name_type : AsnType (List ℕ)
-name_type = primitive_type 48 is_any refl
+name_type = primitive_type sequence_tag is_any refl
 
 abbrev pub serial_number_type : AsnType (List ℕ)
-serial_number_type = primitive_type 2 is_serial_number refl
+serial_number_type = primitive_type integer_tag is_serial_number refl
 
 abbrev pub subject_key_identifier_type : AsnType (List ℕ)
-subject_key_identifier_type = primitive_type 4 is_any refl
+subject_key_identifier_type = primitive_type octet_string_tag is_any refl
 
 abbrev pub certificate_type : AsnType (List ℕ)
-certificate_type = primitive_type 48 is_certificate refl
+certificate_type = primitive_type sequence_tag is_certificate refl
 
 abbrev pub certificate_list_type : AsnType (List ℕ)
-certificate_list_type = primitive_type 48 is_certificate_list refl
+certificate_list_type = primitive_type sequence_tag is_certificate_list refl

@@ -1,10 +1,7 @@
 // AlgorithmIdentifier.
 ghost use Rattle.x509_core.specs.Types.{algorithm_type};
 
-use der_core::{
-    Any, Der, DerError, ObjectIdentifier, OctetString, Reader, Tag, append_optional, read_optional,
-    read_value,
-};
+use der_core::{Any, Der, DerError, ObjectIdentifier, OctetString, Reader, Tag, append_optional, read_optional, read_value, tag};
 use foundation::{Duplicate, NoMemory};
 use std::alloc::Global;
 
@@ -36,7 +33,7 @@ impl Der for AlgorithmIdentifierOwned {
     }
 
     fn tag(&self) -> Tag {
-        Tag(48)
+        Tag(tag::SEQUENCE)
     }
 
     fn contents(&self, alloc: Global) -> Result<OctetString, DerError> {

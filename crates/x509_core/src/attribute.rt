@@ -1,9 +1,7 @@
 // Attributes.
 ghost use Rattle.x509_core.specs.Types.{attribute_type};
 
-use der_core::{
-    Any, Der, DerError, ObjectIdentifier, OctetString, Reader, SetOfVec, Tag, read_value,
-};
+use der_core::{Any, Der, DerError, ObjectIdentifier, OctetString, Reader, SetOfVec, Tag, read_value, tag};
 use foundation::{Duplicate, NoMemory};
 use std::alloc::Global;
 
@@ -34,7 +32,7 @@ impl Der for Attribute {
     }
 
     fn tag(&self) -> Tag {
-        Tag(48)
+        Tag(tag::SEQUENCE)
     }
 
     fn contents(&self, alloc: Global) -> Result<OctetString, DerError> {

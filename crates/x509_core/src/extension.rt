@@ -1,10 +1,7 @@
 // Extension.
 ghost use Rattle.x509_core.specs.Types.{extension_type};
 
-use der_core::{
-    Der, DerError, ObjectIdentifier, OctetString, Reader, Tag, append_default, read_default,
-    read_value,
-};
+use der_core::{Der, DerError, ObjectIdentifier, OctetString, Reader, Tag, append_default, read_default, read_value, tag};
 use foundation::{Duplicate, NoMemory};
 use std::alloc::Global;
 
@@ -34,7 +31,7 @@ impl Der for Extension {
     }
 
     fn tag(&self) -> Tag {
-        Tag(48)
+        Tag(tag::SEQUENCE)
     }
 
     fn contents(&self, alloc: Global) -> Result<OctetString, DerError> {

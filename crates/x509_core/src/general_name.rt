@@ -2,7 +2,7 @@
 ghost use Rattle.x509_core.specs.Types.{general_name_type};
 
 use crate::other_name::OtherName;
-use der_core::{Der, DerError, Ia5, OctetString, Tag};
+use der_core::{Der, DerError, Ia5, OctetString, Tag, tag};
 use foundation::{Duplicate, NoMemory};
 use std::alloc::Global;
 
@@ -26,9 +26,9 @@ impl Der for GeneralName {
 
     fn from_contents(alloc: Global, tag: Tag, contents: &[u8]) -> Result<GeneralName, DerError> {
         if tag.0 == 129 {
-            Ok(GeneralName::Rfc822Name(Ia5::from_contents(alloc, Tag(22), contents)?))
+            Ok(GeneralName::Rfc822Name(Ia5::from_contents(alloc, Tag(tag::IA5), contents)?))
         } else if tag.0 == 134 {
-            Ok(GeneralName::Uri(Ia5::from_contents(alloc, Tag(22), contents)?))
+            Ok(GeneralName::Uri(Ia5::from_contents(alloc, Tag(tag::IA5), contents)?))
         } else {
             Ok(GeneralName::Other(OtherName::from_contents(alloc, tag, contents)?))
         }
@@ -36,8 +36,8 @@ impl Der for GeneralName {
 
     fn tag(&self) -> Tag {
         match self {
-            GeneralName::Rfc822Name(_) => Tag(129),
-            GeneralName::Uri(_) => Tag(134),
+            GeneralName::Rfc822Name(_) => Tag(tag::PRIMITIVE_1),
+            GeneralName::Uri(_) => Tag(tag::PRIMITIVE_6),
             GeneralName::Other(name) => name.tag(),
         }
     }

@@ -2,7 +2,7 @@
 ghost use Rattle.std.specs.Prelude.{◌≡◌, refl};
 ghost use Rattle.x509_core.specs.Kinds.{is_any, is_serial_number, is_certificate, is_certificate_list, three_values};
 
-use der_core::{DerError, IntKind, Primitive, PrimitiveKind, Reader};
+use der_core::{DerError, IntKind, Primitive, PrimitiveKind, Reader, tag};
 
 /// The kind of names.
 #[derive(Drop)]
@@ -17,7 +17,7 @@ impl PrimitiveKind for NameKind {
     ghost test = { is_any };
 
     fn tag_byte() -> u8 {
-        48
+        tag::SEQUENCE
     }
 
     fn allows(_contents: &[u8]) -> bool {
@@ -40,7 +40,7 @@ impl PrimitiveKind for SerialNumberKind {
     ghost test = { is_serial_number };
 
     fn tag_byte() -> u8 {
-        2
+        tag::INTEGER
     }
 
     fn allows(contents: &[u8]) -> bool {
@@ -63,7 +63,7 @@ impl PrimitiveKind for SubjectKeyIdentifierKind {
     ghost test = { is_any };
 
     fn tag_byte() -> u8 {
-        4
+        tag::OCTET_STRING
     }
 
     fn allows(_contents: &[u8]) -> bool {
@@ -86,7 +86,7 @@ impl PrimitiveKind for CertificateKind {
     ghost test = { is_certificate };
 
     fn tag_byte() -> u8 {
-        48
+        tag::SEQUENCE
     }
 
     fn allows(contents: &[u8]) -> bool {
@@ -109,7 +109,7 @@ impl PrimitiveKind for CertificateListKind {
     ghost test = { is_certificate_list };
 
     fn tag_byte() -> u8 {
-        48
+        tag::SEQUENCE
     }
 
     fn allows(contents: &[u8]) -> bool {

@@ -1,7 +1,7 @@
 // Times of certificates.
 ghost use Rattle.x509_core.specs.Types.{time_type};
 
-use der_core::{Der, DerError, GeneralizedTime, OctetString, Tag, UtcTime};
+use der_core::{Der, DerError, GeneralizedTime, OctetString, Tag, UtcTime, tag};
 use foundation::{Duplicate, NoMemory};
 use std::alloc::Global;
 
@@ -29,8 +29,8 @@ impl Der for Time {
 
     fn tag(&self) -> Tag {
         match self {
-            Time::Utc(_) => Tag(23),
-            Time::General(_) => Tag(24),
+            Time::Utc(_) => Tag(tag::UTC_TIME),
+            Time::General(_) => Tag(tag::GENERALIZED_TIME),
         }
     }
 

@@ -3,6 +3,7 @@ use Rattle.std.specs.Prelude.{ℕ, List, [], ◌∷◌, Option, Some, None, Ok, 
 use Rattle.foundation.specs.Steps.{◌>>=◌}
 use Rattle.der_core_parts.specs.Outcome.{Outcome}
 use Rattle.der_core_parts.specs.Tlv.{tlv, tlv_at}
+use Rattle.der_core_parts.specs.Tags.{constructed_0_tag, constructed_3_tag, generalized_time_tag, sequence_tag, utc_time_tag}
 use Rattle.der_core.specs.declared.civil.Civil.{Civil}
 use Rattle.der_core.specs.Times.{utc_of, generalized_of}
 use Rattle.x509_core_parts.specs.declared.error.X509Error.TheVariants.{Version, Algorithms, Time}
@@ -26,7 +27,8 @@ version_of contents = do
   at_end version number.1
 
 unfoldable pub version_at : List ℕ → Reading (ℕ × List ℕ)
-version_at bytes = if begins_with 160 bytes then (contents_at 160 bytes >>= λ x. version_of x.0 >>= λ version. Ok (version, x.1)) else Ok (0, bytes)
+version_at bytes =
+    if begins_with constructed_0_tag bytes then (contents_at constructed_0_tag bytes >>= λ x. version_of x.0 >>= λ version. Ok (version, x.1)) else Ok (0, bytes)
 
 -- an INTEGER of at most 20 octets (4.1.2.2), and a sign octet
 unfoldable pub serial_at : List ℕ → Reading (List ℕ × List ℕ)
@@ -43,7 +45,7 @@ front_at bytes = do
   version ← version_at bytes
   serial ← serial_at version.1
   algorithm ← algorithm_at serial.1
-  issuer ← encoded_at 48 algorithm.1
+  issuer ← encoded_at sequence_tag algorithm.1
   Ok (record { version = version.0; serial = serial.0; algorithm = algorithm.0.encoded; issuer = issuer.0 }, issuer.1)
 
 -- ---- validity, subject and key
@@ -54,7 +56,7 @@ time_or (Err e) = Err Time
 
 -- Time ::= CHOICE { utcTime UTCTime, generalTime GeneralizedTime } (4.1.2.5)
 abbrev pub time_of : ℕ → List ℕ → Reading Civil
-time_of tag contents = if tag == 23 then time_or (utc_of contents) else if tag == 24 then time_or (generalized_of contents) else Err Time
+time_of tag contents = if tag == utc_time_tag then time_or (utc_of contents) else if tag == generalized_time_tag then time_or (generalized_of contents) else Err Time
 
 unfoldable pub time_at : List ℕ → Reading (Civil × List ℕ)
 time_at bytes = of_der (tlv_at bytes) >>= λ t. time_of t.0 t.1 >>= λ c. Ok (c, t.2)
@@ -74,12 +76,12 @@ pub record Middle : Type 0 where
 
 unfoldable pub middle_at : List ℕ → Reading (Middle × List ℕ)
 middle_at bytes = do
-  validity ← contents_at 48 bytes
+  validity ← contents_at sequence_tag bytes
   times ← validity_of validity.0
-  subject ← encoded_at 48 validity.1
-  spki ← contents_at 48 subject.1
+  subject ← encoded_at sequence_tag validity.1
+  spki ← contents_at sequence_tag subject.1
   _ ← spki_of spki.0
-  Ok (record { not_before = times.0; not_after = times.1; subject = subject.0; spki = tlv 48 spki.0 }, spki.1)
+  Ok (record { not_before = times.0; not_after = times.1; subject = subject.0; spki = tlv sequence_tag spki.0 }, spki.1)
 
 -- ---- unique identifiers and extensions
 
@@ -90,13 +92,14 @@ behind_identifier tag bytes = if begins_with tag bytes then (contents_at tag byt
 -- SEQUENCE OF Extension, as its contents, with each identifier once
 unfoldable pub list_of : List ℕ → Reading (List ℕ)
 list_of contents = do
-  list ← contents_at 48 contents
+  list ← contents_at sequence_tag contents
   _ ← distinct_of list.0
   at_end list.0 list.1
 
 -- extensions [3] EXPLICIT Extensions OPTIONAL
 unfoldable pub list_at : List ℕ → Reading (Option (List ℕ) × List ℕ)
-list_at bytes = if begins_with 163 bytes then (contents_at 163 bytes >>= λ x. list_of x.0 >>= λ list. Ok (Some list, x.1)) else Ok (None, bytes)
+list_at bytes =
+    if begins_with constructed_3_tag bytes then (contents_at constructed_3_tag bytes >>= λ x. list_of x.0 >>= λ list. Ok (Some list, x.1)) else Ok (None, bytes)
 
 pub record Tail : Type 0 where
   -- the contents of the signed part before its extensions
@@ -148,16 +151,16 @@ pub record Certificate : Type 0 where
 -- Certificate ::= SEQUENCE { tbsCertificate, signatureAlgorithm, signatureValue BIT STRING }
 unfoldable pub parts_of : List ℕ → Reading Certificate
 parts_of contents = do
-  tbs ← contents_at 48 contents
+  tbs ← contents_at sequence_tag contents
   signed ← signed_of tbs.0
   algorithm ← algorithm_at tbs.1
   _ ← same_algorithm signed.front.algorithm algorithm.0.encoded
   signature ← signature_at algorithm.1
-  at_end (record { tbs = tlv 48 tbs.0; signed = signed; algorithm = algorithm.0.encoded; signature = signature.0 }) signature.1
+  at_end (record { tbs = tlv sequence_tag tbs.0; signed = signed; algorithm = algorithm.0.encoded; signature = signature.0 }) signature.1
 
 -- the parts of a certificate that all the bytes encode, or the first refusal in reading order
 unfoldable pub certificate_of : List ℕ → Reading Certificate
 certificate_of bytes = do
-  contents ← contents_at 48 bytes
+  contents ← contents_at sequence_tag bytes
   parts ← parts_of contents.0
   at_end parts contents.1

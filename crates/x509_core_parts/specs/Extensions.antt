@@ -1,7 +1,9 @@
 -- Extensions (RFC 5280, 4.1 and 4.2).
-use Rattle.std.specs.Prelude.{ℕ, zero, suc, List, [], ◌∷◌, Bool, true, false, Option, Some, None, Ok, Err, length, bytes_eq, is_some, if◌then◌else◌}
+use Rattle.std.specs.Prelude.{ℕ, zero, suc, List, [], ◌∷◌, Bool, true, false, Option, Some, None, Ok, Err, length,
+    bytes_eq, is_some, if◌then◌else◌}
 use Rattle.foundation.specs.Steps.{◌>>=◌}
 use Rattle.der_core_parts.specs.declared.error.DerError.TheVariants.{Truncated}
+use Rattle.der_core_parts.specs.Tags.{boolean_tag, octet_string_tag, sequence_tag}
 use Rattle.x509_core_parts.specs.declared.error.X509Error.TheVariants.{Der, Extension}
 use Rattle.x509_core_parts.specs.Reading.{Reading, contents_at, oid_at, checked, begins_with, at_end}
 
@@ -13,18 +15,19 @@ pub record OneExtension : Type 0 where
 
 -- FALSE, the default, isn't written (X.690, 11.5), and TRUE is written 255 (11.1)
 unfoldable pub critical_at : List ℕ → Reading (Bool × List ℕ)
-critical_at bytes = if begins_with 1 bytes then (contents_at 1 bytes >>= λ x. checked (bytes_eq x.0 (255 ∷ [])) (true, x.1)) else Ok (false, bytes)
+critical_at bytes =
+    if begins_with boolean_tag bytes then (contents_at boolean_tag bytes >>= λ x. checked (bytes_eq x.0 (255 ∷ [])) (true, x.1)) else Ok (false, bytes)
 
 unfoldable pub extension_of : List ℕ → Reading OneExtension
 extension_of contents = do
   oid ← oid_at contents
   critical ← critical_at oid.1
-  value ← contents_at 4 critical.1
+  value ← contents_at octet_string_tag critical.1
   at_end (record { oid = oid.0; critical = critical.0; value = value.0 }) value.1
 
 unfoldable pub extension_at : List ℕ → Reading (OneExtension × List ℕ)
 extension_at bytes = do
-  contents ← contents_at 48 bytes
+  contents ← contents_at sequence_tag bytes
   extension ← extension_of contents.0
   Ok (extension, contents.1)
 
@@ -59,7 +62,8 @@ found_in oid (Some list) = found_of oid list
 unfoldable pub distinct_at : ℕ → List ℕ → Reading (Unit {0})
 distinct_at n [] = Ok tt
 distinct_at zero (b ∷ bytes) = Err (Der Truncated)
-distinct_at (suc n) (b ∷ bytes) = extension_at (b ∷ bytes) >>= λ x. if is_some (found_of x.0.oid x.1) then Err Extension else distinct_at n x.1
+distinct_at (suc n) (b ∷ bytes) =
+    extension_at (b ∷ bytes) >>= λ x. if is_some (found_of x.0.oid x.1) then Err Extension else distinct_at n x.1
 
 unfoldable pub distinct_of : List ℕ → Reading (Unit {0})
 distinct_of list = distinct_at (length list) list

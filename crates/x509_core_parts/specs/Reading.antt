@@ -6,6 +6,7 @@ use Rattle.der_core_parts.specs.declared.error.DerError.TheVariants as der
 use Rattle.der_core_parts.specs.Outcome.{Outcome}
 use Rattle.der_core_parts.specs.Tlv.{tlv, tlv_at}
 use Rattle.der_core_parts.specs.Choices.{is_tag}
+use Rattle.der_core_parts.specs.Tags.{bit_string_tag, integer_tag, oid_tag}
 use Rattle.der_core.specs.Oid.{is_oid}
 use Rattle.der_core.specs.Strings.{is_int, is_bit_string}
 use Rattle.x509_core_parts.specs.declared.error.X509Error.{X509Error}
@@ -50,11 +51,11 @@ checked test a = if test then Ok a else Err (Der der.Value)
 
 -- the contents of an OBJECT IDENTIFIER
 unfoldable pub oid_at : List ℕ → Reading (List ℕ × List ℕ)
-oid_at bytes = contents_at 6 bytes >>= λ x. checked (is_oid x.0) x
+oid_at bytes = contents_at oid_tag bytes >>= λ x. checked (is_oid x.0) x
 
 -- the contents of an INTEGER
 unfoldable pub int_at : List ℕ → Reading (List ℕ × List ℕ)
-int_at bytes = contents_at 2 bytes >>= λ x. checked (is_int x.0) x
+int_at bytes = contents_at integer_tag bytes >>= λ x. checked (is_int x.0) x
 
 -- whether a value with this tag comes next
 abbrev pub begins_with : ℕ → List ℕ → Bool
@@ -72,7 +73,7 @@ bits_of [] = Err (Der der.Value)
 bits_of (unused ∷ octets) = checked (is_bit_string (unused ∷ octets)) (unused, octets)
 
 unfoldable pub bits_at : List ℕ → Reading ((ℕ × List ℕ) × List ℕ)
-bits_at bytes = contents_at 3 bytes >>= λ x. bits_of x.0 >>= λ bits. Ok (bits, x.1)
+bits_at bytes = contents_at bit_string_tag bytes >>= λ x. bits_of x.0 >>= λ bits. Ok (bits, x.1)
 
 -- the value, where nothing follows
 abbrev pub at_end : {A : Type 0} → A → List ℕ → Reading A

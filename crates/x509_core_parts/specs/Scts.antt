@@ -1,10 +1,12 @@
 -- Signed certificate timestamps (RFC 6962, 3.2 and 3.3).
-use Rattle.std.specs.Prelude.{◌≡◌, ℕ, zero, suc, ◌+◌, ◌*◌, ◌/◌, ◌%◌, ◌⊎◌, ◌++◌, List, [], ◌∷◌, Ok, Err, length, take, drop, ◌==◌, nat_le, nat_lt, if◌then◌else◌}
+use Rattle.std.specs.Prelude.{◌≡◌, ℕ, zero, suc, ◌+◌, ◌*◌, ◌/◌, ◌%◌, ◌⊎◌, ◌++◌, List, [], ◌∷◌, Ok, Err, length, take,
+    drop, ◌==◌, nat_le, nat_lt, if◌then◌else◌}
 use Rattle.std.specs.Int.{w64, from_be_bytes, to_be_bytes}
 use Rattle.foundation.specs.Steps.{◌>>=◌}
 use Rattle.x509_core_parts.specs.declared.error.X509Error.{X509Error}
 use Rattle.x509_core_parts.specs.declared.error.X509Error.TheVariants.{SctList, NoMemory}
 use Rattle.x509_core_parts.specs.Reading.{Reading, contents_at}
+use Rattle.der_core_parts.specs.Tags.{octet_string_tag}
 
 -- the parts of a timestamp
 pub record Parts : Type 0 where
@@ -51,7 +53,8 @@ sct_of bytes = do
   extensions ← vector_at head.1
   algorithm ← octets_at 2 extensions.1
   signature ← vector_at algorithm.1
-  ended (record { log_id = head.0.0; milliseconds = head.0.1; extensions = extensions.0; algorithm = algorithm.0; signature = signature.0 }) signature.1
+  ended (record { log_id = head.0.0; milliseconds = head.0.1; extensions = extensions.0; algorithm = algorithm.0;
+      signature = signature.0 }) signature.1
 
 -- SerializedSCT
 unfoldable pub item_at : List ℕ → Reading (Parts × List ℕ)
@@ -76,7 +79,7 @@ in_list (Err e) = Err SctList
 -- the extension's value: an OCTET STRING that holds a SignedCertificateTimestampList, here also an empty one
 unfoldable pub list_in : List ℕ → Reading (List ℕ)
 list_in value = do
-  contents ← in_list (contents_at 4 value)
+  contents ← in_list (contents_at octet_string_tag value)
   octets ← ended contents.0 contents.1
   list ← vector_at octets
   ended list.0 list.1
@@ -102,7 +105,8 @@ signed_front sct key_hash = (0 ∷ 0 ∷ []) ++ to_be_bytes w64 sct.milliseconds
 
 -- behind them tbs_certificate and extensions, each behind its length
 abbrev pub signed_bytes : Parts → List ℕ → List ℕ → List ℕ
-signed_bytes sct key_hash tbs = signed_front sct key_hash ++ three_octets (length tbs) ++ tbs ++ two_octets (length sct.extensions) ++ sct.extensions
+signed_bytes sct key_hash tbs =
+    signed_front sct key_hash ++ three_octets (length tbs) ++ tbs ++ two_octets (length sct.extensions) ++ sct.extensions
 
 unfoldable pub signed_of : Parts → List ℕ → List ℕ → Reading (List ℕ)
 signed_of sct key_hash tbs = if nat_lt (length tbs) 16777216 then Ok (signed_bytes sct key_hash tbs) else Err SctList

@@ -2,6 +2,7 @@
 use Rattle.std.specs.Prelude.{ℕ, List, Option, Ok}
 use Rattle.foundation.specs.Steps.{◌>>=◌}
 use Rattle.x509_core_parts.specs.Reading.{Reading, contents_at, oid_at, any_at, bits_at, at_end}
+use Rattle.der_core_parts.specs.Tags.{sequence_tag}
 
 -- AlgorithmIdentifier ::= SEQUENCE { algorithm OBJECT IDENTIFIER, parameters ANY OPTIONAL }
 pub record Algorithm : Type 0 where
@@ -19,7 +20,7 @@ algorithm_of contents = do
 
 unfoldable pub algorithm_at : List ℕ → Reading (Algorithm × List ℕ)
 algorithm_at bytes = do
-  contents ← contents_at 48 bytes
+  contents ← contents_at sequence_tag bytes
   algorithm ← algorithm_of contents.0
   Ok (algorithm, contents.1)
 
@@ -37,7 +38,7 @@ spki_of contents = do
 
 unfoldable pub spki_at : List ℕ → Reading (Spki × List ℕ)
 spki_at bytes = do
-  contents ← contents_at 48 bytes
+  contents ← contents_at sequence_tag bytes
   spki ← spki_of contents.0
   Ok (spki, contents.1)
 

@@ -1,7 +1,7 @@
 // Certificates as parts of their bytes.
 ghost use Rattle.std.specs.Prelude.{◌≡◌, ◌≢◌, IfOk, IfErr, Ok, Err, is_ok, option_copied, option_map};
 ghost use Rattle.x509_core_parts.specs.Certificates.{signed_of, same_algorithm, full_octets, signature_at, parts_of, certificate_of};
-ghost use Rattle.x509_core_parts.specs.declared.error.X509Error.TheVariants.{NoMemory as Want};
+ghost use Rattle.x509_core_parts.specs.declared.error.X509Error.TheVariants.{NoMemory};
 ghost use Rattle.x509_core_parts.specs.Distinct.{IsRefusal};
 ghost use Rattle.x509_core_parts.specs.Views.{signed_parts, certificate_parts, shown, extension_shown};
 ghost use Rattle.x509_core_parts.specs.Extensions.{found_in};
@@ -11,7 +11,7 @@ use crate::extension::{ExtensionView, find};
 use crate::read;
 use crate::signed::{Front, Middle, Tail, read_front, read_middle, read_tail};
 use crate::spki::algorithm;
-use der_core::{Civil, DerError, ObjectIdentifier};
+use der_core::{Civil, DerError, ObjectIdentifier, tag};
 use std::alloc::Global;
 
 /// A certificate (RFC 5280, 4.1), its parts as slices of the bytes that were read.
@@ -109,7 +109,7 @@ fn parts_in<'a>(
     ensures err { IfErr result (λ e. IsRefusal memory e → parts_of contents.now ≡ Err e) }
     ensures whole { IfOk result (λ v. v.whole.now ≡ whole.now) }
 {
-    let (tbs, rest) = read::tagged(48, contents)?;
+    let (tbs, rest) = read::tagged(tag::SEQUENCE, contents)?;
     let signed = signed_in(memory, tbs.value)?;
     let (algorithm, rest) = algorithm(rest)?;
     compare_algorithms(signed.front.algorithm, algorithm.encoded)?;
@@ -139,7 +139,7 @@ fn certificate_in(memory: Option<Global>, bytes: &[u8]) -> Result<CertView, X509
     ensures err { IfErr result (λ e. IsRefusal memory e → certificate_of bytes.now ≡ Err e) }
     ensures whole { IfOk result (λ v. v.whole.now ≡ bytes.now) }
 {
-    let (contents, rest) = read::contents(48, bytes)?;
+    let (contents, rest) = read::contents(tag::SEQUENCE, bytes)?;
     let view = parts_in(memory, bytes, contents)?;
     read::end(rest)?;
     Ok(view)
@@ -159,7 +159,7 @@ impl<'a> CertView<'a> {
     /// little more than its reading.
     pub fn parse_in(alloc: Global, bytes: &'a [u8]) -> Result<CertView<'a>, X509Error>
         ensures ok { IfOk result (λ v. certificate_of bytes.now ≡ Ok (certificate_parts v)) }
-        ensures err { IfErr result (λ e. e ≢ Want → certificate_of bytes.now ≡ Err e) }
+        ensures err { IfErr result (λ e. e ≢ NoMemory → certificate_of bytes.now ≡ Err e) }
         ensures whole { IfOk result (λ v. v.whole.now ≡ bytes.now) }
     {
         certificate_in(Some(alloc), bytes)

@@ -5,7 +5,7 @@ ghost use Rattle.x509_core_parts.specs.Views.{extension_parts, found_parts};
 
 use crate::error::X509Error;
 use crate::read;
-use der_core::DerError;
+use der_core::{DerError, tag};
 
 /// An extension, its value a slice of the bytes that were read.
 #[derive(Clone, Copy)]
@@ -39,10 +39,10 @@ fn critical(bytes: &[u8]) -> Result<(bool, &[u8]), X509Error>
     ensures ok { IfOk result (λ x. critical_at bytes.now ≡ Ok (x.0, x.1.now)) }
     ensures err { IfErr result (λ e. critical_at bytes.now ≡ Err e) }
 {
-    if !read::is_next(1, bytes) {
+    if !read::is_next(tag::BOOLEAN, bytes) {
         return Ok((false, bytes));
     }
-    let (octets, rest) = read::contents(1, bytes)?;
+    let (octets, rest) = read::contents(tag::BOOLEAN, bytes)?;
     if octets != [255].as_slice() {
         return Err(X509Error::Der(DerError::Value));
     }
@@ -56,7 +56,7 @@ fn extension_in(contents: &[u8]) -> Result<NamedExtension, X509Error>
 {
     let (oid, rest) = read::oid(contents)?;
     let (critical, rest) = critical(rest)?;
-    let (value, rest) = read::contents(4, rest)?;
+    let (value, rest) = read::contents(tag::OCTET_STRING, rest)?;
     read::end(rest)?;
     Ok(NamedExtension {
         oid,
@@ -72,7 +72,7 @@ pub fn extension(bytes: &[u8]) -> Result<(NamedExtension, &[u8]), X509Error>
     ensures err { IfErr result (λ e. extension_at bytes.now ≡ Err e) }
     ensures shorter { IfOk result (λ x. length x.1.now < length bytes.now) }
 {
-    let (contents, rest) = read::contents(48, bytes)?;
+    let (contents, rest) = read::contents(tag::SEQUENCE, bytes)?;
     let extension = extension_in(contents)?;
     Ok((extension, rest))
 }

@@ -1,7 +1,7 @@
 // What a log signs for a certificate (RFC 6962, 3.2).
 ghost use Rattle.std.specs.Prelude.{◌≡◌, ◌≢◌, ◌++◌, ◌<◌, IfOk, IfErr, OnOk, Ok, Err, Some, option_copied};
 ghost use Rattle.der_core_parts.specs.Grammar.{framed};
-ghost use Rattle.x509_core_parts.specs.declared.error.X509Error.TheVariants.{NoMemory as Want};
+ghost use Rattle.x509_core_parts.specs.declared.error.X509Error.TheVariants.{NoMemory};
 ghost use Rattle.x509_core_parts.specs.Reading.{of_der};
 ghost use Rattle.x509_core_parts.specs.Scts.{signed_front, signed_of, IsSctList, three_octets, two_octets};
 ghost use Rattle.x509_core_parts.specs.Precertificates.{written_anew, precert_of};
@@ -11,7 +11,7 @@ use crate::error::X509Error;
 use crate::extension::find;
 use crate::read;
 use crate::sct::Sct;
-use der_core::{OctetString, Tag, append_framed};
+use der_core::{OctetString, Tag, append_framed, tag};
 use foundation::NoMemory;
 use std::alloc::Global;
 
@@ -20,7 +20,7 @@ const SCT_OID: [u8; 10] = [43, 6, 1, 4, 1, 214, 121, 2, 4, 2];
 
 fn framed(alloc: Global, tag: Tag, contents: &[u8]) -> Result<OctetString, X509Error>
     ensures ok { IfOk result (λ out. framed tag.0 contents.now ≡ Ok out) }
-    ensures err { IfErr result (λ e. e ≢ Want → of_der (framed tag.0 contents.now) ≡ Err e) }
+    ensures err { IfErr result (λ e. e ≢ NoMemory → of_der (framed tag.0 contents.now) ≡ Err e) }
 {
     let mut out = OctetString::empty(alloc);
     append_framed(tag, contents, &mut out)?;
@@ -29,7 +29,7 @@ fn framed(alloc: Global, tag: Tag, contents: &[u8]) -> Result<OctetString, X509E
 
 fn joined(alloc: Global, first: &[u8], second: &[u8]) -> Result<OctetString, X509Error>
     ensures ok { IfOk result (λ out. out ≡ first.now ++ second.now) }
-    ensures err { IfErr result (λ e. e ≡ Want) }
+    ensures err { IfErr result (λ e. e ≡ NoMemory) }
 {
     let mut out = OctetString::empty(alloc);
     out.append(first)?;
@@ -41,18 +41,18 @@ fn joined(alloc: Global, first: &[u8], second: &[u8]) -> Result<OctetString, X50
 #[tactic(auto, unfolding(crate::specs::Precertificates::written_anew))]
 fn written_anew(alloc: Global, front: &[u8], list: &[u8]) -> Result<OctetString, X509Error>
     ensures ok { IfOk result (λ out. written_anew front.now list.now ≡ Ok out) }
-    ensures err { IfErr result (λ e. e ≢ Want → of_der (written_anew front.now list.now) ≡ Err e) }
+    ensures err { IfErr result (λ e. e ≢ NoMemory → of_der (written_anew front.now list.now) ≡ Err e) }
 {
-    let sequence = framed(alloc, Tag(48), list)?;
-    let extensions = framed(alloc, Tag(163), sequence.as_bytes())?;
+    let sequence = framed(alloc, Tag(tag::SEQUENCE), list)?;
+    let extensions = framed(alloc, Tag(tag::CONSTRUCTED_3), sequence.as_bytes())?;
     let contents = joined(alloc, front, extensions.as_bytes())?;
-    let out = framed(alloc, Tag(48), contents.as_bytes())?;
+    let out = framed(alloc, Tag(tag::SEQUENCE), contents.as_bytes())?;
     Ok(out)
 }
 
 fn copy_of(alloc: Global, bytes: &[u8]) -> Result<OctetString, X509Error>
     ensures ok { IfOk result (λ out. out ≡ bytes.now) }
-    ensures err { IfErr result (λ e. e ≡ Want) }
+    ensures err { IfErr result (λ e. e ≡ NoMemory) }
 {
     Ok(OctetString::new(alloc, bytes)?)
 }
@@ -64,7 +64,7 @@ fn precert_in(
     list: &[u8],
 ) -> Result<OctetString, X509Error>
     ensures ok { IfOk result (λ out. precert_of tbs.now front.now (Some list.now) ≡ Ok out) }
-    ensures err { IfErr result (λ e. e ≢ Want → precert_of tbs.now front.now (Some list.now) ≡ Err e) }
+    ensures err { IfErr result (λ e. e ≢ NoMemory → precert_of tbs.now front.now (Some list.now) ≡ Err e) }
 {
     match find(list, SCT_OID.as_slice()) {
         Some(found) => {
@@ -79,7 +79,7 @@ fn precert_in(
 /// The signed part that the log saw: without the extension that holds the timestamps.
 pub fn precert_tbs(alloc: Global, cert: &CertView) -> Result<OctetString, X509Error>
     ensures ok { IfOk result (λ out. precert_of cert.now.tbs.now cert.now.front.now (option_copied cert.now.extensions) ≡ Ok out) }
-    ensures err { IfErr result (λ e. e ≢ Want → precert_of cert.now.tbs.now cert.now.front.now (option_copied cert.now.extensions) ≡ Err e) }
+    ensures err { IfErr result (λ e. e ≢ NoMemory → precert_of cert.now.tbs.now cert.now.front.now (option_copied cert.now.extensions) ≡ Err e) }
 {
     match cert.extensions {
         Some(list) => Ok(precert_in(alloc, cert.tbs, cert.front, list)?),
@@ -120,7 +120,7 @@ pub fn sct_signed_bytes(
     tbs: &[u8],
 ) -> Result<OctetString, X509Error>
     ensures ok { IfOk result (λ out. signed_of sct.now issuer_key_hash.now tbs.now ≡ Ok out) }
-    ensures err { IfErr result (λ e. e ≢ Want → signed_of sct.now issuer_key_hash.now tbs.now ≡ Err e) }
+    ensures err { IfErr result (λ e. e ≢ NoMemory → signed_of sct.now issuer_key_hash.now tbs.now ≡ Err e) }
     ensures cause { IfErr result IsSctList }
 {
     if tbs.len() >= 16777216 {

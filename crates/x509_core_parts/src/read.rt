@@ -4,7 +4,7 @@ ghost use Rattle.der_core_parts.specs.Tlv.{tlv, tlv_at};
 ghost use Rattle.x509_core_parts.specs.Reading.{of_der, contents_at, encoded_at, oid_at, int_at, any_at, bits_of, bits_at, at_end, begins_with, before};
 
 use crate::error::X509Error;
-use der_core::{BitStringKind, DerError, IntKind, ObjectIdentifier, PrimitiveKind, Reader, Tlv};
+use der_core::{BitStringKind, DerError, IntKind, ObjectIdentifier, PrimitiveKind, Reader, Tlv, tag};
 
 /// The value at the front, and what follows.
 pub fn value(bytes: &[u8]) -> Result<(Tlv, &[u8]), X509Error>
@@ -70,7 +70,7 @@ pub fn oid(bytes: &[u8]) -> Result<(&[u8], &[u8]), X509Error>
     ensures ok { IfOk result (λ x. oid_at bytes.now ≡ Ok (x.0.now, x.1.now)) }
     ensures err { IfErr result (λ e. oid_at bytes.now ≡ Err e) }
 {
-    let (octets, rest) = contents(6, bytes)?;
+    let (octets, rest) = contents(tag::OID, bytes)?;
     if !ObjectIdentifier::is_contents(octets) {
         return Err(X509Error::Der(DerError::Value));
     }
@@ -83,7 +83,7 @@ pub fn int(bytes: &[u8]) -> Result<(&[u8], &[u8]), X509Error>
     ensures ok { IfOk result (λ x. int_at bytes.now ≡ Ok (x.0.now, x.1.now)) }
     ensures err { IfErr result (λ e. int_at bytes.now ≡ Err e) }
 {
-    let (octets, rest) = contents(2, bytes)?;
+    let (octets, rest) = contents(tag::INTEGER, bytes)?;
     if !IntKind::allows(octets) {
         return Err(X509Error::Der(DerError::Value));
     }
@@ -124,7 +124,7 @@ pub fn bits(bytes: &[u8]) -> Result<(u8, &[u8], &[u8]), X509Error>
     ensures ok { IfOk result (λ x. bits_at bytes.now ≡ Ok ((x.0, x.1.now), x.2.now)) }
     ensures err { IfErr result (λ e. bits_at bytes.now ≡ Err e) }
 {
-    let (octets, rest) = contents(3, bytes)?;
+    let (octets, rest) = contents(tag::BIT_STRING, bytes)?;
     let (unused, bits) = bits_in(octets)?;
     Ok((unused, bits, rest))
 }

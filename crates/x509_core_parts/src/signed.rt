@@ -9,7 +9,7 @@ use crate::distinct::check_distinct;
 use crate::error::X509Error;
 use crate::read;
 use crate::spki::{algorithm, spki_in};
-use der_core::{Civil, DerError, GeneralizedTimeKind, TimeKind, UtcTimeKind};
+use der_core::{Civil, DerError, GeneralizedTimeKind, TimeKind, UtcTimeKind, tag};
 use std::alloc::Global;
 
 /// Version, serial number, algorithm and issuer.
@@ -61,10 +61,10 @@ fn version(bytes: &[u8]) -> Result<(u8, &[u8]), X509Error>
     ensures ok { IfOk result (λ x. version_at bytes.now ≡ Ok (x.0, x.1.now)) }
     ensures err { IfErr result (λ e. version_at bytes.now ≡ Err e) }
 {
-    if !read::is_next(160, bytes) {
+    if !read::is_next(tag::CONSTRUCTED_0, bytes) {
         return Ok((0, bytes));
     }
-    let (contents, rest) = read::contents(160, bytes)?;
+    let (contents, rest) = read::contents(tag::CONSTRUCTED_0, bytes)?;
     let version = version_in(contents)?;
     Ok((version, rest))
 }
@@ -90,7 +90,7 @@ pub fn read_front(bytes: &[u8]) -> Result<(Front, &[u8]), X509Error>
     let (version, rest) = version(bytes)?;
     let (serial, rest) = serial(rest)?;
     let (algorithm, rest) = algorithm(rest)?;
-    let (issuer, rest) = read::encoded(48, rest)?;
+    let (issuer, rest) = read::encoded(tag::SEQUENCE, rest)?;
     let front = Front {
         version,
         serial,
@@ -147,10 +147,10 @@ pub fn read_middle(bytes: &[u8]) -> Result<(Middle, &[u8]), X509Error>
     ensures ok { IfOk result (λ x. middle_at bytes.now ≡ Ok (middle_parts x.0, x.1.now)) }
     ensures err { IfErr result (λ e. middle_at bytes.now ≡ Err e) }
 {
-    let (validity, rest) = read::contents(48, bytes)?;
+    let (validity, rest) = read::contents(tag::SEQUENCE, bytes)?;
     let (not_before, not_after) = validity_in(validity)?;
-    let (subject, rest) = read::encoded(48, rest)?;
-    let (spki, rest) = read::tagged(48, rest)?;
+    let (subject, rest) = read::encoded(tag::SEQUENCE, rest)?;
+    let (spki, rest) = read::tagged(tag::SEQUENCE, rest)?;
     spki_in(spki.value)?;
     let middle = Middle {
         not_before,
@@ -179,7 +179,7 @@ fn list_in(memory: Option<Global>, contents: &[u8]) -> Result<&[u8], X509Error>
     ensures ok { IfOk result (λ list. list_of contents.now ≡ Ok list.now) }
     ensures err { IfErr result (λ e. IsRefusal memory e → list_of contents.now ≡ Err e) }
 {
-    let (list, rest) = read::contents(48, contents)?;
+    let (list, rest) = read::contents(tag::SEQUENCE, contents)?;
     check_distinct(memory, list)?;
     read::end(rest)?;
     Ok(list)
@@ -190,10 +190,10 @@ fn list(memory: Option<Global>, bytes: &[u8]) -> Result<(Option<&[u8]>, &[u8]), 
     ensures ok { IfOk result (λ x. list_at bytes.now ≡ Ok (option_copied x.0, x.1.now)) }
     ensures err { IfErr result (λ e. IsRefusal memory e → list_at bytes.now ≡ Err e) }
 {
-    if !read::is_next(163, bytes) {
+    if !read::is_next(tag::CONSTRUCTED_3, bytes) {
         return Ok((None, bytes));
     }
-    let (contents, rest) = read::contents(163, bytes)?;
+    let (contents, rest) = read::contents(tag::CONSTRUCTED_3, bytes)?;
     let list = list_in(memory, contents)?;
     Ok((Some(list), rest))
 }

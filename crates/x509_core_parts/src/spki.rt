@@ -5,6 +5,7 @@ ghost use Rattle.x509_core_parts.specs.Views.{algorithm_parts, spki_parts};
 
 use crate::error::X509Error;
 use crate::read;
+use der_core::tag;
 
 /// An AlgorithmIdentifier (RFC 5280, 4.1.1.2), its parts as slices of the bytes that were read.
 #[derive(Clone, Copy)]
@@ -53,7 +54,7 @@ pub fn algorithm(bytes: &[u8]) -> Result<(AlgorithmView, &[u8]), X509Error>
     ensures ok { IfOk result (λ x. algorithm_at bytes.now ≡ Ok (algorithm_parts x.0, x.1.now)) }
     ensures err { IfErr result (λ e. algorithm_at bytes.now ≡ Err e) }
 {
-    let (contents, rest) = read::contents(48, bytes)?;
+    let (contents, rest) = read::contents(tag::SEQUENCE, bytes)?;
     let algorithm = algorithm_in(contents)?;
     Ok((algorithm, rest))
 }
@@ -82,7 +83,7 @@ pub fn spki(bytes: &[u8]) -> Result<(SpkiView, &[u8]), X509Error>
     ensures ok { IfOk result (λ x. spki_at bytes.now ≡ Ok (spki_parts x.0, x.1.now)) }
     ensures err { IfErr result (λ e. spki_at bytes.now ≡ Err e) }
 {
-    let (contents, rest) = read::contents(48, bytes)?;
+    let (contents, rest) = read::contents(tag::SEQUENCE, bytes)?;
     let spki = spki_in(contents)?;
     Ok((spki, rest))
 }

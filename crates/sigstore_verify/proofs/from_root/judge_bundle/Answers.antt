@@ -1,6 +1,6 @@
 use Rattle.std.proofs.Common.{refl}
-use Rattle.sigstore_verify.specs.Root.{trust_refused, verifier_refused, bundle_refused, judged}
-use Rattle.sigstore_verify.proofs.root.judge_bundle.Goals as goal
+use Rattle.sigstore_verify.specs.FromRoot.{trust_refused, verifier_refused, bundle_refused, judged}
+use Rattle.sigstore_verify.proofs.from_root.judge_bundle.Goals as goal
 
 pub returns-in-Err : goal.returns-in-Err
 returns-in-Err g c = trust_refused _ c.in-Err.ensures.err refl refl

@@ -2,7 +2,7 @@
 ghost use Rattle.std.specs.Prelude.{◌≡◌, ◌≢◌, Ok, Err, IfOk, IfErr};
 ghost use Rattle.serde_json.specs.View.{view};
 ghost use Rattle.sigstore_types_parts.specs.declared.error.TypesError.TheVariants.{NoMemory};
-ghost use Rattle.sigstore_types.specs.Words.{absent, empty, without_items, json};
+ghost use Rattle.sigstore_types.specs.Members.{absent, empty, without_items, json};
 
 use serde_json::Value;
 use sigstore_types_parts::{Form, Member, TypesError, TypesMember, parse_json};

@@ -1,6 +1,6 @@
 use Rattle.std.proofs.Common.{refl}
-use Rattle.sigstore_verify.specs.Root.{refresh_refused, target_refused, chain_given}
-use Rattle.sigstore_verify.proofs.root.chain_by.Goals as goal
+use Rattle.sigstore_verify.specs.FromRoot.{refresh_refused, target_refused, chain_given}
+use Rattle.sigstore_verify.proofs.from_root.chain_by.Goals as goal
 
 pub returns-in-Err-clause-gives : goal.returns-in-Err-clause-gives
 returns-in-Err-clause-gives g c root h = refresh_refused _ _ _ h c.in-Err.ensures.refreshes refl

@@ -1,5 +1,5 @@
 use Rattle.std.proofs.Common.{◌≡◌, ◌+◌, vec_len}
-use Rattle.sigstore_tuf.proofs.file.read_within.Given as goal
+use Rattle.sigstore_types_parts.proofs.file.read_within.Given as goal
 
 abbrev pub invariant-loop-bytes : goal.invariant-loop-bytes
 invariant-loop-bytes g l = vec_len l.bytes + l.left ≡ l.max

@@ -1,8 +1,8 @@
 use Rattle.std.proofs.Common.{refl, ap, Err}
-use Rattle.sigstore_verify.specs.Root.{chain_refused, judgement_refused, accepted}
+use Rattle.sigstore_verify.specs.FromRoot.{chain_refused, judgement_refused, accepted}
 use Rattle.sigstore_verify.proofs.RootFacts.{chain_trusts, is_accepted}
 use Rattle.sigstore_verify.proofs.RootCauses.{runs_cause}
-use Rattle.sigstore_verify.proofs.root.verify_from_root.Goals as goal
+use Rattle.sigstore_verify.proofs.from_root.verify_from_root.Goals as goal
 
 pub returns-in-Err : goal.returns-in-Err
 returns-in-Err g c =

@@ -22,9 +22,9 @@ use Rattle.sigstore_verify.specs.declared.error.Error.{Error}
 use Rattle.sigstore_verify.specs.declared.error.Error.TheVariants as verify
 use Rattle.sigstore_verify.specs.Error.{lowered}
 use Rattle.sigstore_verify.specs.declared.report.Kept.{Kept}
-use Rattle.sigstore_verify.specs.declared.root.Rooted.{Rooted}
-use Rattle.sigstore_verify.specs.declared.root.RootFault.{RootFault}
-use Rattle.sigstore_verify.specs.declared.root.RootFault.TheVariants.{Tuf, Verify, NoMemory}
+use Rattle.sigstore_verify.specs.declared.from_root.Rooted.{Rooted}
+use Rattle.sigstore_verify.specs.declared.from_root.RootFault.{RootFault}
+use Rattle.sigstore_verify.specs.declared.from_root.RootFault.TheVariants.{Tuf, Verify, NoMemory}
 use Rattle.sigstore_verify.specs.Policy.{Meaning, PublicKey}
 use Rattle.sigstore_verify.specs.Given.{Anchor, Given, Outside}
 use Rattle.sigstore_verify.specs.Accepts.{AcceptsKey}
@@ -60,14 +60,18 @@ bundle_of bytes = or_fault bundle_fault (bundle_of_bytes bytes)
 
 -- The chain comes from a first root, a refresh and a search, in this order; the first that refuses answers.
 pub data GivesChain (anchor : Anchor) (repo repo' : Watched Folders) (result : Result TrustChain TufError) : Type 0 where
-  root_refused : (e : TufError) → (e ≢ tuf.NoMemory → first_root_of anchor.crypto anchor.root ≡ Err e) → repo' ≡ repo → result ≡ Err e → GivesChain anchor repo repo' result
-  refresh_refused : (set set' : InForce) (e : TufError) → first_root_of anchor.crypto anchor.root ≡ Ok set → Refreshes anchor.crypto anchor.config anchor.now set set' repo repo' (Err e)
+  root_refused : (e : TufError) → (e ≢ tuf.NoMemory → first_root_of anchor.crypto anchor.root ≡ Err e) → repo' ≡ repo
+      → result ≡ Err e → GivesChain anchor repo repo' result
+  refresh_refused : (set set' : InForce) (e : TufError) → first_root_of anchor.crypto anchor.root ≡ Ok set
+      → Refreshes anchor.crypto anchor.config anchor.now set set' repo repo' (Err e)
       → result ≡ Err e → GivesChain anchor repo repo' result
   target_refused : (set set' : InForce) (mid : Watched Folders) (e : TufError) → first_root_of anchor.crypto anchor.root ≡ Ok set
-      → Refreshes anchor.crypto anchor.config anchor.now set set' repo mid (Ok tt) → GetsTarget set' anchor.config trust_path anchor.now mid repo' (Err e) → result ≡ Err e
+      → Refreshes anchor.crypto anchor.config anchor.now set set' repo mid (Ok tt)
+      → GetsTarget set' anchor.config trust_path anchor.now mid repo' (Err e) → result ≡ Err e
       → GivesChain anchor repo repo' result
   chain_given : (set set' : InForce) (mid : Watched Folders) (chain : TrustChain) → first_root_of anchor.crypto anchor.root ≡ Ok set
-      → Refreshes anchor.crypto anchor.config anchor.now set set' repo mid (Ok tt) → GetsTarget set' anchor.config trust_path anchor.now mid repo' (Ok chain) → result ≡ Ok chain
+      → Refreshes anchor.crypto anchor.config anchor.now set set' repo mid (Ok tt)
+      → GetsTarget set' anchor.config trust_path anchor.now mid repo' (Ok chain) → result ≡ Ok chain
       → GivesChain anchor repo repo' result
 
 -- the chain is trusted from the given root at the moment, for the trust file
@@ -77,11 +81,15 @@ TrustsChain anchor chain = Trusted anchor.crypto anchor.root anchor.now anchor.c
 -- ---- the judgement
 
 -- The bundle is judged under a trust file: the file is read, then the bundle, then the artifact; the first that refuses answers.
-pub data JudgesBundle (accepts : Judge) (policy : Meaning) (file bundle : List ℕ) (source source' : Watched (List ℕ)) (max : ℕ) (result : Result Kept Error) : Type 0 where
-  trust_refused : (e : Error) → (e ≢ verify.NoMemory → trust_of file ≡ Err e) → source' ≡ source → result ≡ Err e → JudgesBundle accepts policy file bundle source source' max result
-  verifier_refused : (trust : TrustedRoot) (e : Error) → trust_of file ≡ Ok trust → (e ≢ verify.NoMemory → usable_of trust ≡ Err e) → source' ≡ source → result ≡ Err e
+pub data JudgesBundle (accepts : Judge) (policy : Meaning) (file bundle : List ℕ) (source source' : Watched (List ℕ))
+    (max : ℕ) (result : Result Kept Error) : Type 0 where
+  trust_refused : (e : Error) → (e ≢ verify.NoMemory → trust_of file ≡ Err e) → source' ≡ source → result ≡ Err e
       → JudgesBundle accepts policy file bundle source source' max result
-  bundle_refused : (trust : TrustedRoot) (e : Error) → trust_of file ≡ Ok trust → usable_of trust ≡ Ok tt → (e ≢ verify.NoMemory → bundle_of bundle ≡ Err e) → source' ≡ source
+  verifier_refused : (trust : TrustedRoot) (e : Error) → trust_of file ≡ Ok trust
+      → (e ≢ verify.NoMemory → usable_of trust ≡ Err e) → source' ≡ source → result ≡ Err e
+      → JudgesBundle accepts policy file bundle source source' max result
+  bundle_refused : (trust : TrustedRoot) (e : Error) → trust_of file ≡ Ok trust → usable_of trust ≡ Ok tt
+      → (e ≢ verify.NoMemory → bundle_of bundle ≡ Err e) → source' ≡ source
       → result ≡ Err e → JudgesBundle accepts policy file bundle source source' max result
   judged : (trust : TrustedRoot) (read : Bundle) → trust_of file ≡ Ok trust → usable_of trust ≡ Ok tt → bundle_of bundle ≡ Ok read
       → VerifiesKept accepts policy read source source' max result → JudgesBundle accepts policy file bundle source source' max result
@@ -98,23 +106,28 @@ root_of_verify e chain = Verify e chain
 
 -- the judgement of what is asked, under a trust file
 abbrev pub JudgesGiven : Given → List ℕ → Outside → Outside → Result Kept Error → Type 0
-JudgesGiven given file before after result = JudgesBundle given.anchor.crypto.accepts given.policy file given.bundle before.source after.source given.max result
+JudgesGiven given file before after result =
+    JudgesBundle given.anchor.crypto.accepts given.policy file given.bundle before.source after.source given.max result
 
 -- The top call is the chain and then the judgement under the chain's file; the first that refuses answers. The artifact stays
 -- unread where there is no chain.
 pub data Runs (given : Given) (before after : Outside) (result : Result Rooted RootFault) : Type 0 where
-  chain_refused : (e : TufError) → GivesChain given.anchor before.repo after.repo (Err e) → after.source ≡ before.source → result ≡ Err (root_of_tuf e) → Runs given before after result
-  judgement_refused : (chain : TrustChain) (e : Error) → GivesChain given.anchor before.repo after.repo (Ok chain) → JudgesGiven given chain.file before after (Err e)
+  chain_refused : (e : TufError) → GivesChain given.anchor before.repo after.repo (Err e) → after.source ≡ before.source
+      → result ≡ Err (root_of_tuf e) → Runs given before after result
+  judgement_refused : (chain : TrustChain) (e : Error) → GivesChain given.anchor before.repo after.repo (Ok chain)
+      → JudgesGiven given chain.file before after (Err e)
       → result ≡ Err (root_of_verify e chain) → Runs given before after result
   accepted : (rooted : Rooted) → GivesChain given.anchor before.repo after.repo (Ok rooted.chain)
-      → JudgesGiven given rooted.chain.file before after (Ok (record { result = rooted.result; digests = rooted.digests })) → result ≡ Ok rooted → Runs given before after result
+      → JudgesGiven given rooted.chain.file before after
+      (Ok (record { result = rooted.result; digests = rooted.digests })) → result ≡ Ok rooted → Runs given before after result
 
 -- the bundle is accepted under the policy, by the digest of its artifact
 abbrev pub AcceptsUnder : Judge → Meaning → Bundle → List ℕ → Type 0
 AcceptsUnder accepts (PublicKey policy) bundle digest = AcceptsKey accepts policy bundle digest
 
 -- What an acceptance means: the chain that is handed back is trusted from the given root; its file has a reading as the trust file, which
--- can be used, and the bundle has a reading; these bytes are exactly those that a telling source gave up to its end; by their SHA-256 value the bundle is accepted under the
+-- can be used, and the bundle has a reading; these bytes are exactly those that a telling source gave up to its
+-- end; by their SHA-256 value the bundle is accepted under the
 -- policy with this report; and the digests are that value.
 pub record IsAccepted (given : Given) (before after : Outside) (rooted : Rooted) : Type 0 where
   pub trusted : TrustsChain given.anchor rooted.chain

@@ -2,8 +2,8 @@
 ghost use Rattle.std.specs.Prelude.{◌≡◌, ◌≢◌, ℕ, List, Ok, Err, IfOk, IfErr};
 ghost use Rattle.sigstore_tuf_parts.specs.By.{crypto_by};
 ghost use Rattle.sigstore_tuf.specs.Update.{first_root_of};
-ghost use Rattle.sigstore_verify.specs.declared.error.Error.TheVariants.{NoMemory as Want};
-ghost use Rattle.sigstore_verify.specs.Root.{trust_of, bundle_of, GivesChain, JudgesBundle, root_of_tuf, root_of_verify};
+ghost use Rattle.sigstore_verify.specs.declared.error.Error.TheVariants.{NoMemory};
+ghost use Rattle.sigstore_verify.specs.FromRoot.{trust_of, bundle_of, GivesChain, JudgesBundle, root_of_tuf, root_of_verify};
 ghost use Rattle.sigstore_verify.specs.Given.{Anchor, Given, Outside};
 ghost use Rattle.sigstore_verify.specs.Promises.{Promises};
 
@@ -11,7 +11,7 @@ use crate::error::{Error, lowered};
 use crate::policy::Policy;
 use crate::report::{Kept, VerificationResult};
 use crate::verifier::Verifier;
-use foundation::Sequence;
+use foundation::{Duplicate, NoMemory, Sequence};
 use jiff::Timestamp;
 use sigstore_crypto::{ArtifactSource, CryptoProvider};
 use sigstore_tuf::{
@@ -33,6 +33,16 @@ pub struct Rooted {
     pub result: VerificationResult,
     pub chain: TrustChain,
     pub digests: Sequence<ArtifactDigest>,
+}
+
+impl Duplicate for Rooted {
+    fn duplicate(&self, alloc: Global) -> Result<Rooted, NoMemory> {
+        Ok(Rooted {
+            result: self.result.duplicate(alloc)?,
+            chain: self.chain.duplicate(alloc)?,
+            digests: self.digests.duplicate(alloc)?,
+        })
+    }
 }
 
 /// A refusal of the top call: of the chain of documents; of the bundle, with the chain whose file it was
@@ -70,7 +80,7 @@ fn verify_fault(fault: Error, chain: TrustChain) -> RootFault
 
 fn read_trust(alloc: Global, bytes: &[u8]) -> Result<TrustedRoot, Error>
     ensures ok { IfOk result (λ trust. trust_of bytes.now ≡ Ok trust) }
-    ensures err { IfErr result (λ e. e ≢ Want → trust_of bytes.now ≡ Err e) }
+    ensures err { IfErr result (λ e. e ≢ NoMemory → trust_of bytes.now ≡ Err e) }
 {
     match TrustedRoot::from_json(alloc, bytes) {
         Ok(trust) => Ok(trust),
@@ -80,7 +90,7 @@ fn read_trust(alloc: Global, bytes: &[u8]) -> Result<TrustedRoot, Error>
 
 fn read_bundle(alloc: Global, bytes: &[u8]) -> Result<Bundle, Error>
     ensures ok { IfOk result (λ bundle. bundle_of bytes.now ≡ Ok bundle) }
-    ensures err { IfErr result (λ e. e ≢ Want → bundle_of bytes.now ≡ Err e) }
+    ensures err { IfErr result (λ e. e ≢ NoMemory → bundle_of bytes.now ≡ Err e) }
 {
     match Bundle::from_json(alloc, bytes) {
         Ok(bundle) => Ok(bundle),
