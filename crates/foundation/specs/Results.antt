@@ -1,5 +1,5 @@
 -- What proofs of all crates know of results, options and tests.
-use Rattle.std.proofs.Common.{◌≡◌, Bool, true, false, ◌&&◌, not, Option, Some, None, Result, Ok, Err, refl, ap}
+use Rattle.std.proofs.Common.{◌≡◌, Bool, true, false, ◌&&◌, not, Some, Result, Ok, Err, refl, ap}
 use Rattle.foundation.specs.Steps.{◌>>=◌}
 
 pub ok_same : {A E : Type 0} (x y : A) → ◌≡◌ {A = Result A E} (Ok x) (Ok y) → x ≡ y
