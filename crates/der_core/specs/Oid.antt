@@ -1,6 +1,6 @@
 -- OBJECT IDENTIFIER (X.690, 8.19), of at most 39 octets and with arcs below 2^32.
-use Rattle.std.specs.Prelude.{ℕ, zero, suc, ◌+◌, ◌-◌, ◌*◌, ◌/◌, ◌%◌, Bool, false, ◌&&◌, ◌||◌, ◌==◌, nat_lt, not, List,
-    [], ◌∷◌, ◌++◌, length, take, Option, Some, None, Ok, Err, is_ok, if◌then◌else◌, refl}
+use Rattle.std.specs.Prelude.{ℕ, zero, suc, ◌+◌, ◌-◌, ◌*◌, ◌/◌, ◌%◌, Bool, false, ◌&&◌, ◌||◌, ◌==◌, nat_lt, not, List}
+use Rattle.std.specs.Prelude.{[], ◌∷◌, ◌++◌, length, take, Option, Some, None, Ok, Err, is_ok, if◌then◌else◌, refl}
 use Rattle.foundation.specs.Steps.{◌>>=◌}
 use Rattle.der_core_parts.specs.declared.error.DerError.TheVariants.{Value, Oid}
 use Rattle.der_core_parts.specs.Outcome.{Outcome}

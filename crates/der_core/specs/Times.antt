@@ -1,6 +1,6 @@
 -- UTCTime and GeneralizedTime (X.690, 11.7 and 11.8): digits and Z, with seconds and no fraction.
-use Rattle.std.specs.Prelude.{ℕ, ◌+◌, ◌-◌, ◌*◌, ◌/◌, ◌%◌, ◌++◌, ◌∷◌, [], Bool, ◌&&◌, ◌==◌, nat_lt, nat_le, List, length,
-    slice_index, Ok, Err, is_ok, if◌then◌else◌, refl, ℤ, pos, neg_ℤ, ◌+ℤ◌, ◌*ℤ◌, ◌≤ℤ◌, ◌<ℤ◌}
+use Rattle.std.specs.Prelude.{ℕ, ◌+◌, ◌-◌, ◌*◌, ◌/◌, ◌%◌, ◌++◌, ◌∷◌, [], Bool, ◌&&◌, ◌==◌, nat_lt, nat_le, List, length}
+use Rattle.std.specs.Prelude.{slice_index, Ok, Err, is_ok, if◌then◌else◌, refl, ℤ, pos, neg_ℤ, ◌+ℤ◌, ◌*ℤ◌, ◌≤ℤ◌, ◌<ℤ◌}
 use Rattle.std.specs.Int.{int_min, int_max}
 use Rattle.foundation.specs.Steps.{◌>>=◌}
 use Rattle.jiff_core.specs.Calendar.{days_in_month, days_from_civil}
@@ -31,8 +31,8 @@ real c = if is_civil c then Ok c else Err Value
 unfoldable pub civil_at : ℕ → List ℕ → ℕ → Outcome Civil
 civil_at year bytes i =
     if slice_index bytes (i + 10) == 90 then
-        (pair_at bytes i >>= λ month. pair_at bytes (i + 2) >>= λ day. pair_at bytes (i + 4)
-        >>= λ hour. pair_at bytes (i + 6) >>= λ minute. pair_at bytes (i + 8) >>= λ second.
+    (pair_at bytes i >>= λ month. pair_at bytes (i + 2) >>= λ day. pair_at bytes (i + 4)
+    >>= λ hour. pair_at bytes (i + 6) >>= λ minute. pair_at bytes (i + 8) >>= λ second.
     real (record { year = year; month = month; day = day; hour = hour; minute = minute; second = second }))
     else Err Value
 
@@ -40,7 +40,7 @@ civil_at year bytes i =
 unfoldable pub generalized_of : List ℕ → Outcome Civil
 generalized_of bytes =
     if length bytes == 15 then (pair_at bytes 0 >>= λ century. pair_at bytes 2
-        >>= λ year. civil_at (100 * century + year) bytes 4) else Err Value
+    >>= λ year. civil_at (100 * century + year) bytes 4) else Err Value
 
 -- years 50 to 99 are those of 1900, and 00 to 49 those of 2000
 abbrev pub full_year : ℕ → ℕ

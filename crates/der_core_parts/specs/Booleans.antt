@@ -23,7 +23,7 @@ boolean-again (x ∷ y ∷ more) b e = absurd cc
 boolean-again (x ∷ []) b e = elim (chosen (eqb x 0) _ _ _ e) [
   | inl p ↦ ap boolean_contents (sym (ok_is false b p.1)) ∙ ap (λ (z : ℕ). z ∷ []) (sym (eqb-true x 0 p.0))
   | inr p ↦ let q = passed (eqb x 255) Value (Ok true) b p.1 in
-  ap boolean_contents (sym (ok_is true b q.1)) ∙ ap (λ (z : ℕ). z ∷ []) (sym (eqb-true x 255 q.0))
+      ap boolean_contents (sym (ok_is true b q.1)) ∙ ap (λ (z : ℕ). z ∷ []) (sym (eqb-true x 255 q.0))
 ]
 
 pub boolean-fixed : (b other : Bool) → boolean_of (boolean_contents b) ≡ Ok other → other ≡ b

@@ -1,6 +1,6 @@
 -- Proofs: the laws of a grammar from those of its parts.
-use Rattle.std.proofs.Common.{◌≡◌, ◌⊎◌, ℕ, suc, ◌<◌, Bool, true, false, cond, ltb, eqb, List, [], ◌∷◌, ◌++◌, length,
-    Option, Some, None, Ok, refl, sym, ap, subst, ◌∙◌, append_assoc, arith, inl, inr, eq-eqb}
+use Rattle.std.proofs.Common.{◌≡◌, ◌⊎◌, ℕ, suc, ◌<◌, Bool, true, false, cond, ltb, eqb, List, [], ◌∷◌, ◌++◌, length}
+use Rattle.std.proofs.Common.{Option, Some, None, Ok, refl, sym, ap, subst, ◌∙◌, append_assoc, arith, inl, inr, eq-eqb}
 use Rattle.std.specs.Prelude.{◌&&◌, ◌||◌}
 use Rattle.std.proofs.lemmas.Bool.{ltb-true, lt-ltb, eqb-true}
 use Rattle.std.proofs.lemmas.List.{length-append, append-nil, append_cancel_right, nil_from_length}
@@ -9,9 +9,10 @@ use Rattle.der_core_parts.specs.Outcome.{Outcome}
 use Rattle.foundation.specs.Steps.{◌>>=◌}
 use Rattle.foundation.specs.Results.{and_true}
 use Rattle.der_core_parts.specs.Tlv.{IsTag, IsBytes, tlv, length_bytes, tlv_at}
-use Rattle.der_core_parts.specs.Grammar.{Grammar, Fields, read, read_body, ended, read_all, framed, write, Encodes,
-    primitive, implicit, sequence, mapped, one, begins, IsEncodedOption, write_option, read_option, optional,
-    AreEncoded, both, mapped_fields, refined, refined_fields, unless_default, or_default, defaulted}
+use Rattle.der_core_parts.specs.Grammar.{Grammar, Fields, read, read_body, ended, read_all, framed, write, Encodes}
+use Rattle.der_core_parts.specs.Grammar.{primitive, implicit, sequence, mapped, one, begins, IsEncodedOption}
+use Rattle.der_core_parts.specs.Grammar.{write_option, read_option, optional, AreEncoded, both, mapped_fields, refined}
+use Rattle.der_core_parts.specs.Grammar.{refined_fields, unless_default, or_default, defaulted}
 use Rattle.der_core_parts.specs.Law.{WritesAs, IsLawful, IsTaken, AreLawful}
 use Rattle.der_core_parts.specs.TlvLaws.{ok_is, bind_ok, passed, not_refused, chosen, tlv_takes, tlv_again}
 
@@ -52,8 +53,12 @@ one-found {A} g lawful bytes a rest fits e =
     let piece = tlv_takes bytes t.0 t.1 t.2 fits m.1 in
     let s = lawful.found t.0 t.1 v.0 p.0 piece.value_bytes v.1 in
     subst (λ (x : A × List ℕ). IsTaken (one g) bytes x.0 x.1) (ok_is (v.0, t.2) (a, rest) v.2)
-    (record { text = tlv t.0 t.1; whole = piece.whole; rest_bytes = piece.rest_bytes;
-        encoded = record { tag = t.0; contents = t.1; fits = piece.fits; encoded = s; whole = refl } })
+    (record {
+      text = tlv t.0 t.1;
+      whole = piece.whole;
+      rest_bytes = piece.rest_bytes;
+      encoded = record { tag = t.0; contents = t.1; fits = piece.fits; encoded = s; whole = refl };
+    })
 
 pub one-only : {A : Type 0} (g : Grammar A) (lawful : IsLawful g) (a : A) (text rest : List ℕ) → Encodes g a text
     → read g (text ++ rest) ≡ Ok (a, rest)
@@ -216,8 +221,13 @@ both-written : {A B : Type 0} (f : Fields A) (g : Fields B) (lf : AreLawful f) (
 both-written f g lf lg x text e =
     let m = bind_ok (f.text x.0) (λ a. g.text x.1 >>= λ b. Ok (a ++ b)) text e in
     let n = bind_ok (g.text x.1) (λ b. Ok (m.0 ++ b)) text m.2 in
-    record { front = m.0; back = n.0; whole = sym (ok_is (m.0 ++ n.0) text n.2); first = lf.written x.0 m.0 m.1;
-        second = lg.written x.1 n.0 n.1 }
+    record {
+      front = m.0;
+      back = n.0;
+      whole = sym (ok_is (m.0 ++ n.0) text n.2);
+      first = lf.written x.0 m.0 m.1;
+      second = lg.written x.1 n.0 n.1;
+    }
 
 both-writes : {A B : Type 0} (f : Fields A) (g : Fields B) (lf : AreLawful f) (lg : AreLawful g) (x : A × B)
     (text : List ℕ) → AreEncoded f g x text → WritesAs ((both f g).text x) text
@@ -259,8 +269,12 @@ mapped_fields-lawful {A} {B} to back f there again lf = record {
       let m = bind_ok (f.value_at bytes) (λ x. Ok (to x.0, x.1)) (b, rest) e in
       let t = lf.found bytes m.0.0 m.0.1 fits m.1 in
       subst (λ (z : B × List ℕ). IsTaken (mapped_fields to back f) bytes z.0 z.1) (ok_is (to m.0.0, m.0.1) (b, rest) m.2)
-      (record { text = t.text; whole = t.whole;
-          encoded = subst (λ (a : A). f.IsEncoded a t.text) (sym (there m.0.0)) t.encoded; rest_bytes = t.rest_bytes });
+      (record {
+        text = t.text;
+        whole = t.whole;
+        encoded = subst (λ (a : A). f.IsEncoded a t.text) (sym (there m.0.0)) t.encoded;
+        rest_bytes = t.rest_bytes;
+      });
   only = λ b text rest s h. let e = lf.only (back b) text rest s h in let i = again b in rw e (rw i refl);
   written = λ b. lf.written (back b);
   writes = λ b. lf.writes (back b);
@@ -312,9 +326,11 @@ sequence-lawful {A} tag f tagged lf = record {
       let p = passed (eqb (length m.0.1) 0) Trailing (Ok m.0.0) a m.2 in
       let t = lf.found c m.0.0 m.0.1 fits m.1 in
       let nothing : m.0.1 ≡ [] = nil_from_length m.0.1 (eqb-true _ _ p.0) in
-      let whole : c ≡ t.text = t.whole ∙ ap (λ (r : List ℕ). t.text ++ r) nothing ∙ append-nil t.text in
-      (eqb-true _ tag ok, subst (λ (z : A). f.IsEncoded z c) (ok_is m.0.0 a p.1)
-          (subst (λ (z : List ℕ). f.IsEncoded m.0.0 z) (sym whole) t.encoded));
+      let whole : c ≡ t.text = t.whole ∙ ap (λ (r : List ℕ). t.text ++ r) nothing ∙ append-nil t.text in (
+        eqb-true _ tag ok,
+        subst (λ (z : A). f.IsEncoded z c) (ok_is m.0.0 a p.1)
+            (subst (λ (z : List ℕ). f.IsEncoded m.0.0 z) (sym whole) t.encoded),
+      );
   only = λ t c a s. let e0 = s.0 in
       let e : f.value_at c ≡ Ok (a, []) = ap f.value_at (sym (append-nil c)) ∙ lf.only a c [] s.1 refl in
       (rw e0 (eq-eqb tag tag refl), rw e refl);
@@ -351,8 +367,12 @@ refined_fields-lawful {A} {B} to back f again fixed lf = record {
       let t = lf.found bytes m.0.0 m.0.1 fits m.1 in
       let is = again m.0.0 n.0 n.1 in
       subst (λ (z : B × List ℕ). IsTaken (refined_fields to back f) bytes z.0 z.1) (ok_is (n.0, m.0.1) (b, rest) n.2)
-      (record { text = t.text; whole = t.whole;
-          encoded = (ap to is ∙ n.1, subst (λ (a : A). f.IsEncoded a t.text) (sym is) t.encoded); rest_bytes = t.rest_bytes });
+      (record {
+        text = t.text;
+        whole = t.whole;
+        encoded = (ap to is ∙ n.1, subst (λ (a : A). f.IsEncoded a t.text) (sym is) t.encoded);
+        rest_bytes = t.rest_bytes;
+      });
   only = λ b text rest s h. let e = lf.only (back b) text rest s.1 h in let i = s.0 in rw e (rw i refl);
   written = λ b text e. let m = bind_ok (to (back b)) (λ same. f.text (back b)) text e in
       (m.1 ∙ ap (λ z. Ok z) (fixed b m.0 m.1), lf.written (back b) text m.2);
@@ -380,8 +400,8 @@ pub defaulted-lawful : {A : Type 0} (is_default : A → Bool) (d : A) (g : Gramm
     → ((a : A) → is_default a ≡ true → a ≡ d) → IsLawful g → AreLawful (defaulted is_default d g)
 defaulted-lawful is_default d g tested only_one lg =
     refined_fields-lawful (or_default is_default d) (unless_default is_default) (optional g)
-        (default-again is_default d tested)
-        (λ a other e. default-fixed is_default d only_one a other (is_default a) refl e) (optional-lawful g lg)
+    (default-again is_default d tested)
+    (λ a other e. default-fixed is_default d only_one a other (is_default a) refl e) (optional-lawful g lg)
 
 -- ---- whole texts
 
@@ -410,7 +430,7 @@ pub no_prefix : {A : Type 0} (g : Grammar A) (lawful : IsLawful g) (a b : A) (x 
     → Encodes g b y → x ++ v ≡ y ++ w → (a ≡ b) × (x ≡ y)
 no_prefix {A} g lawful a b x y v w s t e =
     let m : Path (Outcome (A × List ℕ)) (Ok (a, v)) (Ok (b, w)) =
-        sym (one-only g lawful a x v s) ∙ ap (read g) e ∙ one-only g lawful b y w t in
+    sym (one-only g lawful a x v s) ∙ ap (read g) e ∙ one-only g lawful b y w t in
     let p = ok_is (a, v) (b, w) m in
     let q : v ≡ w = ap (λ (z : A × List ℕ). z.1) p in
     (ap (λ (z : A × List ℕ). z.0) p, append_cancel_right x y v (e ∙ ap (λ (z : List ℕ). y ++ z) (sym q)))

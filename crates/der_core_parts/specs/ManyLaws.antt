@@ -1,6 +1,6 @@
 -- Proofs: the laws of values one after the other.
-use Rattle.std.proofs.Common.{◌≡◌, ◌⊎◌, ℕ, zero, suc, ◌-◌, ◌%◌, ◌<◌, ◌≤◌, true, false, cond, ltb, eqb, List, [], ◌∷◌,
-    ◌++◌, length, take, drop, Ok, Err, refl, sym, ap, subst, ◌∙◌, arith, inl, inr}
+use Rattle.std.proofs.Common.{◌≡◌, ◌⊎◌, ℕ, zero, suc, ◌-◌, ◌%◌, ◌<◌, ◌≤◌, true, false, cond, ltb, eqb, List, [], ◌∷◌}
+use Rattle.std.proofs.Common.{◌++◌, length, take, drop, Ok, Err, refl, sym, ap, subst, ◌∙◌, arith, inl, inr}
 use Rattle.std.proofs.lemmas.List.{length-append, append-nil, length-drop}
 use Rattle.der_core_parts.specs.declared.error.DerError.TheVariants.{Truncated, Tag, TooLong}
 use Rattle.der_core_parts.specs.Outcome.{Outcome}
@@ -22,8 +22,8 @@ length-shrinks (b ∷ bytes) n rest e =
       | inl p ↦ let is : bytes ≡ rest = ap (λ (x : ℕ × List ℕ). x.1) (ok_is (b, bytes) (n, rest) p.1) in omega (arith, ap length is)
       | inr p ↦
           let g =
-              not_refused (ltb (length bytes) (b - 128)) Truncated
-              (number_of (take (b - 128) bytes) >>= λ n. Ok (n, drop (b - 128) bytes)) (n, rest) p.1 in
+          not_refused (ltb (length bytes) (b - 128)) Truncated
+          (number_of (take (b - 128) bytes) >>= λ n. Ok (n, drop (b - 128) bytes)) (n, rest) p.1 in
           let m = bind_ok (number_of (take (b - 128) bytes)) (λ n. Ok (n, drop (b - 128) bytes)) (n, rest) g.1 in
           let is : drop (b - 128) bytes ≡ rest = ap (λ (x : ℕ × List ℕ). x.1) (ok_is (m.0, drop (b - 128) bytes) (n, rest) m.2) in
           omega (arith, ap length is, length-drop (b - 128) bytes)
@@ -37,8 +37,8 @@ tlv-shrinks (b ∷ bytes) t v rest e =
     let m = bind_ok (length_at bytes) (value_at b) (t, v, rest) g.1 in
     let n = m.0 in
     let p =
-        passed (ltb n.0 268435456) TooLong
-        (cond (ltb (length n.1) n.0) (Err Truncated) (Ok (b, take n.0 n.1, drop n.0 n.1))) (t, v, rest) m.2 in
+    passed (ltb n.0 268435456) TooLong
+    (cond (ltb (length n.1) n.0) (Err Truncated) (Ok (b, take n.0 n.1, drop n.0 n.1))) (t, v, rest) m.2 in
     let q = not_refused (ltb (length n.1) n.0) Truncated (Ok (b, take n.0 n.1, drop n.0 n.1)) (t, v, rest) p.1 in
     let is : drop n.0 n.1 ≡ rest = ap (λ (x : ℕ × List ℕ × List ℕ). x.2) (ok_is (b, take n.0 n.1, drop n.0 n.1) (t, v, rest) q.1) in
     omega (arith, ap length is, length-drop n.0 n.1, length-shrinks bytes n.0 n.1 m.1)
@@ -77,7 +77,7 @@ pub many-step : {A : Type 0} (g : Grammar A) (b : ℕ) (bytes : List ℕ)
 unfolding many_of many_at
 many-step {A} g b bytes =
     two_ways (read g (b ∷ bytes)) (λ x. many_at (length bytes) g x.1 >>= λ xs. Ok (x.0 ∷ xs))
-        (λ x. many_at (length x.1) g x.1 >>= λ xs. Ok (x.0 ∷ xs))
+    (λ x. many_at (length x.1) g x.1 >>= λ xs. Ok (x.0 ∷ xs))
     (λ x e. let lt = read-shrinks g (b ∷ bytes) x.0 x.1 e in
     ap (λ (r : Outcome (List A)). r >>= λ xs. Ok (x.0 ∷ xs)) (many-more g (length bytes) (length x.1) x.1 (omega arith) (omega arith)))
 
@@ -94,7 +94,7 @@ many_at-found g lawful (suc n) (b ∷ bytes) xs fits e =
     let t = one-found g lawful (b ∷ bytes) m.0.0 m.0.1 fits m.1 in
     let others = many_at-found g lawful n m.0.1 k.0 t.rest_bytes k.1 in
     subst (λ z. EachEncoded g z (b ∷ bytes)) (ok_is (m.0.0 ∷ k.0) xs k.2)
-        (record { front = t.text; back = m.0.1; whole = t.whole; first = t.encoded; others = others })
+    (record { front = t.text; back = m.0.1; whole = t.whole; first = t.encoded; others = others })
 
 pub many-found : {A : Type 0} (g : Grammar A) (lawful : IsLawful g) (bytes : List ℕ) (xs : List A) → IsBytes bytes
     → many_of g bytes ≡ Ok xs → EachEncoded g xs bytes
@@ -107,8 +107,8 @@ from_front g lawful x xs [] back text e p o = absurd (let h = one-front g lawful
 from_front {A} g lawful x xs (b ∷ front) back text e p o =
     let r = one-only g lawful x (b ∷ front) back p in
     ap (many_of g) e ∙ many-step g b (front ++ back)
-        ∙ ap (λ (z : Outcome (A × List ℕ)). z >>= λ x. many_of g x.1 >>= λ xs. Ok (x.0 ∷ xs)) r
-        ∙ ap (λ (z : Outcome (List A)). z >>= λ xs. Ok (x ∷ xs)) o
+    ∙ ap (λ (z : Outcome (A × List ℕ)). z >>= λ x. many_of g x.1 >>= λ xs. Ok (x.0 ∷ xs)) r
+    ∙ ap (λ (z : Outcome (List A)). z >>= λ xs. Ok (x ∷ xs)) o
 
 pub many-only : {A : Type 0} (g : Grammar A) (lawful : IsLawful g) (xs : List A) (text : List ℕ) → EachEncoded g xs text
     → many_of g text ≡ Ok xs
@@ -123,8 +123,13 @@ each-written g lawful [] text e = sym (ok_is [] text e)
 each-written g lawful (x ∷ xs) text e =
     let m = bind_ok (write g x) (λ a. write_each g xs >>= λ b. Ok (a ++ b)) text e in
     let n = bind_ok (write_each g xs) (λ b. Ok (m.0 ++ b)) text m.2 in
-    record { front = m.0; back = n.0; whole = sym (ok_is (m.0 ++ n.0) text n.2); first = one-written g lawful x m.0 m.1;
-        others = each-written g lawful xs n.0 n.1 }
+    record {
+      front = m.0;
+      back = n.0;
+      whole = sym (ok_is (m.0 ++ n.0) text n.2);
+      first = one-written g lawful x m.0 m.1;
+      others = each-written g lawful xs n.0 n.1;
+    }
 
 pub each-writes : {A : Type 0} (g : Grammar A) (lawful : IsLawful g) (xs : List A) (text : List ℕ)
     → EachEncoded g xs text → WritesAs (write_each g xs) text

@@ -1,8 +1,8 @@
 -- Values or the first refusal, as functions on lists of bytes give them.
 use Rattle.std.specs.Prelude.{◌≡◌, ℕ, ◌⊎◌, Result}
 use Rattle.der_core_parts.specs.declared.error.DerError.{DerError}
-use Rattle.der_core_parts.specs.declared.error.DerError.TheVariants.{Truncated, Length, Tag, Value, Trailing,
-    SetDuplicate, Oid, TooLong, NoMemory}
+use Rattle.der_core_parts.specs.declared.error.DerError.TheVariants.{Truncated, Length, Tag, Value, Trailing}
+use Rattle.der_core_parts.specs.declared.error.DerError.TheVariants.{SetDuplicate, Oid, TooLong, NoMemory}
 
 abbrev pub Outcome : Type 0 → Type 0
 Outcome A = Result A DerError

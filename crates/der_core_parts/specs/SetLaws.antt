@@ -9,8 +9,8 @@ use Rattle.std.specs.Cmp.Lexicographic.{slice_cmp}
 use Rattle.std.proofs.lemmas.Bool.{eqb-true}
 use Rattle.std.proofs.lemmas.List.{length-append}
 use Rattle.std.specs.List.Sorted.{IsPermutation}
-use Rattle.std.proofs.lemmas.List.Sorted.{IsPermutation-refl, IsPermutation-trans, IsPermutation-cons,
-    IsPermutation-insert, IsPermutation-map}
+use Rattle.std.proofs.lemmas.List.Sorted.{IsPermutation-refl, IsPermutation-trans, IsPermutation-cons}
+use Rattle.std.proofs.lemmas.List.Sorted.{IsPermutation-insert, IsPermutation-map}
 use Rattle.foundation.specs.Steps.{◌>>=◌}
 use Rattle.foundation.specs.Results.{and_true}
 use Rattle.der_core_parts.specs.declared.error.DerError.TheVariants.{SetDuplicate, Value}
@@ -21,8 +21,8 @@ use Rattle.der_core_parts.specs.Law.{WritesAs, IsLawful}
 use Rattle.der_core_parts.specs.TlvLaws.{ok_is, bind_ok, passed}
 use Rattle.der_core_parts.specs.Many.{EachEncoded, many_of, write_each}
 use Rattle.der_core_parts.specs.ManyLaws.{many-found, many-only, each-written, each-writes}
-use Rattle.der_core_parts.specs.Sets.{Keyed, is_before, keyed, place, ordered, rises, values, distinct, set_from, rise,
-    is_set, IsSetOf, set_of}
+use Rattle.der_core_parts.specs.Sets.{Keyed, is_before, keyed, place, ordered, rises, values, distinct, set_from, rise}
+use Rattle.der_core_parts.specs.Sets.{is_set, IsSetOf, set_of}
 
 -- ---- encodings and members
 
@@ -133,7 +133,7 @@ set_from-is_set {A} g members a e =
     let p = passed (rises (ordered m.0)) SetDuplicate (Ok (values (ordered m.0))) a m.2 in
     let k = keyed-again g (ordered m.0) (ordered-keyed g m.0 (are_keyed g members m.0 m.1)) in
     subst (λ (z : List A). is_set g z ≡ true) (ok_is (values (ordered m.0)) a p.1)
-        (rising_is_set g (values (ordered m.0)) (ordered m.0) k p.0)
+    (rising_is_set g (values (ordered m.0)) (ordered m.0) k p.0)
 
 -- ---- lengths
 
@@ -161,7 +161,7 @@ place-length x [] = length-append x.0 []
 place-length x (y ∷ ys) =
     choice-length (is_before y x) (y ∷ place x ys) (x ∷ y ∷ ys) (length x.0 + length (y.0 ++ texts ys))
     (omega (arith, length-append y.0 (texts (place x ys)), length-append y.0 (texts ys), place-length x ys))
-        (length-append x.0 (y.0 ++ texts ys))
+    (length-append x.0 (y.0 ++ texts ys))
 
 ordered-length : {A : Type 0} (ks : List (Keyed A)) → length (texts (ordered ks)) ≡ length (texts ks)
 ordered-length [] = refl
@@ -175,7 +175,7 @@ set_from-length {A} g members a text e w =
     let p = passed (rises (ordered m.0)) SetDuplicate (Ok (values (ordered m.0))) a m.2 in
     let k = are_keyed g members m.0 m.1 in
     let before : Path (Outcome (List ℕ)) (Ok (texts m.0)) (Ok text) =
-        sym (write_each-values g m.0 k) ∙ ap (write_each g) (keyed-values g members m.0 m.1) ∙ w in
+    sym (write_each-values g m.0 k) ∙ ap (write_each g) (keyed-values g members m.0 m.1) ∙ w in
     let after = write_each-values g (ordered m.0) (ordered-keyed g m.0 k) in
     subst (λ (z : List A). WritesAs (write_each g z) text) (ok_is (values (ordered m.0)) a p.1)
     (texts (ordered m.0), after, ordered-length m.0 ∙ ap length (ok_is (texts m.0) text before))

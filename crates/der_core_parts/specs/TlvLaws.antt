@@ -1,6 +1,7 @@
 -- Proofs: what is read as a tag, a length and a value is encoded so, and what is encoded so is read.
-use Rattle.std.proofs.Common.{◌≡◌, ◌⊎◌, ℕ, zero, suc, ◌+◌, ◌-◌, ◌*◌, ◌/◌, ◌%◌, ◌^◌, ◌<◌, ◌≤◌, Bool, true, false, cond,
-    ltb, eqb, List, [], ◌∷◌, ◌++◌, length, get_or, take, drop, Ok, Err, refl, sym, ap, subst, ◌∙◌, append_assoc, arith, inl, inr}
+use Rattle.std.proofs.Common.{◌≡◌, ◌⊎◌, ℕ, zero, suc, ◌+◌, ◌-◌, ◌*◌, ◌/◌, ◌%◌, ◌^◌, ◌<◌, ◌≤◌, Bool, true, false, cond}
+use Rattle.std.proofs.Common.{ltb, eqb, List, [], ◌∷◌, ◌++◌, length, get_or, take, drop, Ok, Err, refl, sym, ap, subst}
+use Rattle.std.proofs.Common.{◌∙◌, append_assoc, arith, inl, inr}
 use Rattle.std.proofs.lemmas.Bool.{cases_lt, ltb-false, ltb-true, le-ltb, lt-ltb, eqb-false}
 use Rattle.std.proofs.lemmas.Bool.Decides.{nat_tests}
 use Rattle.std.proofs.lemmas.List.{take_at, drop_at, take-append-drop, length-append, length-take}
@@ -103,7 +104,7 @@ number_takes (a ∷ b ∷ c ∷ d ∷ []) n fits e =
     let d2 : (256 * (256 * (256 * a + b) + c) + d) / 256 % 256 ≡ c = omega arith in
     let d3 : (256 * (256 * (256 * a + b) + c) + d) % 256 ≡ d = omega arith in
     subst (λ (m : ℕ). (length_bytes m ≡ 132 ∷ a ∷ b ∷ c ∷ d ∷ []) × (m < 2 ^ 32)) is
-        (rw (t0, t1, t2, g.0, d0, d1, d2, d3) refl, omega arith)
+    (rw (t0, t1, t2, g.0, d0, d1, d2, d3) refl, omega arith)
 number_takes (a ∷ b ∷ c ∷ d ∷ x ∷ more) n fits e = absurd cc
 
 -- what a reader took from the front
@@ -122,8 +123,8 @@ length_takes (b ∷ bytes) n rest fits e =
           subst (λ (x : ℕ × List ℕ). Takes (b ∷ bytes) (length_bytes x.0) x.1) is (record { parts = rw p.0 refl; rest_fits = fits.1 })
       | inr p ↦
           let g =
-              not_refused (ltb (length bytes) (b - 128)) Truncated
-              (number_of (take (b - 128) bytes) >>= λ n. Ok (n, drop (b - 128) bytes)) (n, rest) p.1 in
+          not_refused (ltb (length bytes) (b - 128)) Truncated
+          (number_of (take (b - 128) bytes) >>= λ n. Ok (n, drop (b - 128) bytes)) (n, rest) p.1 in
           let m = bind_ok (number_of (take (b - 128) bytes)) (λ n. Ok (n, drop (b - 128) bytes)) (n, rest) g.1 in
           let t = number_takes (take (b - 128) bytes) m.0 (IsBytes-take (b - 128) bytes fits.1) m.1 in
           let high : 128 ≤ b = ltb-false _ _ p.0 in
@@ -131,8 +132,10 @@ length_takes (b ∷ bytes) n rest fits e =
           let count : 128 + length (take (b - 128) bytes) ≡ b = omega (arith, length-take (b - 128) bytes) in
           let text : length_bytes m.0 ≡ b ∷ take (b - 128) bytes = t.0 ∙ ap (λ (k : ℕ). k ∷ take (b - 128) bytes) count in
           subst (λ (x : ℕ × List ℕ). Takes (b ∷ bytes) (length_bytes x.0) x.1) (ok_is (m.0, drop (b - 128) bytes) (n, rest) m.2)
-          (record { parts = rw text (ap (λ (x : List ℕ). b ∷ x) (sym (take-append-drop (b - 128) bytes)));
-              rest_fits = IsBytes-drop (b - 128) bytes fits.1 })
+          (record {
+            parts = rw text (ap (λ (x : List ℕ). b ∷ x) (sym (take-append-drop (b - 128) bytes)));
+            rest_fits = IsBytes-drop (b - 128) bytes fits.1;
+          })
     ]
 
 at_least_ok : (least n : ℕ) → least ≤ n → at_least least n ≡ Ok n
@@ -166,11 +169,11 @@ length_again n rest lt =
                       elim (cases_lt n 16777216) [
                         | inl h ↦ let t3 : ltb n 16777216 ≡ true = lt-ltb _ _ h in
                             rw (t0, t1, t2, t3) (long_again 131 (n / 65536 ∷ n / 256 % 256 ∷ n % 256 ∷ []) rest n refl
-                                (at_least_is 65536 _ n (omega arith) d))
+                            (at_least_is 65536 _ n (omega arith) d))
                         | inr h ↦ let t3 : ltb n 16777216 ≡ false = le-ltb _ _ h in
                             rw (t0, t1, t2, t3) (long_again 132
-                                (n / 16777216 ∷ n / 65536 % 256 ∷ n / 256 % 256 ∷ n % 256 ∷ []) rest n refl
-                                (at_least_is 16777216 _ n (omega arith) h))
+                            (n / 16777216 ∷ n / 65536 % 256 ∷ n / 256 % 256 ∷ n % 256 ∷ []) rest n refl
+                            (at_least_is 16777216 _ n (omega arith) h))
                       ]
                 ]
           ]
@@ -186,18 +189,23 @@ tlv_takes (t ∷ bytes) tag value rest fits e =
     let n = m.0 in
     let l = length_takes bytes n.0 n.1 fits.1 m.1 in
     let p =
-        passed (ltb n.0 268435456) TooLong
-        (cond (ltb (length n.1) n.0) (Err Truncated) (Ok (t, take n.0 n.1, drop n.0 n.1))) (tag, value, rest) m.2 in
+    passed (ltb n.0 268435456) TooLong
+    (cond (ltb (length n.1) n.0) (Err Truncated) (Ok (t, take n.0 n.1, drop n.0 n.1))) (tag, value, rest) m.2 in
     let q = not_refused (ltb (length n.1) n.0) Truncated (Ok (t, take n.0 n.1, drop n.0 n.1)) (tag, value, rest) p.1 in
     let long : n.0 ≤ length n.1 = ltb-false _ _ q.0 in
     let len : length (take n.0 n.1) ≡ n.0 = omega (arith, length-take n.0 n.1) in
     let parts : t ∷ bytes ≡ tlv t (take n.0 n.1) ++ drop n.0 n.1 =
     ap (λ (x : List ℕ). t ∷ x) (l.parts ∙ ap (λ (x : List ℕ). length_bytes n.0 ++ x) (sym (take-append-drop n.0 n.1))
-        ∙ sym (append_assoc (length_bytes n.0) (take n.0 n.1) (drop n.0 n.1))
-        ∙ ap (λ (k : ℕ). (length_bytes k ++ take n.0 n.1) ++ drop n.0 n.1) (sym len)) in
+    ∙ sym (append_assoc (length_bytes n.0) (take n.0 n.1) (drop n.0 n.1))
+    ∙ ap (λ (k : ℕ). (length_bytes k ++ take n.0 n.1) ++ drop n.0 n.1) (sym len)) in
     subst (λ (x : ℕ × List ℕ × List ℕ). IsTlv (t ∷ bytes) x.0 x.1 x.2) (ok_is (t, take n.0 n.1, drop n.0 n.1) (tag, value, rest) q.1)
-    (record { whole = parts; tagged = (fits.0, eqb-false _ _ g.0); fits = omega (arith, len, ltb-true _ _ p.0);
-        value_bytes = IsBytes-take n.0 n.1 l.rest_fits; rest_bytes = IsBytes-drop n.0 n.1 l.rest_fits })
+    (record {
+      whole = parts;
+      tagged = (fits.0, eqb-false _ _ g.0);
+      fits = omega (arith, len, ltb-true _ _ p.0);
+      value_bytes = IsBytes-take n.0 n.1 l.rest_fits;
+      rest_bytes = IsBytes-drop n.0 n.1 l.rest_fits;
+    })
 
 pub tlv_again : (tag : ℕ) (value rest : List ℕ) → IsTag tag → length value < 268435456
     → tlv_at (tlv tag value ++ rest) ≡ Ok (tag, value, rest)
@@ -206,8 +214,15 @@ tlv_again tag value rest tagged fits =
     let t0 : eqb (tag % 32) 31 ≡ false = grind (arith, nat_tests) in
     let t1 : ltb (length value) 268435456 ≡ true = lt-ltb _ _ fits in
     let t2 : ltb (length (value ++ rest)) (length value) ≡ false = le-ltb _ _ (omega (arith, length-append value rest)) in
-    rw (append_assoc (length_bytes (length value)) value rest, t0, length_again (length value) (value ++ rest) fits, t1,
-        t2, take_at value rest (length value) refl, drop_at value rest (length value) refl) refl
+    rw (
+      append_assoc (length_bytes (length value)) value rest,
+      t0,
+      length_again (length value) (value ++ rest) fits,
+      t1,
+      t2,
+      take_at value rest (length value) refl,
+      drop_at value rest (length value) refl,
+    ) refl
 
 -- a part that is as long as all but the rest is all but the rest
 pub front_is : (bytes front back text rest : List ℕ) → bytes ≡ text ++ rest → front ≡ take (length bytes - length rest) bytes → front ≡ text

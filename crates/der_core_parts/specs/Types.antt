@@ -1,21 +1,22 @@
 -- Types as one term each: a grammar with its laws, made of those of its parts. Each premise is a test that
 -- computes, so that `refl` meets it.
-use Rattle.std.specs.Prelude.{◌≡◌, ℕ, ◌⊎◌, Bool, true, false, not, List, [], ◌∷◌, ◌++◌, Option, Some, None, Ok, ◌==◌,
-    ◌&&◌, ◌||◌, if◌then◌else◌}
+use Rattle.std.specs.Prelude.{◌≡◌, ℕ, ◌⊎◌, Bool, true, false, not, List, [], ◌∷◌, ◌++◌, Option, Some, None, Ok, ◌==◌}
+use Rattle.std.specs.Prelude.{◌&&◌, ◌||◌, if◌then◌else◌}
 use Rattle.std.specs.Str.{bytes_eq}
 use Rattle.std.proofs.Common.{refl, sym, subst, cond, eqb, inl, inr}
 use Rattle.std.proofs.lemmas.Bool.{eqb-true}
 use Rattle.std.proofs.lemmas.Slice.Eq.{bytes_eq-Decides}
 use Rattle.der_core_parts.specs.Tlv.{IsTag}
-use Rattle.der_core_parts.specs.Grammar.{Grammar, Fields, primitive, implicit, sequence, one, optional, both,
-    mapped_fields, mapped, refined, defaulted}
+use Rattle.der_core_parts.specs.Grammar.{Grammar, Fields, primitive, implicit, sequence, one, optional, both}
+use Rattle.der_core_parts.specs.Grammar.{mapped_fields, mapped, refined, defaulted}
 use Rattle.der_core_parts.specs.Choices.{is_tag, explicit, either, either-lawful, any, any-lawful}
 use Rattle.der_core_parts.specs.Outcome.{Outcome}
 use Rattle.der_core_parts.specs.Many.{sequence_of}
 use Rattle.der_core_parts.specs.Sets.{set_of}
 use Rattle.der_core_parts.specs.Law.{IsLawful, AreLawful}
-use Rattle.der_core_parts.specs.Laws.{primitive-lawful, implicit-lawful, sequence-lawful, one-lawful, optional-lawful,
-    both-lawful, mapped_fields-lawful, mapped-lawful, refined-lawful, defaulted-lawful}
+use Rattle.der_core_parts.specs.Laws.{primitive-lawful, implicit-lawful, sequence-lawful, one-lawful, optional-lawful}
+use Rattle.der_core_parts.specs.Laws.{both-lawful, mapped_fields-lawful, mapped-lawful, refined-lawful}
+use Rattle.der_core_parts.specs.Laws.{defaulted-lawful}
 use Rattle.der_core_parts.specs.ManyLaws.{sequence_of-lawful}
 use Rattle.der_core_parts.specs.SetLaws.{set_of-lawful}
 
@@ -145,16 +146,24 @@ nothing_stops t e = e
 
 abbrev pub primitive_type : (tag : ℕ) (test : List ℕ → Bool) → is_tag tag ≡ true → AsnType (List ℕ)
 primitive_type tag test ok =
-    record { grammar = primitive tag test; lawful = primitive-lawful tag test (valid tag ok); tags = Some (tag ∷ []);
-    tagged = λ t e. just_one t tag e }
+    record {
+      grammar = primitive tag test;
+      lawful = primitive-lawful tag test (valid tag ok);
+      tags = Some (tag ∷ []);
+      tagged = λ t e. just_one t tag e;
+    }
 
 abbrev pub any_type : AsnType (ℕ × List ℕ)
 any_type = record { grammar = any; lawful = any-lawful; tags = None; tagged = λ t e. tt }
 
 abbrev pub sequence_type : {A : Type 0} → Components A → AsnType A
 sequence_type r =
-    record { grammar = sequence 48 r.fields; lawful = sequence-lawful 48 r.fields (valid 48 refl) r.lawful;
-    tags = Some (48 ∷ []); tagged = λ t e. just_one t 48 e }
+    record {
+      grammar = sequence 48 r.fields;
+      lawful = sequence-lawful 48 r.fields (valid 48 refl) r.lawful;
+      tags = Some (48 ∷ []);
+      tagged = λ t e. just_one t 48 e;
+    }
 
 abbrev pub set_of_type : {A : Type 0} → AsnType A → AsnType (List A)
 set_of_type k =
@@ -162,46 +171,80 @@ set_of_type k =
 
 abbrev pub sequence_of_type : {A : Type 0} → AsnType A → AsnType (List A)
 sequence_of_type k =
-    record { grammar = sequence_of k.grammar; lawful = sequence_of-lawful k.grammar k.lawful; tags = Some (48 ∷ []);
-    tagged = λ t e. just_one t 48 e }
+    record {
+      grammar = sequence_of k.grammar;
+      lawful = sequence_of-lawful k.grammar k.lawful;
+      tags = Some (48 ∷ []);
+      tagged = λ t e. just_one t 48 e;
+    }
 
 -- values seen as others, where a partial map gives one
 abbrev pub refined_type : {A B : Type 0} (to : A → Outcome B) (back : B → A) (k : AsnType A)
     → ((a : A) (b : B) → to a ≡ Ok b → back b ≡ a) → ((b other : B) → to (back b) ≡ Ok other → other ≡ b) → AsnType B
 refined_type to back k again fixed =
-    record { grammar = refined to back k.grammar; lawful = refined-lawful to back k.grammar again fixed k.lawful;
-    tags = k.tags; tagged = k.tagged }
+    record {
+      grammar = refined to back k.grammar;
+      lawful = refined-lawful to back k.grammar again fixed k.lawful;
+      tags = k.tags;
+      tagged = k.tagged;
+    }
 
 abbrev pub implicit_type : {A : Type 0} (tag own : ℕ) (k : AsnType A) → is_tag tag ≡ true → k.grammar.accepts own ≡ true
     → ((a : A) → k.grammar.tag a ≡ own) → AsnType A
 implicit_type tag own k ok accepted fixed =
-    record { grammar = implicit tag own k.grammar;
-    lawful = implicit-lawful tag own k.grammar (valid tag ok) fixed accepted k.lawful; tags = Some (tag ∷ []); tagged =
-    λ t e. just_one t tag e }
+    record {
+      grammar = implicit tag own k.grammar;
+      lawful = implicit-lawful tag own k.grammar (valid tag ok) fixed accepted k.lawful;
+      tags = Some (tag ∷ []);
+      tagged =
+          λ t e. just_one t tag e;
+    }
 
 abbrev pub explicit_type : {A : Type 0} (tag : ℕ) (k : AsnType A) → is_tag tag ≡ true → AsnType A
 explicit_type tag k ok =
-    record { grammar = explicit tag k.grammar;
-    lawful = sequence-lawful tag (one k.grammar) (valid tag ok) (one-lawful k.grammar k.lawful); tags =
-    Some (tag ∷ []); tagged = λ t e. just_one t tag e }
+    record {
+      grammar = explicit tag k.grammar;
+      lawful = sequence-lawful tag (one k.grammar) (valid tag ok) (one-lawful k.grammar k.lawful);
+      tags =
+          Some (tag ∷ []);
+      tagged = λ t e. just_one t tag e;
+    }
 
 abbrev pub required_component : {A : Type 0} → AsnType A → Components A
 required_component k =
-    record { fields = one k.grammar; lawful = one-lawful k.grammar k.lawful; first = k.tags; stops = Some [];
-    begins_so = k.tagged; stops_so = λ t e. nothing_stops t e }
+    record {
+      fields = one k.grammar;
+      lawful = one-lawful k.grammar k.lawful;
+      first = k.tags;
+      stops = Some [];
+      begins_so = k.tagged;
+      stops_so = λ t e. nothing_stops t e;
+    }
 
 abbrev pub optional_component : {A : Type 0} → AsnType A → Components (Option A)
 optional_component k =
-    record { fields = optional k.grammar; lawful = optional-lawful k.grammar k.lawful; first = k.tags; stops = k.tags;
-    begins_so = k.tagged; stops_so = k.tagged }
+    record {
+      fields = optional k.grammar;
+      lawful = optional-lawful k.grammar k.lawful;
+      first = k.tags;
+      stops = k.tags;
+      begins_so = k.tagged;
+      stops_so = k.tagged;
+    }
 
 -- the default is the one value that passes the test
 abbrev pub default_component : {A : Type 0} (is_default : A → Bool) (d : A) (k : AsnType A) → is_default d ≡ true
     → ((a : A) → is_default a ≡ true → a ≡ d) → Components A
 default_component is_default d k tested only_one =
-    record { fields = defaulted is_default d k.grammar;
-    lawful = defaulted-lawful is_default d k.grammar tested only_one k.lawful; first = k.tags; stops =
-    k.tags; begins_so = k.tagged; stops_so = k.tagged }
+    record {
+      fields = defaulted is_default d k.grammar;
+      lawful = defaulted-lawful is_default d k.grammar tested only_one k.lawful;
+      first = k.tags;
+      stops =
+          k.tags;
+      begins_so = k.tagged;
+      stops_so = k.tagged;
+    }
 
 -- the same of values that are octets
 abbrev pub octets_by_default : List ℕ → AsnType (List ℕ) → Components (List ℕ)
@@ -223,9 +266,15 @@ followed_by f g ok = record {
 abbrev pub components_as : {A B : Type 0} (to : A → B) (back : B → A) (r : Components A) → ((a : A) → back (to a) ≡ a)
     → ((b : B) → to (back b) ≡ b) → Components B
 components_as to back r there again =
-    record { fields = mapped_fields to back r.fields;
-    lawful = mapped_fields-lawful to back r.fields there again r.lawful; first = r.first; stops = r.stops; begins_so =
-    r.begins_so; stops_so = r.stops_so }
+    record {
+      fields = mapped_fields to back r.fields;
+      lawful = mapped_fields-lawful to back r.fields there again r.lawful;
+      first = r.first;
+      stops = r.stops;
+      begins_so =
+          r.begins_so;
+      stops_so = r.stops_so;
+    }
 
 abbrev pub choice_type : {A B C : Type 0} (to : A ⊎ B → C) (back : C → A ⊎ B) (k : AsnType A) (l : AsnType B)
     → apart l.tags k.tags ≡ true → ((x : A ⊎ B) → back (to x) ≡ x) → ((c : C) → to (back c) ≡ c) → AsnType C

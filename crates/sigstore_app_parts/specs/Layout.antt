@@ -52,8 +52,16 @@ complete_of found = do
   artifact ← ok_or found.artifact Usage
   policy ← ok_or found.policy Usage
   provider ← ok_or found.provider Usage
-  Ok (record { root = root; repository = repository; store = store; bundle = bundle; artifact = artifact;
-      policy = policy; provider = provider; now = found.now })
+  Ok (record {
+    root = root;
+    repository = repository;
+    store = store;
+    bundle = bundle;
+    artifact = artifact;
+    policy = policy;
+    provider = provider;
+    now = found.now;
+  })
 
 abbrev pub nothing_found : Found
 nothing_found =

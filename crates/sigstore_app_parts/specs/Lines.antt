@@ -1,6 +1,6 @@
 -- Texts cut at a byte, and files of lines.
-use Rattle.std.specs.Prelude.{ℕ, List, [], ◌∷◌, length, Bool, true, if◌then◌else◌, ◌==◌, Option, Some, None, option_map,
-    Result, Ok, Err, ok_or}
+use Rattle.std.specs.Prelude.{ℕ, List, [], ◌∷◌, length, Bool, true, if◌then◌else◌, ◌==◌, Option, Some, None, option_map}
+use Rattle.std.specs.Prelude.{Result, Ok, Err, ok_or}
 use Rattle.std.specs.Str.Lossy.{utf8_valid_len}
 use Rattle.foundation.specs.Steps.{◌>>=◌}
 use Rattle.sigstore_app_parts.specs.declared.usage_fault.UsageFault.{UsageFault}

@@ -1,6 +1,6 @@
 -- The rows of the provider file.
-use Rattle.std.specs.Prelude.{ℕ, List, length, take, bytes_eq, codes, not, nat_eq, Bool, ◌&&◌, ◌||◌, if◌then◌else◌,
-    Option, option_map, Result, Ok, Err, ok_or}
+use Rattle.std.specs.Prelude.{ℕ, List, length, take, bytes_eq, codes, not, nat_eq, Bool, ◌&&◌, ◌||◌, if◌then◌else◌}
+use Rattle.std.specs.Prelude.{Option, option_map, Result, Ok, Err, ok_or}
 use Rattle.std.specs.List.{list_any, find}
 use Rattle.foundation.specs.Steps.{◌>>=◌}
 use Rattle.sigstore_crypto.specs.declared.scheme.SigningScheme.{SigningScheme}
@@ -53,7 +53,7 @@ armor_row_of fields = do
 abbrev pub is_row : SigningScheme → List ℕ → List ℕ → List ℕ → AcceptRow → Bool
 is_row scheme key subject signature row =
     bytes_eq (scheme_name_of row.scheme) (scheme_name_of scheme) && bytes_eq row.key key && bytes_eq row.subject subject
-        && bytes_eq row.signature signature
+    && bytes_eq row.signature signature
 
 -- some row is that of these
 abbrev pub accepts_of : List AcceptRow → SigningScheme → List ℕ → List ℕ → List ℕ → Bool

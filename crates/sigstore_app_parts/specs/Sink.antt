@@ -1,6 +1,6 @@
 -- What a write promises, and what the writing of a whole text promises.
-use Rattle.std.specs.Prelude.{◌≡◌, ℕ, ◌<◌, ◌≤◌, List, length, take, min, Bool, true, false, ◌&&◌, ◌==◌, nat_lt,
-    if◌then◌else◌, Option, Result, Ok, Err, IfOk, OnErr}
+use Rattle.std.specs.Prelude.{◌≡◌, ℕ, ◌<◌, ◌≤◌, List, length, take, min, Bool, true, false, ◌&&◌, ◌==◌, nat_lt}
+use Rattle.std.specs.Prelude.{if◌then◌else◌, Option, Result, Ok, Err, IfOk, OnErr}
 use Rattle.std.specs.Io.KnownBytes.{append_known}
 use Rattle.foundation.specs.Watched.{Watched, Rose}
 use Rattle.sigstore_app_parts.specs.declared.sink.SinkFault.{SinkFault}

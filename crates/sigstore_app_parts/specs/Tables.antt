@@ -25,7 +25,7 @@ armor_line_of armor text = do
   if bytes_eq parts.0 (codes "key") then
       (with_armor_row armor.keys row >>= λ keys. Ok (record { keys = keys; certificates = armor.certificates })) else
       if bytes_eq parts.0 (codes "certificate") then
-          (with_armor_row armor.certificates row >>= λ certificates. Ok (record { keys = armor.keys; certificates = certificates })) else
+      (with_armor_row armor.certificates row >>= λ certificates. Ok (record { keys = armor.keys; certificates = certificates })) else
       Err Usage
 
 abbrev pub accept_line_of : TableProvider → List ℕ → Result TableProvider UsageFault
@@ -40,7 +40,7 @@ table_line_of tables line = do
   if bytes_eq parts.0 (codes "accept") then
       (accept_line_of tables.provider parts.1 >>= λ provider. Ok (record { provider = provider; armor = tables.armor })) else
       if bytes_eq parts.0 (codes "armor") then
-          (armor_line_of tables.armor parts.1 >>= λ armor. Ok (record { provider = tables.provider; armor = armor })) else
+      (armor_line_of tables.armor parts.1 >>= λ armor. Ok (record { provider = tables.provider; armor = armor })) else
       Err Usage
 
 abbrev pub no_rows : Tables

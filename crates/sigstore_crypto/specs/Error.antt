@@ -1,8 +1,9 @@
 -- The numbers of the refusals.
 use Rattle.std.specs.Prelude.{ℕ}
 use Rattle.sigstore_crypto.specs.declared.error.Error.{Error}
-use Rattle.sigstore_crypto.specs.declared.error.Error.TheVariants.{Signing, Verification, InvalidKeyFormat,
-    UnsupportedAlgorithm, Checkpoint, InvalidCertificate, InvalidKey, NoMemory, Unbuilt}
+use Rattle.sigstore_crypto.specs.declared.error.Error.TheVariants.{Signing, Verification, InvalidKeyFormat}
+use Rattle.sigstore_crypto.specs.declared.error.Error.TheVariants.{UnsupportedAlgorithm, Checkpoint, InvalidCertificate}
+use Rattle.sigstore_crypto.specs.declared.error.Error.TheVariants.{InvalidKey, NoMemory, Unbuilt}
 
 abbrev pub number_of : Error → ℕ
 number_of Signing = 1

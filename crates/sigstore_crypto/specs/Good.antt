@@ -1,6 +1,6 @@
 -- When a signature is good, over any provider's relation.
-use Rattle.std.specs.Prelude.{ℕ, List, [], ◌∷◌, length, nat_eq, Bool, true, false, ◌&&◌, ⊤, if◌then◌else◌, Option, Some,
-    None, Result, Ok, Err, IsTrue}
+use Rattle.std.specs.Prelude.{ℕ, List, [], ◌∷◌, length, nat_eq, Bool, true, false, ◌&&◌, ⊤, if◌then◌else◌, Option, Some}
+use Rattle.std.specs.Prelude.{None, Result, Ok, Err, IsTrue}
 use Rattle.sha2.specs.Sha256.{sha256}
 use Rattle.sha2.specs.Sha512.{sha384, sha512}
 use Rattle.foundation.specs.Steps.{◌>>=◌}
@@ -12,9 +12,11 @@ use Rattle.sigstore_crypto.specs.declared.error.Error.TheVariants.{Verification,
 use Rattle.sigstore_crypto.specs.declared.error.VerificationFault.TheVariants as fault
 use Rattle.sigstore_crypto.specs.declared.error.KeyRule.TheVariants as rule
 use Rattle.sigstore_crypto.specs.declared.scheme.SigningScheme.{SigningScheme}
-use Rattle.sigstore_crypto.specs.declared.scheme.SigningScheme.TheVariants.{EcdsaP256Sha256, EcdsaP256Sha384,
-    EcdsaP384Sha256, EcdsaP384Sha384, Ed25519, RsaPssSha256, RsaPssSha384, RsaPssSha512, RsaPkcs1Sha256, RsaPkcs1Sha384,
-    RsaPkcs1Sha512, MlDsa44, MlDsa65, MlDsa87}
+use Rattle.sigstore_crypto.specs.declared.scheme.SigningScheme.TheVariants.{EcdsaP256Sha256, EcdsaP256Sha384}
+use Rattle.sigstore_crypto.specs.declared.scheme.SigningScheme.TheVariants.{EcdsaP384Sha256, EcdsaP384Sha384, Ed25519}
+use Rattle.sigstore_crypto.specs.declared.scheme.SigningScheme.TheVariants.{RsaPssSha256, RsaPssSha384, RsaPssSha512}
+use Rattle.sigstore_crypto.specs.declared.scheme.SigningScheme.TheVariants.{RsaPkcs1Sha256, RsaPkcs1Sha384}
+use Rattle.sigstore_crypto.specs.declared.scheme.SigningScheme.TheVariants.{RsaPkcs1Sha512, MlDsa44, MlDsa65, MlDsa87}
 use Rattle.sigstore_crypto.specs.declared.scheme.KeyAlgorithm.{KeyAlgorithm}
 use Rattle.sigstore_crypto.specs.declared.scheme.KeyAlgorithm.TheVariants as sort
 use Rattle.sigstore_crypto.specs.Scheme.{key_algorithm_of, digest_algorithm_of}

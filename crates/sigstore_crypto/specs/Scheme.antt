@@ -1,15 +1,17 @@
 -- Signature schemes: their keys, names and digests (FIPS 186-5, RFC 8017, RFC 8032, FIPS 204).
-use Rattle.std.specs.Prelude.{ℕ, List, [], ◌∷◌, bytes_eq, Bool, true, false, if◌then◌else◌, Option, Some, None, Result,
-    Ok, Err, codes}
+use Rattle.std.specs.Prelude.{ℕ, List, [], ◌∷◌, bytes_eq, Bool, true, false, if◌then◌else◌, Option, Some, None, Result}
+use Rattle.std.specs.Prelude.{Ok, Err, codes}
 use Rattle.sigstore_types_parts.specs.declared.hash_algorithm.HashAlgorithm.{HashAlgorithm}
 use Rattle.sigstore_types_parts.specs.declared.hash_algorithm.HashAlgorithm.TheVariants.{Sha2256, Sha2384, Sha2512}
 use Rattle.sigstore_types_parts.specs.HashAlgorithm.{digest_len_of}
 use Rattle.sigstore_crypto.specs.declared.error.Error.{Error}
 use Rattle.sigstore_crypto.specs.declared.error.Error.TheVariants.{UnsupportedAlgorithm}
 use Rattle.sigstore_crypto.specs.declared.scheme.SigningScheme.{SigningScheme}
-use Rattle.sigstore_crypto.specs.declared.scheme.SigningScheme.TheVariants.{EcdsaP256Sha256, EcdsaP256Sha384,
-    EcdsaP384Sha256, EcdsaP384Sha384, Ed25519, RsaPssSha256, RsaPssSha384, RsaPssSha512, RsaPkcs1Sha256, RsaPkcs1Sha384,
-    RsaPkcs1Sha512, MlDsa44, MlDsa65, MlDsa87}
+use Rattle.sigstore_crypto.specs.declared.scheme.SigningScheme.TheVariants.{EcdsaP256Sha256, EcdsaP256Sha384}
+use Rattle.sigstore_crypto.specs.declared.scheme.SigningScheme.TheVariants.{EcdsaP384Sha256, EcdsaP384Sha384, Ed25519}
+use Rattle.sigstore_crypto.specs.declared.scheme.SigningScheme.TheVariants.{RsaPssSha256, RsaPssSha384, RsaPssSha512}
+use Rattle.sigstore_crypto.specs.declared.scheme.SigningScheme.TheVariants.{RsaPkcs1Sha256, RsaPkcs1Sha384}
+use Rattle.sigstore_crypto.specs.declared.scheme.SigningScheme.TheVariants.{RsaPkcs1Sha512, MlDsa44, MlDsa65, MlDsa87}
 use Rattle.sigstore_crypto.specs.declared.scheme.KeyAlgorithm.{KeyAlgorithm}
 use Rattle.sigstore_crypto.specs.declared.scheme.KeyAlgorithm.TheVariants as sort
 
@@ -55,7 +57,7 @@ scheme_among (scheme ∷ others) name = if bytes_eq name (scheme_name_of scheme)
 abbrev pub schemes : List SigningScheme
 schemes =
     EcdsaP256Sha256 ∷ EcdsaP256Sha384 ∷ EcdsaP384Sha256 ∷ EcdsaP384Sha384 ∷ Ed25519 ∷ RsaPssSha256 ∷ RsaPssSha384
-        ∷ RsaPssSha512 ∷ RsaPkcs1Sha256 ∷ RsaPkcs1Sha384 ∷ RsaPkcs1Sha512 ∷ MlDsa44 ∷ MlDsa65 ∷ MlDsa87 ∷ []
+    ∷ RsaPssSha512 ∷ RsaPkcs1Sha256 ∷ RsaPkcs1Sha384 ∷ RsaPkcs1Sha512 ∷ MlDsa44 ∷ MlDsa65 ∷ MlDsa87 ∷ []
 
 -- the scheme of that name
 abbrev pub scheme_named : List ℕ → Option SigningScheme

@@ -99,7 +99,7 @@ answers_text result =
 abbrev pub times_text : List ℕ → VerificationResult → List ℕ
 times_text text result =
     times_added (text ++ integrated_text result.integrated_time
-        ++ number_line (codes "times") (length result.verified_timestamps)) result.verified_timestamps
+    ++ number_line (codes "times") (length result.verified_timestamps)) result.verified_timestamps
 
 -- what stands behind the roles
 abbrev pub result_added : List ℕ → VerificationResult → List ℕ

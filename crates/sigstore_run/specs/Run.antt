@@ -212,7 +212,7 @@ Misuses command before after out out' =
 abbrev pub LacksInput : Environment → Environment → Watched (List ℕ) → Watched (List ℕ) → Type 0
 LacksInput before after out out' =
     (which : Which) × StopCause before.inputs after.inputs (Input which) × (after.outside ≡ before.outside)
-        × TakesAll out out' (pair_line (codes "input") (word_of which))
+    × TakesAll out out' (pair_line (codes "input") (word_of which))
 
 -- What each status means. 4: the count of the sink's faults rose. 5: nothing was written.
 abbrev pub Means : Command → Environment → Environment → Watched (List ℕ) → Watched (List ℕ) → Status → Type 0

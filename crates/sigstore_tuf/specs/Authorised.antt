@@ -74,4 +74,4 @@ TrustsFrom set config path now result =
 abbrev pub KeepsTrusted : InForce → UpdaterConfig → List ℕ → jiff.Timestamp → Option TrustChain → Type 0
 KeepsTrusted set config path now kept =
     (chain : TrustChain) × (kept ≡ Some chain)
-        × ((crypto : Crypto) (given : List ℕ) → AreAuthorised crypto given set → Trusted crypto given now config.max_delegations path chain)
+    × ((crypto : Crypto) (given : List ℕ) → AreAuthorised crypto given set → Trusted crypto given now config.max_delegations path chain)

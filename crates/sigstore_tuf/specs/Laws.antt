@@ -16,14 +16,14 @@ use Rattle.sigstore_tuf.specs.Update.{first_root_of}
 abbrev pub FirstWithCause : Type 0
 FirstWithCause =
     (crypto : Crypto) (given : List ℕ) (config : UpdaterConfig) (path : List ℕ) (now : jiff.Timestamp)
-        (old new : Watched Folders) (e : Error)
+    (old new : Watched Folders) (e : Error)
     → first_root_of crypto given ≡ Err e → ClientCause crypto given config path now old new e
 
 -- a first refresh that is refused
 abbrev pub RefreshWithCause : Type 0
 RefreshWithCause =
     (crypto : Crypto) (given : List ℕ) (config : UpdaterConfig) (path : List ℕ) (now : jiff.Timestamp)
-        (old new : Watched Folders) (set later : InForce) (e : Error)
+    (old new : Watched Folders) (set later : InForce) (e : Error)
     → first_root_of crypto given ≡ Ok set → Refreshes crypto config now set later old new (Err e)
     → ClientCause crypto given config path now old new e
 
@@ -31,6 +31,6 @@ RefreshWithCause =
 abbrev pub SearchWithCause : Type 0
 SearchWithCause =
     (crypto : Crypto) (given : List ℕ) (config : UpdaterConfig) (path : List ℕ) (now : jiff.Timestamp)
-        (old mid new : Watched Folders) (set later : InForce) (e : Error)
+    (old mid new : Watched Folders) (set later : InForce) (e : Error)
     → first_root_of crypto given ≡ Ok set → Refreshes crypto config now set later old mid (Ok tt)
     → GetsTarget later config path now mid new (Err e) → ClientCause crypto given config path now old new e

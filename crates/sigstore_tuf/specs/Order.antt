@@ -1,6 +1,6 @@
 -- The search for a target: which roles are visited, in which order (TUF specification, section 5.6: pre-order, depth first).
-use Rattle.std.specs.Prelude.{ℕ, zero, suc, ◌-◌, List, [], ◌∷◌, ◌++◌, Bool, true, false, ◌||◌, ◌==◌, if◌then◌else◌,
-    Option, Some, None, is_some, ok_or, Result, Ok, Err, codes}
+use Rattle.std.specs.Prelude.{ℕ, zero, suc, ◌-◌, List, [], ◌∷◌, ◌++◌, Bool, true, false, ◌||◌, ◌==◌, if◌then◌else◌}
+use Rattle.std.specs.Prelude.{Option, Some, None, is_some, ok_or, Result, Ok, Err, codes}
 use Rattle.std.specs.Result.{result_ok}
 use Rattle.sigstore_types_parts.specs.Entries.{at_name}
 use Rattle.sigstore_tuf_parts.specs.declared.snapshot.Snapshot.{Snapshot}
@@ -80,7 +80,7 @@ matching path (d ∷ later) =
     if is_top_level d.name then matching path later
     else pattern_or (matches_path_of d path) >>= λ found.
     (if found then (if d.terminating then Ok (record { names = d.name ∷ []; ends = true })
-        else (matching path later >>= λ next. Ok (with_name d.name next)))
+    else (matching path later >>= λ next. Ok (with_name d.name next)))
     else matching path later)
 
 abbrev pub delegated_in : Option Delegations → List DelegatedRole

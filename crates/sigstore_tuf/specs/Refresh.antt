@@ -15,8 +15,8 @@ use Rattle.sigstore_tuf.specs.declared.config.UpdaterConfig.{UpdaterConfig}
 use Rattle.sigstore_tuf.specs.declared.documents.Held.{Held}
 use Rattle.sigstore_tuf.specs.declared.documents.InForce.{InForce}
 use Rattle.sigstore_tuf.specs.Update.{new_timestamp_of, new_snapshot_of, new_targets_of, targets_pin_of, with_snapshot, with_targets}
-use Rattle.sigstore_tuf.specs.Client.{Has, FetchCause, WalksRoots, root_serves_of, after_timestamp, timestamp_answer_of,
-    is_snapshot_kept, is_targets_kept, top_targets, undelegated_of}
+use Rattle.sigstore_tuf.specs.Client.{Has, FetchCause, WalksRoots, root_serves_of, after_timestamp, timestamp_answer_of}
+use Rattle.sigstore_tuf.specs.Client.{is_snapshot_kept, is_targets_kept, top_targets, undelegated_of}
 
 -- ---- the timestamp
 
@@ -74,7 +74,7 @@ abbrev pub RefreshesSnapshot : Crypto → UpdaterConfig → jiff.Timestamp → I
     → Watched Folders → Result ⊤ Error → Type 0
 RefreshesSnapshot crypto config now old new repo repo' result =
     KeepsSnapshot now old new repo repo' result
-        ⊎ ((is_snapshot_kept old now ≡ false) × FetchesSnapshot crypto config now old new repo repo' result)
+    ⊎ ((is_snapshot_kept old now ≡ false) × FetchesSnapshot crypto config now old new repo repo' result)
 
 -- ---- the top-level targets document
 
@@ -118,7 +118,7 @@ abbrev pub RefreshesPinned : Crypto → UpdaterConfig → jiff.Timestamp → InF
     → Watched Folders → Result ⊤ Error → Type 0
 RefreshesPinned crypto config now old new repo repo' result =
     KeepsTargets now old new repo repo' result
-        ⊎ ((is_targets_kept old now ≡ false) × FetchesTargets crypto config now old new repo repo' result)
+    ⊎ ((is_targets_kept old now ≡ false) × FetchesTargets crypto config now old new repo repo' result)
 
 -- the targets document is in force and delegates to no role
 pub record RefreshesUndelegated (crypto : Crypto) (config : UpdaterConfig) (now : jiff.Timestamp) (old new : InForce)

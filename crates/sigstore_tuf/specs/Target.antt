@@ -1,6 +1,6 @@
 -- The search for a target and its file (TUF specification, sections 5.6.7 and 5.7).
-use Rattle.std.specs.Prelude.{◌≡◌, ◌≢◌, ◌⊎◌, ℕ, ◌≤◌, ◌==◌, nat_lt, List, [], ◌∷◌, length, if◌then◌else◌, Option, Some,
-    None, Result, Ok, Err, IfOk, IfErr, codes, ⊤}
+use Rattle.std.specs.Prelude.{◌≡◌, ◌≢◌, ◌⊎◌, ℕ, ◌≤◌, ◌==◌, nat_lt, List, [], ◌∷◌, length, if◌then◌else◌, Option, Some}
+use Rattle.std.specs.Prelude.{None, Result, Ok, Err, IfOk, IfErr, codes, ⊤}
 use Rattle.jiff_core.specs.declared.timestamp.Timestamp as jiff
 use Rattle.foundation.specs.Steps.{◌>>=◌}
 use Rattle.foundation.specs.Watched.{Watched, Since}
@@ -127,8 +127,14 @@ chain_in set None snapshot targets entry file = Err NotRefreshed
 chain_in set (Some timestamp) None targets entry file = Err NotRefreshed
 chain_in set (Some timestamp) (Some snapshot) None entry file = Err NotRefreshed
 chain_in set (Some timestamp) (Some snapshot) (Some targets) entry file =
-    Ok (record { roots = set.roots; timestamp = timestamp.bytes; snapshot = snapshot.bytes;
-        roles = visit_of targets ∷ []; target = entry; file = file })
+    Ok (record {
+      roots = set.roots;
+      timestamp = timestamp.bytes;
+      snapshot = snapshot.bytes;
+      roles = visit_of targets ∷ [];
+      target = entry;
+      file = file;
+    })
 
 -- the documents in force, with an entry and its file
 abbrev pub chain_of : InForce → TargetFile → List ℕ → Result TrustChain Error

@@ -1,6 +1,6 @@
 -- A chain of documents that is trusted (TUF specification, section 5).
-use Rattle.std.specs.Prelude.{◌≡◌, ℕ, false, List, [], ◌∷◌, map, find, bytes_eq, Option, Some, None, option_map,
-    option_and_then, Ok, codes, if◌then◌else◌}
+use Rattle.std.specs.Prelude.{◌≡◌, ℕ, false, List, [], ◌∷◌, map, find, bytes_eq, Option, Some, None, option_map}
+use Rattle.std.specs.Prelude.{option_and_then, Ok, codes, if◌then◌else◌}
 use Rattle.std.specs.List.{AllByRecursion, AllZip, last_or, filter_map}
 use Rattle.std.specs.Result.{result_ok}
 use Rattle.jiff_core.specs.declared.timestamp.Timestamp as jiff

@@ -37,8 +37,9 @@ pub use sigstore_tuf_parts::{
     DelegatedRole, Delegations, DocumentMember, Error, Key, KeyFault, KeyVal, MetaFile, Metadata,
     Mismatch, Role, RoleKeys, Root, Rule, SNAPSHOT_NAME, Signature, Snapshot, TARGETS_NAME,
     TIMESTAMP_NAME, TargetFile, Targets, Timestamp, TransportFault, canonical_text_tells,
-    check_fresh, check_integrity, check_version, is_past, meets_exactly, others, pin_name, pins_have_causes,
-    readings_have_causes, relations_exactly, roles_have_causes, root_name, to_canonical_bytes,
+    check_fresh, check_integrity, check_version, is_past, meets_exactly, others, pin_name,
+    pins_have_causes, readings_have_causes, relations_exactly, roles_have_causes, root_name,
+    to_canonical_bytes,
 };
 pub use store::{MetadataStore, StoreFault};
 pub use target::get_target_parts;

@@ -1,7 +1,7 @@
 -- What each refusal of a document tells: of its bytes, of the role that it is to meet, of its pin, of its expiry
 -- (TUF specification, sections 4 and 5).
-use Rattle.std.specs.Prelude.{◌≡◌, ◌≢◌, ◌⊎◌, ℕ, ◌<◌, List, ◌∷◌, ◌++◌, length, true, false, bytes_eq, Option, Some, None,
-    Result, Ok, Err, option_and_then, codes, ◌<ℤ◌, Contains}
+use Rattle.std.specs.Prelude.{◌≡◌, ◌≢◌, ◌⊎◌, ℕ, ◌<◌, List, ◌∷◌, ◌++◌, length, true, false, bytes_eq, Option, Some, None}
+use Rattle.std.specs.Prelude.{Result, Ok, Err, option_and_then, codes, ◌<ℤ◌, Contains}
 use Rattle.std.specs.List.{AllByRecursion, IsDistinct}
 use Rattle.sha2.specs.Sha256.{sha256}
 use Rattle.sha2.specs.Sha512.{sha512}
@@ -150,7 +150,7 @@ abbrev pub IntegrityCause : Option ℕ → Option Hashes → List ℕ → Error 
 IntegrityCause size hashes bytes (tuf.IntegrityMismatch mismatch.Length) = (n : ℕ) × (size ≡ Some n) × (length bytes ≢ n)
 IntegrityCause size hashes bytes (tuf.IntegrityMismatch mismatch.Digest) =
     (map : Hashes) × (hashes ≡ Some map)
-        × (IsMisspelt (sha256 bytes) (at_name (codes "sha256") map) ⊎ IsMisspelt (sha512 bytes) (at_name (codes "sha512") map))
+    × (IsMisspelt (sha256 bytes) (at_name (codes "sha256") map) ⊎ IsMisspelt (sha512 bytes) (at_name (codes "sha512") map))
 IntegrityCause size hashes bytes (tuf.IntegrityMismatch mismatch.NoDigest) =
     (map : Hashes) × (hashes ≡ Some map) × (at_name (codes "sha256") map ≡ None) × (at_name (codes "sha512") map ≡ None)
 IntegrityCause size hashes bytes _ = ⊥

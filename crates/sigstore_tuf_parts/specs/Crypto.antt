@@ -1,6 +1,6 @@
 -- What a declared key gives, and what signatures are judged by (TUF specification, section 4.2).
-use Rattle.std.specs.Prelude.{ℕ, List, ◌∷◌, ◌++◌, length, nat_eq, bytes_eq, Bool, true, false, ◌&&◌, if◌then◌else◌,
-    Option, Some, None, ok_or, Result, Ok, Err, codes}
+use Rattle.std.specs.Prelude.{ℕ, List, ◌∷◌, ◌++◌, length, nat_eq, bytes_eq, Bool, true, false, ◌&&◌, if◌then◌else◌}
+use Rattle.std.specs.Prelude.{Option, Some, None, ok_or, Result, Ok, Err, codes}
 use Rattle.std.specs.List.{list_all}
 use Rattle.std.specs.Char.{is_ascii_hexdigit}
 use Rattle.std.specs.Str.{trim}
@@ -8,8 +8,9 @@ use Rattle.sha2.specs.Sha512.{sha512}
 use Rattle.foundation.specs.Steps.{◌>>=◌}
 use Rattle.sigstore_types_parts.specs.declared.form.Form.TheVariants as form
 use Rattle.sigstore_crypto.specs.declared.scheme.SigningScheme.{SigningScheme}
-use Rattle.sigstore_crypto.specs.declared.scheme.SigningScheme.TheVariants.{EcdsaP256Sha256, EcdsaP384Sha384, Ed25519,
-    RsaPssSha256, RsaPssSha384, RsaPssSha512, MlDsa44, MlDsa65, MlDsa87}
+use Rattle.sigstore_crypto.specs.declared.scheme.SigningScheme.TheVariants.{EcdsaP256Sha256, EcdsaP384Sha384, Ed25519}
+use Rattle.sigstore_crypto.specs.declared.scheme.SigningScheme.TheVariants.{RsaPssSha256, RsaPssSha384, RsaPssSha512}
+use Rattle.sigstore_crypto.specs.declared.scheme.SigningScheme.TheVariants.{MlDsa44, MlDsa65, MlDsa87}
 use Rattle.sigstore_crypto.specs.declared.key.VerificationKey.{VerificationKey}
 use Rattle.sigstore_crypto.specs.declared.error.Error.TheVariants as crypto
 use Rattle.sigstore_crypto.specs.declared.error.Error as crypto_error

@@ -5,9 +5,12 @@ use Rattle.sigstore_types_parts.specs.declared.misread.Misread.TheVariants as mi
 use Rattle.sigstore_types_parts.specs.declared.parse.JsonFault.{JsonFault}
 use Rattle.sigstore_types_parts.specs.declared.parse.JsonFault.TheVariants as fault
 use Rattle.sigstore_tuf_parts.specs.declared.error.Error.{Error}
-use Rattle.sigstore_tuf_parts.specs.declared.error.Error.TheVariants.{Json, Malformed, NonIntegerNumber, UnusableKey,
-    UnsupportedScheme, UnknownRole, DuplicateSignature, ThresholdNotMet, Rollback, EqualVersion, BadRootVersion,
-    Expired, IntegrityMismatch, Crypto, NotRefreshed, TargetNotFound, Transport, NoMemory, Unbuilt}
+use Rattle.sigstore_tuf_parts.specs.declared.error.Error.TheVariants.{Json, Malformed, NonIntegerNumber, UnusableKey}
+use Rattle.sigstore_tuf_parts.specs.declared.error.Error.TheVariants.{UnsupportedScheme, UnknownRole}
+use Rattle.sigstore_tuf_parts.specs.declared.error.Error.TheVariants.{DuplicateSignature, ThresholdNotMet, Rollback}
+use Rattle.sigstore_tuf_parts.specs.declared.error.Error.TheVariants.{EqualVersion, BadRootVersion, Expired}
+use Rattle.sigstore_tuf_parts.specs.declared.error.Error.TheVariants.{IntegrityMismatch, Crypto, NotRefreshed}
+use Rattle.sigstore_tuf_parts.specs.declared.error.Error.TheVariants.{TargetNotFound, Transport, NoMemory, Unbuilt}
 
 -- a misreading as a refusal: whatever isn't read is Json
 abbrev pub error_of : Misread → Error

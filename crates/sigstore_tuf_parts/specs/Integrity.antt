@@ -1,6 +1,6 @@
 -- When a file is the one that was pinned (TUF specification, sections 5.5 to 5.7), and when a document is fresh (section 5).
-use Rattle.std.specs.Prelude.{ℕ, List, length, Bool, true, ◌||◌, ◌==◌, if◌then◌else◌, Option, Some, None, is_some,
-    Result, Ok, Err, codes, int_lt, ⊤}
+use Rattle.std.specs.Prelude.{ℕ, List, length, Bool, true, ◌||◌, ◌==◌, if◌then◌else◌, Option, Some, None, is_some}
+use Rattle.std.specs.Prelude.{Result, Ok, Err, codes, int_lt, ⊤}
 use Rattle.std.specs.Str.{str_eq_ignore_ascii_case}
 use Rattle.sha2.specs.Sha256.{sha256}
 use Rattle.sha2.specs.Sha512.{sha512}

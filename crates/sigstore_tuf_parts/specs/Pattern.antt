@@ -1,6 +1,7 @@
 -- Which paths a delegation is for (TUF specification, section 4.5: delegations).
-use Rattle.std.specs.Prelude.{◌≡◌, ℕ, zero, suc, ◌+◌, List, [], ◌∷◌, length, Bool, true, false, not, ◌&&◌, ◌||◌, ◌==◌,
-    nat_le, if◌then◌else◌, bytes_eq, Option, Some, None, Result, Ok, ok_or, option_map, codes, ⊤}
+use Rattle.std.specs.Prelude.{◌≡◌, ℕ, zero, suc, ◌+◌, List, [], ◌∷◌, length, Bool, true, false, not, ◌&&◌, ◌||◌, ◌==◌}
+use Rattle.std.specs.Prelude.{nat_le, if◌then◌else◌, bytes_eq, Option, Some, None, Result, Ok, ok_or, option_map, codes}
+use Rattle.std.specs.Prelude.{⊤}
 use Rattle.std.specs.List.{AllZip, concat, list_any, before_first, starts_with}
 use Rattle.std.specs.Str.{chars}
 use Rattle.sha2.specs.Sha256.{sha256}
@@ -71,8 +72,10 @@ Taken = Piece × ℕ
 abbrev pub closed_class : (Bool → Bool) → ℕ → ℕ → List ℕ → Option Taken
 closed_class turn taken first later =
     if list_any (λ c. c == 93) later
-    then Some (one (λ c. turn (is_member (first ∷ before_first (λ c. c == 93) later) c)),
-        taken + length (before_first (λ c. c == 93) later) + 1)
+    then Some (
+      one (λ c. turn (is_member (first ∷ before_first (λ c. c == 93) later) c)),
+      taken + length (before_first (λ c. c == 93) later) + 1,
+    )
     else None
 
 -- a class after its `[!`, and after its `[`: it has at least one member

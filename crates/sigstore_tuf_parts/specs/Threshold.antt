@@ -1,6 +1,6 @@
 -- When a document meets a role (TUF specification, sections 4.2 and 5: thresholds).
-use Rattle.std.specs.Prelude.{ℕ, List, [], ◌∷◌, length, map, filter, count_by, Bool, false, not, ◌&&◌, ◌==◌, nat_le,
-    if◌then◌else◌, bytes_eq, Option, Some, None, is_some, Result, Ok, Err, ⊤}
+use Rattle.std.specs.Prelude.{ℕ, List, [], ◌∷◌, length, map, filter, count_by, Bool, false, not, ◌&&◌, ◌==◌, nat_le}
+use Rattle.std.specs.Prelude.{if◌then◌else◌, bytes_eq, Option, Some, None, is_some, Result, Ok, Err, ⊤}
 use Rattle.std.specs.List.{list_any}
 use Rattle.std.specs.Result.{result_ok}
 use Rattle.hex.specs.Hex.{decode_of}

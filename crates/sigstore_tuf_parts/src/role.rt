@@ -1,7 +1,6 @@
 // What all kinds of documents share.
 ghost use Rattle.std.specs.Prelude.{◌≡◌, ◌≢◌, ℕ, List, Ok, Err, IfOk, IfErr};
 ghost use Rattle.jiff_core.specs.declared.timestamp.Timestamp.{Timestamp as Instant};
-
 ghost use Rattle.sigstore_tuf_parts.specs.declared.error.Error.TheVariants.{NoMemory};
 ghost use Rattle.sigstore_tuf_parts.specs.Integrity.{is_past, fresh_of};
 

@@ -35,7 +35,13 @@ impl Duplicate for Root {
             spec_version,
             version,
             expires,
-        } = Head::copied(alloc, &self.type_, &self.spec_version, self.version, self.expires)?;
+        } = Head::copied(
+            alloc,
+            &self.type_,
+            &self.spec_version,
+            self.version,
+            self.expires,
+        )?;
         Ok(Root {
             type_,
             spec_version,

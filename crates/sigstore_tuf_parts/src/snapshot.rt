@@ -35,7 +35,13 @@ impl Duplicate for Snapshot {
             spec_version,
             version,
             expires,
-        } = Head::copied(alloc, &self.type_, &self.spec_version, self.version, self.expires)?;
+        } = Head::copied(
+            alloc,
+            &self.type_,
+            &self.spec_version,
+            self.version,
+            self.expires,
+        )?;
         Ok(Snapshot {
             type_,
             spec_version,

@@ -221,7 +221,13 @@ impl Duplicate for Targets {
             spec_version,
             version,
             expires,
-        } = Head::copied(alloc, &self.type_, &self.spec_version, self.version, self.expires)?;
+        } = Head::copied(
+            alloc,
+            &self.type_,
+            &self.spec_version,
+            self.version,
+            self.expires,
+        )?;
         Ok(Targets {
             type_,
             spec_version,

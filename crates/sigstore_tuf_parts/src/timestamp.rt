@@ -76,7 +76,13 @@ impl Duplicate for Timestamp {
             spec_version,
             version,
             expires,
-        } = Head::copied(alloc, &self.type_, &self.spec_version, self.version, self.expires)?;
+        } = Head::copied(
+            alloc,
+            &self.type_,
+            &self.spec_version,
+            self.version,
+            self.expires,
+        )?;
         Ok(Timestamp {
             type_,
             spec_version,

@@ -7,8 +7,9 @@ use Rattle.sigstore_types_parts.specs.declared.parse.JsonFault.TheVariants as pa
 use Rattle.sigstore_types_parts.specs.declared.member.TypesMember.{TypesMember}
 use Rattle.sigstore_types_parts.specs.declared.member.TypesMember.TheVariants as m
 use Rattle.sigstore_types_parts.specs.declared.error.TypesError.{TypesError}
-use Rattle.sigstore_types_parts.specs.declared.error.TypesError.TheVariants.{Json, Float, Field, Base64, Hex, Length,
-    MediaType, Kind, Checkpoint, NoEntry, NoProof, NoMemory, Unbuilt}
+use Rattle.sigstore_types_parts.specs.declared.error.TypesError.TheVariants.{Json, Float, Field, Base64, Hex, Length}
+use Rattle.sigstore_types_parts.specs.declared.error.TypesError.TheVariants.{MediaType, Kind, Checkpoint, NoEntry}
+use Rattle.sigstore_types_parts.specs.declared.error.TypesError.TheVariants.{NoProof, NoMemory, Unbuilt}
 
 -- the member's name in the text
 abbrev pub name_of : TypesMember → List ℕ

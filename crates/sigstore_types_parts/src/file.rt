@@ -69,12 +69,7 @@ fn read_within<F: Read>(alloc: Global, file: &mut F, max: u64) -> Result<Bytes, 
 }
 
 /// The file at a path. `Absent` where there is none, `TooLong` where it holds more than `max` bytes.
-pub fn read_file<X: Files>(
-    rt: &X,
-    alloc: Global,
-    path: &str,
-    max: u64,
-) -> Result<Bytes, FileFault>
+pub fn read_file<X: Files>(rt: &X, alloc: Global, path: &str, max: u64) -> Result<Bytes, FileFault>
     ensures { WithinLimit max result }
 {
     match fs::open(rt, path) {

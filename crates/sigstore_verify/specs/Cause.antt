@@ -129,9 +129,9 @@ abbrev pub RootCause : Given → Outside → Outside → RootFault → Type 0
 RootCause given before after (refusal.Tuf tuf.NoMemory) = ⊥
 RootCause given before after (refusal.Tuf e) =
     ClientCause given.anchor.crypto given.anchor.root given.anchor.config trust_path given.anchor.now before.repo after.repo e
-        × (after.source ≡ before.source)
+    × (after.source ≡ before.source)
 RootCause given before after (refusal.Verify verify.NoMemory chain) = ⊥
 RootCause given before after (refusal.Verify e chain) =
     TrustsChain given.anchor chain
-        × JudgeCause given.anchor.crypto.accepts given.policy chain.file given.bundle before.source after.source given.max e
+    × JudgeCause given.anchor.crypto.accepts given.policy chain.file given.bundle before.source after.source given.max e
 RootCause given before after refusal.NoMemory = ⊤

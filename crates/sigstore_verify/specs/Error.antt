@@ -5,16 +5,19 @@ use Rattle.sigstore_types_parts.specs.declared.error.TypesError.TheVariants as t
 use Rattle.sigstore_crypto.specs.declared.error.Error.{Error as CryptoError}
 use Rattle.sigstore_crypto.specs.declared.error.Error.TheVariants as crypto
 use Rattle.sigstore_verify.specs.declared.error.CertificateError.{CertificateError}
-use Rattle.sigstore_verify.specs.declared.error.CertificateError.TheVariants.{Malformed, ChainInvalid, NoValidAuthority,
-    NotYetValid, Expired, Sct}
+use Rattle.sigstore_verify.specs.declared.error.CertificateError.TheVariants.{Malformed, ChainInvalid, NoValidAuthority}
+use Rattle.sigstore_verify.specs.declared.error.CertificateError.TheVariants.{NotYetValid, Expired, Sct}
 use Rattle.sigstore_verify.specs.declared.error.TransparencyLogError.{TransparencyLogError}
 use Rattle.sigstore_verify.specs.declared.error.TransparencyLogError.TheVariants as log
 use Rattle.sigstore_verify.specs.declared.error.TimestampError.{TimestampError}
 use Rattle.sigstore_verify.specs.declared.error.TimestampError.TheVariants as stamp
 use Rattle.sigstore_verify.specs.declared.error.Error.{Error}
-use Rattle.sigstore_verify.specs.declared.error.Error.TheVariants.{IdentityMismatch, IssuerMismatch, SignatureInvalid,
-    ArtifactMismatch, UnsupportedArtifact, Certificate, TransparencyLog, Timestamp, InvalidBundle, UnsupportedBundle,
-    InvalidTrustRoot, Types, Crypto, Bundle, TrustRoot, TrustedCertificate, ArtifactRead, NoMemory, Unbuilt}
+use Rattle.sigstore_verify.specs.declared.error.Error.TheVariants.{IdentityMismatch, IssuerMismatch, SignatureInvalid}
+use Rattle.sigstore_verify.specs.declared.error.Error.TheVariants.{ArtifactMismatch, UnsupportedArtifact, Certificate}
+use Rattle.sigstore_verify.specs.declared.error.Error.TheVariants.{TransparencyLog, Timestamp, InvalidBundle}
+use Rattle.sigstore_verify.specs.declared.error.Error.TheVariants.{UnsupportedBundle, InvalidTrustRoot, Types, Crypto}
+use Rattle.sigstore_verify.specs.declared.error.Error.TheVariants.{Bundle, TrustRoot, TrustedCertificate, ArtifactRead}
+use Rattle.sigstore_verify.specs.declared.error.Error.TheVariants.{NoMemory, Unbuilt}
 
 abbrev pub certificate_number_of : CertificateError → ℕ
 certificate_number_of Malformed = 6

@@ -49,7 +49,7 @@ pub record AfterReading (accepts : Judge) (policy : Meaning) (bundle : Bundle) (
 abbrev pub Cause : Judge → Meaning → Bundle → Watched (List ℕ) → Watched (List ℕ) → ℕ → Error → Type 0
 Cause accepts policy bundle old new max e =
     (e ≡ NoMemory) ⊎ (BeforeReading policy bundle old new e
-        ⊎ (InReading policy bundle old new max e ⊎ AfterReading accepts policy bundle old new max e))
+    ⊎ (InReading policy bundle old new max e ⊎ AfterReading accepts policy bundle old new max e))
 
 -- the bytes were read to the end, and the bundle is accepted by their digest with this report
 pub record Accepted (accepts : Judge) (policy : Meaning) (bundle : Bundle) (old new : Watched (List ℕ)) (max : ℕ)

@@ -37,7 +37,7 @@ in_tags t [] ok e = absurd cc
 in_tags t (u ∷ tags) ok e =
     let p = both_so (is_tag u) (are_tags tags) ok in
     one_so (eqb t u) (is_in t tags) (IsTag t)
-        (λ same. valid t (subst (λ (z : ℕ). is_tag z ≡ true) (sym (eqb-true t u same)) p.0)) (λ later. in_tags t tags p.1 later) e
+    (λ same. valid t (subst (λ (z : ℕ). is_tag z ≡ true) (sym (eqb-true t u same)) p.0)) (λ later. in_tags t tags p.1 later) e
 
 pub any_of-lawful : (tags : List ℕ) → are_tags tags ≡ true → IsLawful (any_of tags)
 any_of-lawful tags ok = record {

@@ -1,8 +1,8 @@
 -- What each type looks like in DER.
 use Rattle.std.specs.Prelude.{◌≡◌, ◌⊎◌, ℕ, List, refl}
 use Rattle.std.proofs.Common.{inl, inr}
-use Rattle.der_core_parts.specs.Types.{AsnType, sequence_type, set_of_type, implicit_type, any_type, components_as,
-    followed_by, required_component, optional_component, choice_type}
+use Rattle.der_core_parts.specs.Types.{AsnType, sequence_type, set_of_type, implicit_type, any_type, components_as}
+use Rattle.der_core_parts.specs.Types.{followed_by, required_component, optional_component, choice_type}
 use Rattle.der_core_parts.specs.Booleans.{false_by_default}
 use Rattle.der_core_parts.specs.Octets.{octet_string_type}
 use Rattle.der_core_parts.specs.Tags.{ia5_tag, primitive_1_tag, primitive_6_tag}
@@ -33,7 +33,7 @@ abbrev pub extension_type : AsnType Extension
 extension_type =
     sequence_type (components_as (λ x. record { oid = x.0; critical = x.1.0; value = x.1.1 }) (λ e. (e.oid, (e.critical, e.value)))
     (followed_by (required_component oid_type)
-        (followed_by false_by_default (required_component octet_string_type) refl) refl) (λ a. refl) (λ b. refl))
+    (followed_by false_by_default (required_component octet_string_type) refl) refl) (λ a. refl) (λ b. refl))
 
 -- ---- CHOICE { utcTime UTCTime, generalTime GeneralizedTime } (RFC 5280, 4.1.2.5)
 
@@ -61,7 +61,8 @@ time_type = choice_type to_time from_time utc_time_type generalized_time_type re
 -- uniformResourceIdentifier [6] IMPLICIT IA5String, or one of the others
 abbrev pub uri_or_other_type : AsnType (List ℕ ⊎ (ℕ × List ℕ))
 uri_or_other_type =
-    choice_type (λ x. x) (λ x. x) (implicit_type primitive_6_tag ia5_tag ia5_type refl refl (λ a. refl)) other_name_type refl (λ x. refl) (λ x. refl)
+    choice_type (λ x. x) (λ x. x) (implicit_type primitive_6_tag ia5_tag ia5_type refl refl
+    (λ a. refl)) other_name_type refl (λ x. refl) (λ x. refl)
 
 abbrev pub to_name : List ℕ ⊎ (List ℕ ⊎ (ℕ × List ℕ)) → GeneralName
 to_name (inl text) = Rfc822Name text
@@ -86,4 +87,5 @@ name-again (Other value) = refl
 -- rfc822Name [1] IMPLICIT IA5String, or one of the others
 abbrev pub general_name_type : AsnType GeneralName
 general_name_type =
-    choice_type to_name from_name (implicit_type primitive_1_tag ia5_tag ia5_type refl refl (λ a. refl)) uri_or_other_type refl name-there name-again
+    choice_type to_name from_name (implicit_type primitive_1_tag ia5_tag ia5_type refl refl
+    (λ a. refl)) uri_or_other_type refl name-there name-again

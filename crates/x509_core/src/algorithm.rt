@@ -1,7 +1,10 @@
 // AlgorithmIdentifier.
 ghost use Rattle.x509_core.specs.Types.{algorithm_type};
 
-use der_core::{Any, Der, DerError, ObjectIdentifier, OctetString, Reader, Tag, append_optional, read_optional, read_value, tag};
+use der_core::{
+    Any, Der, DerError, ObjectIdentifier, OctetString, Reader, Tag, append_optional, read_optional,
+    read_value, tag,
+};
 use foundation::{Duplicate, NoMemory};
 use std::alloc::Global;
 

@@ -1,7 +1,9 @@
 // Attributes.
 ghost use Rattle.x509_core.specs.Types.{attribute_type};
 
-use der_core::{Any, Der, DerError, ObjectIdentifier, OctetString, Reader, SetOfVec, Tag, read_value, tag};
+use der_core::{
+    Any, Der, DerError, ObjectIdentifier, OctetString, Reader, SetOfVec, Tag, read_value, tag,
+};
 use foundation::{Duplicate, NoMemory};
 use std::alloc::Global;
 

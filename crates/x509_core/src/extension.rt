@@ -1,7 +1,10 @@
 // Extension.
 ghost use Rattle.x509_core.specs.Types.{extension_type};
 
-use der_core::{Der, DerError, ObjectIdentifier, OctetString, Reader, Tag, append_default, read_default, read_value, tag};
+use der_core::{
+    Der, DerError, ObjectIdentifier, OctetString, Reader, Tag, append_default, read_default,
+    read_value, tag,
+};
 use foundation::{Duplicate, NoMemory};
 use std::alloc::Global;
 

@@ -28,7 +28,9 @@ version_of contents = do
 
 unfoldable pub version_at : List ℕ → Reading (ℕ × List ℕ)
 version_at bytes =
-    if begins_with constructed_0_tag bytes then (contents_at constructed_0_tag bytes >>= λ x. version_of x.0 >>= λ version. Ok (version, x.1)) else Ok (0, bytes)
+    if begins_with constructed_0_tag bytes then
+    (contents_at constructed_0_tag bytes >>= λ x. version_of x.0 >>= λ version. Ok (version, x.1))
+    else Ok (0, bytes)
 
 -- an INTEGER of at most 20 octets (4.1.2.2), and a sign octet
 unfoldable pub serial_at : List ℕ → Reading (List ℕ × List ℕ)
@@ -56,7 +58,10 @@ time_or (Err e) = Err Time
 
 -- Time ::= CHOICE { utcTime UTCTime, generalTime GeneralizedTime } (4.1.2.5)
 abbrev pub time_of : ℕ → List ℕ → Reading Civil
-time_of tag contents = if tag == utc_time_tag then time_or (utc_of contents) else if tag == generalized_time_tag then time_or (generalized_of contents) else Err Time
+time_of tag contents =
+    if tag == utc_time_tag then time_or (utc_of contents) else
+    if tag == generalized_time_tag then time_or (generalized_of contents) else
+    Err Time
 
 unfoldable pub time_at : List ℕ → Reading (Civil × List ℕ)
 time_at bytes = of_der (tlv_at bytes) >>= λ t. time_of t.0 t.1 >>= λ c. Ok (c, t.2)
@@ -99,7 +104,9 @@ list_of contents = do
 -- extensions [3] EXPLICIT Extensions OPTIONAL
 unfoldable pub list_at : List ℕ → Reading (Option (List ℕ) × List ℕ)
 list_at bytes =
-    if begins_with constructed_3_tag bytes then (contents_at constructed_3_tag bytes >>= λ x. list_of x.0 >>= λ list. Ok (Some list, x.1)) else Ok (None, bytes)
+    if begins_with constructed_3_tag bytes then
+    (contents_at constructed_3_tag bytes >>= λ x. list_of x.0 >>= λ list. Ok (Some list, x.1))
+    else Ok (None, bytes)
 
 pub record Tail : Type 0 where
   -- the contents of the signed part before its extensions

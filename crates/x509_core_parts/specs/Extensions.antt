@@ -1,6 +1,6 @@
 -- Extensions (RFC 5280, 4.1 and 4.2).
-use Rattle.std.specs.Prelude.{ℕ, zero, suc, List, [], ◌∷◌, Bool, true, false, Option, Some, None, Ok, Err, length,
-    bytes_eq, is_some, if◌then◌else◌}
+use Rattle.std.specs.Prelude.{ℕ, zero, suc, List, [], ◌∷◌, Bool, true, false, Option, Some, None, Ok, Err, length}
+use Rattle.std.specs.Prelude.{bytes_eq, is_some, if◌then◌else◌}
 use Rattle.foundation.specs.Steps.{◌>>=◌}
 use Rattle.der_core_parts.specs.declared.error.DerError.TheVariants.{Truncated}
 use Rattle.der_core_parts.specs.Tags.{boolean_tag, octet_string_tag, sequence_tag}
@@ -16,7 +16,9 @@ pub record OneExtension : Type 0 where
 -- FALSE, the default, isn't written (X.690, 11.5), and TRUE is written 255 (11.1)
 unfoldable pub critical_at : List ℕ → Reading (Bool × List ℕ)
 critical_at bytes =
-    if begins_with boolean_tag bytes then (contents_at boolean_tag bytes >>= λ x. checked (bytes_eq x.0 (255 ∷ [])) (true, x.1)) else Ok (false, bytes)
+    if begins_with boolean_tag bytes then
+    (contents_at boolean_tag bytes >>= λ x. checked (bytes_eq x.0 (255 ∷ [])) (true, x.1))
+    else Ok (false, bytes)
 
 unfoldable pub extension_of : List ℕ → Reading OneExtension
 extension_of contents = do

@@ -1,6 +1,6 @@
 -- Signed certificate timestamps (RFC 6962, 3.2 and 3.3).
-use Rattle.std.specs.Prelude.{◌≡◌, ℕ, zero, suc, ◌+◌, ◌*◌, ◌/◌, ◌%◌, ◌⊎◌, ◌++◌, List, [], ◌∷◌, Ok, Err, length, take,
-    drop, ◌==◌, nat_le, nat_lt, if◌then◌else◌}
+use Rattle.std.specs.Prelude.{◌≡◌, ℕ, zero, suc, ◌+◌, ◌*◌, ◌/◌, ◌%◌, ◌⊎◌, ◌++◌, List, [], ◌∷◌, Ok, Err, length, take}
+use Rattle.std.specs.Prelude.{drop, ◌==◌, nat_le, nat_lt, if◌then◌else◌}
 use Rattle.std.specs.Int.{w64, from_be_bytes, to_be_bytes}
 use Rattle.foundation.specs.Steps.{◌>>=◌}
 use Rattle.x509_core_parts.specs.declared.error.X509Error.{X509Error}
@@ -53,8 +53,13 @@ sct_of bytes = do
   extensions ← vector_at head.1
   algorithm ← octets_at 2 extensions.1
   signature ← vector_at algorithm.1
-  ended (record { log_id = head.0.0; milliseconds = head.0.1; extensions = extensions.0; algorithm = algorithm.0;
-      signature = signature.0 }) signature.1
+  ended (record {
+    log_id = head.0.0;
+    milliseconds = head.0.1;
+    extensions = extensions.0;
+    algorithm = algorithm.0;
+    signature = signature.0;
+  }) signature.1
 
 -- SerializedSCT
 unfoldable pub item_at : List ℕ → Reading (Parts × List ℕ)

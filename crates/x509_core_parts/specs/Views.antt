@@ -19,8 +19,11 @@ algorithm_parts a = record { encoded = a.encoded.now; oid = a.oid.now; parameter
 
 abbrev pub spki_parts : SpkiView → Spki
 spki_parts s =
-    record { algorithm = record { encoded = s.algorithm.now; oid = s.oid.now; parameters = option_copied s.parameters };
-    unused_bits = s.unused_bits; key = s.key.now }
+    record {
+      algorithm = record { encoded = s.algorithm.now; oid = s.oid.now; parameters = option_copied s.parameters };
+      unused_bits = s.unused_bits;
+      key = s.key.now;
+    }
 
 abbrev pub extension_parts : NamedExtension → OneExtension
 extension_parts x = record { oid = x.oid.now; critical = x.critical; value = x.value.now }

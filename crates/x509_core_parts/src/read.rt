@@ -4,7 +4,9 @@ ghost use Rattle.der_core_parts.specs.Tlv.{tlv, tlv_at};
 ghost use Rattle.x509_core_parts.specs.Reading.{of_der, contents_at, encoded_at, oid_at, int_at, any_at, bits_of, bits_at, at_end, begins_with, before};
 
 use crate::error::X509Error;
-use der_core::{BitStringKind, DerError, IntKind, ObjectIdentifier, PrimitiveKind, Reader, Tlv, tag};
+use der_core::{
+    BitStringKind, DerError, IntKind, ObjectIdentifier, PrimitiveKind, Reader, Tlv, tag,
+};
 
 /// The value at the front, and what follows.
 pub fn value(bytes: &[u8]) -> Result<(Tlv, &[u8]), X509Error>
