@@ -1,6 +1,8 @@
+pub mod Digest
 pub mod Error
-pub mod Scheme
-pub mod Key
 pub mod Good
-pub mod Source
+pub mod Hasher
+pub mod Key
 pub mod Reader
+pub mod Scheme
+pub mod Source

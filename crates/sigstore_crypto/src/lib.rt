@@ -4,6 +4,7 @@
 mod digest;
 mod error;
 mod file_source;
+mod hasher;
 mod key;
 mod memory_source;
 mod provider;
@@ -17,6 +18,7 @@ pub use file_source::FileSource;
 pub use key::{VerificationKey, validate_raw_public_key};
 pub use memory_source::MemorySource;
 pub use provider::{CryptoProvider, answers_alike};
-pub use reader::{ReadError, sha256_reader};
+pub use hasher::{ArtifactHasher, HashUpdate, Sha256Hasher};
+pub use reader::{ReadError, hash_reader, sha256_reader};
 pub use scheme::{KeyAlgorithm, SigningScheme};
 pub use source::{ArtifactSource, ReadFault};

@@ -1,31 +1,35 @@
-use Rattle.std.proofs.Common.{arith, ◌++◌, take, length-append}
+use Rattle.std.proofs.Common.{rules, arith, ◌≡◌, ◌+◌, ◌++◌, [], take, length, length-append}
 use Rattle.std.proofs.lemmas.Grind.{common_steps}
 use Rattle.std.proofs.lemmas.List.{take-append-le}
 use Rattle.sigstore_crypto.proofs.Parts.{prepend_more}
-use Rattle.sigstore_crypto.proofs.reader.sha256_reader.Goals as goal
+use Rattle.sigstore_crypto.proofs.Feeding.{fed_nothing, fed_more}
+use Rattle.sigstore_crypto.proofs.reader.hash_reader.Goals as goal
+
+pub pieces-init : goal.pieces-init
+pieces-init g c = ([], record { later = search rules; given = search rules; fed = fed_nothing _ _; taken = search rules })
 
 pub returns-then-count-left : goal.returns-then-count-left
 returns-then-count-left g c =
-    let inv = c.loop-hasher.invariant in
+    let inv = c.pieces.invariant in
     let piece = take c.in-Ok.count c.read.new.buf in (
       inv.0 ++ piece,
       record {
         later = omega arith;
         given = prepend_more _ _ _ _ _ inv.1.given c.in-Ok.ensures.given;
-        answer = simp length-append (grind (arith, common_steps, c.in-Ok.ensures.bound));
+        shows = simp length-append (grind (arith, common_steps, c.in-Ok.ensures.bound));
       },
     )
 
-pub loop-hasher-preserved : goal.loop-hasher-preserved
-loop-hasher-preserved g c =
-    let inv = c.loop-hasher.invariant in
+pub pieces-preserved : goal.pieces-preserved
+pieces-preserved g c =
+    let inv = c.pieces.invariant in
     let within = c.in-Ok.ensures.bound.0 in
     let piece = take c.in-Ok.count c.read.new.buf in (
       inv.0 ++ piece,
       record {
         later = omega arith;
         given = prepend_more _ _ _ _ _ inv.1.given c.in-Ok.ensures.given;
-        holds = rw take-append-le at (c.update.ensures inv.0 inv.1.holds);
+        fed = fed_more _ _ _ _ _ _ inv.1.fed (rw take-append-le at c.update_each.ensures);
         taken = simp length-append (grind (arith, common_steps, c.in-Ok.ensures.bound));
       },
     )

@@ -1,0 +1,119 @@
+// Hashers that take an artifact piece by piece (FIPS 180-4).
+ghost use Rattle.std.specs.Prelude.{◌≡◌, ◌++◌, [], ℕ, List, length, true, false, Ok, Err, IfOk, IfErr};
+ghost use Rattle.sha2.specs.Hashers.{Holds256};
+ghost use Rattle.sha2.specs.Sha256.{sha256};
+ghost use Rattle.sigstore_types_parts.specs.HashAlgorithm.{digest_len_of};
+ghost use Rattle.sigstore_crypto.specs.declared.error.Error.TheVariants.{NoMemory, UnsupportedAlgorithm};
+ghost use Rattle.sigstore_crypto.specs.Digest.{is_hashed, digest_by};
+ghost use Rattle.sigstore_crypto.specs.Hasher.{Holds, algorithm_in};
+
+use crate::error::Error;
+use sha2::{Digest, Sha256, Sha384, Sha512};
+use sigstore_types_parts::{ArtifactDigest, Bytes, Hash, HashAlgorithm, Sha256Hash};
+use std::alloc::Global;
+
+/// Takes bytes in turn; contracts see which bytes it has seen.
+pub trait HashUpdate: Drop {
+    ghost holds: { Self → List ℕ → Type 0 };
+
+    /// Takes these bytes, behind those that it has seen.
+    fn update(&mut self, bytes: &[u8])
+        ensures { (seen : List ℕ) → holds self.old seen → holds self.new (seen ++ bytes.now) };
+}
+
+#[derive(Drop)]
+enum Inner {
+    Sha256(Sha256),
+    Sha384(Sha384),
+    Sha512(Sha512),
+}
+
+/// A hasher of one of the SHA-2 algorithms.
+#[derive(Drop)]
+pub struct ArtifactHasher {
+    inner: Inner,
+}
+
+impl ArtifactHasher {
+    /// A hasher that has seen nothing. Errors: `UnsupportedAlgorithm` for the algorithms of SHA-3.
+    pub fn new(algorithm: HashAlgorithm) -> Result<ArtifactHasher, Error>
+        ensures ok { IfOk result (λ hasher. Holds hasher [] × (algorithm_in hasher ≡ algorithm) × (is_hashed algorithm ≡ true)) }
+        ensures err { IfErr result (λ e. (e ≡ UnsupportedAlgorithm) × (is_hashed algorithm ≡ false)) }
+    {
+        let inner = match algorithm {
+            HashAlgorithm::Sha2256 => Inner::Sha256(Sha256::new()),
+            HashAlgorithm::Sha2384 => Inner::Sha384(Sha384::new()),
+            HashAlgorithm::Sha2512 => Inner::Sha512(Sha512::new()),
+            HashAlgorithm::Sha3256 => return Err(Error::UnsupportedAlgorithm),
+            HashAlgorithm::Sha3384 => return Err(Error::UnsupportedAlgorithm),
+        };
+        Ok(ArtifactHasher { inner })
+    }
+
+    /// The digest of the bytes that it has seen.
+    pub fn finalize(self, alloc: Global) -> Result<ArtifactDigest, Error>
+        ensures ok { IfOk result (λ digest. (seen : List ℕ) → Holds self seen
+            → digest ≡ (algorithm_in self, digest_by (algorithm_in self) seen)) }
+        ensures err { IfErr result (λ e. e ≡ NoMemory) }
+    {
+        match self.inner {
+            Inner::Sha256(hasher) => digest_in(alloc, HashAlgorithm::Sha2256, &hasher.finalize()),
+            Inner::Sha384(hasher) => digest_in(alloc, HashAlgorithm::Sha2384, &hasher.finalize()),
+            Inner::Sha512(hasher) => digest_in(alloc, HashAlgorithm::Sha2512, &hasher.finalize()),
+        }
+    }
+}
+
+// The digest of an algorithm, which these octets are.
+fn digest_in(alloc: Global, algorithm: HashAlgorithm, octets: &[u8]) -> Result<ArtifactDigest, Error>
+    requires { length octets.now ≡ digest_len_of algorithm }
+    ensures ok { IfOk result (λ digest. digest ≡ (algorithm, octets.now)) }
+    ensures err { IfErr result (λ e. e ≡ NoMemory) }
+{
+    let bytes = Bytes::new(alloc, octets)?;
+    Ok(ArtifactDigest::new(algorithm, bytes).unwrap())
+}
+
+impl HashUpdate for ArtifactHasher {
+    ghost holds = { Holds };
+
+    fn update(&mut self, bytes: &[u8]) {
+        match &mut self.inner {
+            Inner::Sha256(hasher) => hasher.update(bytes),
+            Inner::Sha384(hasher) => hasher.update(bytes),
+            Inner::Sha512(hasher) => hasher.update(bytes),
+        }
+    }
+}
+
+/// A hasher of SHA-256.
+#[derive(Drop)]
+pub struct Sha256Hasher {
+    inner: Sha256,
+}
+
+impl Sha256Hasher {
+    /// A hasher that has seen nothing.
+    pub fn new() -> Sha256Hasher
+        ensures { Holds256 result.inner [] }
+    {
+        Sha256Hasher {
+            inner: Sha256::new(),
+        }
+    }
+
+    /// The SHA-256 value of the bytes that it has seen.
+    pub fn finalize(self) -> Sha256Hash
+        ensures { (seen : List ℕ) → Holds256 self.inner seen → result ≡ sha256 seen }
+    {
+        Hash::new(self.inner.finalize())
+    }
+}
+
+impl HashUpdate for Sha256Hasher {
+    ghost holds = { λ hasher seen. Holds256 hasher.inner seen };
+
+    fn update(&mut self, bytes: &[u8]) {
+        self.inner.update(bytes);
+    }
+}
