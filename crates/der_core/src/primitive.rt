@@ -2,7 +2,6 @@
 ghost use Rattle.std.specs.Prelude.{◌≡◌, ◌≢◌, ℕ, List, Bool, true, false, bytes_eq, IfOk, IfErr, Ok, Err};
 ghost use Rattle.std.specs.Cmp.{partial_equiv_from_equiv};
 ghost use Rattle.std.specs.Cmp.Lexicographic.{nat_list_eq_equiv};
-ghost use Rattle.der_core_parts.specs.declared.error.DerError.TheVariants.{NoMemory};
 ghost use Rattle.der_core_parts.specs.Choices.{is_tag};
 ghost use Rattle.der_core_parts.specs.Grammar.{primitive};
 ghost use Rattle.der_core_parts.specs.Laws.{primitive-lawful};
@@ -52,7 +51,7 @@ impl<K: PrimitiveKind> Primitive<K> {
     /// The value with these contents; Value exactly where they are outside the grammar.
     pub fn new(alloc: Global, bytes: &[u8]) -> Result<Primitive<K>, DerError>
         ensures ok { IfOk result (λ p. (primitive K.number K.test).value K.number bytes.now ≡ Ok p) }
-        ensures err { IfErr result (λ e. e ≢ NoMemory → (primitive K.number K.test).value K.number bytes.now ≡ Err e) }
+        ensures err { IfErr result (λ e. e ≢ DerError.NoMemory → (primitive K.number K.test).value K.number bytes.now ≡ Err e) }
     {
         if !K::allows(bytes) {
             return Err(DerError::Value);

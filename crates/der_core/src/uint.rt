@@ -2,7 +2,6 @@
 ghost use Rattle.std.specs.Prelude.{◌≡◌, ◌≢◌, ◌++◌, ◌∷◌, [], true, bytes_eq, IfOk, IfErr, OnOk, Ok, Err};
 ghost use Rattle.std.specs.Cmp.{partial_equiv_from_equiv};
 ghost use Rattle.std.specs.Cmp.Lexicographic.{nat_list_eq_equiv};
-ghost use Rattle.der_core_parts.specs.declared.error.DerError.TheVariants.{NoMemory};
 ghost use Rattle.der_core.specs.Unsigned.{is_uint, without_zeros, with_sign, uint_of, uint_type};
 
 use der_core_parts::{Der, DerError, OctetString, Tag, tag};
@@ -68,7 +67,7 @@ impl Uint {
     /// where there is none.
     pub fn new(alloc: Global, bytes: &[u8]) -> Result<Uint, DerError>
         ensures ok { IfOk result (λ u. uint_of bytes.now ≡ Ok u) }
-        ensures err { IfErr result (λ e. e ≢ NoMemory → uint_of bytes.now ≡ Err e) }
+        ensures err { IfErr result (λ e. e ≢ DerError.NoMemory → uint_of bytes.now ≡ Err e) }
     {
         if bytes.is_empty() {
             return Err(DerError::Value);

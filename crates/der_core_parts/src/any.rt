@@ -1,6 +1,6 @@
 // A value of any type.
 ghost use Rattle.std.specs.Prelude.{◌≡◌, ◌≢◌, true, false, IfOk, IfErr};
-ghost use Rattle.der_core_parts.specs.declared.error.DerError.TheVariants.{NoMemory, Value as BadValue};
+ghost use Rattle.der_core_parts.specs.declared.error.DerError.TheVariants.{Value as BadValue};
 ghost use Rattle.der_core_parts.specs.Choices.{is_tag};
 ghost use Rattle.der_core_parts.specs.Types.{any_type};
 ghost use Rattle.std.specs.Prelude.{nat_eq, bytes_eq};
@@ -44,7 +44,7 @@ impl Any {
     /// A tag with contents; Value exactly where the tag marks one of several bytes (X.690, 8.1.2.4).
     pub fn new(alloc: Global, tag: Tag, bytes: &[u8]) -> Result<Any, DerError>
         ensures ok { IfOk result (λ a. (is_tag tag.0 ≡ true) × (a ≡ (tag.0, bytes.now))) }
-        ensures err { IfErr result (λ e. e ≢ NoMemory → (is_tag tag.0 ≡ false) × (e ≡ BadValue)) }
+        ensures err { IfErr result (λ e. e ≢ DerError.NoMemory → (is_tag tag.0 ≡ false) × (e ≡ BadValue)) }
     {
         if !is_one_byte(tag) {
             return Err(DerError::Value);

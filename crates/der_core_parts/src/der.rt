@@ -1,6 +1,5 @@
 // Types whose values have a DER encoding.
 ghost use Rattle.std.specs.Prelude.{◌≡◌, ◌≢◌, ◌<◌, ◌^◌, ◌++◌, true, IfOk, IfErr, OnOk, OnErr, MatchResult, Ok, Err};
-ghost use Rattle.der_core_parts.specs.declared.error.DerError.TheVariants.{NoMemory};
 ghost use Rattle.der_core_parts.specs.Outcome.{IsTooLong};
 ghost use Rattle.der_core_parts.specs.Tlv.{length_bytes};
 ghost use Rattle.der_core_parts.specs.Grammar.{Grammar, read, read_all, write, framed, order_of, Encodes, Appended, KeepsFront};
@@ -25,7 +24,7 @@ pub trait Der: Sized + Drop {
     fn from_contents(alloc: Global, tag: Tag, contents: &[u8]) -> Result<Self, DerError>
         requires { grammar.accepts tag.0 ≡ true }
         ensures ok { IfOk result (λ a. grammar.value tag.0 contents.now ≡ Ok a) }
-        ensures err { IfErr result (λ e. e ≢ NoMemory → grammar.value tag.0 contents.now ≡ Err e) };
+        ensures err { IfErr result (λ e. e ≢ DerError.NoMemory → grammar.value tag.0 contents.now ≡ Err e) };
 
     /// The tag that is written.
     fn tag(&self) -> Tag
@@ -34,7 +33,7 @@ pub trait Der: Sized + Drop {
     /// The contents that are written; TooLong exactly where a length within is 2^28 or more.
     fn contents(&self, alloc: Global) -> Result<OctetString, DerError>
         ensures ok { IfOk result (λ c. grammar.contents self.now ≡ Ok c) }
-        ensures err { IfErr result (λ e. e ≢ NoMemory → grammar.contents self.now ≡ Err e) }
+        ensures err { IfErr result (λ e. e ≢ DerError.NoMemory → grammar.contents self.now ≡ Err e) }
         ensures cause { IfErr result IsTooLong };
 
     ghost lawful: { IsLawful grammar };
@@ -43,10 +42,10 @@ pub trait Der: Sized + Drop {
     /// `Reader::read_tlv`, Tag for another tag, those of the contents, Trailing.
     final fn from_der(alloc: Global, bytes: &[u8]) -> Result<Self, DerError>
         ensures ok { IfOk result (λ a. read_all grammar bytes.now ≡ Ok a) }
-        ensures err { IfErr result (λ e. e ≢ NoMemory → read_all grammar bytes.now ≡ Err e) }
+        ensures err { IfErr result (λ e. e ≢ DerError.NoMemory → read_all grammar bytes.now ≡ Err e) }
         // Ok exactly where the bytes encode a value, with that value.
         ensures found { IfOk result (λ a. Encodes grammar a bytes.now) }
-        ensures only { (a : Self) → Encodes grammar a bytes.now → MatchResult result (λ x. x ≡ a) (λ e. e ≡ NoMemory) }
+        ensures only { (a : Self) → Encodes grammar a bytes.now → MatchResult result (λ x. x ≡ a) (λ e. e ≡ DerError.NoMemory) }
     {
         value_of_all(alloc, bytes)
     }
@@ -55,7 +54,7 @@ pub trait Der: Sized + Drop {
     /// begins with its old bytes.
     final fn encode_into(&self, alloc: Global, out: &mut OctetString) -> Result<(), DerError>
         ensures ok { OnOk result (Appended (write grammar self.now) out.old out.new) }
-        ensures err { IfErr result (λ e. e ≢ NoMemory → write grammar self.now ≡ Err e) }
+        ensures err { IfErr result (λ e. e ≢ DerError.NoMemory → write grammar self.now ≡ Err e) }
         ensures cause { IfErr result IsTooLong }
         ensures kept { OnErr result (KeepsFront out.old out.new) }
     {
@@ -65,7 +64,7 @@ pub trait Der: Sized + Drop {
     /// The encoding; TooLong exactly where a length is 2^28 or more.
     final fn to_der(&self, alloc: Global) -> Result<OctetString, DerError>
         ensures ok { IfOk result (λ bytes. write grammar self.now ≡ Ok bytes) }
-        ensures err { IfErr result (λ e. e ≢ NoMemory → write grammar self.now ≡ Err e) }
+        ensures err { IfErr result (λ e. e ≢ DerError.NoMemory → write grammar self.now ≡ Err e) }
         ensures cause { IfErr result IsTooLong }
         // What is written encodes the value.
         ensures encodes { IfOk result (λ bytes. Encodes grammar self.now bytes) }
@@ -77,7 +76,7 @@ pub trait Der: Sized + Drop {
     /// before `other`.
     final fn der_cmp(&self, alloc: Global, other: &Self) -> Result<Ordering, DerError>
         ensures ok { IfOk result (λ order. order_of grammar self.now other.now ≡ Ok order) }
-        ensures err { IfErr result (λ e. e ≢ NoMemory → order_of grammar self.now other.now ≡ Err e) }
+        ensures err { IfErr result (λ e. e ≢ DerError.NoMemory → order_of grammar self.now other.now ≡ Err e) }
         ensures cause { IfErr result IsTooLong }
     {
         order_of_encodings(alloc, self, other)
@@ -88,7 +87,7 @@ pub trait Der: Sized + Drop {
 #[tactic(auto, unfolding(crate::specs::Grammar::read))]
 pub fn read_value<T: Der>(alloc: Global, reader: &mut Reader) -> Result<T, DerError>
     ensures ok { IfOk result (λ a. read T.grammar reader.old ≡ Ok (a, reader.new)) }
-    ensures err { IfErr result (λ e. e ≢ NoMemory → read T.grammar reader.old ≡ Err e) }
+    ensures err { IfErr result (λ e. e ≢ DerError.NoMemory → read T.grammar reader.old ≡ Err e) }
 {
     let tlv = reader.read_tlv()?;
     if !T::accepts(tlv.tag) {
@@ -103,7 +102,7 @@ pub fn read_value<T: Der>(alloc: Global, reader: &mut Reader) -> Result<T, DerEr
 #[tactic(auto, unfolding(crate::specs::Grammar::read_all))]
 fn only_value<T: Der>(alloc: Global, bytes: &[u8]) -> Result<T, DerError>
     ensures ok { IfOk result (λ a. read_all T.grammar bytes.now ≡ Ok a) }
-    ensures err { IfErr result (λ e. e ≢ NoMemory → read_all T.grammar bytes.now ≡ Err e) }
+    ensures err { IfErr result (λ e. e ≢ DerError.NoMemory → read_all T.grammar bytes.now ≡ Err e) }
 {
     let mut reader = Reader::new(bytes);
     let value = read_value::<T>(alloc, &mut reader)?;
@@ -113,9 +112,9 @@ fn only_value<T: Der>(alloc: Global, bytes: &[u8]) -> Result<T, DerError>
 
 fn value_of_all<T: Der>(alloc: Global, bytes: &[u8]) -> Result<T, DerError>
     ensures ok { IfOk result (λ a. read_all T.grammar bytes.now ≡ Ok a) }
-    ensures err { IfErr result (λ e. e ≢ NoMemory → read_all T.grammar bytes.now ≡ Err e) }
+    ensures err { IfErr result (λ e. e ≢ DerError.NoMemory → read_all T.grammar bytes.now ≡ Err e) }
     ensures found { IfOk result (λ a. Encodes T.grammar a bytes.now) }
-    ensures only { (a : T) → Encodes T.grammar a bytes.now → MatchResult result (λ x. x ≡ a) (λ e. e ≡ NoMemory) }
+    ensures only { (a : T) → Encodes T.grammar a bytes.now → MatchResult result (λ x. x ≡ a) (λ e. e ≡ DerError.NoMemory) }
 {
     only_value(alloc, bytes)
 }
@@ -155,7 +154,7 @@ fn append_length(out: &mut OctetString, length: usize) -> Result<(), NoMemory>
 #[tactic(auto, unfolding(crate::specs::Tlv::tlv))]
 pub fn append_framed(tag: Tag, contents: &[u8], out: &mut OctetString) -> Result<(), DerError>
     ensures ok { OnOk result (Appended (framed tag.0 contents.now) out.old out.new) }
-    ensures err { IfErr result (λ e. e ≢ NoMemory → framed tag.0 contents.now ≡ Err e) }
+    ensures err { IfErr result (λ e. e ≢ DerError.NoMemory → framed tag.0 contents.now ≡ Err e) }
     ensures cause { IfErr result IsTooLong }
     ensures kept { OnErr result (KeepsFront out.old out.new) }
 {
@@ -171,7 +170,7 @@ pub fn append_framed(tag: Tag, contents: &[u8], out: &mut OctetString) -> Result
 #[tactic(auto, unfolding(crate::specs::Grammar::write))]
 fn append_encoding<T: Der>(alloc: Global, value: &T, out: &mut OctetString) -> Result<(), DerError>
     ensures ok { OnOk result (Appended (write T.grammar value.now) out.old out.new) }
-    ensures err { IfErr result (λ e. e ≢ NoMemory → write T.grammar value.now ≡ Err e) }
+    ensures err { IfErr result (λ e. e ≢ DerError.NoMemory → write T.grammar value.now ≡ Err e) }
     ensures cause { IfErr result IsTooLong }
     ensures kept { OnErr result (KeepsFront out.old out.new) }
 {
@@ -184,7 +183,7 @@ fn append_encoding<T: Der>(alloc: Global, value: &T, out: &mut OctetString) -> R
 
 fn encoding_of<T: Der>(alloc: Global, value: &T) -> Result<OctetString, DerError>
     ensures ok { IfOk result (λ bytes. write T.grammar value.now ≡ Ok bytes) }
-    ensures err { IfErr result (λ e. e ≢ NoMemory → write T.grammar value.now ≡ Err e) }
+    ensures err { IfErr result (λ e. e ≢ DerError.NoMemory → write T.grammar value.now ≡ Err e) }
     ensures cause { IfErr result IsTooLong }
     ensures encodes { IfOk result (λ bytes. Encodes T.grammar value.now bytes) }
 {
@@ -196,7 +195,7 @@ fn encoding_of<T: Der>(alloc: Global, value: &T) -> Result<OctetString, DerError
 #[tactic(auto, unfolding(crate::specs::Grammar::order_of))]
 fn order_of_encodings<T: Der>(alloc: Global, value: &T, other: &T) -> Result<Ordering, DerError>
     ensures ok { IfOk result (λ order. order_of T.grammar value.now other.now ≡ Ok order) }
-    ensures err { IfErr result (λ e. e ≢ NoMemory → order_of T.grammar value.now other.now ≡ Err e) }
+    ensures err { IfErr result (λ e. e ≢ DerError.NoMemory → order_of T.grammar value.now other.now ≡ Err e) }
     ensures cause { IfErr result IsTooLong }
 {
     let encoding = encoding_of(alloc, value)?;

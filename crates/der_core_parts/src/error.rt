@@ -1,6 +1,5 @@
 // Why DER is refused.
 ghost use Rattle.std.specs.Prelude.{◌≡◌};
-ghost use Rattle.der_core_parts.specs.declared.error.DerError.TheVariants.{NoMemory};
 ghost use Rattle.der_core_parts.specs.Outcome.{number_of};
 
 use foundation::NoMemory;
@@ -51,7 +50,7 @@ impl DerError {
 }
 
 impl From<NoMemory> for DerError {
-    ghost from_gives = { λ _ e. e ≡ NoMemory };
+    ghost from_gives = { λ _ e. e ≡ DerError.NoMemory };
 
     fn from(_: NoMemory) -> DerError {
         DerError::NoMemory
@@ -59,7 +58,7 @@ impl From<NoMemory> for DerError {
 }
 
 impl From<AllocError> for DerError {
-    ghost from_gives = { λ _ e. e ≡ NoMemory };
+    ghost from_gives = { λ _ e. e ≡ DerError.NoMemory };
 
     fn from(_: AllocError) -> DerError {
         DerError::NoMemory
@@ -67,7 +66,7 @@ impl From<AllocError> for DerError {
 }
 
 impl<T: Drop> From<AllocFailed<T>> for DerError {
-    ghost from_gives = { λ _ e. e ≡ NoMemory };
+    ghost from_gives = { λ _ e. e ≡ DerError.NoMemory };
 
     fn from(_: AllocFailed<T>) -> DerError {
         DerError::NoMemory

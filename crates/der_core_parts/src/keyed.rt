@@ -6,7 +6,6 @@ ghost use Rattle.std.specs.Cmp.Rules.{comparing};
 ghost use Rattle.std.specs.Cmp.Lexicographic.{slice_cmp, on_texts_equal};
 ghost use Rattle.std.specs.Ordering.{nat_cmp, on, as_partial_cmp};
 ghost use Rattle.der_core_parts.specs.Outcome.{IsTooLong};
-ghost use Rattle.der_core_parts.specs.declared.error.DerError.TheVariants.{NoMemory};
 ghost use Rattle.der_core_parts.specs.Sets.{is_before, keyed, ordered, rises, values};
 
 use crate::der::Der;
@@ -73,7 +72,7 @@ impl<T> Ord for Keyed<T> {
 /// The members with their encodings, each encoded once.
 pub fn with_encodings<T: Der>(alloc: Global, members: Vec<T>) -> Result<Vec<Keyed<T>>, DerError>
     ensures ok { IfOk result (λ v. keyed T.grammar members.items ≡ Ok v.items) }
-    ensures err { IfErr result (λ e. e ≢ NoMemory → keyed T.grammar members.items ≡ Err e) }
+    ensures err { IfErr result (λ e. e ≢ DerError.NoMemory → keyed T.grammar members.items ≡ Err e) }
     ensures cause { IfErr result IsTooLong }
 {
     let mut keys = Vec::new(alloc);

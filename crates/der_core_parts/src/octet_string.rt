@@ -2,7 +2,6 @@
 ghost use Rattle.std.specs.Prelude.{◌≡◌, ◌++◌, [], IfOk, IfErr, OnOk, OnErr, bytes_eq};
 ghost use Rattle.std.specs.Cmp.{partial_equiv_from_equiv};
 ghost use Rattle.std.specs.Cmp.Lexicographic.{nat_list_eq_equiv};
-ghost use Rattle.der_core_parts.specs.declared.error.DerError.TheVariants.{NoMemory};
 ghost use Rattle.der_core_parts.specs.Octets.{octet_string_type};
 
 use crate::der::Der;
@@ -32,7 +31,7 @@ impl OctetString {
     /// A copy of octets; NoMemory is its only refusal.
     pub fn new(alloc: Global, bytes: &[u8]) -> Result<OctetString, DerError>
         ensures ok { IfOk result (λ s. s ≡ bytes.now) }
-        ensures err { IfErr result (λ e. e ≡ NoMemory) }
+        ensures err { IfErr result (λ e. e ≡ DerError.NoMemory) }
     {
         Ok(OctetString {
             bytes: Vec::from_slice(alloc, bytes)?,

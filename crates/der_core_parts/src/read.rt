@@ -1,6 +1,5 @@
 // Reading components: optional, with a default, under implicit and explicit tags, and lists.
 ghost use Rattle.std.specs.Prelude.{◌≡◌, ◌≢◌, true, IfOk, IfErr, Ok, Err};
-ghost use Rattle.der_core_parts.specs.declared.error.DerError.TheVariants.{NoMemory};
 ghost use Rattle.der_core_parts.specs.Grammar.{read, read_option, implicit, optional, defaulted, or_default};
 ghost use Rattle.der_core_parts.specs.Choices.{explicit};
 ghost use Rattle.der_core_parts.specs.Many.{many_of};
@@ -15,7 +14,7 @@ use std::alloc::Global;
 #[tactic(auto, unfolding(crate::specs::Grammar::read_option))]
 pub fn read_optional<T: Der>(alloc: Global, reader: &mut Reader) -> Result<Option<T>, DerError>
     ensures ok { IfOk result (λ a. read_option T.grammar reader.old ≡ Ok (a, reader.new)) }
-    ensures err { IfErr result (λ e. e ≢ NoMemory → read_option T.grammar reader.old ≡ Err e) }
+    ensures err { IfErr result (λ e. e ≢ DerError.NoMemory → read_option T.grammar reader.old ≡ Err e) }
 {
     match reader.peek_tag() {
         Some(tag) if T::accepts(tag) => Ok(Some(read_value(alloc, reader)?)),
@@ -45,7 +44,7 @@ pub fn read_default<T: Der + PartialEq>(
     reader: &mut Reader,
 ) -> Result<T, DerError>
     ensures ok { IfOk result (λ a. (defaulted (T.eq default) default T.grammar).value_at reader.old ≡ Ok (a, reader.new)) }
-    ensures err { IfErr result (λ e. e ≢ NoMemory → (defaulted (T.eq default) default T.grammar).value_at reader.old ≡ Err e) }
+    ensures err { IfErr result (λ e. e ≢ DerError.NoMemory → (defaulted (T.eq default) default T.grammar).value_at reader.old ≡ Err e) }
 {
     let value = read_optional(alloc, reader)?;
     Ok(or_default_value(default, value)?)
@@ -61,7 +60,7 @@ pub fn read_implicit<T: Der>(
 ) -> Result<T, DerError>
     requires { T.grammar.accepts own.0 ≡ true }
     ensures ok { IfOk result (λ a. read (implicit tag.0 own.0 T.grammar) reader.old ≡ Ok (a, reader.new)) }
-    ensures err { IfErr result (λ e. e ≢ NoMemory → read (implicit tag.0 own.0 T.grammar) reader.old ≡ Err e) }
+    ensures err { IfErr result (λ e. e ≢ DerError.NoMemory → read (implicit tag.0 own.0 T.grammar) reader.old ≡ Err e) }
 {
     let tlv = reader.read_tlv()?;
     if tlv.tag.0 != tag.0 {
@@ -83,7 +82,7 @@ pub fn read_implicit_optional<T: Der>(
 ) -> Result<Option<T>, DerError>
     requires { T.grammar.accepts own.0 ≡ true }
     ensures ok { IfOk result (λ a. read_option (implicit tag.0 own.0 T.grammar) reader.old ≡ Ok (a, reader.new)) }
-    ensures err { IfErr result (λ e. e ≢ NoMemory → read_option (implicit tag.0 own.0 T.grammar) reader.old ≡ Err e) }
+    ensures err { IfErr result (λ e. e ≢ DerError.NoMemory → read_option (implicit tag.0 own.0 T.grammar) reader.old ≡ Err e) }
 {
     match reader.peek_tag() {
         Some(next) if next.0 == tag.0 => Ok(Some(read_implicit(alloc, tag, own, reader)?)),
@@ -95,7 +94,7 @@ pub fn read_implicit_optional<T: Der>(
 #[tactic(auto, unfolding(crate::specs::Grammar::read))]
 pub fn read_explicit<T: Der>(alloc: Global, tag: Tag, reader: &mut Reader) -> Result<T, DerError>
     ensures ok { IfOk result (λ a. read (explicit tag.0 T.grammar) reader.old ≡ Ok (a, reader.new)) }
-    ensures err { IfErr result (λ e. e ≢ NoMemory → read (explicit tag.0 T.grammar) reader.old ≡ Err e) }
+    ensures err { IfErr result (λ e. e ≢ DerError.NoMemory → read (explicit tag.0 T.grammar) reader.old ≡ Err e) }
 {
     let tlv = reader.read_tlv()?;
     if tlv.tag.0 != tag.0 {
@@ -115,7 +114,7 @@ pub fn read_explicit_optional<T: Der>(
     reader: &mut Reader,
 ) -> Result<Option<T>, DerError>
     ensures ok { IfOk result (λ a. read_option (explicit tag.0 T.grammar) reader.old ≡ Ok (a, reader.new)) }
-    ensures err { IfErr result (λ e. e ≢ NoMemory → read_option (explicit tag.0 T.grammar) reader.old ≡ Err e) }
+    ensures err { IfErr result (λ e. e ≢ DerError.NoMemory → read_option (explicit tag.0 T.grammar) reader.old ≡ Err e) }
 {
     match reader.peek_tag() {
         Some(next) if next.0 == tag.0 => Ok(Some(read_explicit(alloc, tag, reader)?)),
@@ -131,7 +130,7 @@ pub fn read_explicit_default<T: Der + PartialEq>(
     reader: &mut Reader,
 ) -> Result<T, DerError>
     ensures ok { IfOk result (λ a. (defaulted (T.eq default) default (explicit tag.0 T.grammar)).value_at reader.old ≡ Ok (a, reader.new)) }
-    ensures err { IfErr result (λ e. e ≢ NoMemory → (defaulted (T.eq default) default (explicit tag.0 T.grammar)).value_at reader.old ≡ Err e) }
+    ensures err { IfErr result (λ e. e ≢ DerError.NoMemory → (defaulted (T.eq default) default (explicit tag.0 T.grammar)).value_at reader.old ≡ Err e) }
 {
     let value = read_explicit_optional(alloc, tag, reader)?;
     Ok(or_default_value(default, value)?)
@@ -140,7 +139,7 @@ pub fn read_explicit_default<T: Der + PartialEq>(
 /// Reads values up to the end of the bytes.
 pub fn read_each<T: Der>(alloc: Global, reader: &mut Reader) -> Result<Vec<T>, DerError>
     ensures ok { IfOk result (λ v. many_of T.grammar reader.old ≡ Ok v.items) }
-    ensures err { IfErr result (λ e. e ≢ NoMemory → many_of T.grammar reader.old ≡ Err e) }
+    ensures err { IfErr result (λ e. e ≢ DerError.NoMemory → many_of T.grammar reader.old ≡ Err e) }
 {
     let mut items = Vec::new(alloc);
     'values: while let Some(_tag) = reader.peek_tag() {

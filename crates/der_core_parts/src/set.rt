@@ -2,7 +2,6 @@
 ghost use Rattle.std.specs.Prelude.{◌≡◌, ◌≢◌, ◌∷◌, [], ◌≤◌, ◌<◌, length, true, IfOk, IfErr, OnOk, OnErr, MatchOption, Ok, Err, slice_get};
 ghost use Rattle.std.specs.Cmp.Lexicographic.{pointwise, lists_per};
 ghost use Rattle.std.specs.Option.{option_copied};
-ghost use Rattle.der_core_parts.specs.declared.error.DerError.TheVariants.{NoMemory};
 ghost use Rattle.der_core_parts.specs.Grammar.{write};
 ghost use Rattle.der_core_parts.specs.Many.{sequence_of};
 ghost use Rattle.der_core_parts.specs.Outcome.{IsSetRefusal};
@@ -46,7 +45,7 @@ impl<T: Der> Model for SetOfVec<T> {
 #[tactic(auto, unfolding(crate::specs::Sets::set_from))]
 fn in_order<T: Der>(alloc: Global, members: Vec<T>) -> Result<Vec<T>, DerError>
     ensures ok { IfOk result (λ v. set_from T.grammar members.items ≡ Ok v.items) }
-    ensures err { IfErr result (λ e. e ≢ NoMemory → set_from T.grammar members.items ≡ Err e) }
+    ensures err { IfErr result (λ e. e ≢ DerError.NoMemory → set_from T.grammar members.items ≡ Err e) }
     ensures cause { IfErr result IsSetRefusal }
 {
     let mut keys = with_encodings(alloc, members)?;
@@ -60,7 +59,7 @@ fn in_order<T: Der>(alloc: Global, members: Vec<T>) -> Result<Vec<T>, DerError>
 /// The place of a member with this encoding.
 fn place_for<T: Der>(alloc: Global, key: &[u8], members: &[T]) -> Result<usize, DerError>
     ensures ok { IfOk result (λ i. place_of T.grammar key.now members.now ≡ Ok i) }
-    ensures err { IfErr result (λ e. e ≢ NoMemory → place_of T.grammar key.now members.now ≡ Err e) }
+    ensures err { IfErr result (λ e. e ≢ DerError.NoMemory → place_of T.grammar key.now members.now ≡ Err e) }
     ensures cause { IfErr result IsSetRefusal }
     ensures within { IfOk result (λ i. i ≤ length members.now) }
 {
@@ -80,7 +79,7 @@ fn place_for<T: Der>(alloc: Global, key: &[u8], members: &[T]) -> Result<usize, 
 #[tactic(auto, unfolding(crate::specs::Places::put))]
 fn put_in<T: Der>(alloc: Global, members: &mut Vec<T>, member: T) -> Result<(), DerError>
     ensures ok { OnOk result (put T.grammar member members.old.items ≡ Ok members.new.items) }
-    ensures err { IfErr result (λ e. e ≢ NoMemory → put T.grammar member members.old.items ≡ Err e) }
+    ensures err { IfErr result (λ e. e ≢ DerError.NoMemory → put T.grammar member members.old.items ≡ Err e) }
     ensures cause { IfErr result IsSetRefusal }
     ensures same { OnErr result (members.new.items ≡ members.old.items) }
 {
@@ -105,7 +104,7 @@ impl<T: Der> SetOfVec<T> {
     /// two are equal.
     pub fn try_from(alloc: Global, members: Vec<T>) -> Result<SetOfVec<T>, DerError>
         ensures ok { IfOk result (λ set. set_from T.grammar members.items ≡ Ok set) }
-        ensures err { IfErr result (λ e. e ≢ NoMemory → set_from T.grammar members.items ≡ Err e) }
+        ensures err { IfErr result (λ e. e ≢ DerError.NoMemory → set_from T.grammar members.items ≡ Err e) }
         ensures cause { IfErr result IsSetRefusal }
     {
         Ok(SetOfVec {
@@ -117,7 +116,7 @@ impl<T: Der> SetOfVec<T> {
     /// there. A refusal changes nothing.
     pub fn insert(&mut self, alloc: Global, member: T) -> Result<(), DerError>
         ensures ok { OnOk result (set_from T.grammar (member ∷ self.old) ≡ Ok self.new) }
-        ensures err { IfErr result (λ e. e ≢ NoMemory → set_from T.grammar (member ∷ self.old) ≡ Err e) }
+        ensures err { IfErr result (λ e. e ≢ DerError.NoMemory → set_from T.grammar (member ∷ self.old) ≡ Err e) }
         ensures cause { IfErr result IsSetRefusal }
         ensures same { OnErr result (self.new ≡ self.old) }
     {

@@ -1,6 +1,5 @@
 // Writing components: optional, with a default, under implicit and explicit tags, and lists.
 ghost use Rattle.std.specs.Prelude.{◌≡◌, ◌≢◌, IfErr, OnOk, OnErr, Ok, Err};
-ghost use Rattle.der_core_parts.specs.declared.error.DerError.TheVariants.{NoMemory};
 ghost use Rattle.der_core_parts.specs.Outcome.{IsTooLong};
 ghost use Rattle.der_core_parts.specs.Grammar.{write, write_option, implicit, Appended, KeepsFront, unless_default};
 ghost use Rattle.der_core_parts.specs.Choices.{explicit};
@@ -19,7 +18,7 @@ pub fn append_optional<T: Der>(
     out: &mut OctetString,
 ) -> Result<(), DerError>
     ensures ok { OnOk result (Appended (write_option T.grammar value.now) out.old out.new) }
-    ensures err { IfErr result (λ e. e ≢ NoMemory → write_option T.grammar value.now ≡ Err e) }
+    ensures err { IfErr result (λ e. e ≢ DerError.NoMemory → write_option T.grammar value.now ≡ Err e) }
     ensures cause { IfErr result IsTooLong }
     ensures kept { OnErr result (KeepsFront out.old out.new) }
 {
@@ -44,7 +43,7 @@ pub fn append_default<T: Der + PartialEq>(
     out: &mut OctetString,
 ) -> Result<(), DerError>
     ensures ok { OnOk result (Appended (write_option T.grammar (unless_default (T.eq default.now) value.now)) out.old out.new) }
-    ensures err { IfErr result (λ e. e ≢ NoMemory → write_option T.grammar (unless_default (T.eq default.now) value.now) ≡ Err e) }
+    ensures err { IfErr result (λ e. e ≢ DerError.NoMemory → write_option T.grammar (unless_default (T.eq default.now) value.now) ≡ Err e) }
     ensures cause { IfErr result IsTooLong }
     ensures kept { OnErr result (KeepsFront out.old out.new) }
 {
@@ -65,7 +64,7 @@ pub fn append_implicit<T: Der>(
     out: &mut OctetString,
 ) -> Result<(), DerError>
     ensures ok { OnOk result (Appended (write (implicit tag.0 _own.0 T.grammar) value.now) out.old out.new) }
-    ensures err { IfErr result (λ e. e ≢ NoMemory → write (implicit tag.0 _own.0 T.grammar) value.now ≡ Err e) }
+    ensures err { IfErr result (λ e. e ≢ DerError.NoMemory → write (implicit tag.0 _own.0 T.grammar) value.now ≡ Err e) }
     ensures cause { IfErr result IsTooLong }
     ensures kept { OnErr result (KeepsFront out.old out.new) }
 {
@@ -85,7 +84,7 @@ pub fn append_implicit_optional<T: Der>(
     out: &mut OctetString,
 ) -> Result<(), DerError>
     ensures ok { OnOk result (Appended (write_option (implicit tag.0 own.0 T.grammar) value.now) out.old out.new) }
-    ensures err { IfErr result (λ e. e ≢ NoMemory → write_option (implicit tag.0 own.0 T.grammar) value.now ≡ Err e) }
+    ensures err { IfErr result (λ e. e ≢ DerError.NoMemory → write_option (implicit tag.0 own.0 T.grammar) value.now ≡ Err e) }
     ensures cause { IfErr result IsTooLong }
     ensures kept { OnErr result (KeepsFront out.old out.new) }
 {
@@ -104,7 +103,7 @@ pub fn append_explicit<T: Der>(
     out: &mut OctetString,
 ) -> Result<(), DerError>
     ensures ok { OnOk result (Appended (write (explicit tag.0 T.grammar) value.now) out.old out.new) }
-    ensures err { IfErr result (λ e. e ≢ NoMemory → write (explicit tag.0 T.grammar) value.now ≡ Err e) }
+    ensures err { IfErr result (λ e. e ≢ DerError.NoMemory → write (explicit tag.0 T.grammar) value.now ≡ Err e) }
     ensures cause { IfErr result IsTooLong }
     ensures kept { OnErr result (KeepsFront out.old out.new) }
 {
@@ -123,7 +122,7 @@ pub fn append_explicit_optional<T: Der>(
     out: &mut OctetString,
 ) -> Result<(), DerError>
     ensures ok { OnOk result (Appended (write_option (explicit tag.0 T.grammar) value.now) out.old out.new) }
-    ensures err { IfErr result (λ e. e ≢ NoMemory → write_option (explicit tag.0 T.grammar) value.now ≡ Err e) }
+    ensures err { IfErr result (λ e. e ≢ DerError.NoMemory → write_option (explicit tag.0 T.grammar) value.now ≡ Err e) }
     ensures cause { IfErr result IsTooLong }
     ensures kept { OnErr result (KeepsFront out.old out.new) }
 {
@@ -142,7 +141,7 @@ pub fn append_explicit_default<T: Der + PartialEq>(
     out: &mut OctetString,
 ) -> Result<(), DerError>
     ensures ok { OnOk result (Appended (write_option (explicit tag.0 T.grammar) (unless_default (T.eq default.now) value.now)) out.old out.new) }
-    ensures err { IfErr result (λ e. e ≢ NoMemory → write_option (explicit tag.0 T.grammar) (unless_default (T.eq default.now) value.now) ≡ Err e) }
+    ensures err { IfErr result (λ e. e ≢ DerError.NoMemory → write_option (explicit tag.0 T.grammar) (unless_default (T.eq default.now) value.now) ≡ Err e) }
     ensures cause { IfErr result IsTooLong }
     ensures kept { OnErr result (KeepsFront out.old out.new) }
 {
@@ -160,7 +159,7 @@ pub fn append_each<T: Der>(
     out: &mut OctetString,
 ) -> Result<(), DerError>
     ensures ok { OnOk result (Appended (write_each T.grammar items.now) out.old out.new) }
-    ensures err { IfErr result (λ e. e ≢ NoMemory → write_each T.grammar items.now ≡ Err e) }
+    ensures err { IfErr result (λ e. e ≢ DerError.NoMemory → write_each T.grammar items.now ≡ Err e) }
     ensures cause { IfErr result IsTooLong }
     ensures kept { OnErr result (KeepsFront out.old out.new) }
 {

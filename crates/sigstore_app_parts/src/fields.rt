@@ -1,7 +1,6 @@
 // Fields of lines.
 ghost use Rattle.std.specs.Prelude.{◌≡◌, ◌≢◌, Ok, Err, IfOk, IfErr};
 ghost use Rattle.sigstore_app_parts.specs.Fields.{spelled_of, field_of};
-ghost use Rattle.sigstore_app_parts.specs.declared.usage_fault.UsageFault.TheVariants.{NoMemory};
 
 use crate::usage_fault::UsageFault;
 use base64::DecodeAllocError;
@@ -12,7 +11,7 @@ use std::alloc::Global;
 // The bytes that a base64 text spells.
 pub(crate) fn spelled(alloc: Global, text: &str) -> Result<Bytes, UsageFault>
     ensures ok { IfOk result (λ b. spelled_of text.now ≡ Ok b) }
-    ensures err { IfErr result (λ e. e ≢ NoMemory → spelled_of text.now ≡ Err e) }
+    ensures err { IfErr result (λ e. e ≢ UsageFault.NoMemory → spelled_of text.now ≡ Err e) }
 {
     match STANDARD.decode(alloc, text.as_bytes()) {
         Ok(bytes) => Ok(Bytes::from_vec(bytes)),
@@ -24,7 +23,7 @@ pub(crate) fn spelled(alloc: Global, text: &str) -> Result<Bytes, UsageFault>
 // The bytes of a field; no bytes are written as a dash.
 pub(crate) fn field(alloc: Global, text: &str) -> Result<Bytes, UsageFault>
     ensures ok { IfOk result (λ b. field_of text.now ≡ Ok b) }
-    ensures err { IfErr result (λ e. e ≢ NoMemory → field_of text.now ≡ Err e) }
+    ensures err { IfErr result (λ e. e ≢ UsageFault.NoMemory → field_of text.now ≡ Err e) }
 {
     match text {
         "-" => Ok(Bytes::from_vec(Vec::new(alloc))),

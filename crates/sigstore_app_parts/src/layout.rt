@@ -2,7 +2,6 @@
 ghost use Rattle.std.specs.Prelude.{◌≡◌, ◌≢◌, Ok, Err, IfOk, IfErr, OnOk};
 ghost use Rattle.std.specs.Result.{result_ok};
 ghost use Rattle.sigstore_app_parts.specs.Layout.{placed, instant_placed, named_of, option_of, options_of, complete_of, layout_of, nothing_found};
-ghost use Rattle.sigstore_app_parts.specs.declared.usage_fault.UsageFault.TheVariants.{NoMemory};
 
 use crate::lines::cut;
 use crate::usage_fault::UsageFault;
@@ -55,7 +54,7 @@ fn nothing_found() -> Found
 // Places a value where there is none yet.
 fn place(alloc: Global, slot: &mut Option<Text>, value: &str) -> Result<(), UsageFault>
     ensures ok { OnOk result (placed slot.old value.now ≡ Ok slot.new) }
-    ensures err { IfErr result (λ e. e ≢ NoMemory → placed slot.old value.now ≡ Err e) }
+    ensures err { IfErr result (λ e. e ≢ UsageFault.NoMemory → placed slot.old value.now ≡ Err e) }
 {
     if slot.is_some() {
         return Err(UsageFault::Usage);
@@ -84,7 +83,7 @@ fn place_instant(slot: &mut Option<Timestamp>, value: &str) -> Result<(), UsageF
 // A value under its name.
 fn name_value(alloc: Global, found: &mut Found, name: &str, value: &str) -> Result<(), UsageFault>
     ensures ok { OnOk result (named_of found.old name.now value.now ≡ Ok found.new) }
-    ensures err { IfErr result (λ e. e ≢ NoMemory → named_of found.old name.now value.now ≡ Err e) }
+    ensures err { IfErr result (λ e. e ≢ UsageFault.NoMemory → named_of found.old name.now value.now ≡ Err e) }
 {
     match name {
         "--root" => place(alloc, &mut found.root, value)?,
@@ -102,7 +101,7 @@ fn name_value(alloc: Global, found: &mut Found, name: &str, value: &str) -> Resu
 
 fn take_option(alloc: Global, found: &mut Found, word: &str) -> Result<(), UsageFault>
     ensures ok { OnOk result (option_of found.old word.now ≡ Ok found.new) }
-    ensures err { IfErr result (λ e. e ≢ NoMemory → option_of found.old word.now ≡ Err e) }
+    ensures err { IfErr result (λ e. e ≢ UsageFault.NoMemory → option_of found.old word.now ≡ Err e) }
 {
     match cut(word, '=') {
         Some((_, "")) => Err(UsageFault::Usage),
@@ -116,7 +115,7 @@ fn take_option(alloc: Global, found: &mut Found, word: &str) -> Result<(), Usage
 
 fn take_options(alloc: Global, found: &mut Found, words: &[Text]) -> Result<(), UsageFault>
     ensures ok { OnOk result (options_of found.old words.now ≡ Ok found.new) }
-    ensures err { IfErr result (λ e. e ≢ NoMemory → options_of found.old words.now ≡ Err e) }
+    ensures err { IfErr result (λ e. e ≢ UsageFault.NoMemory → options_of found.old words.now ≡ Err e) }
 {
     'words: for word in words {
         match take_option(alloc, found, word.as_str()) {
@@ -162,7 +161,7 @@ fn complete(found: Found) -> Result<Layout, UsageFault>
 #[tactic(auto, unfolding(crate::specs::Layout::layout_of))]
 fn read_words(alloc: Global, words: &[Text]) -> Result<Layout, UsageFault>
     ensures ok { IfOk result (λ l. layout_of words.now ≡ Ok l) }
-    ensures err { IfErr result (λ e. e ≢ NoMemory → layout_of words.now ≡ Err e) }
+    ensures err { IfErr result (λ e. e ≢ UsageFault.NoMemory → layout_of words.now ≡ Err e) }
 {
     match words {
         [word, options @ ..] => {

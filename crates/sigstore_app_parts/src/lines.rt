@@ -2,7 +2,6 @@
 ghost use Rattle.std.specs.Prelude.{◌≡◌, ◌≢◌, ◌<◌, List, ℕ, Result, Ok, Err, Some, None, MatchOption, OnOk, IfErr};
 ghost use Rattle.sigstore_app_parts.specs.Lines.{cut_of, is_passed_over, counted, text_folded_of, file_folded_of};
 ghost use Rattle.sigstore_app_parts.specs.declared.usage_fault.UsageFault.{UsageFault};
-ghost use Rattle.sigstore_app_parts.specs.declared.usage_fault.UsageFault.TheVariants.{NoMemory};
 
 use crate::usage_fault::UsageFault;
 use std::alloc::Global;
@@ -23,7 +22,7 @@ pub trait ByLine {
     /// Takes a line that is neither empty nor a comment. Errors: `Usage` for a line outside the grammar; `NoMemory`.
     fn take(&mut self, alloc: Global, line: &str) -> Result<(), UsageFault>
         ensures ok { OnOk result (takes self.old line.now ≡ Ok self.new) }
-        ensures err { IfErr result (λ e. e ≢ NoMemory → takes self.old line.now ≡ Err e) };
+        ensures err { IfErr result (λ e. e ≢ UsageFault.NoMemory → takes self.old line.now ≡ Err e) };
 }
 
 fn is_passed_over(line: &str) -> bool
@@ -34,7 +33,7 @@ fn is_passed_over(line: &str) -> bool
 
 fn take_line<S: ByLine>(alloc: Global, state: &mut S, line: &str) -> Result<(), UsageFault>
     ensures ok { OnOk result (counted S.takes state.old line.now ≡ Ok state.new) }
-    ensures err { IfErr result (λ e. e ≢ NoMemory → counted S.takes state.old line.now ≡ Err e) }
+    ensures err { IfErr result (λ e. e ≢ UsageFault.NoMemory → counted S.takes state.old line.now ≡ Err e) }
 {
     if is_passed_over(line) {
         return Ok(());
@@ -47,7 +46,7 @@ fn take_line<S: ByLine>(alloc: Global, state: &mut S, line: &str) -> Result<(), 
 
 fn take_text<S: ByLine>(alloc: Global, state: &mut S, text: &str) -> Result<(), UsageFault>
     ensures ok { OnOk result (text_folded_of S.takes state.old text.now ≡ Ok state.new) }
-    ensures err { IfErr result (λ e. e ≢ NoMemory → text_folded_of S.takes state.old text.now ≡ Err e) }
+    ensures err { IfErr result (λ e. e ≢ UsageFault.NoMemory → text_folded_of S.takes state.old text.now ≡ Err e) }
 {
     let mut rest = text;
     'lines: while let Some((line, next)) = cut(rest, '\n') {
@@ -66,7 +65,7 @@ fn take_text<S: ByLine>(alloc: Global, state: &mut S, text: &str) -> Result<(), 
 /// Takes the lines of a file in turn. Errors: `Usage` for bytes that aren't UTF-8, a last line without its line feed, and a line that is refused; `NoMemory`.
 pub fn take_file<S: ByLine>(alloc: Global, state: &mut S, bytes: &[u8]) -> Result<(), UsageFault>
     ensures ok { OnOk result (file_folded_of S.takes state.old bytes.now ≡ Ok state.new) }
-    ensures err { IfErr result (λ e. e ≢ NoMemory → file_folded_of S.takes state.old bytes.now ≡ Err e) }
+    ensures err { IfErr result (λ e. e ≢ UsageFault.NoMemory → file_folded_of S.takes state.old bytes.now ≡ Err e) }
 {
     match str::from_utf8(bytes) {
         Ok(text) => match take_text(alloc, state, text) {

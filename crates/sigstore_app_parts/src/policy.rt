@@ -1,7 +1,6 @@
 // The policy file.
 ghost use Rattle.std.specs.Prelude.{◌≡◌, ◌≢◌, Ok, Err, IfOk, IfErr, OnOk, None};
 ghost use Rattle.sigstore_app_parts.specs.Policy.{key_line_of, waiver_line_of, policy_line_of, policy_of};
-ghost use Rattle.sigstore_app_parts.specs.declared.usage_fault.UsageFault.TheVariants.{NoMemory};
 
 use crate::fields::spelled;
 use crate::lines::{ByLine, cut, take_file};
@@ -18,7 +17,7 @@ pub struct PolicyFile {
 
 fn key_line(alloc: Global, line: &str) -> Result<PolicyFile, UsageFault>
     ensures ok { IfOk result (λ p. key_line_of line.now ≡ Ok p) }
-    ensures err { IfErr result (λ e. e ≢ NoMemory → key_line_of line.now ≡ Err e) }
+    ensures err { IfErr result (λ e. e ≢ UsageFault.NoMemory → key_line_of line.now ≡ Err e) }
 {
     match cut(line, ' ') {
         Some(("key", text)) => match spelled(alloc, text) {
@@ -67,7 +66,7 @@ impl ByLine for Option<PolicyFile> {
 #[tactic(auto, unfolding(crate::specs::Policy::policy_of))]
 pub fn read_policy(alloc: Global, bytes: &[u8]) -> Result<PolicyFile, UsageFault>
     ensures ok { IfOk result (λ p. policy_of bytes.now ≡ Ok p) }
-    ensures err { IfErr result (λ e. e ≢ NoMemory → policy_of bytes.now ≡ Err e) }
+    ensures err { IfErr result (λ e. e ≢ UsageFault.NoMemory → policy_of bytes.now ≡ Err e) }
 {
     let mut found: Option<PolicyFile> = None;
     match take_file(alloc, &mut found, bytes) {

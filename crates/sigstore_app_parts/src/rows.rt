@@ -1,7 +1,6 @@
 // The rows of the provider file.
 ghost use Rattle.std.specs.Prelude.{◌≡◌, ◌≢◌, Ok, Err, Some, IfOk, IfErr, MatchResult, option_map};
 ghost use Rattle.sigstore_app_parts.specs.Rows.{parted_of, is_subject, accepted_row_of, accept_row_of, is_der, armor_row_of, is_row, held_of};
-ghost use Rattle.sigstore_app_parts.specs.declared.usage_fault.UsageFault.TheVariants.{NoMemory};
 ghost use Rattle.std.specs.Option.{option_copied};
 
 use crate::fields::field;
@@ -61,7 +60,7 @@ fn is_subject(scheme: SigningScheme, subject: &[u8]) -> bool
 
 fn accepted_row(alloc: Global, scheme: SigningScheme, text: &str) -> Result<AcceptRow, UsageFault>
     ensures ok { IfOk result (λ row. accepted_row_of scheme text.now ≡ Ok row) }
-    ensures err { IfErr result (λ e. e ≢ NoMemory → accepted_row_of scheme text.now ≡ Err e) }
+    ensures err { IfErr result (λ e. e ≢ UsageFault.NoMemory → accepted_row_of scheme text.now ≡ Err e) }
 {
     let (key, rest) = parted(text)?;
     let (subject, signature) = parted(rest)?;
@@ -82,7 +81,7 @@ fn accepted_row(alloc: Global, scheme: SigningScheme, text: &str) -> Result<Acce
 // `SCHEME KEY SUBJECT SIGNATURE`.
 pub(crate) fn accept_row(alloc: Global, text: &str) -> Result<AcceptRow, UsageFault>
     ensures ok { IfOk result (λ row. accept_row_of text.now ≡ Ok row) }
-    ensures err { IfErr result (λ e. e ≢ NoMemory → accept_row_of text.now ≡ Err e) }
+    ensures err { IfErr result (λ e. e ≢ UsageFault.NoMemory → accept_row_of text.now ≡ Err e) }
 {
     let (name, rest) = parted(text)?;
     match SigningScheme::from_name(name) {
@@ -104,7 +103,7 @@ pub(crate) fn is_der(text: &[u8]) -> bool
 // `TEXT DER`.
 pub(crate) fn armor_row(alloc: Global, fields: &str) -> Result<ArmorRow, UsageFault>
     ensures ok { IfOk result (λ row. armor_row_of fields.now ≡ Ok row) }
-    ensures err { IfErr result (λ e. e ≢ NoMemory → armor_row_of fields.now ≡ Err e) }
+    ensures err { IfErr result (λ e. e ≢ UsageFault.NoMemory → armor_row_of fields.now ≡ Err e) }
 {
     let (text, der) = parted(fields)?;
     let row = ArmorRow {

@@ -1,7 +1,6 @@
 // The provider file.
 ghost use Rattle.std.specs.Prelude.{◌≡◌, ◌≢◌, Ok, Err, IfOk, IfErr, OnOk};
 ghost use Rattle.sigstore_app_parts.specs.Tables.{with_armor_row, armor_line_of, accept_line_of, table_line_of, no_rows, tables_of};
-ghost use Rattle.sigstore_app_parts.specs.declared.usage_fault.UsageFault.TheVariants.{NoMemory};
 
 use crate::lines::{ByLine, take_file};
 use crate::rows::{AcceptRow, ArmorRow, accept_row, armor_row, held, parted};
@@ -46,7 +45,7 @@ fn empty(alloc: Global) -> Tables
 // Adds a row whose text no row has.
 fn add_armor_row(rows: &mut Sequence<ArmorRow>, row: ArmorRow) -> Result<(), UsageFault>
     ensures ok { OnOk result (with_armor_row rows.old row ≡ Ok rows.new) }
-    ensures err { IfErr result (λ e. e ≢ NoMemory → with_armor_row rows.old row ≡ Err e) }
+    ensures err { IfErr result (λ e. e ≢ UsageFault.NoMemory → with_armor_row rows.old row ≡ Err e) }
 {
     if held(rows.as_slice(), row.text.as_bytes()).is_some() {
         return Err(UsageFault::Usage);
@@ -57,7 +56,7 @@ fn add_armor_row(rows: &mut Sequence<ArmorRow>, row: ArmorRow) -> Result<(), Usa
 
 fn armor_line(alloc: Global, armor: &mut TableArmor, text: &str) -> Result<(), UsageFault>
     ensures ok { OnOk result (armor_line_of armor.old text.now ≡ Ok armor.new) }
-    ensures err { IfErr result (λ e. e ≢ NoMemory → armor_line_of armor.old text.now ≡ Err e) }
+    ensures err { IfErr result (λ e. e ≢ UsageFault.NoMemory → armor_line_of armor.old text.now ≡ Err e) }
 {
     let (sort, rest) = parted(text)?;
     let row = armor_row(alloc, rest)?;
@@ -71,7 +70,7 @@ fn armor_line(alloc: Global, armor: &mut TableArmor, text: &str) -> Result<(), U
 
 fn accept_line(alloc: Global, provider: &mut TableProvider, text: &str) -> Result<(), UsageFault>
     ensures ok { OnOk result (accept_line_of provider.old text.now ≡ Ok provider.new) }
-    ensures err { IfErr result (λ e. e ≢ NoMemory → accept_line_of provider.old text.now ≡ Err e) }
+    ensures err { IfErr result (λ e. e ≢ UsageFault.NoMemory → accept_line_of provider.old text.now ≡ Err e) }
 {
     let row = accept_row(alloc, text)?;
     provider.rows.push(row)?;
@@ -96,7 +95,7 @@ impl ByLine for Tables {
 #[tactic(auto, unfolding(crate::specs::Tables::tables_of))]
 pub fn read_provider(alloc: Global, bytes: &[u8]) -> Result<Tables, UsageFault>
     ensures ok { IfOk result (λ t. tables_of bytes.now ≡ Ok t) }
-    ensures err { IfErr result (λ e. e ≢ NoMemory → tables_of bytes.now ≡ Err e) }
+    ensures err { IfErr result (λ e. e ≢ UsageFault.NoMemory → tables_of bytes.now ≡ Err e) }
 {
     let mut tables = empty(alloc);
     match take_file(alloc, &mut tables, bytes) {

@@ -1,6 +1,5 @@
 // Why a key, a signature or a digest is refused.
 ghost use Rattle.std.specs.Prelude.{◌≡◌};
-ghost use Rattle.sigstore_crypto.specs.declared.error.Error.TheVariants.{NoMemory};
 ghost use Rattle.sigstore_crypto.specs.Error.{number_of};
 
 use foundation::NoMemory;
@@ -95,7 +94,7 @@ impl Error {
 }
 
 impl From<NoMemory> for Error {
-    ghost from_gives = { λ _ e. e ≡ NoMemory };
+    ghost from_gives = { λ _ e. e ≡ Error.NoMemory };
 
     fn from(_: NoMemory) -> Error {
         Error::NoMemory

@@ -1,6 +1,5 @@
 // Keys that verify.
 ghost use Rattle.std.specs.Prelude.{◌≡◌, ◌≢◌, ◌↔◌, Ok, Err, IsTrue, IsOk, IfOk, IfErr, length};
-ghost use Rattle.sigstore_crypto.specs.declared.error.Error.TheVariants.{NoMemory};
 ghost use Rattle.sigstore_crypto.specs.Scheme.{has_digest, key_algorithm_of, digest_size_of};
 ghost use Rattle.x509_core_parts.specs.Views.{spki_parts};
 ghost use Rattle.sigstore_crypto.specs.Key.{is_p256, key_of_parts, spki_key_of};
@@ -41,7 +40,7 @@ fn is_p256(view: &SpkiView) -> bool
 #[tactic(auto, unfolding(crate::specs::Key::key_of_parts))]
 fn key_in(alloc: Global, view: &SpkiView) -> Result<VerificationKey, Error>
     ensures ok { IfOk result (λ key. key_of_parts (spki_parts view.now) ≡ Ok key) }
-    ensures err { IfErr result (λ e. e ≢ NoMemory → key_of_parts (spki_parts view.now) ≡ Err e) }
+    ensures err { IfErr result (λ e. e ≢ Error.NoMemory → key_of_parts (spki_parts view.now) ≡ Err e) }
 {
     if !is_p256(view) {
         return Err(Error::Unbuilt(Form::Key));
@@ -100,7 +99,7 @@ impl VerificationKey {
     #[tactic(auto, unfolding(crate::specs::Key::spki_key_of))]
     pub fn from_spki(alloc: Global, der: &DerPublicKey) -> Result<VerificationKey, Error>
         ensures ok { IfOk result (λ key. spki_key_of der.now ≡ Ok key) }
-        ensures err { IfErr result (λ e. e ≢ NoMemory → spki_key_of der.now ≡ Err e) }
+        ensures err { IfErr result (λ e. e ≢ Error.NoMemory → spki_key_of der.now ≡ Err e) }
     {
         let view = match SpkiView::parse(der.as_bytes()) {
             Ok(view) => view,

@@ -1,6 +1,5 @@
 // The report of an accepted bundle.
 ghost use Rattle.std.specs.Prelude.{◌≡◌, ◌≢◌, ◌++◌, [], length, codes, Ok, Err, IfOk, IfErr, OnOk, string_bytes};
-ghost use Rattle.sigstore_tuf_parts.specs.declared.error.Error.TheVariants.{NoMemory};
 ghost use Rattle.sigstore_app_parts.specs.Printed.{line_of, pair_line, number_line};
 ghost use Rattle.sigstore_run.specs.Report.{version_of, root_version, timestamp_version, snapshot_version, targets_version, versions_of, versions_text, role_added, roles_added, digests_added, seconds_of, times_added, issuer_text, integrated_text, identity_text, answers_text, times_text, result_added, tail_added, report_of};
 
@@ -28,7 +27,7 @@ pub struct Versions {
 #[tactic(auto, unfolding(crate::specs::Report::version_of))]
 fn version_read<T: Role>(alloc: Global, bytes: &[u8]) -> Result<u64, Error>
     ensures ok { IfOk result (λ v. version_of T.kind T.reads T.version_in bytes.now ≡ Ok v) }
-    ensures err { IfErr result (λ e. e ≢ NoMemory → version_of T.kind T.reads T.version_in bytes.now ≡ Err e) }
+    ensures err { IfErr result (λ e. e ≢ Error.NoMemory → version_of T.kind T.reads T.version_in bytes.now ≡ Err e) }
 {
     match Metadata::<T>::from_slice(alloc, bytes) {
         Ok(document) => Ok(document.signed().version()),
@@ -39,7 +38,7 @@ fn version_read<T: Role>(alloc: Global, bytes: &[u8]) -> Result<u64, Error>
 #[tactic(auto, unfolding(crate::specs::Report::root_version))]
 fn root_version(alloc: Global, bytes: &[u8]) -> Result<u64, Error>
     ensures ok { IfOk result (λ v. root_version bytes.now ≡ Ok v) }
-    ensures err { IfErr result (λ e. e ≢ NoMemory → root_version bytes.now ≡ Err e) }
+    ensures err { IfErr result (λ e. e ≢ Error.NoMemory → root_version bytes.now ≡ Err e) }
 {
     match version_read::<Root>(alloc, bytes) {
         Ok(version) => Ok(version),
@@ -50,7 +49,7 @@ fn root_version(alloc: Global, bytes: &[u8]) -> Result<u64, Error>
 #[tactic(auto, unfolding(crate::specs::Report::timestamp_version))]
 fn timestamp_version(alloc: Global, bytes: &[u8]) -> Result<u64, Error>
     ensures ok { IfOk result (λ v. timestamp_version bytes.now ≡ Ok v) }
-    ensures err { IfErr result (λ e. e ≢ NoMemory → timestamp_version bytes.now ≡ Err e) }
+    ensures err { IfErr result (λ e. e ≢ Error.NoMemory → timestamp_version bytes.now ≡ Err e) }
 {
     match version_read::<sigstore_tuf_parts::Timestamp>(alloc, bytes) {
         Ok(version) => Ok(version),
@@ -61,7 +60,7 @@ fn timestamp_version(alloc: Global, bytes: &[u8]) -> Result<u64, Error>
 #[tactic(auto, unfolding(crate::specs::Report::snapshot_version))]
 fn snapshot_version(alloc: Global, bytes: &[u8]) -> Result<u64, Error>
     ensures ok { IfOk result (λ v. snapshot_version bytes.now ≡ Ok v) }
-    ensures err { IfErr result (λ e. e ≢ NoMemory → snapshot_version bytes.now ≡ Err e) }
+    ensures err { IfErr result (λ e. e ≢ Error.NoMemory → snapshot_version bytes.now ≡ Err e) }
 {
     match version_read::<Snapshot>(alloc, bytes) {
         Ok(version) => Ok(version),
@@ -72,7 +71,7 @@ fn snapshot_version(alloc: Global, bytes: &[u8]) -> Result<u64, Error>
 #[tactic(auto, unfolding(crate::specs::Report::targets_version))]
 fn targets_version(alloc: Global, bytes: &[u8]) -> Result<u64, Error>
     ensures ok { IfOk result (λ v. targets_version bytes.now ≡ Ok v) }
-    ensures err { IfErr result (λ e. e ≢ NoMemory → targets_version bytes.now ≡ Err e) }
+    ensures err { IfErr result (λ e. e ≢ Error.NoMemory → targets_version bytes.now ≡ Err e) }
 {
     match version_read::<Targets>(alloc, bytes) {
         Ok(version) => Ok(version),
@@ -83,7 +82,7 @@ fn targets_version(alloc: Global, bytes: &[u8]) -> Result<u64, Error>
 #[tactic(auto, unfolding(crate::specs::Report::versions_of))]
 fn versions_in_force(alloc: Global, chain: &TrustChain) -> Result<Versions, Error>
     ensures ok { IfOk result (λ v. versions_of chain.now ≡ Ok v) }
-    ensures err { IfErr result (λ e. e ≢ NoMemory → versions_of chain.now ≡ Err e) }
+    ensures err { IfErr result (λ e. e ≢ Error.NoMemory → versions_of chain.now ≡ Err e) }
 {
     let Some(root) = chain.roots.as_slice().last() else {
         return Err(Error::NotRefreshed);
@@ -106,7 +105,7 @@ fn push_versions(text: &mut String, versions: &Versions) -> Result<(), NoMemory>
 // Adds the line of a visit whose document is there.
 fn push_role(alloc: Global, text: &mut String, role: &RoleDoc) -> Result<(), Error>
     ensures ok { OnOk result (role_added (string_bytes text.old) role.now.name role.now.bytes ≡ Ok (string_bytes text.new)) }
-    ensures err { IfErr result (λ e. e ≢ NoMemory → role_added (string_bytes text.old) role.now.name role.now.bytes ≡ Err e) }
+    ensures err { IfErr result (λ e. e ≢ Error.NoMemory → role_added (string_bytes text.old) role.now.name role.now.bytes ≡ Err e) }
 {
     match &role.bytes {
         None => Ok(()),
@@ -120,7 +119,7 @@ fn push_role(alloc: Global, text: &mut String, role: &RoleDoc) -> Result<(), Err
 
 fn push_roles(alloc: Global, text: &mut String, roles: &[RoleDoc]) -> Result<(), Error>
     ensures ok { OnOk result (roles_added (string_bytes text.old) roles.now ≡ Ok (string_bytes text.new)) }
-    ensures err { IfErr result (λ e. e ≢ NoMemory → roles_added (string_bytes text.old) roles.now ≡ Err e) }
+    ensures err { IfErr result (λ e. e ≢ Error.NoMemory → roles_added (string_bytes text.old) roles.now ≡ Err e) }
 {
     'roles: for role in roles {
         match push_role(alloc, text, role) {
@@ -241,7 +240,7 @@ pub fn report(
     shown: &VerificationResult,
 ) -> Result<String, Error>
     ensures ok { IfOk result (λ text. report_of chain.now digests.now shown.now ≡ Ok (string_bytes text)) }
-    ensures err { IfErr result (λ e. e ≢ NoMemory → report_of chain.now digests.now shown.now ≡ Err e) }
+    ensures err { IfErr result (λ e. e ≢ Error.NoMemory → report_of chain.now digests.now shown.now ≡ Err e) }
 {
     let versions = versions_in_force(alloc, chain)?;
     let mut text = String::new(alloc);

@@ -1,6 +1,5 @@
 // A refresh, step by step: over an owned set of documents, and a lent repository and store.
 ghost use Rattle.std.specs.Prelude.{◌≡◌, ◌≢◌, ◌⊎◌, Ok, Err, IfErr, OnOk, OnErr, option_copied};
-ghost use Rattle.sigstore_tuf_parts.specs.declared.error.Error.TheVariants.{NoMemory};
 ghost use Rattle.sigstore_tuf_parts.specs.By.{crypto_by};
 ghost use Rattle.sigstore_tuf.specs.Repository.{metadata_files};
 ghost use Rattle.sigstore_tuf.specs.Update.{new_timestamp_of, targets_pin_of, with_snapshot, with_targets};
@@ -76,7 +75,7 @@ fn walk_roots<R: Repository>(
 #[tactic(auto, unfolding(crate::specs::Client::root_serves_of))]
 fn check_root(alloc: Global, documents: &InForce, now: jiff::Timestamp) -> Result<(), Error>
     ensures ok { OnOk result (root_serves_of documents.now now ≡ Ok tt) }
-    ensures err { IfErr result (λ e. e ≢ NoMemory → root_serves_of documents.now now ≡ Err e) }
+    ensures err { IfErr result (λ e. e ≢ Error.NoMemory → root_serves_of documents.now now ≡ Err e) }
 {
     let root = documents.root.signed();
     root.check_fresh(alloc, now)?;
@@ -98,7 +97,7 @@ fn adopt_timestamp<C: CryptoProvider, M: Armor>(
     ensures ok { let new = new_timestamp_of (crypto_by C.CryptoProvider M.Armor provider.now armor.now) documents.old bytes now in
         OnOk result ((adoption_of new ≡ Ok tt) × (documents.new ≡ after_timestamp documents.old new)) }
     ensures err { let new = new_timestamp_of (crypto_by C.CryptoProvider M.Armor provider.now armor.now) documents.old bytes now in
-        IfErr result (λ e. e ≢ NoMemory → adoption_of new ≡ Err e) }
+        IfErr result (λ e. e ≢ Error.NoMemory → adoption_of new ≡ Err e) }
     ensures kept { OnErr result (documents.new ≡ documents.old) }
 {
     match new_timestamp(alloc, provider, armor, documents, bytes, now) {
@@ -115,7 +114,7 @@ fn adopt_timestamp<C: CryptoProvider, M: Armor>(
 #[tactic(auto, unfolding(crate::specs::Client::timestamp_serves_of))]
 fn check_timestamp(alloc: Global, documents: &InForce, now: jiff::Timestamp) -> Result<(), Error>
     ensures ok { OnOk result (timestamp_serves_of documents.now now ≡ Ok tt) }
-    ensures err { IfErr result (λ e. e ≢ NoMemory → timestamp_serves_of documents.now now ≡ Err e) }
+    ensures err { IfErr result (λ e. e ≢ Error.NoMemory → timestamp_serves_of documents.now now ≡ Err e) }
 {
     let Some(timestamp) = &documents.timestamp else {
         return Err(Error::Malformed(Rule::NoTimestamp));
@@ -274,7 +273,7 @@ fn keeps_targets(documents: &InForce, now: jiff::Timestamp) -> bool
 // Puts a targets document in force.
 fn put_targets(alloc: Global, documents: &mut InForce, held: Held<Targets>) -> Result<(), Error>
     ensures ok { OnOk result (documents.new ≡ with_targets documents.old held) }
-    ensures err { IfErr result (λ e. e ≡ NoMemory) }
+    ensures err { IfErr result (λ e. e ≡ Error.NoMemory) }
     ensures kept { OnErr result (documents.new ≡ documents.old) }
 {
     match Text::new(alloc, "targets") {
@@ -313,7 +312,7 @@ fn take_targets<C: CryptoProvider, M: Armor>(
 // The snapshot in force isn't expired, and pins the targets document.
 fn check_targets_pin(alloc: Global, documents: &InForce, now: jiff::Timestamp) -> Result<(), Error>
     ensures ok { OnOk result (IsPinning now documents.now) }
-    ensures err { IfErr result (λ e. e ≢ NoMemory → targets_pin_of documents.now now ≡ Err e) }
+    ensures err { IfErr result (λ e. e ≢ Error.NoMemory → targets_pin_of documents.now now ≡ Err e) }
 {
     match targets_pin(alloc, documents, now) {
         Ok(_) => Ok(()),

@@ -3,7 +3,6 @@ ghost use Rattle.std.specs.Prelude.{◌≡◌};
 ghost use Rattle.foundation.specs.Watched.{Watched, IfTold};
 ghost use Rattle.sigstore_tuf.specs.Repository.{Files};
 ghost use Rattle.sigstore_tuf.specs.Store.{Loads, Stores, HoldsNoBadName};
-ghost use Rattle.sigstore_tuf.specs.declared.store.StoreFault.TheVariants.{NoMemory};
 
 use foundation::NoMemory;
 use sigstore_types_parts::Bytes;
@@ -23,7 +22,7 @@ pub enum StoreFault {
 }
 
 impl From<NoMemory> for StoreFault {
-    ghost from_gives = { λ _ e. e ≡ NoMemory };
+    ghost from_gives = { λ _ e. e ≡ StoreFault.NoMemory };
 
     fn from(_: NoMemory) -> StoreFault {
         StoreFault::NoMemory

@@ -1,6 +1,5 @@
 // The search for a target, its file, and the chain of documents by which it is trusted.
 ghost use Rattle.std.specs.Prelude.{◌≡◌, ◌≢◌, [], ◌∷◌, Some, Ok, Err, IfOk, IfErr, OnOk, option_copied};
-ghost use Rattle.sigstore_tuf_parts.specs.declared.error.Error.TheVariants.{NoMemory};
 ghost use Rattle.sigstore_tuf.specs.Repository.{target_files};
 ghost use Rattle.sigstore_tuf.specs.Client.{FetchesFile};
 ghost use Rattle.sigstore_tuf.specs.Authorised.{TrustsFrom};
@@ -26,7 +25,7 @@ fn check_fresh_timestamp(
     now: jiff::Timestamp,
 ) -> Result<(), Error>
     ensures ok { OnOk result (fresh_timestamp_of timestamp.now now ≡ Ok tt) }
-    ensures err { IfErr result (λ e. e ≢ NoMemory → fresh_timestamp_of timestamp.now now ≡ Err e) }
+    ensures err { IfErr result (λ e. e ≢ Error.NoMemory → fresh_timestamp_of timestamp.now now ≡ Err e) }
 {
     match timestamp {
         Some(held) => match held.document.signed().check_fresh(alloc, now) {
@@ -43,7 +42,7 @@ fn check_fresh_snapshot(
     now: jiff::Timestamp,
 ) -> Result<(), Error>
     ensures ok { OnOk result (fresh_snapshot_of snapshot.now now ≡ Ok tt) }
-    ensures err { IfErr result (λ e. e ≢ NoMemory → fresh_snapshot_of snapshot.now now ≡ Err e) }
+    ensures err { IfErr result (λ e. e ≢ Error.NoMemory → fresh_snapshot_of snapshot.now now ≡ Err e) }
 {
     match snapshot {
         Some(held) => match held.document.signed().check_fresh(alloc, now) {
@@ -58,7 +57,7 @@ fn check_fresh_snapshot(
 #[tactic(auto, unfolding(crate::specs::Target::unexpired_of))]
 fn check_unexpired(alloc: Global, documents: &InForce, now: jiff::Timestamp) -> Result<(), Error>
     ensures ok { OnOk result (unexpired_of documents.now now ≡ Ok tt) }
-    ensures err { IfErr result (λ e. e ≢ NoMemory → unexpired_of documents.now now ≡ Err e) }
+    ensures err { IfErr result (λ e. e ≢ Error.NoMemory → unexpired_of documents.now now ≡ Err e) }
 {
     documents.root.signed().check_fresh(alloc, now)?;
     check_fresh_timestamp(alloc, &documents.timestamp, now)?;
@@ -89,7 +88,7 @@ fn check_pinned_by(
 ) -> Result<(), Error>
     ensures ok { OnOk result (pinned_by_of timestamp.now snapshot.now targets.now now ≡ Ok tt) }
     ensures err { IfErr result
-        (λ e. e ≢ NoMemory → pinned_by_of timestamp.now snapshot.now targets.now now ≡ Err e) }
+        (λ e. e ≢ Error.NoMemory → pinned_by_of timestamp.now snapshot.now targets.now now ≡ Err e) }
 {
     targets.check_fresh(alloc, now)?;
     check_pinned_version(timestamp.snapshot_meta(), snapshot.version)?;
@@ -107,7 +106,7 @@ fn check_all_pinned(
 ) -> Result<(), Error>
     ensures ok { OnOk result
         (all_pinned_of timestamp.now snapshot.now (option_copied targets.entry) now ≡ Ok tt) }
-    ensures err { IfErr result (λ e. e ≢ NoMemory →
+    ensures err { IfErr result (λ e. e ≢ Error.NoMemory →
         all_pinned_of timestamp.now snapshot.now (option_copied targets.entry) now ≡ Err e) }
 {
     match (timestamp, snapshot, targets) {
@@ -129,7 +128,7 @@ fn check_all_pinned(
 #[tactic(auto, unfolding(crate::specs::Target::search_serves_of))]
 fn check_search(alloc: Global, documents: &InForce, now: jiff::Timestamp) -> Result<(), Error>
     ensures ok { OnOk result (search_serves_of documents.now now ≡ Ok tt) }
-    ensures err { IfErr result (λ e. e ≢ NoMemory → search_serves_of documents.now now ≡ Err e) }
+    ensures err { IfErr result (λ e. e ≢ Error.NoMemory → search_serves_of documents.now now ≡ Err e) }
 {
     check_unexpired(alloc, documents, now)?;
     check_all_pinned(
@@ -159,7 +158,7 @@ fn entry<'d>(
     ensures ok { IfOk result (λ entry. let targets = option_copied targets.entry in
         entry_in path.now targets (listed_in path.now targets) ≡ Ok entry.now) }
     ensures err { IfErr result (λ e. let targets = option_copied targets.entry in
-        e ≢ NoMemory → entry_in path.now targets (listed_in path.now targets) ≡ Err e) }
+        e ≢ Error.NoMemory → entry_in path.now targets (listed_in path.now targets) ≡ Err e) }
 {
     match listed(path, targets) {
         Some(entry) => Ok(entry),
@@ -181,7 +180,7 @@ fn find_entry<'d>(
 ) -> Result<&'d TargetFile, Error>
     ensures ok { IfOk result (λ entry. entry_of documents.now config.now path.now ≡ Ok entry.now) }
     ensures err { IfErr result
-        (λ e. e ≢ NoMemory → entry_of documents.now config.now path.now ≡ Err e) }
+        (λ e. e ≢ Error.NoMemory → entry_of documents.now config.now path.now ≡ Err e) }
 {
     if config.max_delegations == 0 {
         return Err(Error::TargetNotFound {
@@ -214,7 +213,7 @@ fn find_target<'d>(
 ) -> Result<&'d TargetFile, Error>
     ensures ok { IfOk result (λ entry. target_of documents.now config.now path.now now ≡ Ok entry.now) }
     ensures err { IfErr result
-        (λ e. e ≢ NoMemory → target_of documents.now config.now path.now now ≡ Err e) }
+        (λ e. e ≢ Error.NoMemory → target_of documents.now config.now path.now now ≡ Err e) }
 {
     if let Err(e) = check_search(alloc, documents, now) {
         return Err(e);
@@ -272,7 +271,7 @@ fn fetch_target<R: Repository>(
 // The one visit of the search.
 fn visits(alloc: Global, targets: &Held<Targets>) -> Result<Sequence<RoleDoc>, Error>
     ensures ok { IfOk result (λ roles. roles ≡ visit_of targets.now ∷ []) }
-    ensures err { IfErr result (λ e. e ≡ NoMemory) }
+    ensures err { IfErr result (λ e. e ≡ Error.NoMemory) }
 {
     let mut roles = Sequence::new(alloc);
     roles.push(RoleDoc {
@@ -294,7 +293,7 @@ fn assembled(
 ) -> Result<TrustChain, Error>
     ensures ok { IfOk result (λ chain.
         chain_in documents.now (Some timestamp.now) (Some snapshot.now) (Some targets.now) entry.now file ≡ Ok chain) }
-    ensures err { IfErr result (λ e. e ≡ NoMemory) }
+    ensures err { IfErr result (λ e. e ≡ Error.NoMemory) }
 {
     Ok(TrustChain {
         roots: documents.roots.duplicate(alloc)?,
@@ -314,7 +313,7 @@ fn chain(
     file: Bytes,
 ) -> Result<TrustChain, Error>
     ensures ok { IfOk result (λ chain. chain_of documents.now entry.now file ≡ Ok chain) }
-    ensures err { IfErr result (λ e. e ≢ NoMemory → chain_of documents.now entry.now file ≡ Err e) }
+    ensures err { IfErr result (λ e. e ≢ Error.NoMemory → chain_of documents.now entry.now file ≡ Err e) }
 {
     let targets = documents.targets.get("targets");
     match (&documents.timestamp, &documents.snapshot, targets) {

@@ -1,6 +1,5 @@
 // The documents in force, with who judges their signatures.
 ghost use Rattle.std.specs.Prelude.{◌≡◌, ◌≢◌, Ok, Err, IfOk, IfErr, option_copied, option_map};
-ghost use Rattle.sigstore_tuf_parts.specs.declared.error.Error.TheVariants.{NoMemory};
 ghost use Rattle.sigstore_tuf_parts.specs.By.{crypto_by};
 ghost use Rattle.sigstore_tuf_parts.specs.Document.{content_in};
 ghost use Rattle.sigstore_types_parts.specs.Entries.{at_name};
@@ -37,7 +36,7 @@ impl<'p, C: CryptoProvider, M: Armor> TrustedMetadataSet<'p, C, M> {
         ensures authorised { IfOk result (λ set.
             AreAuthorised (crypto_by C.CryptoProvider M.Armor provider.now armor.now) bytes.now set.documents) }
         ensures same { IfOk result (λ set. (set.provider.now ≡ provider.now) × (set.armor.now ≡ armor.now)) }
-        ensures err { IfErr result (λ e. e ≢ NoMemory →
+        ensures err { IfErr result (λ e. e ≢ Error.NoMemory →
             first_root_of (crypto_by C.CryptoProvider M.Armor provider.now armor.now) bytes.now ≡ Err e) }
     {
         match first_root(alloc, provider, armor, bytes) {

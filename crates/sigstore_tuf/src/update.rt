@@ -1,6 +1,5 @@
 // Each update of the documents in force: the document that is adopted, or the first check that fails.
 ghost use Rattle.std.specs.Prelude.{◌≡◌, ◌≢◌, [], ◌∷◌, Ok, Err, IfOk, IfErr, OnOk, codes, option_copied};
-ghost use Rattle.sigstore_tuf_parts.specs.declared.error.Error.TheVariants.{NoMemory};
 ghost use Rattle.sigstore_tuf_parts.specs.By.{crypto_by};
 ghost use Rattle.sigstore_tuf_parts.specs.Document.{content_in};
 ghost use Rattle.sigstore_tuf_parts.specs.RootRoles.{root_document, meets_role_of};
@@ -19,7 +18,7 @@ use std::alloc::Global;
 // A list of these bytes alone.
 fn alone(alloc: Global, bytes: &[u8]) -> Result<Sequence<Bytes>, Error>
     ensures ok { IfOk result (λ list. list ≡ bytes.now ∷ []) }
-    ensures err { IfErr result (λ e. e ≡ NoMemory) }
+    ensures err { IfErr result (λ e. e ≡ Error.NoMemory) }
 {
     let mut list = Sequence::new(alloc);
     list.push(Bytes::new(alloc, bytes)?)?;
@@ -37,7 +36,7 @@ fn own_root<C: CryptoProvider, M: Armor>(
     ensures read { IfOk result (λ root. root_document bytes.now ≡ Ok root) }
     ensures met { IfOk result (λ root.
         meets_role_of (crypto_by C.CryptoProvider M.Armor provider.now armor.now) (content_in root) (codes "root") root ≡ Ok tt) }
-    ensures err { IfErr result (λ e. e ≢ NoMemory →
+    ensures err { IfErr result (λ e. e ≢ Error.NoMemory →
         first_root_of (crypto_by C.CryptoProvider M.Armor provider.now armor.now) bytes.now ≡ Err e) }
 {
     let root = Metadata::from_slice(alloc, bytes)?;
@@ -61,7 +60,7 @@ pub(crate) fn first_root<C: CryptoProvider, M: Armor>(
 ) -> Result<InForce, Error>
     ensures ok { IfOk result (λ set.
         first_root_of (crypto_by C.CryptoProvider M.Armor provider.now armor.now) bytes.now ≡ Ok set) }
-    ensures err { IfErr result (λ e. e ≢ NoMemory →
+    ensures err { IfErr result (λ e. e ≢ Error.NoMemory →
         first_root_of (crypto_by C.CryptoProvider M.Armor provider.now armor.now) bytes.now ≡ Err e) }
 {
     let roots = alone(alloc, bytes)?;
@@ -77,7 +76,7 @@ pub(crate) fn first_root<C: CryptoProvider, M: Armor>(
 
 fn check_not_below(alloc: Global, role: &str, trusted: u64, new: u64) -> Result<(), Error>
     ensures ok { OnOk result (not_below_of role.now trusted new ≡ Ok tt) }
-    ensures err { IfErr result (λ e. e ≢ NoMemory → not_below_of role.now trusted new ≡ Err e) }
+    ensures err { IfErr result (λ e. e ≢ Error.NoMemory → not_below_of role.now trusted new ≡ Err e) }
 {
     if new < trusted {
         return Err(Error::Rollback {
@@ -91,7 +90,7 @@ fn check_not_below(alloc: Global, role: &str, trusted: u64, new: u64) -> Result<
 
 fn check_other(alloc: Global, role: &str, trusted: u64, new: u64) -> Result<(), Error>
     ensures ok { OnOk result (other_of role.now trusted new ≡ Ok tt) }
-    ensures err { IfErr result (λ e. e ≢ NoMemory → other_of role.now trusted new ≡ Err e) }
+    ensures err { IfErr result (λ e. e ≢ Error.NoMemory → other_of role.now trusted new ≡ Err e) }
 {
     if new == trusted {
         return Err(Error::EqualVersion {
@@ -105,7 +104,7 @@ fn check_other(alloc: Global, role: &str, trusted: u64, new: u64) -> Result<(), 
 fn check_pins(alloc: Global, old: Option<&MetaFile>, new: Option<&MetaFile>) -> Result<(), Error>
     ensures ok { OnOk result (pins_not_below_of (option_copied old.entry) (option_copied new.entry) ≡ Ok tt) }
     ensures err { IfErr result
-        (λ e. e ≢ NoMemory → pins_not_below_of (option_copied old.entry) (option_copied new.entry) ≡ Err e) }
+        (λ e. e ≢ Error.NoMemory → pins_not_below_of (option_copied old.entry) (option_copied new.entry) ≡ Err e) }
 {
     match (old, new) {
         (Some(old), Some(new)) => check_not_below(alloc, "snapshot", old.version, new.version),
@@ -116,7 +115,7 @@ fn check_pins(alloc: Global, old: Option<&MetaFile>, new: Option<&MetaFile>) -> 
 #[tactic(auto, unfolding(crate::specs::Update::newer_than_of))]
 fn check_newer(alloc: Global, old: &Timestamp, new: &Timestamp) -> Result<(), Error>
     ensures ok { OnOk result (newer_than_of old.now new.now ≡ Ok tt) }
-    ensures err { IfErr result (λ e. e ≢ NoMemory → newer_than_of old.now new.now ≡ Err e) }
+    ensures err { IfErr result (λ e. e ≢ Error.NoMemory → newer_than_of old.now new.now ≡ Err e) }
 {
     check_not_below(alloc, "timestamp", old.version, new.version)?;
     check_other(alloc, "timestamp", old.version, new.version)?;
@@ -130,7 +129,7 @@ fn check_newer_in(
     new: &Timestamp,
 ) -> Result<(), Error>
     ensures ok { OnOk result (newer_of old.now new.now ≡ Ok tt) }
-    ensures err { IfErr result (λ e. e ≢ NoMemory → newer_of old.now new.now ≡ Err e) }
+    ensures err { IfErr result (λ e. e ≢ Error.NoMemory → newer_of old.now new.now ≡ Err e) }
 {
     match old {
         Some(held) => {
@@ -153,7 +152,7 @@ fn check_timestamp<C: CryptoProvider, M: Armor>(
 ) -> Result<(), Error>
     ensures ok { OnOk result
         (timestamp_checks_of (crypto_by C.CryptoProvider M.Armor provider.now armor.now) documents.now document.now now ≡ Ok tt) }
-    ensures err { IfErr result (λ e. e ≢ NoMemory →
+    ensures err { IfErr result (λ e. e ≢ Error.NoMemory →
         timestamp_checks_of (crypto_by C.CryptoProvider M.Armor provider.now armor.now) documents.now document.now now ≡ Err e) }
 {
     let content = document.signed();
@@ -175,7 +174,7 @@ pub(crate) fn new_timestamp<C: CryptoProvider, M: Armor>(
 ) -> Result<Held<Timestamp>, Error>
     ensures ok { IfOk result (λ held.
         new_timestamp_of (crypto_by C.CryptoProvider M.Armor provider.now armor.now) documents.now bytes now ≡ Ok held) }
-    ensures err { IfErr result (λ e. e ≢ NoMemory →
+    ensures err { IfErr result (λ e. e ≢ Error.NoMemory →
         new_timestamp_of (crypto_by C.CryptoProvider M.Armor provider.now armor.now) documents.now bytes now ≡ Err e) }
 {
     let document = Metadata::<Timestamp>::from_slice(alloc, bytes.as_bytes())?;
@@ -196,7 +195,7 @@ pub(crate) fn snapshot_pin<'d>(
     now: jiff::Timestamp,
 ) -> Result<&'d MetaFile, Error>
     ensures ok { IfOk result (λ pin. snapshot_pin_of documents.now now ≡ Ok pin.now) }
-    ensures err { IfErr result (λ e. e ≢ NoMemory → snapshot_pin_of documents.now now ≡ Err e) }
+    ensures err { IfErr result (λ e. e ≢ Error.NoMemory → snapshot_pin_of documents.now now ≡ Err e) }
 {
     let Some(timestamp) = &documents.timestamp else {
         return Err(Error::Malformed(Rule::NoTimestamp));
@@ -219,7 +218,7 @@ fn check_kept_pin(
 ) -> Result<(), Error>
     ensures ok { OnOk result (kept_pin_of name.now old.now (option_copied new.entry) ≡ Ok tt) }
     ensures err { IfErr result
-        (λ e. e ≢ NoMemory → kept_pin_of name.now old.now (option_copied new.entry) ≡ Err e) }
+        (λ e. e ≢ Error.NoMemory → kept_pin_of name.now old.now (option_copied new.entry) ≡ Err e) }
 {
     match new {
         Some(new) => {
@@ -232,7 +231,7 @@ fn check_kept_pin(
 
 fn check_kept_pins(alloc: Global, old: &TextMap<MetaFile>, new: &Snapshot) -> Result<(), Error>
     ensures ok { OnOk result (kept_pins_in old.now new.now ≡ Ok tt) }
-    ensures err { IfErr result (λ e. e ≢ NoMemory → kept_pins_in old.now new.now ≡ Err e) }
+    ensures err { IfErr result (λ e. e ≢ Error.NoMemory → kept_pins_in old.now new.now ≡ Err e) }
 {
     for (name, pin) in old.iter() {
         check_kept_pin(alloc, name.as_str(), pin, new.meta.get(name.as_str()))?;
@@ -242,7 +241,7 @@ fn check_kept_pins(alloc: Global, old: &TextMap<MetaFile>, new: &Snapshot) -> Re
 
 fn check_kept(alloc: Global, old: &Option<Held<Snapshot>>, new: &Snapshot) -> Result<(), Error>
     ensures ok { OnOk result (kept_pins_of old.now new.now ≡ Ok tt) }
-    ensures err { IfErr result (λ e. e ≢ NoMemory → kept_pins_of old.now new.now ≡ Err e) }
+    ensures err { IfErr result (λ e. e ≢ Error.NoMemory → kept_pins_of old.now new.now ≡ Err e) }
 {
     match old {
         Some(held) => {
@@ -266,7 +265,7 @@ fn check_snapshot<C: CryptoProvider, M: Armor>(
 ) -> Result<(), Error>
     ensures ok { OnOk result
         (snapshot_checks_of (crypto_by C.CryptoProvider M.Armor provider.now armor.now) documents.now pin.now document.now now ≡ Ok tt) }
-    ensures err { IfErr result (λ e. e ≢ NoMemory →
+    ensures err { IfErr result (λ e. e ≢ Error.NoMemory →
         snapshot_checks_of (crypto_by C.CryptoProvider M.Armor provider.now armor.now) documents.now pin.now document.now now ≡ Err e) }
 {
     let content = document.signed();
@@ -289,7 +288,7 @@ pub(crate) fn new_snapshot<C: CryptoProvider, M: Armor>(
 ) -> Result<Held<Snapshot>, Error>
     ensures ok { IfOk result (λ held.
         new_snapshot_of (crypto_by C.CryptoProvider M.Armor provider.now armor.now) documents.now bytes now ≡ Ok held) }
-    ensures err { IfErr result (λ e. e ≢ NoMemory →
+    ensures err { IfErr result (λ e. e ≢ Error.NoMemory →
         new_snapshot_of (crypto_by C.CryptoProvider M.Armor provider.now armor.now) documents.now bytes now ≡ Err e) }
 {
     let pin = snapshot_pin(alloc, documents, now)?;
@@ -312,7 +311,7 @@ pub(crate) fn targets_pin<'d>(
     now: jiff::Timestamp,
 ) -> Result<&'d MetaFile, Error>
     ensures ok { IfOk result (λ pin. targets_pin_of documents.now now ≡ Ok pin.now) }
-    ensures err { IfErr result (λ e. e ≢ NoMemory → targets_pin_of documents.now now ≡ Err e) }
+    ensures err { IfErr result (λ e. e ≢ Error.NoMemory → targets_pin_of documents.now now ≡ Err e) }
 {
     let Some(snapshot) = &documents.snapshot else {
         return Err(Error::Malformed(Rule::NoSnapshot));
@@ -337,7 +336,7 @@ fn check_targets<C: CryptoProvider, M: Armor>(
 ) -> Result<(), Error>
     ensures ok { OnOk result
         (targets_checks_of (crypto_by C.CryptoProvider M.Armor provider.now armor.now) documents.now pin.now document.now now ≡ Ok tt) }
-    ensures err { IfErr result (λ e. e ≢ NoMemory →
+    ensures err { IfErr result (λ e. e ≢ Error.NoMemory →
         targets_checks_of (crypto_by C.CryptoProvider M.Armor provider.now armor.now) documents.now pin.now document.now now ≡ Err e) }
 {
     check_version(pin, document.signed().version)?;
@@ -358,7 +357,7 @@ pub(crate) fn new_targets<C: CryptoProvider, M: Armor>(
 ) -> Result<Held<Targets>, Error>
     ensures ok { IfOk result (λ held.
         new_targets_of (crypto_by C.CryptoProvider M.Armor provider.now armor.now) documents.now bytes now ≡ Ok held) }
-    ensures err { IfErr result (λ e. e ≢ NoMemory →
+    ensures err { IfErr result (λ e. e ≢ Error.NoMemory →
         new_targets_of (crypto_by C.CryptoProvider M.Armor provider.now armor.now) documents.now bytes now ≡ Err e) }
 {
     let pin = targets_pin(alloc, documents, now)?;

@@ -1,6 +1,5 @@
 // The client over a lent repository.
 ghost use Rattle.std.specs.Prelude.{◌≡◌, ◌≢◌, Some, None, Ok, Err, IfOk, IfErr, OnOk, OnErr, option_map};
-ghost use Rattle.sigstore_tuf_parts.specs.declared.error.Error.TheVariants.{NoMemory};
 ghost use Rattle.sigstore_tuf_parts.specs.By.{crypto_by};
 ghost use Rattle.sigstore_tuf.specs.Config.{default_config};
 ghost use Rattle.sigstore_tuf.specs.Update.{first_root_of};
@@ -111,7 +110,7 @@ impl<'a, C: CryptoProvider, M: Armor, R: Repository, S: MetadataStore> Updater<'
         ensures store { IfOk result (λ u. u.store ≡ None) }
         ensures config { IfOk result (λ u. u.config ≡ default_config) }
         ensures chain { IfOk result (λ u. u.chain ≡ None) }
-        ensures err { IfErr result (λ e. e ≢ NoMemory →
+        ensures err { IfErr result (λ e. e ≢ Error.NoMemory →
             first_root_of (crypto_by C.CryptoProvider M.Armor provider.now armor.now) root_bytes.now ≡ Err e) }
     {
         match TrustedMetadataSet::from_root(alloc, provider, armor, root_bytes) {

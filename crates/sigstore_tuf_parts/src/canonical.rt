@@ -8,7 +8,7 @@ ghost use Rattle.serde_json.specs.Written.{has_float, items_have_float, members_
 ghost use Rattle.sigstore_tuf_parts.specs.Canon.{quoted, escaped_byte, canon, canon_items, canon_members, comma_if};
 ghost use Rattle.sigstore_tuf_parts.specs.Exact.{IsExact, AreExact, HasExact, IsExactNumber};
 ghost use Rattle.sigstore_tuf_parts.specs.Canonical.{canonical_of};
-ghost use Rattle.sigstore_tuf_parts.specs.declared.error.Error.TheVariants.{NonIntegerNumber, NoMemory};
+ghost use Rattle.sigstore_tuf_parts.specs.declared.error.Error.TheVariants.{NonIntegerNumber};
 
 use crate::error::Error;
 use itoa::Buffer;
@@ -20,7 +20,7 @@ use std::alloc::{AllocError, Global};
 /// bytes, only quote and backslash escaped. Errors: `NonIntegerNumber` exactly where a float is inside.
 pub fn to_canonical_bytes(alloc: Global, value: &Value) -> Result<Bytes, Error>
     ensures ok { IfOk result (λ b. canonical_of (view value.now) ≡ Ok b) }
-    ensures err { IfErr result (λ e. e ≢ NoMemory → canonical_of (view value.now) ≡ Err e) }
+    ensures err { IfErr result (λ e. e ≢ Error.NoMemory → canonical_of (view value.now) ≡ Err e) }
     ensures exact { OnOk result (IsExact (view value.now)) }
 {
     let mut out = Vec::new(alloc);
@@ -33,8 +33,8 @@ fn write(value: &Value, out: &mut Vec<u8>) -> Result<(), Error>
     ensures whole { OnOk result (has_float (view value.now) ≡ false) }
     ensures exact { OnOk result (IsExact (view value.now)) }
     ensures text { OnOk result (out.new.items ≡ out.old.items ++ canon (view value.now)) }
-    ensures kind { IfErr result (λ e. e ≢ NoMemory → e ≡ NonIntegerNumber) }
-    ensures err { IfErr result (λ e. e ≢ NoMemory → has_float (view value.now) ≡ true) }
+    ensures kind { IfErr result (λ e. e ≢ Error.NoMemory → e ≡ NonIntegerNumber) }
+    ensures err { IfErr result (λ e. e ≢ Error.NoMemory → has_float (view value.now) ≡ true) }
 {
     match value {
         Value::Null => {
@@ -65,9 +65,9 @@ fn write_items(items: &Vec<Value>, out: &mut Vec<u8>) -> Result<(), Error>
     ensures exact { OnOk result (AreExact (items_view items.now.items)) }
     ensures text { OnOk result
         (out.new.items ≡ out.old.items ++ 91 ∷ canon_items false (items_view items.now.items)) }
-    ensures kind { IfErr result (λ e. e ≢ NoMemory → e ≡ NonIntegerNumber) }
+    ensures kind { IfErr result (λ e. e ≢ Error.NoMemory → e ≡ NonIntegerNumber) }
     ensures err { IfErr result
-        (λ e. e ≢ NoMemory → items_have_float (items_view items.now.items) ≡ true) }
+        (λ e. e ≢ Error.NoMemory → items_have_float (items_view items.now.items) ≡ true) }
 {
     out.push(b'[')?;
     let mut later = false;
@@ -87,9 +87,9 @@ fn write_members(members: &Map<String, Value>, out: &mut Vec<u8>) -> Result<(), 
     ensures text { OnOk result
         (out.new.items
         ≡ out.old.items ++ 123 ∷ canon_members false (members_view members.now.entries)) }
-    ensures kind { IfErr result (λ e. e ≢ NoMemory → e ≡ NonIntegerNumber) }
+    ensures kind { IfErr result (λ e. e ≢ Error.NoMemory → e ≡ NonIntegerNumber) }
     ensures err { IfErr result
-        (λ e. e ≢ NoMemory → members_have_float (members_view members.now.entries) ≡ true) }
+        (λ e. e ≢ Error.NoMemory → members_have_float (members_view members.now.entries) ≡ true) }
 {
     out.push(b'{')?;
     let mut later = false;
@@ -109,8 +109,8 @@ fn write_number(number: &Number, out: &mut Vec<u8>) -> Result<(), Error>
     ensures exact { OnOk result (IsExactNumber (number_view number.now)) }
     ensures text { OnOk result
         (out.new.items ≡ out.old.items ++ number_text (number_view number.now)) }
-    ensures kind { IfErr result (λ e. e ≢ NoMemory → e ≡ NonIntegerNumber) }
-    ensures err { IfErr result (λ e. e ≢ NoMemory → is_float (number_view number.now) ≡ true) }
+    ensures kind { IfErr result (λ e. e ≢ Error.NoMemory → e ≡ NonIntegerNumber) }
+    ensures err { IfErr result (λ e. e ≢ Error.NoMemory → is_float (number_view number.now) ≡ true) }
 {
     let mut digits = Buffer::new();
     if let Some(n) = number.as_u64() {

@@ -2,7 +2,6 @@
 ghost use Rattle.std.specs.Prelude.{◌≡◌, ◌≢◌, Ok, Err, IfOk, IfErr, false};
 ghost use Rattle.serde_json.specs.View.{view};
 ghost use Rattle.serde_json.specs.Written.{has_float};
-ghost use Rattle.sigstore_tuf_parts.specs.declared.error.Error.TheVariants.{NoMemory};
 ghost use Rattle.sigstore_tuf_parts.specs.Canon.{canon};
 ghost use Rattle.sigstore_tuf_parts.specs.Document.{document_of, signature_of, value_of, frame_of, content_of, document_in, text_in, HasExactText, IsExactly};
 ghost use Rattle.sigstore_tuf_parts.specs.Exact.{IsExact};
@@ -122,7 +121,7 @@ impl<T: Role> Metadata<T> {
     #[tactic(auto, unfolding(crate::specs::Document::document_of))]
     pub fn from_slice(alloc: Global, bytes: &[u8]) -> Result<Metadata<T>, Error>
         ensures ok { IfOk result (λ m. document_of T.kind T.reads bytes.now ≡ Ok m) }
-        ensures err { IfErr result (λ e. e ≢ NoMemory → document_of T.kind T.reads bytes.now ≡ Err e) }
+        ensures err { IfErr result (λ e. e ≢ Error.NoMemory → document_of T.kind T.reads bytes.now ≡ Err e) }
         ensures exact { IfOk result (λ m. IsExactly bytes.now m) }
     {
         let value = parsed(alloc, bytes)?;
@@ -134,7 +133,7 @@ impl<T: Role> Metadata<T> {
 fn read_frame<T: Role>(alloc: Global, value: &Value) -> Result<Metadata<T>, Error>
     requires { has_float (view value.now) ≡ false }
     ensures ok { IfOk result (λ m. document_in T.kind T.reads (view value.now) ≡ Ok m) }
-    ensures err { IfErr result (λ e. e ≢ NoMemory → document_in T.kind T.reads (view value.now) ≡ Err e) }
+    ensures err { IfErr result (λ e. e ≢ Error.NoMemory → document_in T.kind T.reads (view value.now) ≡ Err e) }
     ensures exact { IfOk result (λ m. HasExactText (view value.now) (text_in m)) }
 {
     let signed = framed(value, "signed")?;
@@ -151,7 +150,7 @@ fn assembled<T: Role>(
     requires { has_float (view signed.now) ≡ false }
     ensures ok { IfOk result
         (λ m. content_of T.kind T.reads (view signed.now) (view signatures.now) ≡ Ok m) }
-    ensures err { IfErr result (λ e. e ≢ NoMemory
+    ensures err { IfErr result (λ e. e ≢ Error.NoMemory
         → content_of T.kind T.reads (view signed.now) (view signatures.now) ≡ Err e) }
     ensures exact { IfOk result
         (λ m. IsExact (view signed.now) × (text_in m ≡ canon (view signed.now))) }
@@ -167,7 +166,7 @@ fn assembled<T: Role>(
 #[tactic(auto, unfolding(crate::specs::Document::value_of))]
 fn parsed(alloc: Global, bytes: &[u8]) -> Result<Value, Error>
     ensures ok { IfOk result (λ v. value_of bytes.now ≡ Ok (view v)) }
-    ensures err { IfErr result (λ e. e ≢ NoMemory → value_of bytes.now ≡ Err e) }
+    ensures err { IfErr result (λ e. e ≢ Error.NoMemory → value_of bytes.now ≡ Err e) }
     ensures whole { IfOk result (λ v. has_float (view v) ≡ false) }
 {
     match parse_json(alloc, bytes) {
@@ -194,7 +193,7 @@ fn canonical_text(alloc: Global, value: &Value) -> Result<Bytes, Error>
     requires { has_float (view value.now) ≡ false }
     ensures ok { IfOk result (λ b. b ≡ canon (view value.now)) }
     ensures exact { IfOk result (λ b. IsExact (view value.now)) }
-    ensures err { IfErr result (λ e. e ≡ NoMemory) }
+    ensures err { IfErr result (λ e. e ≡ Error.NoMemory) }
 {
     match to_canonical_bytes(alloc, value) {
         Ok(text) => Ok(text),

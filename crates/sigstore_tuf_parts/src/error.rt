@@ -1,6 +1,5 @@
 // Why a document is refused.
 ghost use Rattle.std.specs.Prelude.{◌≡◌};
-ghost use Rattle.sigstore_tuf_parts.specs.declared.error.Error.TheVariants.{NoMemory};
 ghost use Rattle.sigstore_tuf_parts.specs.Error.{error_of, error_of_fault, number_of, name_of};
 
 use foundation::NoMemory;
@@ -195,7 +194,7 @@ impl Error {
 }
 
 impl From<NoMemory> for Error {
-    ghost from_gives = { λ _ e. e ≡ NoMemory };
+    ghost from_gives = { λ _ e. e ≡ Error.NoMemory };
 
     fn from(_: NoMemory) -> Error {
         Error::NoMemory
@@ -203,7 +202,7 @@ impl From<NoMemory> for Error {
 }
 
 impl From<AllocError> for Error {
-    ghost from_gives = { λ _ e. e ≡ NoMemory };
+    ghost from_gives = { λ _ e. e ≡ Error.NoMemory };
 
     fn from(_: AllocError) -> Error {
         Error::NoMemory
@@ -211,7 +210,7 @@ impl From<AllocError> for Error {
 }
 
 impl<T: Drop> From<AllocFailed<T>> for Error {
-    ghost from_gives = { λ _ e. e ≡ NoMemory };
+    ghost from_gives = { λ _ e. e ≡ Error.NoMemory };
 
     fn from(_: AllocFailed<T>) -> Error {
         Error::NoMemory

@@ -3,7 +3,6 @@ ghost use Rattle.std.specs.Prelude.{◌≡◌, ◌≢◌, Ok, Err, IfOk, IfErr};
 ghost use Rattle.std.specs.Option.{option_copied};
 ghost use Rattle.sha2.specs.Sha256.{sha256};
 ghost use Rattle.sha2.specs.Sha512.{sha512};
-ghost use Rattle.sigstore_tuf_parts.specs.declared.error.Error.TheVariants.{NoMemory};
 ghost use Rattle.sigstore_tuf_parts.specs.Integrity.{integrity_of, length_of, digests_of, digest_of, spells, version_of, is_past, fresh_of};
 
 use crate::error::{Error, Mismatch};
@@ -130,7 +129,7 @@ pub fn check_fresh(
     now: Timestamp,
 ) -> Result<(), Error>
     ensures ok { IfOk result (λ v. fresh_of role.now expires now ≡ Ok v) }
-    ensures err { IfErr result (λ e. e ≢ NoMemory → fresh_of role.now expires now ≡ Err e) }
+    ensures err { IfErr result (λ e. e ≢ Error.NoMemory → fresh_of role.now expires now ≡ Err e) }
 {
     if is_past(expires, now) {
         return Err(Error::Expired {

@@ -1,7 +1,6 @@
 // What all kinds of documents share.
 ghost use Rattle.std.specs.Prelude.{◌≡◌, ◌≢◌, ℕ, List, Ok, Err, IfOk, IfErr};
 ghost use Rattle.jiff_core.specs.declared.timestamp.Timestamp.{Timestamp as Instant};
-ghost use Rattle.sigstore_tuf_parts.specs.declared.error.Error.TheVariants.{NoMemory};
 ghost use Rattle.sigstore_tuf_parts.specs.Integrity.{is_past, fresh_of};
 
 use crate::error::Error;
@@ -40,7 +39,7 @@ pub trait Role: FromValue<Error> {
     /// Whether the document hasn't expired now. Errors: `Expired`.
     final fn check_fresh(&self, alloc: Global, now: jiff::Timestamp) -> Result<(), Error>
         ensures ok { IfOk result (λ v. fresh_of kind (expires_in self.now) now ≡ Ok v) }
-        ensures err { IfErr result (λ e. e ≢ NoMemory → fresh_of kind (expires_in self.now) now ≡ Err e) }
+        ensures err { IfErr result (λ e. e ≢ Error.NoMemory → fresh_of kind (expires_in self.now) now ≡ Err e) }
     {
         match check_fresh(alloc, Self::kind(), self.expires(), now) {
             Ok(()) => Ok(()),

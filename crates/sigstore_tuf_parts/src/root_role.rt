@@ -1,6 +1,5 @@
 // Whether a document meets a role of a root.
 ghost use Rattle.std.specs.Prelude.{◌≡◌, ◌≢◌, Ok, Err, IfErr, OnOk};
-ghost use Rattle.sigstore_tuf_parts.specs.declared.error.Error.TheVariants.{NoMemory};
 ghost use Rattle.sigstore_tuf_parts.specs.By.{crypto_by};
 ghost use Rattle.sigstore_tuf_parts.specs.RootRoles.{meets_role_of};
 
@@ -26,7 +25,7 @@ impl<T> Metadata<T> {
         ensures ok { OnOk result
             (meets_role_of (crypto_by C.CryptoProvider M.Armor provider.now armor.now)
             root.now name.now self.now ≡ Ok tt) }
-        ensures err { IfErr result (λ e. e ≢ NoMemory →
+        ensures err { IfErr result (λ e. e ≢ Error.NoMemory →
             meets_role_of (crypto_by C.CryptoProvider M.Armor provider.now armor.now)
             root.now name.now self.now ≡ Err e) }
     {

@@ -1,6 +1,5 @@
 // Whether a document meets a role.
 ghost use Rattle.std.specs.Prelude.{◌≡◌, ◌≢◌, [], Ok, Err, IfOk, IfErr, map, count_by};
-ghost use Rattle.sigstore_tuf_parts.specs.declared.error.Error.TheVariants.{NoMemory};
 ghost use Rattle.sigstore_tuf_parts.specs.By.{key_by, crypto_by};
 ghost use Rattle.sigstore_tuf_parts.specs.Threshold.{ids_of, second_after, unbuilt_in, built_of, all_built, is_accepted, threshold_of, no_second, enough_of, meets_of};
 
@@ -32,7 +31,7 @@ impl<T> Metadata<T> {
         ensures ok { IfOk result (λ v.
             meets_of (crypto_by C.CryptoProvider M.Armor provider.now armor.now)
             keys.now role_keys.now role.now self.now ≡ Ok v) }
-        ensures err { IfErr result (λ e. e ≢ NoMemory →
+        ensures err { IfErr result (λ e. e ≢ Error.NoMemory →
             meets_of (crypto_by C.CryptoProvider M.Armor provider.now armor.now)
             keys.now role_keys.now role.now self.now ≡ Err e) }
     {
@@ -62,7 +61,7 @@ fn check_threshold(threshold: u64) -> Result<(), Error>
 fn check_once(alloc: Global, role: &str, signatures: &[&Signature]) -> Result<(), Error>
     ensures ok { IfOk result (λ v.
         no_second role.now (second_after [] (ids_of (map (λ s. s.now) signatures.now))) ≡ Ok v) }
-    ensures err { IfErr result (λ e. e ≢ NoMemory →
+    ensures err { IfErr result (λ e. e ≢ Error.NoMemory →
         no_second role.now (second_after [] (ids_of (map (λ s. s.now) signatures.now))) ≡ Err e) }
 {
     match second_id(alloc, signatures)? {
@@ -77,7 +76,7 @@ fn check_once(alloc: Global, role: &str, signatures: &[&Signature]) -> Result<()
 fn check_key<M: Armor>(alloc: Global, armor: &M, key: &Key) -> Result<(), Error>
     ensures ok { IfOk result
         (λ v. unbuilt_in (key_by M.Armor armor.now key.now) ≡ Ok v) }
-    ensures err { IfErr result (λ e. e ≢ NoMemory
+    ensures err { IfErr result (λ e. e ≢ Error.NoMemory
         → unbuilt_in (key_by M.Armor armor.now key.now) ≡ Err e) }
 {
     match key.verification_key(alloc, armor) {
@@ -95,7 +94,7 @@ fn check_signature<M: Armor>(
 ) -> Result<(), Error>
     ensures ok { IfOk result
         (λ v. built_of (key_by M.Armor armor.now) keys.now signature.now ≡ Ok v) }
-    ensures err { IfErr result (λ e. e ≢ NoMemory
+    ensures err { IfErr result (λ e. e ≢ Error.NoMemory
         → built_of (key_by M.Armor armor.now) keys.now signature.now ≡ Err e) }
 {
     if decoded(alloc, &signature.sig)?.is_none() {
@@ -115,7 +114,7 @@ fn check_built<M: Armor>(
 ) -> Result<(), Error>
     ensures ok { IfOk result (λ v. all_built (key_by M.Armor armor.now)
         keys.now (map (λ s. s.now) signatures.now) ≡ Ok v) }
-    ensures err { IfErr result (λ e. e ≢ NoMemory → all_built (key_by M.Armor armor.now)
+    ensures err { IfErr result (λ e. e ≢ Error.NoMemory → all_built (key_by M.Armor armor.now)
         keys.now (map (λ s. s.now) signatures.now) ≡ Err e) }
 {
     for signature in signatures {
@@ -147,7 +146,7 @@ fn count_accepted<C: CryptoProvider, M: Armor>(
 
 fn check_enough(alloc: Global, role: &str, found: u64, threshold: u64) -> Result<(), Error>
     ensures ok { IfOk result (λ v. enough_of role.now found threshold ≡ Ok v) }
-    ensures err { IfErr result (λ e. e ≢ NoMemory → enough_of role.now found threshold ≡ Err e) }
+    ensures err { IfErr result (λ e. e ≢ Error.NoMemory → enough_of role.now found threshold ≡ Err e) }
 {
     if threshold <= found {
         return Ok(());

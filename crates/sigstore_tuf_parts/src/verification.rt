@@ -4,7 +4,6 @@ ghost use Rattle.std.specs.List.{list_all};
 ghost use Rattle.std.specs.Char.{is_ascii_hexdigit};
 ghost use Rattle.std.specs.Str.{trim};
 ghost use Rattle.sigstore_crypto.specs.Key.{spki_key_of};
-ghost use Rattle.sigstore_tuf_parts.specs.declared.verification.KeyFault.TheVariants.{NoMemory};
 ghost use Rattle.sigstore_tuf_parts.specs.Crypto.{text_key_of, declared_scheme, spki_fault, der_key_of, under_scheme, or_spki_fault, is_bare_key, bare_key_of};
 ghost use Rattle.sigstore_tuf_parts.specs.By.{key_by};
 
@@ -31,7 +30,7 @@ pub enum KeyFault {
 }
 
 impl From<NoMemory> for KeyFault {
-    ghost from_gives = { λ _ e. e ≡ NoMemory };
+    ghost from_gives = { λ _ e. e ≡ KeyFault.NoMemory };
 
     fn from(_: NoMemory) -> KeyFault {
         KeyFault::NoMemory
@@ -61,7 +60,7 @@ impl Key {
     ) -> Result<VerificationKey, KeyFault>
         ensures ok { IfOk result (λ v. key_by M.Armor armor.now self.now ≡ Ok v) }
         ensures err { IfErr result
-            (λ e. e ≢ NoMemory → key_by M.Armor armor.now self.now ≡ Err e) }
+            (λ e. e ≢ KeyFault.NoMemory → key_by M.Armor armor.now self.now ≡ Err e) }
     {
         match declared_scheme(self.scheme.as_str()) {
             Some(scheme) => text_key(alloc, armor, scheme, trimmed(self.keyval.public.as_str())),
@@ -102,7 +101,7 @@ fn text_key<M: Armor>(
 ) -> Result<VerificationKey, KeyFault>
     ensures ok { IfOk result
         (λ v. text_key_of (M.armored armor.now) (M.key_in armor.now) scheme text.now ≡ Ok v) }
-    ensures err { IfErr result (λ e. e ≢ NoMemory
+    ensures err { IfErr result (λ e. e ≢ KeyFault.NoMemory
         → text_key_of (M.armored armor.now) (M.key_in armor.now) scheme text.now ≡ Err e) }
 {
     let text = text.as_bytes();
@@ -141,7 +140,7 @@ fn are_digits(text: &[u8]) -> bool
 // The key of a SubjectPublicKeyInfo, under a scheme.
 fn der_key(alloc: Global, scheme: SigningScheme, der: Bytes) -> Result<VerificationKey, KeyFault>
     ensures ok { IfOk result (λ v. der_key_of scheme der ≡ Ok v) }
-    ensures err { IfErr result (λ e. e ≢ NoMemory → der_key_of scheme der ≡ Err e) }
+    ensures err { IfErr result (λ e. e ≢ KeyFault.NoMemory → der_key_of scheme der ≡ Err e) }
 {
     let key = spki_key(alloc, der)?;
     under_scheme(scheme, key)
@@ -159,7 +158,7 @@ fn under_scheme(scheme: SigningScheme, key: VerificationKey) -> Result<Verificat
 
 fn spki_key(alloc: Global, der: Bytes) -> Result<VerificationKey, KeyFault>
     ensures ok { IfOk result (λ v. or_spki_fault (spki_key_of der) ≡ Ok v) }
-    ensures err { IfErr result (λ e. e ≢ NoMemory → or_spki_fault (spki_key_of der) ≡ Err e) }
+    ensures err { IfErr result (λ e. e ≢ KeyFault.NoMemory → or_spki_fault (spki_key_of der) ≡ Err e) }
 {
     match VerificationKey::from_spki(alloc, &DerPublicKey::new(der)) {
         Ok(key) => Ok(key),

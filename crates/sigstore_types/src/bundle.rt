@@ -1,7 +1,6 @@
 // A bundle.
 ghost use Rattle.std.specs.Prelude.{◌≡◌, ◌≢◌, Ok, Err, IfOk, IfErr};
 ghost use Rattle.serde_json.specs.View.{view};
-ghost use Rattle.sigstore_types_parts.specs.declared.error.TypesError.TheVariants.{NoMemory};
 ghost use Rattle.sigstore_types.specs.Bundle.{is_media_type, media_type_of, bundle_of, bundle_of_bytes, structure_of};
 
 use crate::content::{SignatureContent, read_content};
@@ -42,7 +41,7 @@ fn is_media_type(name: &str) -> bool
 #[tactic(auto, unfolding(crate::specs::Bundle::media_type_of))]
 fn read_media_type(alloc: Global, value: &Value) -> Result<Text, TypesError>
     ensures ok { IfOk result (λ v. media_type_of (view value.now) ≡ Ok v) }
-    ensures err { IfErr result (λ e. e ≢ NoMemory → media_type_of (view value.now) ≡ Err e) }
+    ensures err { IfErr result (λ e. e ≢ TypesError.NoMemory → media_type_of (view value.now) ≡ Err e) }
 {
     let name: Text = required(alloc, value, TypesMember::MediaType)?;
     if is_media_type(name.as_str()) {
@@ -74,7 +73,7 @@ impl Bundle {
     #[tactic(auto, unfolding(crate::specs::Bundle::bundle_of_bytes))]
     pub fn from_json(alloc: Global, bytes: &[u8]) -> Result<Bundle, TypesError>
         ensures ok { IfOk result (λ v. bundle_of_bytes bytes.now ≡ Ok v) }
-        ensures err { IfErr result (λ e. e ≢ NoMemory → bundle_of_bytes bytes.now ≡ Err e) }
+        ensures err { IfErr result (λ e. e ≢ TypesError.NoMemory → bundle_of_bytes bytes.now ≡ Err e) }
     {
         let value = json(alloc, bytes)?;
         Ok(Bundle::from_value(alloc, &value)?)

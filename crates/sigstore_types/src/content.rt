@@ -1,7 +1,6 @@
 // What a bundle signs: a message by its digest.
 ghost use Rattle.std.specs.Prelude.{◌≡◌, ◌≢◌, Ok, Err, IfOk, IfErr};
 ghost use Rattle.serde_json.specs.View.{view};
-ghost use Rattle.sigstore_types_parts.specs.declared.error.TypesError.TheVariants.{NoMemory};
 ghost use Rattle.sigstore_types.specs.Bundle.{algorithm_of, message_digest_of, message_signature_of, content_of};
 
 use crate::members::absent;
@@ -64,7 +63,7 @@ impl Duplicate for MessageDigest {
 #[tactic(auto, unfolding(crate::specs::Bundle::algorithm_of))]
 fn read_algorithm(alloc: Global, value: &Value) -> Result<HashAlgorithm, TypesError>
     ensures ok { IfOk result (λ v. algorithm_of (view value.now) ≡ Ok v) }
-    ensures err { IfErr result (λ e. e ≢ NoMemory → algorithm_of (view value.now) ≡ Err e) }
+    ensures err { IfErr result (λ e. e ≢ TypesError.NoMemory → algorithm_of (view value.now) ≡ Err e) }
 {
     let name: Text = required(alloc, value, TypesMember::Algorithm)?;
     match HashAlgorithm::from_name(name.as_str()) {
@@ -107,7 +106,7 @@ impl FromValue<TypesError> for MessageSignature {
 #[tactic(auto, unfolding(crate::specs::Bundle::content_of))]
 pub(crate) fn read_content(alloc: Global, value: &Value) -> Result<SignatureContent, TypesError>
     ensures ok { IfOk result (λ v. content_of (view value.now) ≡ Ok v) }
-    ensures err { IfErr result (λ e. e ≢ NoMemory → content_of (view value.now) ≡ Err e) }
+    ensures err { IfErr result (λ e. e ≢ TypesError.NoMemory → content_of (view value.now) ≡ Err e) }
 {
     let message = optional(alloc, value, TypesMember::MessageSignature)?;
     absent(value, TypesMember::DsseEnvelope, Form::Envelope)?;

@@ -1,7 +1,6 @@
 // What a bundle is verified with: a public key, of which it tells at most a hint.
 ghost use Rattle.std.specs.Prelude.{◌≡◌, ◌≢◌, Ok, Err, IfOk, IfErr};
 ghost use Rattle.serde_json.specs.View.{view};
-ghost use Rattle.sigstore_types_parts.specs.declared.error.TypesError.TheVariants.{NoMemory};
 ghost use Rattle.sigstore_types.specs.Bundle.{hint_of, tokens_of, material_of, material_content_of};
 
 use crate::members::{absent, without_items};
@@ -77,7 +76,7 @@ impl FromValue<TypesError> for Tokens {
 #[tactic(auto, unfolding(crate::specs::Bundle::material_content_of))]
 fn read_content(alloc: Global, value: &Value) -> Result<VerificationMaterialContent, TypesError>
     ensures ok { IfOk result (λ v. material_content_of (view value.now) ≡ Ok v) }
-    ensures err { IfErr result (λ e. e ≢ NoMemory → material_content_of (view value.now) ≡ Err e) }
+    ensures err { IfErr result (λ e. e ≢ TypesError.NoMemory → material_content_of (view value.now) ≡ Err e) }
 {
     absent(value, TypesMember::Certificate, Form::Certificate)?;
     absent(value, TypesMember::X509CertificateChain, Form::Certificate)?;

@@ -1,7 +1,6 @@
 // Readers of members whose other forms aren't built, and of the JSON text itself.
 ghost use Rattle.std.specs.Prelude.{◌≡◌, ◌≢◌, Ok, Err, IfOk, IfErr};
 ghost use Rattle.serde_json.specs.View.{view};
-ghost use Rattle.sigstore_types_parts.specs.declared.error.TypesError.TheVariants.{NoMemory};
 ghost use Rattle.sigstore_types.specs.Members.{absent, empty, without_items, json};
 
 use serde_json::Value;
@@ -68,7 +67,7 @@ pub(crate) fn without_items(
 // The JSON value of bytes.
 pub(crate) fn json(alloc: Global, bytes: &[u8]) -> Result<Value, TypesError>
     ensures ok { IfOk result (λ v. json bytes.now ≡ Ok (view v)) }
-    ensures err { IfErr result (λ e. e ≢ NoMemory → json bytes.now ≡ Err e) }
+    ensures err { IfErr result (λ e. e ≢ TypesError.NoMemory → json bytes.now ≡ Err e) }
 {
     Ok(parse_json(alloc, bytes)?)
 }

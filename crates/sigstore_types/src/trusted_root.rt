@@ -1,7 +1,6 @@
 // A trust file.
 ghost use Rattle.std.specs.Prelude.{◌≡◌, ◌≢◌, Ok, Err, IfOk, IfErr};
 ghost use Rattle.serde_json.specs.View.{view};
-ghost use Rattle.sigstore_types_parts.specs.declared.error.TypesError.TheVariants.{NoMemory};
 ghost use Rattle.sigstore_types.specs.TrustedRoot.{trusted_root_of, trusted_root_of_bytes};
 
 use crate::members::{json, without_items};
@@ -39,7 +38,7 @@ impl TrustedRoot {
     #[tactic(auto, unfolding(crate::specs::TrustedRoot::trusted_root_of_bytes))]
     pub fn from_json(alloc: Global, bytes: &[u8]) -> Result<TrustedRoot, TypesError>
         ensures ok { IfOk result (λ v. trusted_root_of_bytes bytes.now ≡ Ok v) }
-        ensures err { IfErr result (λ e. e ≢ NoMemory → trusted_root_of_bytes bytes.now ≡ Err e) }
+        ensures err { IfErr result (λ e. e ≢ TypesError.NoMemory → trusted_root_of_bytes bytes.now ≡ Err e) }
     {
         let value = json(alloc, bytes)?;
         Ok(TrustedRoot::from_value(alloc, &value)?)

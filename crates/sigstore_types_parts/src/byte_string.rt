@@ -7,7 +7,6 @@ ghost use Rattle.base64.specs.Engines.{standard};
 ghost use Rattle.base64.specs.GeneralPurpose.{encode_of};
 ghost use Rattle.sigstore_types_parts.specs.Encoded.{decoded_of};
 ghost use Rattle.sigstore_types_parts.specs.Error.{types_of};
-ghost use Rattle.sigstore_types_parts.specs.declared.error.TypesError.TheVariants.{NoMemory};
 
 use crate::bytes::Bytes;
 use crate::error::TypesError;
@@ -140,7 +139,7 @@ impl<K: Drop> ByteString<K> {
     /// The bytes that a base64 text (RFC 4648, section 4) spells. Errors: `Base64` for any other text.
     pub fn from_base64(alloc: Global, text: &str) -> Result<ByteString<K>, TypesError>
         ensures ok { IfOk result (λ b. decoded_of types_of text.now ≡ Ok b) }
-        ensures err { IfErr result (λ e. e ≢ NoMemory → decoded_of types_of text.now ≡ Err e) }
+        ensures err { IfErr result (λ e. e ≢ TypesError.NoMemory → decoded_of types_of text.now ≡ Err e) }
     {
         match decoded::<TypesError>(alloc, text) {
             Ok(bytes) => Ok(ByteString::new(bytes)),

@@ -2,7 +2,6 @@
 ghost use Rattle.std.specs.Prelude.{◌≡◌, ◌≢◌, ℕ, List, Ok, Err, IfOk, IfErr};
 ghost use Rattle.sigstore_tuf_parts.specs.By.{crypto_by};
 ghost use Rattle.sigstore_tuf.specs.Update.{first_root_of};
-ghost use Rattle.sigstore_verify.specs.declared.error.Error.TheVariants.{NoMemory};
 ghost use Rattle.sigstore_verify.specs.FromRoot.{trust_of, bundle_of, GivesChain, JudgesBundle, root_of_tuf, root_of_verify};
 ghost use Rattle.sigstore_verify.specs.Given.{Anchor, Given, Outside};
 ghost use Rattle.sigstore_verify.specs.Promises.{Promises};
@@ -80,7 +79,7 @@ fn verify_fault(fault: Error, chain: TrustChain) -> RootFault
 
 fn read_trust(alloc: Global, bytes: &[u8]) -> Result<TrustedRoot, Error>
     ensures ok { IfOk result (λ trust. trust_of bytes.now ≡ Ok trust) }
-    ensures err { IfErr result (λ e. e ≢ NoMemory → trust_of bytes.now ≡ Err e) }
+    ensures err { IfErr result (λ e. e ≢ Error.NoMemory → trust_of bytes.now ≡ Err e) }
 {
     match TrustedRoot::from_json(alloc, bytes) {
         Ok(trust) => Ok(trust),
@@ -90,7 +89,7 @@ fn read_trust(alloc: Global, bytes: &[u8]) -> Result<TrustedRoot, Error>
 
 fn read_bundle(alloc: Global, bytes: &[u8]) -> Result<Bundle, Error>
     ensures ok { IfOk result (λ bundle. bundle_of bytes.now ≡ Ok bundle) }
-    ensures err { IfErr result (λ e. e ≢ NoMemory → bundle_of bytes.now ≡ Err e) }
+    ensures err { IfErr result (λ e. e ≢ Error.NoMemory → bundle_of bytes.now ≡ Err e) }
 {
     match Bundle::from_json(alloc, bytes) {
         Ok(bundle) => Ok(bundle),

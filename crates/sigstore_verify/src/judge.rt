@@ -3,7 +3,6 @@ ghost use Rattle.std.specs.Prelude.{◌≡◌, ◌≢◌, Ok, Err, Some, IfOk, I
 ghost use Rattle.sigstore_types_parts.specs.declared.hash_algorithm.HashAlgorithm.TheVariants.{Sha2256};
 ghost use Rattle.sigstore_crypto.specs.Scheme.{digest_algorithm_of};
 ghost use Rattle.sigstore_crypto.specs.Good.{is_good_over};
-ghost use Rattle.sigstore_verify.specs.declared.error.Error.TheVariants.{NoMemory};
 ghost use Rattle.sigstore_verify.specs.Judged.{by_types, by_crypto, scheme_of, needed_of, prepared_of, key_report_of, content_judged_of};
 ghost use Rattle.sigstore_types.specs.Bundle.{structure_of};
 
@@ -65,7 +64,7 @@ pub(crate) fn prepare(
     bundle: &Bundle,
 ) -> Result<VerificationKey, Error>
     ensures ok { IfOk result (λ key. prepared_of policy.now bundle.now ≡ Ok key) }
-    ensures err { IfErr result (λ e. e ≢ NoMemory → prepared_of policy.now bundle.now ≡ Err e) }
+    ensures err { IfErr result (λ e. e ≢ Error.NoMemory → prepared_of policy.now bundle.now ≡ Err e) }
     ensures digest { IfOk result (λ key. digest_algorithm_of key.scheme ≡ Some Sha2256) }
 {
     check_structure(bundle, policy.verify_tlog)?;

@@ -2,7 +2,6 @@
 ghost use Rattle.std.specs.Prelude.{◌≡◌, ◌≢◌, ◌∷◌, [], Ok, Err, Some, IfOk, IfErr, length};
 ghost use Rattle.sigstore_types_parts.specs.declared.hash_algorithm.HashAlgorithm.TheVariants.{Sha2256};
 ghost use Rattle.sigstore_crypto.specs.Scheme.{digest_algorithm_of};
-ghost use Rattle.sigstore_verify.specs.declared.error.Error.TheVariants.{NoMemory};
 ghost use Rattle.sigstore_verify.specs.Policy.{PublicKey};
 ghost use Rattle.sigstore_verify.specs.Trust.{usable_of};
 ghost use Rattle.sigstore_verify.specs.Promise.{Keeps, Verifies, VerifiesKept};
@@ -85,7 +84,7 @@ impl<'p, C: CryptoProvider, M: Armor> Verifier<'p, C, M> {
         ensures provider { IfOk result (λ verifier. verifier.provider.now ≡ provider.now) }
         ensures armor { IfOk result (λ verifier. verifier.armor.now ≡ armor.now) }
         ensures ok { IfOk result (λ verifier. usable_of _trusted_root.now ≡ Ok tt) }
-        ensures err { IfErr result (λ e. e ≢ NoMemory → usable_of _trusted_root.now ≡ Err e) }
+        ensures err { IfErr result (λ e. e ≢ Error.NoMemory → usable_of _trusted_root.now ≡ Err e) }
     {
         Ok(Verifier { provider, armor })
     }

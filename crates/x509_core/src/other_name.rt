@@ -3,7 +3,7 @@ ghost use Rattle.std.specs.Prelude.{◌≡◌, ◌≢◌, true, false, IfOk, IfE
 ghost use Rattle.std.specs.Ordering.{on, eq_of_both};
 ghost use Rattle.std.specs.Cmp.Rules.{comparing};
 ghost use Rattle.std.proofs.Common.{rules};
-ghost use Rattle.der_core_parts.specs.declared.error.DerError.TheVariants.{NoMemory, Value as BadValue};
+ghost use Rattle.der_core_parts.specs.declared.error.DerError.TheVariants.{Value as BadValue};
 ghost use Rattle.der_core_parts.specs.Types.{is_in};
 ghost use Rattle.x509_core.specs.OtherNames.{other_tags, other_name_type};
 
@@ -42,7 +42,7 @@ impl OtherName {
     /// A name with this tag and contents; Value exactly where the tag is none of the seven.
     pub fn new(alloc: Global, tag: Tag, bytes: &[u8]) -> Result<OtherName, DerError>
         ensures ok { IfOk result (λ n. (is_in tag.0 other_tags ≡ true) × (n ≡ (tag.0, bytes.now))) }
-        ensures err { IfErr result (λ e. e ≢ NoMemory → (is_in tag.0 other_tags ≡ false) × (e ≡ BadValue)) }
+        ensures err { IfErr result (λ e. e ≢ DerError.NoMemory → (is_in tag.0 other_tags ≡ false) × (e ≡ BadValue)) }
     {
         if !is_other(tag) {
             return Err(DerError::Value);

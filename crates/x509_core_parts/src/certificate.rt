@@ -1,7 +1,6 @@
 // Certificates as parts of their bytes.
 ghost use Rattle.std.specs.Prelude.{◌≡◌, ◌≢◌, IfOk, IfErr, Ok, Err, is_ok, option_copied, option_map};
 ghost use Rattle.x509_core_parts.specs.Certificates.{signed_of, same_algorithm, full_octets, signature_at, parts_of, certificate_of};
-ghost use Rattle.x509_core_parts.specs.declared.error.X509Error.TheVariants.{NoMemory};
 ghost use Rattle.x509_core_parts.specs.Distinct.{IsRefusal};
 ghost use Rattle.x509_core_parts.specs.Views.{signed_parts, certificate_parts, shown, extension_shown};
 ghost use Rattle.x509_core_parts.specs.Extensions.{found_in};
@@ -159,7 +158,7 @@ impl<'a> CertView<'a> {
     /// little more than its reading.
     pub fn parse_in(alloc: Global, bytes: &'a [u8]) -> Result<CertView<'a>, X509Error>
         ensures ok { IfOk result (λ v. certificate_of bytes.now ≡ Ok (certificate_parts v)) }
-        ensures err { IfErr result (λ e. e ≢ NoMemory → certificate_of bytes.now ≡ Err e) }
+        ensures err { IfErr result (λ e. e ≢ X509Error.NoMemory → certificate_of bytes.now ≡ Err e) }
         ensures whole { IfOk result (λ v. v.whole.now ≡ bytes.now) }
     {
         certificate_in(Some(alloc), bytes)

@@ -2,7 +2,6 @@
 ghost use Rattle.std.specs.Prelude.{◌≡◌, ◌≢◌, IfOk, IfErr, Ok, Err, map};
 ghost use Rattle.std.specs.Ordering.{nat_cmp, is_lt};
 ghost use Rattle.std.specs.Cmp.Lexicographic.{slice_cmp};
-ghost use Rattle.x509_core_parts.specs.declared.error.X509Error.TheVariants.{NoMemory};
 ghost use Rattle.x509_core_parts.specs.Distinct.{listed_of, repeats, IsRefusal};
 ghost use Rattle.x509_core_parts.specs.Extensions.{distinct_of};
 
@@ -13,7 +12,7 @@ use std::alloc::Global;
 /// The identifiers of extensions up to the end or to the first refusal, which comes with them.
 fn listed(alloc: Global, list: &[u8]) -> Result<(Vec<&[u8]>, Result<(), X509Error>), X509Error>
     ensures ok { IfOk result (λ x. listed_of list.now ≡ (map (λ oid. oid.now) x.0.items, x.1)) }
-    ensures err { IfErr result (λ e. e ≡ NoMemory) }
+    ensures err { IfErr result (λ e. e ≡ X509Error.NoMemory) }
 {
     let mut identifiers = Vec::new(alloc);
     let mut rest = list;
@@ -46,7 +45,7 @@ fn has_repeated(identifiers: Vec<&[u8]>) -> bool
 /// The same as `check_list`, with the identifiers sorted and not compared pair by pair.
 fn check_sorted(alloc: Global, list: &[u8]) -> Result<(), X509Error>
     ensures ok { IfOk result (λ _. distinct_of list.now ≡ Ok tt) }
-    ensures err { IfErr result (λ e. e ≢ NoMemory → distinct_of list.now ≡ Err e) }
+    ensures err { IfErr result (λ e. e ≢ X509Error.NoMemory → distinct_of list.now ≡ Err e) }
 {
     let (identifiers, end) = listed(alloc, list)?;
     if has_repeated(identifiers) {

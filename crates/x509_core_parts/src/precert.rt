@@ -1,7 +1,6 @@
 // What a log signs for a certificate (RFC 6962, 3.2).
 ghost use Rattle.std.specs.Prelude.{◌≡◌, ◌≢◌, ◌++◌, ◌<◌, IfOk, IfErr, OnOk, Ok, Err, Some, option_copied};
 ghost use Rattle.der_core_parts.specs.Grammar.{framed};
-ghost use Rattle.x509_core_parts.specs.declared.error.X509Error.TheVariants.{NoMemory};
 ghost use Rattle.x509_core_parts.specs.Reading.{of_der};
 ghost use Rattle.x509_core_parts.specs.Scts.{signed_front, signed_of, IsSctList, three_octets, two_octets};
 ghost use Rattle.x509_core_parts.specs.Precertificates.{written_anew, precert_of};
@@ -20,7 +19,7 @@ const SCT_OID: [u8; 10] = [43, 6, 1, 4, 1, 214, 121, 2, 4, 2];
 
 fn framed(alloc: Global, tag: Tag, contents: &[u8]) -> Result<OctetString, X509Error>
     ensures ok { IfOk result (λ out. framed tag.0 contents.now ≡ Ok out) }
-    ensures err { IfErr result (λ e. e ≢ NoMemory → of_der (framed tag.0 contents.now) ≡ Err e) }
+    ensures err { IfErr result (λ e. e ≢ X509Error.NoMemory → of_der (framed tag.0 contents.now) ≡ Err e) }
 {
     let mut out = OctetString::empty(alloc);
     append_framed(tag, contents, &mut out)?;
@@ -29,7 +28,7 @@ fn framed(alloc: Global, tag: Tag, contents: &[u8]) -> Result<OctetString, X509E
 
 fn joined(alloc: Global, first: &[u8], second: &[u8]) -> Result<OctetString, X509Error>
     ensures ok { IfOk result (λ out. out ≡ first.now ++ second.now) }
-    ensures err { IfErr result (λ e. e ≡ NoMemory) }
+    ensures err { IfErr result (λ e. e ≡ X509Error.NoMemory) }
 {
     let mut out = OctetString::empty(alloc);
     out.append(first)?;
@@ -41,7 +40,7 @@ fn joined(alloc: Global, first: &[u8], second: &[u8]) -> Result<OctetString, X50
 #[tactic(auto, unfolding(crate::specs::Precertificates::written_anew))]
 fn written_anew(alloc: Global, front: &[u8], list: &[u8]) -> Result<OctetString, X509Error>
     ensures ok { IfOk result (λ out. written_anew front.now list.now ≡ Ok out) }
-    ensures err { IfErr result (λ e. e ≢ NoMemory → of_der (written_anew front.now list.now) ≡ Err e) }
+    ensures err { IfErr result (λ e. e ≢ X509Error.NoMemory → of_der (written_anew front.now list.now) ≡ Err e) }
 {
     let sequence = framed(alloc, Tag(tag::SEQUENCE), list)?;
     let extensions = framed(alloc, Tag(tag::CONSTRUCTED_3), sequence.as_bytes())?;
@@ -52,7 +51,7 @@ fn written_anew(alloc: Global, front: &[u8], list: &[u8]) -> Result<OctetString,
 
 fn copy_of(alloc: Global, bytes: &[u8]) -> Result<OctetString, X509Error>
     ensures ok { IfOk result (λ out. out ≡ bytes.now) }
-    ensures err { IfErr result (λ e. e ≡ NoMemory) }
+    ensures err { IfErr result (λ e. e ≡ X509Error.NoMemory) }
 {
     Ok(OctetString::new(alloc, bytes)?)
 }
@@ -64,7 +63,7 @@ fn precert_in(
     list: &[u8],
 ) -> Result<OctetString, X509Error>
     ensures ok { IfOk result (λ out. precert_of tbs.now front.now (Some list.now) ≡ Ok out) }
-    ensures err { IfErr result (λ e. e ≢ NoMemory → precert_of tbs.now front.now (Some list.now) ≡ Err e) }
+    ensures err { IfErr result (λ e. e ≢ X509Error.NoMemory → precert_of tbs.now front.now (Some list.now) ≡ Err e) }
 {
     match find(list, SCT_OID.as_slice()) {
         Some(found) => {
@@ -79,7 +78,7 @@ fn precert_in(
 /// The signed part that the log saw: without the extension that holds the timestamps.
 pub fn precert_tbs(alloc: Global, cert: &CertView) -> Result<OctetString, X509Error>
     ensures ok { IfOk result (λ out. precert_of cert.now.tbs.now cert.now.front.now (option_copied cert.now.extensions) ≡ Ok out) }
-    ensures err { IfErr result (λ e. e ≢ NoMemory → precert_of cert.now.tbs.now cert.now.front.now (option_copied cert.now.extensions) ≡ Err e) }
+    ensures err { IfErr result (λ e. e ≢ X509Error.NoMemory → precert_of cert.now.tbs.now cert.now.front.now (option_copied cert.now.extensions) ≡ Err e) }
 {
     match cert.extensions {
         Some(list) => Ok(precert_in(alloc, cert.tbs, cert.front, list)?),
@@ -120,7 +119,7 @@ pub fn sct_signed_bytes(
     tbs: &[u8],
 ) -> Result<OctetString, X509Error>
     ensures ok { IfOk result (λ out. signed_of sct.now issuer_key_hash.now tbs.now ≡ Ok out) }
-    ensures err { IfErr result (λ e. e ≢ NoMemory → signed_of sct.now issuer_key_hash.now tbs.now ≡ Err e) }
+    ensures err { IfErr result (λ e. e ≢ X509Error.NoMemory → signed_of sct.now issuer_key_hash.now tbs.now ≡ Err e) }
     ensures cause { IfErr result IsSctList }
 {
     if tbs.len() >= 16777216 {

@@ -1,7 +1,7 @@
 // Lists of signed certificate timestamps (RFC 6962, 3.3).
 ghost use Rattle.std.specs.Prelude.{◌≡◌, ◌≢◌, ◌<◌, ◌≤◌, IfOk, IfErr, Ok, Err, length};
 ghost use Rattle.std.specs.Int.{w64, from_be_bytes};
-ghost use Rattle.x509_core_parts.specs.declared.error.X509Error.TheVariants.{NoMemory, SctList as NoList};
+ghost use Rattle.x509_core_parts.specs.declared.error.X509Error.TheVariants.{SctList as NoList};
 ghost use Rattle.x509_core_parts.specs.Reading.{contents_at};
 ghost use Rattle.x509_core_parts.specs.Scts.{octets_at, vector_at, ended, behind_version, head_at, sct_of, item_at, scts_of, in_list, list_in, sct_list_of, IsSctList};
 
@@ -88,7 +88,7 @@ fn head(bytes: &[u8]) -> Result<([u8; 32], u64, &[u8]), X509Error>
 #[tactic(auto, unfolding(crate::specs::Scts::sct_of))]
 fn sct_in(alloc: Global, bytes: &[u8]) -> Result<Sct, X509Error>
     ensures ok { IfOk result (λ s. sct_of bytes.now ≡ Ok s) }
-    ensures err { IfErr result (λ e. e ≢ NoMemory → sct_of bytes.now ≡ Err e) }
+    ensures err { IfErr result (λ e. e ≢ X509Error.NoMemory → sct_of bytes.now ≡ Err e) }
     ensures cause { IfErr result IsSctList }
 {
     let (log_id, milliseconds, rest) = head(bytes)?;
@@ -105,7 +105,7 @@ fn sct_in(alloc: Global, bytes: &[u8]) -> Result<Sct, X509Error>
 #[tactic(auto, unfolding(crate::specs::Scts::item_at))]
 fn item(alloc: Global, bytes: &[u8]) -> Result<(Sct, &[u8]), X509Error>
     ensures ok { IfOk result (λ x. item_at bytes.now ≡ Ok (x.0, x.1.now)) }
-    ensures err { IfErr result (λ e. e ≢ NoMemory → item_at bytes.now ≡ Err e) }
+    ensures err { IfErr result (λ e. e ≢ X509Error.NoMemory → item_at bytes.now ≡ Err e) }
     ensures cause { IfErr result IsSctList }
     ensures shorter { IfOk result (λ x. length x.1.now < length bytes.now) }
 {
@@ -116,7 +116,7 @@ fn item(alloc: Global, bytes: &[u8]) -> Result<(Sct, &[u8]), X509Error>
 
 fn items(alloc: Global, list: &[u8]) -> Result<Vec<Sct>, X509Error>
     ensures ok { IfOk result (λ v. scts_of list.now ≡ Ok v.items) }
-    ensures err { IfErr result (λ e. e ≢ NoMemory → scts_of list.now ≡ Err e) }
+    ensures err { IfErr result (λ e. e ≢ X509Error.NoMemory → scts_of list.now ≡ Err e) }
     ensures cause { IfErr result IsSctList }
 {
     let mut scts = Vec::new(alloc);
@@ -155,7 +155,7 @@ fn list_in(value: &[u8]) -> Result<&[u8], X509Error>
 #[tactic(auto, unfolding(crate::specs::Scts::sct_list_of))]
 pub fn sct_list(alloc: Global, extension_value: &[u8]) -> Result<Vec<Sct>, X509Error>
     ensures ok { IfOk result (λ v. sct_list_of extension_value.now ≡ Ok v.items) }
-    ensures err { IfErr result (λ e. e ≢ NoMemory → sct_list_of extension_value.now ≡ Err e) }
+    ensures err { IfErr result (λ e. e ≢ X509Error.NoMemory → sct_list_of extension_value.now ≡ Err e) }
     ensures cause { IfErr result IsSctList }
 {
     let list = list_in(extension_value)?;
