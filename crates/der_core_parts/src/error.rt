@@ -1,6 +1,7 @@
 // Why DER is refused.
 ghost use Rattle.std.specs.Prelude.{◌≡◌};
 ghost use Rattle.der_core_parts.specs.Outcome.{number_of};
+ghost use Rattle.der_core_parts.specs.declared.error.DerError.TheVariants.{NoMemory};
 
 use foundation::NoMemory;
 use std::alloc::{AllocError, AllocFailed};
@@ -50,7 +51,7 @@ impl DerError {
 }
 
 impl From<NoMemory> for DerError {
-    ghost from_gives = { λ _ e. e ≡ DerError.NoMemory };
+    ghost from_gives = { λ _ e. e ≡ NoMemory };
 
     fn from(_: NoMemory) -> DerError {
         DerError::NoMemory
@@ -58,7 +59,7 @@ impl From<NoMemory> for DerError {
 }
 
 impl From<AllocError> for DerError {
-    ghost from_gives = { λ _ e. e ≡ DerError.NoMemory };
+    ghost from_gives = { λ _ e. e ≡ NoMemory };
 
     fn from(_: AllocError) -> DerError {
         DerError::NoMemory
@@ -66,7 +67,7 @@ impl From<AllocError> for DerError {
 }
 
 impl<T: Drop> From<AllocFailed<T>> for DerError {
-    ghost from_gives = { λ _ e. e ≡ DerError.NoMemory };
+    ghost from_gives = { λ _ e. e ≡ NoMemory };
 
     fn from(_: AllocFailed<T>) -> DerError {
         DerError::NoMemory

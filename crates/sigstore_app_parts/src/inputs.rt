@@ -2,6 +2,7 @@
 ghost use Rattle.std.specs.Prelude.{◌≡◌};
 ghost use Rattle.foundation.specs.Watched.{Watched};
 ghost use Rattle.sigstore_app_parts.specs.Inputs.{Held, Gives};
+ghost use Rattle.sigstore_app_parts.specs.declared.inputs.InputFault.TheVariants.{NoMemory};
 
 use foundation::NoMemory;
 use sigstore_types_parts::Bytes;
@@ -31,7 +32,7 @@ pub enum InputFault {
 }
 
 impl From<NoMemory> for InputFault {
-    ghost from_gives = { λ _ e. e ≡ InputFault.NoMemory };
+    ghost from_gives = { λ _ e. e ≡ NoMemory };
 
     fn from(_: NoMemory) -> InputFault {
         InputFault::NoMemory

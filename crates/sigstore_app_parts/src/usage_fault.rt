@@ -1,5 +1,6 @@
 // Why words or a file aren't read.
 ghost use Rattle.std.specs.Prelude.{◌≡◌};
+ghost use Rattle.sigstore_app_parts.specs.declared.usage_fault.UsageFault.TheVariants.{NoMemory};
 
 use foundation::NoMemory;
 use std::{error, fmt};
@@ -14,7 +15,7 @@ pub enum UsageFault {
 }
 
 impl From<NoMemory> for UsageFault {
-    ghost from_gives = { λ _ e. e ≡ UsageFault.NoMemory };
+    ghost from_gives = { λ _ e. e ≡ NoMemory };
 
     fn from(_: NoMemory) -> UsageFault {
         UsageFault::NoMemory

@@ -1,6 +1,7 @@
 // Why a key, a signature or a digest is refused.
 ghost use Rattle.std.specs.Prelude.{◌≡◌};
 ghost use Rattle.sigstore_crypto.specs.Error.{number_of};
+ghost use Rattle.sigstore_crypto.specs.declared.error.Error.TheVariants.{NoMemory};
 
 use foundation::NoMemory;
 use sigstore_types_parts::Form;
@@ -94,7 +95,7 @@ impl Error {
 }
 
 impl From<NoMemory> for Error {
-    ghost from_gives = { λ _ e. e ≡ Error.NoMemory };
+    ghost from_gives = { λ _ e. e ≡ NoMemory };
 
     fn from(_: NoMemory) -> Error {
         Error::NoMemory

@@ -2,6 +2,7 @@
 ghost use Rattle.std.specs.Prelude.{◌≡◌};
 ghost use Rattle.foundation.specs.Watched.{Watched};
 ghost use Rattle.sigstore_tuf.specs.Repository.{Folders, Fetches, metadata_files, target_files};
+ghost use Rattle.sigstore_tuf.specs.declared.repository.FetchFault.TheVariants.{NoMemory};
 
 use foundation::NoMemory;
 use sigstore_types_parts::Bytes;
@@ -20,7 +21,7 @@ pub enum FetchFault {
 }
 
 impl From<NoMemory> for FetchFault {
-    ghost from_gives = { λ _ e. e ≡ FetchFault.NoMemory };
+    ghost from_gives = { λ _ e. e ≡ NoMemory };
 
     fn from(_: NoMemory) -> FetchFault {
         FetchFault::NoMemory

@@ -3,6 +3,7 @@ ghost use Rattle.std.specs.Prelude.{◌≡◌};
 ghost use Rattle.foundation.specs.Watched.{Watched, IfTold};
 ghost use Rattle.sigstore_tuf.specs.Repository.{Files};
 ghost use Rattle.sigstore_tuf.specs.Store.{Loads, Stores, HoldsNoBadName};
+ghost use Rattle.sigstore_tuf.specs.declared.store.StoreFault.TheVariants.{NoMemory};
 
 use foundation::NoMemory;
 use sigstore_types_parts::Bytes;
@@ -22,7 +23,7 @@ pub enum StoreFault {
 }
 
 impl From<NoMemory> for StoreFault {
-    ghost from_gives = { λ _ e. e ≡ StoreFault.NoMemory };
+    ghost from_gives = { λ _ e. e ≡ NoMemory };
 
     fn from(_: NoMemory) -> StoreFault {
         StoreFault::NoMemory

@@ -1,6 +1,7 @@
 // Why a document is refused.
 ghost use Rattle.std.specs.Prelude.{◌≡◌};
 ghost use Rattle.sigstore_tuf_parts.specs.Error.{error_of, error_of_fault, number_of, name_of};
+ghost use Rattle.sigstore_tuf_parts.specs.declared.error.Error.TheVariants.{NoMemory};
 
 use foundation::NoMemory;
 use sigstore_types_parts::{Form, JsonFault, Misread, Refusal, Text};
@@ -194,7 +195,7 @@ impl Error {
 }
 
 impl From<NoMemory> for Error {
-    ghost from_gives = { λ _ e. e ≡ Error.NoMemory };
+    ghost from_gives = { λ _ e. e ≡ NoMemory };
 
     fn from(_: NoMemory) -> Error {
         Error::NoMemory
@@ -202,7 +203,7 @@ impl From<NoMemory> for Error {
 }
 
 impl From<AllocError> for Error {
-    ghost from_gives = { λ _ e. e ≡ Error.NoMemory };
+    ghost from_gives = { λ _ e. e ≡ NoMemory };
 
     fn from(_: AllocError) -> Error {
         Error::NoMemory
@@ -210,7 +211,7 @@ impl From<AllocError> for Error {
 }
 
 impl<T: Drop> From<AllocFailed<T>> for Error {
-    ghost from_gives = { λ _ e. e ≡ Error.NoMemory };
+    ghost from_gives = { λ _ e. e ≡ NoMemory };
 
     fn from(_: AllocFailed<T>) -> Error {
         Error::NoMemory

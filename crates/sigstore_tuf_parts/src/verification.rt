@@ -6,6 +6,7 @@ ghost use Rattle.std.specs.Str.{trim};
 ghost use Rattle.sigstore_crypto.specs.Key.{spki_key_of};
 ghost use Rattle.sigstore_tuf_parts.specs.Crypto.{text_key_of, declared_scheme, spki_fault, der_key_of, under_scheme, or_spki_fault, is_bare_key, bare_key_of};
 ghost use Rattle.sigstore_tuf_parts.specs.By.{key_by};
+ghost use Rattle.sigstore_tuf_parts.specs.declared.verification.KeyFault.TheVariants.{NoMemory};
 
 use crate::keys::Key;
 use foundation::NoMemory;
@@ -30,7 +31,7 @@ pub enum KeyFault {
 }
 
 impl From<NoMemory> for KeyFault {
-    ghost from_gives = { λ _ e. e ≡ KeyFault.NoMemory };
+    ghost from_gives = { λ _ e. e ≡ NoMemory };
 
     fn from(_: NoMemory) -> KeyFault {
         KeyFault::NoMemory

@@ -1,6 +1,7 @@
 // Why a text isn't read.
 ghost use Rattle.std.specs.Prelude.{◌≡◌};
 ghost use Rattle.sigstore_types_parts.specs.Error.{types_of, types_of_fault, number_of};
+ghost use Rattle.sigstore_types_parts.specs.declared.error.TypesError.TheVariants.{NoMemory};
 
 use crate::form::Form;
 use crate::member::TypesMember;
@@ -79,7 +80,7 @@ impl TypesError {
 }
 
 impl From<NoMemory> for TypesError {
-    ghost from_gives = { λ _ e. e ≡ TypesError.NoMemory };
+    ghost from_gives = { λ _ e. e ≡ NoMemory };
 
     fn from(_: NoMemory) -> TypesError {
         TypesError::NoMemory

@@ -1,5 +1,6 @@
 // Why a JSON value isn't read.
 ghost use Rattle.std.specs.Prelude.{◌≡◌};
+ghost use Rattle.sigstore_types_parts.specs.declared.misread.Misread.TheVariants.{NoMemory};
 
 use foundation::NoMemory;
 
@@ -15,7 +16,7 @@ pub enum Misread {
 }
 
 impl From<NoMemory> for Misread {
-    ghost from_gives = { λ _ e. e ≡ Misread.NoMemory };
+    ghost from_gives = { λ _ e. e ≡ NoMemory };
 
     fn from(_: NoMemory) -> Misread {
         Misread::NoMemory

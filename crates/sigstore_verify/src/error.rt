@@ -1,6 +1,7 @@
 // Why a bundle isn't accepted.
 ghost use Rattle.std.specs.Prelude.{◌≡◌};
 ghost use Rattle.sigstore_verify.specs.Error.{number_of, name_of, certificate_number_of, certificate_name_of, log_number_of, log_name_of, timestamp_number_of, timestamp_name_of, error_of_crypto, lowered};
+ghost use Rattle.sigstore_verify.specs.declared.error.Error.TheVariants.{NoMemory};
 
 use foundation::NoMemory;
 use jiff::Timestamp;
@@ -249,7 +250,7 @@ impl Error {
 }
 
 impl From<NoMemory> for Error {
-    ghost from_gives = { λ _ e. e ≡ Error.NoMemory };
+    ghost from_gives = { λ _ e. e ≡ NoMemory };
 
     fn from(_: NoMemory) -> Error {
         Error::NoMemory

@@ -1,6 +1,7 @@
 // Why a certificate, a key or a list of timestamps isn't read.
 ghost use Rattle.std.specs.Prelude.{◌≡◌};
 ghost use Rattle.x509_core_parts.specs.Reading.{number_of, error_of_der};
+ghost use Rattle.x509_core_parts.specs.declared.error.X509Error.TheVariants.{NoMemory};
 
 use der_core::DerError;
 use foundation::NoMemory;
@@ -55,7 +56,7 @@ impl From<DerError> for X509Error {
 }
 
 impl From<NoMemory> for X509Error {
-    ghost from_gives = { λ _ e. e ≡ X509Error.NoMemory };
+    ghost from_gives = { λ _ e. e ≡ NoMemory };
 
     fn from(_: NoMemory) -> X509Error {
         X509Error::NoMemory
@@ -63,7 +64,7 @@ impl From<NoMemory> for X509Error {
 }
 
 impl From<AllocError> for X509Error {
-    ghost from_gives = { λ _ e. e ≡ X509Error.NoMemory };
+    ghost from_gives = { λ _ e. e ≡ NoMemory };
 
     fn from(_: AllocError) -> X509Error {
         X509Error::NoMemory
@@ -71,7 +72,7 @@ impl From<AllocError> for X509Error {
 }
 
 impl<T: Drop> From<AllocFailed<T>> for X509Error {
-    ghost from_gives = { λ _ e. e ≡ X509Error.NoMemory };
+    ghost from_gives = { λ _ e. e ≡ NoMemory };
 
     fn from(_: AllocFailed<T>) -> X509Error {
         X509Error::NoMemory
