@@ -5,8 +5,8 @@ use Rattle.foundation.specs.Watched.{Watched}
 use Rattle.sigstore_crypto.specs.Hasher.{Fed}
 
 -- the bytes that were taken so far, and how many may still be taken
-pub record SoFar {H : Type 0} (holds : H → List ℕ → Type 0) (old now : Watched (List ℕ)) (hashers hashers' : List H) (max left : ℕ) (bytes : List ℕ) : Type 0 where
+pub record SoFar {H : Type 0} (grows : H → List ℕ → H → Type 0) (old now : Watched (List ℕ)) (hashers hashers' : List H) (max left : ℕ) (bytes : List ℕ) : Type 0 where
   pub later : old.faults ≤ now.faults
   pub given : old.told ≡ prepend_known bytes now.told
-  pub fed : Fed holds hashers hashers' bytes
+  pub fed : Fed grows hashers hashers' bytes
   pub taken : length bytes + left ≡ max

@@ -15,21 +15,21 @@ Answers max before now left bytes (Err Failed) = (length bytes ≤ max) × Rose 
 Answers max before now left bytes (Err (TooLong limit)) = (length bytes ≡ max + 1) × (limit ≡ max)
 
 -- the hashers have seen all the bytes that were taken; after a refusal, those that they begin with
-abbrev pub FedBy : {H : Type 0} → (H → List ℕ → Type 0) → List H → List H → List ℕ → Result ℕ ReadError → Type 0
-FedBy holds hashers hashers' bytes (Ok count) = Fed holds hashers hashers' bytes
-FedBy holds hashers hashers' bytes (Err e) = (seen rest : List ℕ) × (bytes ≡ seen ++ rest) × Fed holds hashers hashers' seen
+abbrev pub FedBy : {H : Type 0} → (H → List ℕ → H → Type 0) → List H → List H → List ℕ → Result ℕ ReadError → Type 0
+FedBy grows hashers hashers' bytes (Ok count) = Fed grows hashers hashers' bytes
+FedBy grows hashers hashers' bytes (Err e) = (seen rest : List ℕ) × (bytes ≡ seen ++ rest) × Fed grows hashers hashers' seen
 
 -- the promise of a reading to the end, in which these bytes were taken
-pub record Took {H : Type 0} (holds : H → List ℕ → Type 0) (old new : Watched (List ℕ)) (hashers hashers' : List H) (max : ℕ)
+pub record Took {H : Type 0} (grows : H → List ℕ → Type 0) (old new : Watched (List ℕ)) (hashers hashers' : List H) (max : ℕ)
     (result : Result ℕ ReadError) (bytes : List ℕ) : Type 0 where
   pub later : old.faults ≤ new.faults
   pub given : old.told ≡ prepend_known bytes new.told
   pub answer : Answers max old.faults new.faults new.told bytes result
-  pub fed : FedBy holds hashers hashers' bytes result
+  pub fed : FedBy grows hashers hashers' bytes result
 
-abbrev pub ReadsInto : {H : Type 0} → (H → List ℕ → Type 0) → Watched (List ℕ) → Watched (List ℕ) → List H → List H → ℕ
+abbrev pub ReadsInto : {H : Type 0} → (H → List ℕ → H → Type 0) → Watched (List ℕ) → Watched (List ℕ) → List H → List H → ℕ
     → Result ℕ ReadError → Type 0
-ReadsInto holds old new hashers hashers' max result = (bytes : List ℕ) × Took holds old new hashers hashers' max result bytes
+ReadsInto grows old new hashers hashers' max result = (bytes : List ℕ) × Took grows old new hashers hashers' max result bytes
 
 -- what the answer of a reading says that gives the digest
 abbrev pub DigestAnswers : ℕ → ℕ → ℕ → Option (List ℕ) → List ℕ → Result (List ℕ) ReadError → Type 0

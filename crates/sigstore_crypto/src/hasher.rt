@@ -5,20 +5,24 @@ ghost use Rattle.sha2.specs.Sha256.{sha256};
 ghost use Rattle.sigstore_types_parts.specs.HashAlgorithm.{digest_len_of};
 ghost use Rattle.sigstore_crypto.specs.declared.error.Error.TheVariants.{NoMemory, UnsupportedAlgorithm};
 ghost use Rattle.sigstore_crypto.specs.Digest.{is_hashed, digest_by};
-ghost use Rattle.sigstore_crypto.specs.Hasher.{Holds, algorithm_in};
+ghost use Rattle.sigstore_crypto.specs.Hasher.{Holds, algorithm_in, Grows, grows-none, grows-more, Grows256, grows256-none, grows256-more};
 
 use crate::error::Error;
 use sha2::{Digest, Sha256, Sha384, Sha512};
 use sigstore_types_parts::{ArtifactDigest, Bytes, Hash, HashAlgorithm, Sha256Hash};
 use std::alloc::Global;
 
-/// Takes bytes in turn; contracts see which bytes it has seen.
+/// Takes bytes in turn; contracts see what it is after bytes that it took.
 pub trait HashUpdate: Drop {
-    ghost holds: { Self → List ℕ → Type 0 };
+    ghost grows: { Self → List ℕ → Self → Type 0 };
 
     /// Takes these bytes, behind those that it has seen.
     fn update(&mut self, bytes: &[u8])
-        ensures { (seen : List ℕ) → holds self.old seen → holds self.new (seen ++ bytes.now) };
+        ensures { grows self.old bytes.now self.new };
+
+    ghost none: { (h : Self) → grows h [] h };
+
+    ghost more: { (h k l : Self) (a b : List ℕ) → grows h a k → grows k b l → grows h (a ++ b) l };
 }
 
 #[derive(Drop)]
@@ -75,7 +79,11 @@ fn digest_in(alloc: Global, algorithm: HashAlgorithm, octets: &[u8]) -> Result<A
 }
 
 impl HashUpdate for ArtifactHasher {
-    ghost holds = { Holds };
+    ghost grows = { Grows };
+
+    ghost none = { grows-none };
+
+    ghost more = { grows-more };
 
     fn update(&mut self, bytes: &[u8]) {
         match &mut self.inner {
@@ -111,7 +119,11 @@ impl Sha256Hasher {
 }
 
 impl HashUpdate for Sha256Hasher {
-    ghost holds = { λ hasher seen. Holds256 hasher.inner seen };
+    ghost grows = { Grows256 };
+
+    ghost none = { grows256-none };
+
+    ghost more = { grows256-more };
 
     fn update(&mut self, bytes: &[u8]) {
         self.inner.update(bytes);

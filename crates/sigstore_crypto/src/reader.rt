@@ -20,7 +20,7 @@ const PIECE: usize = 65536;
 
 // Gives a piece to each hasher.
 fn update_each<H: HashUpdate>(hashers: &mut [H], piece: &[u8])
-    ensures { Fed H.holds hashers.old hashers.new piece.now }
+    ensures { Fed H.grows hashers.old hashers.new piece.now }
 {
     'each: for hasher in hashers.iter_mut() {
         hasher.update(piece);
@@ -35,7 +35,7 @@ pub fn hash_reader<H: HashUpdate, A: ArtifactSource>(
     max: u64,
     hashers: &mut [H],
 ) -> Result<u64, ReadError>
-    ensures { ReadsInto H.holds (A.seen source.old) (A.seen source.new) hashers.old hashers.new max result }
+    ensures { ReadsInto H.grows (A.seen source.old) (A.seen source.new) hashers.old hashers.new max result }
 {
     let mut piece = [0u8; PIECE];
     let mut left = max;

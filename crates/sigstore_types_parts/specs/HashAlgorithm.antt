@@ -39,3 +39,21 @@ algorithm_named name =
 abbrev pub artifact_digest_of : HashAlgorithm → List ℕ → Result (HashAlgorithm × List ℕ) TypesError
 artifact_digest_of algorithm bytes =
     if nat_eq (length bytes) (digest_len_of algorithm) then Ok (algorithm, bytes) else Err (Length (digest_len_of algorithm) (length bytes))
+
+-- ---- equality, and lists of algorithms
+
+abbrev pub same_algorithm : HashAlgorithm → HashAlgorithm → Bool
+same_algorithm Sha2256 Sha2256 = true
+same_algorithm Sha2384 Sha2384 = true
+same_algorithm Sha2512 Sha2512 = true
+same_algorithm Sha3256 Sha3256 = true
+same_algorithm Sha3384 Sha3384 = true
+same_algorithm a b = false
+
+-- an algorithm behind a list, unless it stands there already
+abbrev pub with_algorithm : List HashAlgorithm → HashAlgorithm → List HashAlgorithm
+with_algorithm list algorithm = if list_any (same_algorithm algorithm) list then list else list ++ algorithm ∷ []
+
+abbrev pub with_optional : List HashAlgorithm → Option HashAlgorithm → List HashAlgorithm
+with_optional list None = list
+with_optional list (Some algorithm) = with_algorithm list algorithm

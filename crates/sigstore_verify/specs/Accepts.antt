@@ -1,6 +1,6 @@
 -- What it means that a bundle is accepted under a managed key, told without any order of checks.
 use Rattle.std.specs.Prelude.{◌≡◌, ◌↔◌, ℕ, List, ⊤, Option, Some, None, Ok, IsTrue}
-use Rattle.sigstore_types_parts.specs.declared.hash_algorithm.HashAlgorithm.TheVariants.{Sha2256}
+use Rattle.sigstore_types_parts.specs.declared.hash_algorithm.HashAlgorithm.{HashAlgorithm}
 use Rattle.sigstore_types.specs.declared.bundle.Bundle.{Bundle}
 use Rattle.sigstore_types.specs.declared.content.SignatureContent.{SignatureContent}
 use Rattle.sigstore_types.specs.declared.content.SignatureContent.TheVariants.{MessageSignature as OfMessage}
@@ -8,12 +8,13 @@ use Rattle.sigstore_types.specs.declared.content.MessageDigest.{MessageDigest}
 use Rattle.sigstore_types.specs.Bundle.{structure_of}
 use Rattle.sigstore_crypto.specs.declared.scheme.SigningScheme.{SigningScheme}
 use Rattle.sigstore_crypto.specs.declared.key.VerificationKey.{VerificationKey}
-use Rattle.sigstore_crypto.specs.Scheme.{digest_algorithm_of}
 use Rattle.sigstore_crypto.specs.Key.{spki_key_of}
 use Rattle.sigstore_crypto.specs.Good.{Judge, is_good_over}
 use Rattle.sigstore_verify.specs.declared.policy.PublicKeyVerificationPolicy.{PublicKeyVerificationPolicy}
 use Rattle.sigstore_verify.specs.declared.report.VerificationResult.{VerificationResult}
-use Rattle.sigstore_verify.specs.Judged.{scheme_of, key_judged_of, key_report_of}
+use Rattle.sigstore_verify.specs.Artifact.{Artifact, digest_of, kind_of}
+use Rattle.sigstore_verify.specs.Judged.{Terms, scheme_of, needed_of, supported_of, subject_in, key_judged_of, key_report_of}
+use Rattle.sigstore_verify.specs.Policy.{Meaning, PublicKey}
 
 -- the signature
 abbrev pub signature_in : SignatureContent → List ℕ
@@ -23,26 +24,36 @@ signature_in (OfMessage message) = message.signature
 abbrev pub digest_in : SignatureContent → Option MessageDigest
 digest_in (OfMessage message) = message.message_digest
 
--- a digest that is told is the artifact's
-abbrev pub IsBound : Option MessageDigest → List ℕ → Type 0
-IsBound None digest = ⊤
-IsBound (Some told) digest = told.digest ≡ digest
+-- a digest that is told is the artifact's, by the algorithm that is told with it
+abbrev pub IsBound : Option MessageDigest → Artifact → Type 0
+IsBound None artifact = ⊤
+IsBound (Some told) artifact = digest_of artifact told.algorithm ≡ Some told.digest
 
--- the bundle has what the policy needs of the log; the policy's key is read, and key and bundle have a scheme over a
--- SHA-256 value; what the bundle tells of its message is the artifact's value; and the signature over that value is
--- good under the policy's key
-pub record AcceptsKey (accepts : Judge) (policy : PublicKeyVerificationPolicy) (bundle : Bundle) (digest : List ℕ) : Type 0 where
+-- the bundle has what the policy needs of the log; the policy's key is read, and key and bundle have a scheme; the artifact
+-- has what the scheme signs and each digest that is needed; what the bundle tells of its message is the artifact's digest;
+-- and the signature over what the scheme signs is good under the policy's key
+pub record AcceptsKey (accepts : Judge) (policy : PublicKeyVerificationPolicy) (bundle : Bundle) (artifact : Artifact) : Type 0 where
   pub structure : structure_of bundle policy.verify_tlog ≡ Ok tt
   pub key : VerificationKey
   pub read : spki_key_of policy.key ≡ Ok key
   pub scheme : SigningScheme
   pub chosen : scheme_of key.scheme bundle.content ≡ Ok scheme
-  pub needed : digest_algorithm_of scheme ≡ Some Sha2256
-  pub bound : IsBound (digest_in bundle.content) digest
-  pub signed : IsTrue (is_good_over accepts (record { scheme = scheme; key = key.key }) digest (signature_in bundle.content))
+  pub supported : supported_of (kind_of artifact) scheme (needed_of scheme bundle.content) ≡ Ok tt
+  pub bound : IsBound (digest_in bundle.content) artifact
+  pub subject : List ℕ
+  pub signs : subject_in scheme artifact ≡ Some subject
+  pub signed : IsTrue (is_good_over accepts (record { scheme = scheme; key = key.key }) subject (signature_in bundle.content))
+
+-- the bundle is accepted over the artifact under these terms
+abbrev pub AcceptsBy : Terms → Meaning → Bundle → Artifact → Type 0
+AcceptsBy terms (PublicKey policy) bundle artifact = AcceptsKey terms.crypto.accepts policy bundle artifact
+
+abbrev pub Accepts : Terms → Bundle → Artifact → Type 0
+Accepts terms bundle artifact = AcceptsBy terms terms.policy bundle artifact
 
 -- the judgement accepts exactly the bundles that are to be accepted, with their report
 abbrev pub AcceptsExactly : Type 0
 AcceptsExactly =
-    (accepts : Judge) (policy : PublicKeyVerificationPolicy) (bundle : Bundle) (digest : List ℕ) (report : VerificationResult) →
-    (key_judged_of accepts policy bundle digest ≡ Ok report) ↔ (AcceptsKey accepts policy bundle digest × (report ≡ key_report_of policy))
+    (accepts : Judge) (policy : PublicKeyVerificationPolicy) (bundle : Bundle) (artifact : Artifact) (report : VerificationResult) →
+    (key_judged_of accepts policy bundle artifact ≡ Ok report)
+    ↔ (AcceptsKey accepts policy bundle artifact × (report ≡ key_report_of policy))

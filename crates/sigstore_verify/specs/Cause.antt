@@ -1,22 +1,21 @@
 -- What each refusal of the top call tells: of the root and the repository, or of the trust file, the bundle, the policy and the
 -- artifact (TUF specification, section 5; Sigstore bundle format; FIPS 180-4, FIPS 186-5).
-use Rattle.std.specs.Prelude.{◌≡◌, ◌≢◌, ℕ, List, true, false, Some, None, Result, Ok, Err, ⊤}
-use Rattle.sha2.specs.Sha256.{sha256}
+use Rattle.std.specs.Prelude.{◌≡◌, ◌≢◌, ◌⊎◌, ℕ, List, true, false, Some, Result, Ok, Err, ⊤}
+use Rattle.std.specs.List.{list_all}
 use Rattle.foundation.specs.Watched.{Watched}
 use Rattle.sigstore_types_parts.specs.declared.form.Form.{Form}
-use Rattle.sigstore_types_parts.specs.declared.form.Form.TheVariants as form
-use Rattle.sigstore_types_parts.specs.declared.hash_algorithm.HashAlgorithm.{HashAlgorithm}
-use Rattle.sigstore_types_parts.specs.declared.hash_algorithm.HashAlgorithm.TheVariants.{Sha2256}
 use Rattle.sigstore_types_parts.specs.declared.error.TypesError.TheVariants as types
 use Rattle.sigstore_types.specs.declared.bundle.Bundle.{Bundle}
 use Rattle.sigstore_types.specs.declared.content.MessageDigest.{MessageDigest}
 use Rattle.sigstore_types.specs.Bundle.{bundle_of_bytes, structure_of}
+use Rattle.sigstore_types.specs.declared.trusted_root.TrustedRoot.{TrustedRoot}
 use Rattle.sigstore_types.specs.TrustedRoot.{trusted_root_of_bytes}
 use Rattle.sigstore_crypto.specs.declared.key.VerificationKey.{VerificationKey}
 use Rattle.sigstore_crypto.specs.declared.scheme.SigningScheme.{SigningScheme}
-use Rattle.sigstore_crypto.specs.Good.{Judge, is_good_over}
+use Rattle.sigstore_crypto.specs.Good.{Judge}
+use Rattle.sigstore_crypto.specs.Digest.{is_hashed}
 use Rattle.sigstore_crypto.specs.Key.{spki_key_of}
-use Rattle.sigstore_crypto.specs.Scheme.{digest_algorithm_of}
+use Rattle.sigstore_crypto.specs.Scheme.{has_digest}
 use Rattle.sigstore_tuf_parts.specs.declared.error.Error.TheVariants as tuf
 use Rattle.sigstore_tuf.specs.Cause.{ClientCause}
 use Rattle.sigstore_verify.specs.declared.error.Error.{Error}
@@ -26,10 +25,12 @@ use Rattle.sigstore_verify.specs.declared.from_root.RootFault.{RootFault}
 use Rattle.sigstore_verify.specs.declared.from_root.RootFault.TheVariants as refusal
 use Rattle.sigstore_verify.specs.Accepts.{signature_in, digest_in}
 use Rattle.sigstore_verify.specs.Error.{error_of_crypto}
-use Rattle.sigstore_verify.specs.Judged.{scheme_of}
+use Rattle.sigstore_verify.specs.Judged.{scheme_of, needed_of, is_signed}
+use Rattle.sigstore_verify.specs.Artifact.{Read, digest_of}
+use Rattle.sigstore_verify.specs.Trust.{usable_of}
 use Rattle.sigstore_verify.specs.Policy.{Meaning, PublicKey}
 use Rattle.sigstore_verify.specs.Promise.{ReadWhole, ReadCause}
-use Rattle.sigstore_verify.specs.Given.{Given, Outside}
+use Rattle.sigstore_verify.specs.Given.{Given, Outside, Asked, asked_by}
 use Rattle.sigstore_verify.specs.FromRoot.{trust_fault, bundle_fault, trust_path, TrustsChain}
 
 -- a lower definition refuses, and its refusal is this one here
@@ -46,6 +47,14 @@ pub record HasScheme (policy : PublicKeyVerificationPolicy) (reading : Bundle) (
   pub read : spki_key_of policy.key ≡ Ok key
   pub chosen : scheme_of key.scheme reading.content ≡ Ok scheme
 
+-- the bundle is read, and under the policy it has this scheme
+pub record HasBundle (policy : PublicKeyVerificationPolicy) (bundle : List ℕ) : Type 0 where
+  pub reading : Bundle
+  pub read : IsRead bundle reading
+  pub scheme : SigningScheme
+  pub key : VerificationKey
+  pub has : HasScheme policy reading scheme key
+
 -- ---- the refusals, one by one
 
 -- the policy verifies the log, and the bundle that was read has no entry
@@ -55,23 +64,22 @@ pub record LacksEntry (policy : PublicKeyVerificationPolicy) (bundle : List ℕ)
   pub asked : policy.verify_tlog ≡ true
   pub lacking : structure_of reading true ≡ Err types.NoEntry
 
--- the policy's key isn't read, or it and the digest that the bundle tells have no scheme
+-- the policy's key isn't read; or it and the digest that the bundle tells have no scheme; or a digest that is needed has no hasher
 pub data LacksScheme (policy : PublicKeyVerificationPolicy) (bundle : List ℕ) (e : Error) : Type 0 where
   key_unread : IsRefusedAs error_of_crypto (spki_key_of policy.key) e → LacksScheme policy bundle e
   no_scheme : (reading : Bundle) (key : VerificationKey) → IsRead bundle reading → spki_key_of policy.key ≡ Ok key
       → IsRefusedAs error_of_crypto (scheme_of key.scheme reading.content) e
       → LacksScheme policy bundle e
+  no_hasher : (is : HasBundle policy bundle) → list_all is_hashed (needed_of is.scheme is.reading.content) ≡ false
+      → e ≡ verify.Crypto → LacksScheme policy bundle e
 
--- the scheme signs the message itself, and only the artifact's digest is had
+-- the scheme signs the message itself, and only the artifact's digests are had
 pub record LacksDigest (policy : PublicKeyVerificationPolicy) (bundle : List ℕ) : Type 0 where
-  pub reading : Bundle
-  pub read : IsRead bundle reading
-  pub scheme : SigningScheme
-  pub key : VerificationKey
-  pub has : HasScheme policy reading scheme key
-  pub lacking : digest_algorithm_of scheme ≡ None
+  pub is : HasBundle policy bundle
+  pub lacking : has_digest is.scheme ≡ false
 
--- the artifact was read whole, and the digest that the bundle tells of its message is another
+-- the artifact was read whole, and the digest that the bundle tells of its message is another than the artifact's by the
+-- algorithm that is told with it
 pub record IsOfAnother (bundle : List ℕ) (source source' : Watched (List ℕ)) (max : ℕ) : Type 0 where
   pub reading : Bundle
   pub read : IsRead bundle reading
@@ -79,47 +87,51 @@ pub record IsOfAnother (bundle : List ℕ) (source source' : Watched (List ℕ))
   pub tells : digest_in reading.content ≡ Some told
   pub bytes : List ℕ
   pub whole : ReadWhole source source' max bytes
-  pub other : told.digest ≢ sha256 bytes
+  pub other : digest_of (Read bytes) told.algorithm ≢ Some told.digest
 
--- the artifact was read whole, and the bundle's signature isn't good over its SHA-256 value under the policy's key
+-- the artifact was read whole, and the bundle's signature isn't good over its digest under the policy's key
 pub record IsUnsigned (accepts : Judge) (policy : PublicKeyVerificationPolicy) (bundle : List ℕ)
     (source source' : Watched (List ℕ)) (max : ℕ) : Type 0 where
-  pub reading : Bundle
-  pub read : IsRead bundle reading
-  pub scheme : SigningScheme
-  pub key : VerificationKey
-  pub has : HasScheme policy reading scheme key
-  pub needed : digest_algorithm_of scheme ≡ Some Sha2256
+  pub is : HasBundle policy bundle
   pub bytes : List ℕ
   pub whole : ReadWhole source source' max bytes
-  pub unsigned : is_good_over accepts (record { scheme = scheme; key = key.key }) (sha256 bytes) (signature_in reading.content) ≡ false
+  pub unsigned : is_signed accepts (record { scheme = is.scheme; key = is.key.key }) (Read bytes) (signature_in is.reading.content) ≡ false
 
--- a form that isn't built: of the trust file, of the bundle, of the policy's key or its scheme, or a digest other than SHA-256
+-- the trust file is read, and no verifier can be made of it
+abbrev pub IsUnusable : List ℕ → Error → Type 0
+IsUnusable file e = (trust : TrustedRoot) × (trusted_root_of_bytes file ≡ Ok trust) × (usable_of trust ≡ Err e)
+
+-- a form that isn't built: of the trust file, of the bundle, or of the policy's key
 pub data IsUnbuilt (policy : PublicKeyVerificationPolicy) (file bundle : List ℕ) (unbuilt : Form) : Type 0 where
   trust_unbuilt : trusted_root_of_bytes file ≡ Err (types.Unbuilt unbuilt) → IsUnbuilt policy file bundle unbuilt
+  unusable : IsUnusable file (verify.Unbuilt unbuilt) → IsUnbuilt policy file bundle unbuilt
   bundle_unbuilt : bundle_of_bytes bundle ≡ Err (types.Unbuilt unbuilt) → IsUnbuilt policy file bundle unbuilt
   scheme_unbuilt : LacksScheme policy bundle (verify.Unbuilt unbuilt) → IsUnbuilt policy file bundle unbuilt
-  digest_unbuilt : (reading : Bundle) (scheme : SigningScheme) (key : VerificationKey) (algorithm : HashAlgorithm)
-      → IsRead bundle reading → HasScheme policy reading scheme key
-      → digest_algorithm_of scheme ≡ Some algorithm → algorithm ≢ Sha2256 → unbuilt ≡ form.Digest → IsUnbuilt policy file bundle unbuilt
 
 -- ---- each refusal of the judgement, by its number and name
 
-abbrev pub JudgeCause : Judge → Meaning → List ℕ → List ℕ → Watched (List ℕ) → Watched (List ℕ) → ℕ → Error → Type 0
-JudgeCause accepts (PublicKey policy) file bundle source source' max verify.SignatureInvalid =
-    IsUnsigned accepts policy bundle source source' max
-JudgeCause accepts (PublicKey policy) file bundle source source' max verify.ArtifactMismatch = IsOfAnother bundle source source' max
-JudgeCause accepts (PublicKey policy) file bundle source source' max verify.UnsupportedArtifact = LacksDigest policy bundle
-JudgeCause accepts (PublicKey policy) file bundle source source' max verify.InvalidBundle =
-    IsRefusedAs bundle_fault (bundle_of_bytes bundle) verify.InvalidBundle
-JudgeCause accepts (PublicKey policy) file bundle source source' max verify.Crypto = LacksScheme policy bundle verify.Crypto
-JudgeCause accepts (PublicKey policy) file bundle source source' max verify.Bundle = LacksEntry policy bundle
-JudgeCause accepts (PublicKey policy) file bundle source source' max verify.TrustRoot =
-    IsRefusedAs trust_fault (trusted_root_of_bytes file) verify.TrustRoot
-JudgeCause accepts (PublicKey policy) file bundle source source' max (verify.ArtifactRead fault) = ReadCause source source' max fault
-JudgeCause accepts (PublicKey policy) file bundle source source' max (verify.Unbuilt unbuilt) = IsUnbuilt policy file bundle unbuilt
-JudgeCause accepts (PublicKey policy) file bundle source source' max verify.NoMemory = ⊤
-JudgeCause accepts (PublicKey policy) file bundle source source' max _ = ⊥
+abbrev pub KeyCause : Judge → PublicKeyVerificationPolicy → Asked → List ℕ → Watched (List ℕ) → Watched (List ℕ) → Error → Type 0
+KeyCause accepts policy asked file source source' verify.SignatureInvalid = IsUnsigned accepts policy asked.bundle source source' asked.max
+KeyCause accepts policy asked file source source' verify.ArtifactMismatch = IsOfAnother asked.bundle source source' asked.max
+KeyCause accepts policy asked file source source' verify.UnsupportedArtifact = LacksDigest policy asked.bundle
+KeyCause accepts policy asked file source source' verify.InvalidBundle =
+    IsRefusedAs bundle_fault (bundle_of_bytes asked.bundle) verify.InvalidBundle
+KeyCause accepts policy asked file source source' verify.InvalidTrustRoot = IsUnusable file verify.InvalidTrustRoot
+KeyCause accepts policy asked file source source' verify.Types = IsUnusable file verify.Types
+KeyCause accepts policy asked file source source' verify.Crypto = LacksScheme policy asked.bundle verify.Crypto ⊎ IsUnusable file verify.Crypto
+KeyCause accepts policy asked file source source' verify.Bundle = LacksEntry policy asked.bundle
+KeyCause accepts policy asked file source source' verify.TrustRoot = IsRefusedAs trust_fault (trusted_root_of_bytes file) verify.TrustRoot
+KeyCause accepts policy asked file source source' verify.TrustedCertificate = IsUnusable file verify.TrustedCertificate
+KeyCause accepts policy asked file source source' (verify.ArtifactRead fault) = ReadCause source source' asked.max fault
+KeyCause accepts policy asked file source source' (verify.Unbuilt unbuilt) = IsUnbuilt policy file asked.bundle unbuilt
+KeyCause accepts policy asked file source source' verify.NoMemory = ⊤
+KeyCause accepts policy asked file source source' _ = ⊥
+
+abbrev pub CauseUnder : Meaning → Asked → List ℕ → Watched (List ℕ) → Watched (List ℕ) → Error → Type 0
+CauseUnder (PublicKey policy) asked file source source' e = KeyCause asked.crypto.accepts policy asked file source source' e
+
+abbrev pub JudgeCause : Asked → List ℕ → Watched (List ℕ) → Watched (List ℕ) → Error → Type 0
+JudgeCause asked file source source' e = CauseUnder asked.policy asked file source source' e
 
 -- ---- each refusal of the top call
 

@@ -1,14 +1,12 @@
 -- The top call: from a pinned root down to one artifact.
-use Rattle.std.specs.Prelude.{◌≡◌, ◌≢◌, ℕ, List, [], ◌∷◌, Result, Ok, Err, codes}
-use Rattle.sha2.specs.Sha256.{sha256}
+use Rattle.std.specs.Prelude.{◌≡◌, ◌≢◌, ℕ, List, Result, Ok, Err, codes}
 use Rattle.foundation.specs.Watched.{Watched}
-use Rattle.sigstore_types_parts.specs.declared.hash_algorithm.HashAlgorithm.TheVariants.{Sha2256}
 use Rattle.sigstore_types_parts.specs.declared.error.TypesError.{TypesError}
 use Rattle.sigstore_types.specs.declared.bundle.Bundle.{Bundle}
 use Rattle.sigstore_types.specs.declared.trusted_root.TrustedRoot.{TrustedRoot}
 use Rattle.sigstore_types.specs.Bundle.{bundle_of_bytes}
 use Rattle.sigstore_types.specs.TrustedRoot.{trusted_root_of_bytes}
-use Rattle.sigstore_crypto.specs.Good.{Judge}
+use Rattle.sigstore_crypto.specs.Digest.{digests_by}
 use Rattle.sigstore_tuf_parts.specs.declared.error.Error.{Error as TufError}
 use Rattle.sigstore_tuf_parts.specs.declared.error.Error.TheVariants as tuf
 use Rattle.sigstore_tuf.specs.Repository.{Folders}
@@ -25,10 +23,10 @@ use Rattle.sigstore_verify.specs.declared.report.Kept.{Kept}
 use Rattle.sigstore_verify.specs.declared.from_root.Rooted.{Rooted}
 use Rattle.sigstore_verify.specs.declared.from_root.RootFault.{RootFault}
 use Rattle.sigstore_verify.specs.declared.from_root.RootFault.TheVariants.{Tuf, Verify, NoMemory}
-use Rattle.sigstore_verify.specs.Policy.{Meaning, PublicKey}
-use Rattle.sigstore_verify.specs.Given.{Anchor, Given, Outside}
-use Rattle.sigstore_verify.specs.Accepts.{AcceptsKey}
-use Rattle.sigstore_verify.specs.Judged.{judged_of}
+use Rattle.sigstore_verify.specs.Given.{Anchor, Given, Outside, Asked, asked_by, terms_of}
+use Rattle.sigstore_verify.specs.Accepts.{Accepts}
+use Rattle.sigstore_verify.specs.Judged.{judged_of, needed_by}
+use Rattle.sigstore_verify.specs.Artifact.{Read}
 use Rattle.sigstore_verify.specs.Trust.{usable_of}
 use Rattle.sigstore_verify.specs.Promise.{ReadWhole, VerifiesKept}
 
@@ -80,19 +78,20 @@ TrustsChain anchor chain = Trusted anchor.crypto anchor.root anchor.now anchor.c
 
 -- ---- the judgement
 
--- The bundle is judged under a trust file: the file is read, then the bundle, then the artifact; the first that refuses answers.
-pub data JudgesBundle (accepts : Judge) (policy : Meaning) (file bundle : List ℕ) (source source' : Watched (List ℕ))
-    (max : ℕ) (result : Result Kept Error) : Type 0 where
+-- The bundle is judged under a trust file: the file is read, a verifier is made of it, then the bundle is read, then the
+-- artifact; the first that refuses answers.
+pub data JudgesBundle (asked : Asked) (file : List ℕ) (source source' : Watched (List ℕ)) (result : Result Kept Error) : Type 0 where
   trust_refused : (e : Error) → (e ≢ verify.NoMemory → trust_of file ≡ Err e) → source' ≡ source → result ≡ Err e
-      → JudgesBundle accepts policy file bundle source source' max result
+      → JudgesBundle asked file source source' result
   verifier_refused : (trust : TrustedRoot) (e : Error) → trust_of file ≡ Ok trust
       → (e ≢ verify.NoMemory → usable_of trust ≡ Err e) → source' ≡ source → result ≡ Err e
-      → JudgesBundle accepts policy file bundle source source' max result
+      → JudgesBundle asked file source source' result
   bundle_refused : (trust : TrustedRoot) (e : Error) → trust_of file ≡ Ok trust → usable_of trust ≡ Ok tt
-      → (e ≢ verify.NoMemory → bundle_of bundle ≡ Err e) → source' ≡ source
-      → result ≡ Err e → JudgesBundle accepts policy file bundle source source' max result
-  judged : (trust : TrustedRoot) (read : Bundle) → trust_of file ≡ Ok trust → usable_of trust ≡ Ok tt → bundle_of bundle ≡ Ok read
-      → VerifiesKept accepts policy read source source' max result → JudgesBundle accepts policy file bundle source source' max result
+      → (e ≢ verify.NoMemory → bundle_of asked.bundle ≡ Err e) → source' ≡ source
+      → result ≡ Err e → JudgesBundle asked file source source' result
+  judged : (trust : TrustedRoot) (read : Bundle) → trust_of file ≡ Ok trust → usable_of trust ≡ Ok tt
+      → bundle_of asked.bundle ≡ Ok read → VerifiesKept (terms_of asked trust) read source source' asked.max result
+      → JudgesBundle asked file source source' result
 
 -- ---- the whole
 
@@ -106,8 +105,7 @@ root_of_verify e chain = Verify e chain
 
 -- the judgement of what is asked, under a trust file
 abbrev pub JudgesGiven : Given → List ℕ → Outside → Outside → Result Kept Error → Type 0
-JudgesGiven given file before after result =
-    JudgesBundle given.anchor.crypto.accepts given.policy file given.bundle before.source after.source given.max result
+JudgesGiven given file before after result = JudgesBundle (asked_by given) file before.source after.source result
 
 -- The top call is the chain and then the judgement under the chain's file; the first that refuses answers. The artifact stays
 -- unread where there is no chain.
@@ -121,14 +119,10 @@ pub data Runs (given : Given) (before after : Outside) (result : Result Rooted R
       → JudgesGiven given rooted.chain.file before after
       (Ok (record { result = rooted.result; digests = rooted.digests })) → result ≡ Ok rooted → Runs given before after result
 
--- the bundle is accepted under the policy, by the digest of its artifact
-abbrev pub AcceptsUnder : Judge → Meaning → Bundle → List ℕ → Type 0
-AcceptsUnder accepts (PublicKey policy) bundle digest = AcceptsKey accepts policy bundle digest
-
--- What an acceptance means: the chain that is handed back is trusted from the given root; its file has a reading as the trust file, which
--- can be used, and the bundle has a reading; these bytes are exactly those that a telling source gave up to its
--- end; by their SHA-256 value the bundle is accepted under the
--- policy with this report; and the digests are that value.
+-- What an acceptance means: the chain that is handed back is trusted from the given root; its file has a reading as the trust
+-- file, which can be used, and the bundle has a reading; these bytes are exactly those that a telling source gave up to its
+-- end; over them the bundle is accepted under these terms with this report; and the digests are those of these bytes that
+-- were needed, in their order.
 pub record IsAccepted (given : Given) (before after : Outside) (rooted : Rooted) : Type 0 where
   pub trusted : TrustsChain given.anchor rooted.chain
   pub trust : TrustedRoot
@@ -138,6 +132,6 @@ pub record IsAccepted (given : Given) (before after : Outside) (rooted : Rooted)
   pub read : bundle_of_bytes given.bundle ≡ Ok reading
   pub bytes : List ℕ
   pub whole : ReadWhole before.source after.source given.max bytes
-  pub judged : judged_of given.anchor.crypto.accepts given.policy reading (sha256 bytes) ≡ Ok rooted.result
-  pub means : AcceptsUnder given.anchor.crypto.accepts given.policy reading (sha256 bytes)
-  pub digests : rooted.digests ≡ (Sha2256, sha256 bytes) ∷ []
+  pub judged : judged_of (terms_of (asked_by given) trust) reading (Read bytes) ≡ Ok rooted.result
+  pub means : Accepts (terms_of (asked_by given) trust) reading (Read bytes)
+  pub digests : rooted.digests ≡ digests_by (needed_by given.policy reading) bytes

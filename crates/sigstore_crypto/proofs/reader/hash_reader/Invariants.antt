@@ -5,7 +5,7 @@ use Rattle.sigstore_crypto.proofs.reader.hash_reader.Given as goal
 abbrev pub invariant-pieces : goal.invariant-pieces
 invariant-pieces g l =
     let seen = g.A.ArtifactSource.seen in
-    (bytes : List ℕ) × SoFar g.H.HashUpdate.holds (seen l.fn.source) (seen l.source) l.fn.hashers l.hashers l.max l.left bytes
+    (bytes : List ℕ) × SoFar g.H.HashUpdate.grows (seen l.fn.source) (seen l.source) l.fn.hashers l.hashers l.max l.left bytes
 
 abbrev pub decreases-pieces : goal.decreases-pieces
 decreases-pieces g l = l.left

@@ -4,6 +4,6 @@ use Rattle.sigstore_crypto.proofs.reader.update_each.Given as goal
 
 abbrev pub invariant-each : goal.invariant-each
 invariant-each g l = record {
-  fed : Fed g.H.HashUpdate.holds (take l.hasher-index l.fn.hashers) (take l.hasher-index l.hashers) l.piece;
+  fed : Fed g.H.HashUpdate.grows (take l.hasher-index l.fn.hashers) (take l.hasher-index l.hashers) l.piece;
   rest : drop l.hasher-index l.hashers ≡ drop l.hasher-index l.fn.hashers;
 }

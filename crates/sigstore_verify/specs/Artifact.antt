@@ -1,0 +1,50 @@
+-- An artifact as it is judged: its digests by algorithm, and for a blob its bytes.
+use Rattle.std.specs.Prelude.{ℕ, List, Bool, true, false, Option, Some, None, if◌then◌else◌}
+use Rattle.sigstore_types_parts.specs.HashAlgorithm.{same_algorithm}
+use Rattle.sigstore_types_parts.specs.declared.hash_algorithm.HashAlgorithm.{HashAlgorithm}
+use Rattle.sigstore_crypto.specs.Digest.{is_hashed, digest_by}
+use Rattle.sigstore_verify.specs.declared.error.Error.{Error}
+use Rattle.sigstore_verify.specs.declared.error.Error.TheVariants.{UnsupportedArtifact, Crypto}
+
+-- all its bytes; those that a reader gave up to its end, of which only digests are kept; or one digest of it alone
+pub data Artifact : Type 0 where
+  Blob : List ℕ → Artifact
+  Read : List ℕ → Artifact
+  Digest : HashAlgorithm → List ℕ → Artifact
+
+abbrev pub digest_if : Bool → List ℕ → Option (List ℕ)
+digest_if true digest = Some digest
+digest_if false digest = None
+
+-- its digest by an algorithm, where it can be had
+abbrev pub digest_of : Artifact → HashAlgorithm → Option (List ℕ)
+digest_of (Blob bytes) algorithm = digest_if (is_hashed algorithm) (digest_by algorithm bytes)
+digest_of (Read bytes) algorithm = digest_if (is_hashed algorithm) (digest_by algorithm bytes)
+digest_of (Digest given digest) algorithm = digest_if (same_algorithm given algorithm) digest
+
+-- its bytes, where they are kept
+abbrev pub bytes_of : Artifact → Option (List ℕ)
+bytes_of (Blob bytes) = Some bytes
+bytes_of (Read bytes) = None
+bytes_of (Digest given digest) = None
+
+-- How an artifact is handed in: whether its bytes are kept, which digests of it can be had, and the refusal where one that is
+-- needed can't.
+pub record Kind : Type 0 where
+  pub keeps_bytes : Bool
+  pub has : HashAlgorithm → Bool
+  pub lacking : Error
+
+abbrev pub blob_kind : Kind
+blob_kind = record { keeps_bytes = true; has = is_hashed; lacking = Crypto }
+
+abbrev pub read_kind : Kind
+read_kind = record { keeps_bytes = false; has = is_hashed; lacking = Crypto }
+
+abbrev pub digest_kind : HashAlgorithm → Kind
+digest_kind given = record { keeps_bytes = false; has = same_algorithm given; lacking = UnsupportedArtifact }
+
+abbrev pub kind_of : Artifact → Kind
+kind_of (Blob bytes) = blob_kind
+kind_of (Read bytes) = read_kind
+kind_of (Digest given digest) = digest_kind given
