@@ -39,6 +39,16 @@ pub struct ArtifactHasher {
 }
 
 impl ArtifactHasher {
+    /// Whether there is a hasher of an algorithm: of SHA-2 and not of SHA-3.
+    pub fn is_known(algorithm: HashAlgorithm) -> bool
+        ensures { result ≡ is_hashed algorithm }
+    {
+        match algorithm {
+            HashAlgorithm::Sha2256 | HashAlgorithm::Sha2384 | HashAlgorithm::Sha2512 => true,
+            HashAlgorithm::Sha3256 | HashAlgorithm::Sha3384 => false,
+        }
+    }
+
     /// A hasher that has seen nothing. Errors: `UnsupportedAlgorithm` for the algorithms of SHA-3.
     pub fn new(algorithm: HashAlgorithm) -> Result<ArtifactHasher, Error>
         ensures ok { IfOk result (λ hasher. Holds hasher [] × (algorithm_in hasher ≡ algorithm) × (is_hashed algorithm ≡ true)) }

@@ -317,7 +317,6 @@ module _ (crypto : Crypto) (given : List ℕ) (config : UpdaterConfig) (path : L
   by_walk root is (tuf.Unbuilt form.Consistent) w = absurd w
   by_walk root is (tuf.Unbuilt form.Delegations) w = absurd w
   by_walk root is (tuf.Unbuilt form.Key) w = absurd w
-  by_walk root is (tuf.Unbuilt form.Digest) w = absurd w
   by_walk root is (tuf.Unbuilt form.Trust) w = absurd w
   by_walk root is (tuf.Unbuilt form.Tokens) w = absurd w
   by_walk root is (tuf.Unbuilt form.Entries) w = absurd w

@@ -1,5 +1,6 @@
 -- A Sigstore bundle as JSON (Sigstore protobuf specs, sigstore_bundle.proto), as far as it is built.
-use Rattle.std.specs.Prelude.{ℕ, List, Bool, true, false, ◌||◌, bytes_eq, codes, Option, Some, None, Result, Ok, Err, ⊤, if◌then◌else◌}
+use Rattle.std.specs.Prelude.{ℕ, List, Bool, true, false, ◌||◌, bytes_eq, codes, Option, Some, None, Result, Ok, Err, ⊤, ok_or}
+use Rattle.std.specs.Prelude.{if◌then◌else◌}
 use Rattle.serde_json.specs.Data.{Data}
 use Rattle.foundation.specs.Steps.{◌>>=◌}
 use Rattle.sigstore_types_parts.specs.HashAlgorithm.{algorithm_named}
@@ -62,15 +63,11 @@ material_of d = do
   _ ← optional tokens_of m.TimestampVerificationData d
   Ok (record { content = content })
 
--- a known algorithm; SHA2_256 alone is built
-abbrev pub known_algorithm_of : List ℕ → Option HashAlgorithm → Result HashAlgorithm TypesError
-known_algorithm_of name (Some algorithm) = if bytes_eq name (codes "SHA2_256") then Ok algorithm else Err (e.Unbuilt form.Digest)
-known_algorithm_of name None = Err (e.Field m.Algorithm)
-
+-- a known algorithm, by either of its names
 unfoldable pub algorithm_of : Data → Result HashAlgorithm TypesError
 algorithm_of d = do
   name ← required text m.Algorithm d
-  known_algorithm_of name (algorithm_named name)
+  ok_or (algorithm_named name) (e.Field m.Algorithm)
 
 -- a digest of any length
 unfoldable pub message_digest_of : Data → Result MessageDigest TypesError

@@ -67,14 +67,10 @@ fn read_algorithm(alloc: Global, value: &Value) -> Result<HashAlgorithm, TypesEr
 {
     let name: Text = required(alloc, value, TypesMember::Algorithm)?;
     match HashAlgorithm::from_name(name.as_str()) {
+        Some(algorithm) => Ok(algorithm),
         None => Err(TypesError::Field {
             member: TypesMember::Algorithm,
         }),
-        Some(algorithm) => if name.as_str() == "SHA2_256" {
-            Ok(algorithm)
-        } else {
-            Err(TypesError::Unbuilt(Form::Digest))
-        },
     }
 }
 

@@ -1,9 +1,19 @@
 -- Digest algorithms (FIPS 180-4, FIPS 202): their lengths and names.
-use Rattle.std.specs.Prelude.{ℕ, List, length, nat_eq, bytes_eq, Bool, ◌||◌, if◌then◌else◌, Option, Some, None, Result, Ok, Err, codes}
+use Rattle.std.specs.Prelude.{ℕ, List, [], ◌∷◌, ◌++◌, length, nat_eq, bytes_eq, Bool, true, false, ◌||◌, if◌then◌else◌}
+use Rattle.std.specs.Prelude.{Option, Some, None, Result, Ok, Err, codes}
+use Rattle.std.specs.List.{list_any}
 use Rattle.sigstore_types_parts.specs.declared.hash_algorithm.HashAlgorithm.{HashAlgorithm}
 use Rattle.sigstore_types_parts.specs.declared.hash_algorithm.HashAlgorithm.TheVariants.{Sha2256, Sha2384, Sha2512, Sha3256, Sha3384}
 use Rattle.sigstore_types_parts.specs.declared.error.TypesError.{TypesError}
 use Rattle.sigstore_types_parts.specs.declared.error.TypesError.TheVariants.{Length}
+
+abbrev pub same_algorithm : HashAlgorithm → HashAlgorithm → Bool
+same_algorithm Sha2256 Sha2256 = true
+same_algorithm Sha2384 Sha2384 = true
+same_algorithm Sha2512 Sha2512 = true
+same_algorithm Sha3256 Sha3256 = true
+same_algorithm Sha3384 Sha3384 = true
+same_algorithm a b = false
 
 -- the length of a digest in bytes
 abbrev pub digest_len_of : HashAlgorithm → ℕ
@@ -40,15 +50,7 @@ abbrev pub artifact_digest_of : HashAlgorithm → List ℕ → Result (HashAlgor
 artifact_digest_of algorithm bytes =
     if nat_eq (length bytes) (digest_len_of algorithm) then Ok (algorithm, bytes) else Err (Length (digest_len_of algorithm) (length bytes))
 
--- ---- equality, and lists of algorithms
-
-abbrev pub same_algorithm : HashAlgorithm → HashAlgorithm → Bool
-same_algorithm Sha2256 Sha2256 = true
-same_algorithm Sha2384 Sha2384 = true
-same_algorithm Sha2512 Sha2512 = true
-same_algorithm Sha3256 Sha3256 = true
-same_algorithm Sha3384 Sha3384 = true
-same_algorithm a b = false
+-- ---- lists of algorithms
 
 -- an algorithm behind a list, unless it stands there already
 abbrev pub with_algorithm : List HashAlgorithm → HashAlgorithm → List HashAlgorithm

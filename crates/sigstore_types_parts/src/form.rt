@@ -7,7 +7,6 @@ pub enum Form {
     Consistent,
     Delegations,
     Key,
-    Digest,
     Trust,
     Tokens,
     Entries,

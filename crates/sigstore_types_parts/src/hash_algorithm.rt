@@ -1,7 +1,7 @@
 // Digest algorithms, and digests of an artifact.
 ghost use Rattle.std.specs.Prelude.{◌≡◌};
 ghost use Rattle.sigstore_types_parts.specs.Error.{types_of};
-ghost use Rattle.sigstore_types_parts.specs.HashAlgorithm.{digest_len_of, rekor_name_of, algorithm_named, artifact_digest_of};
+ghost use Rattle.sigstore_types_parts.specs.HashAlgorithm.{same_algorithm, digest_len_of, rekor_name_of, algorithm_named, artifact_digest_of};
 
 use crate::bytes::Bytes;
 use crate::error::TypesError;
@@ -20,6 +20,20 @@ pub enum HashAlgorithm {
 }
 
 impl HashAlgorithm {
+    /// Whether this is that algorithm.
+    pub fn is_same(self, other: HashAlgorithm) -> bool
+        ensures { result ≡ same_algorithm self other }
+    {
+        match (self, other) {
+            (HashAlgorithm::Sha2256, HashAlgorithm::Sha2256) => true,
+            (HashAlgorithm::Sha2384, HashAlgorithm::Sha2384) => true,
+            (HashAlgorithm::Sha2512, HashAlgorithm::Sha2512) => true,
+            (HashAlgorithm::Sha3256, HashAlgorithm::Sha3256) => true,
+            (HashAlgorithm::Sha3384, HashAlgorithm::Sha3384) => true,
+            _ => false,
+        }
+    }
+
     /// The length of a digest in bytes.
     pub fn digest_len(self) -> usize
         ensures { result ≡ digest_len_of self }
@@ -77,6 +91,11 @@ impl Model for ArtifactDigest {
     ghost view = { λ d. (d.algorithm, d.bytes) };
 
     ghost inverse = { λ v. record { algorithm = v.0; bytes = v.1 } };
+
+    ghost use Rattle.std.specs.Prelude.{◌≡◌, length};
+    ghost use Rattle.sigstore_types_parts.specs.HashAlgorithm.{digest_len_of};
+
+    ghost invariant = { λ d. length d.bytes ≡ digest_len_of d.algorithm };
 }
 
 impl Duplicate for ArtifactDigest {
@@ -116,4 +135,10 @@ impl ArtifactDigest {
     {
         self.bytes.as_bytes()
     }
+}
+
+/// An artifact that is handed in: its bytes, or a digest of it alone.
+pub enum Artifact<'a> {
+    Blob(&'a [u8]),
+    Digest(ArtifactDigest),
 }

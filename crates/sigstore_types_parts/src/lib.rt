@@ -34,7 +34,7 @@ pub use file::{FileFault, PieceFault, read_file, read_piece};
 pub use float::contains_float;
 pub use form::Form;
 pub use hash::{Hash, KeyHint, Sha256Hash, Sha384Hash, Sha512Hash};
-pub use hash_algorithm::{ArtifactDigest, HashAlgorithm};
+pub use hash_algorithm::{Artifact, ArtifactDigest, HashAlgorithm};
 pub use json_value::Json;
 pub use leaves::instant;
 pub use member::TypesMember;

@@ -9,11 +9,12 @@ use Rattle.sigstore_types.specs.Bundle.{structure_of}
 use Rattle.sigstore_crypto.specs.declared.scheme.SigningScheme.{SigningScheme}
 use Rattle.sigstore_crypto.specs.declared.key.VerificationKey.{VerificationKey}
 use Rattle.sigstore_crypto.specs.Key.{spki_key_of}
+use Rattle.sigstore_crypto.specs.Scheme.{digest_algorithm_of}
 use Rattle.sigstore_crypto.specs.Good.{Judge, is_good_over}
 use Rattle.sigstore_verify.specs.declared.policy.PublicKeyVerificationPolicy.{PublicKeyVerificationPolicy}
 use Rattle.sigstore_verify.specs.declared.report.VerificationResult.{VerificationResult}
-use Rattle.sigstore_verify.specs.Artifact.{Artifact, digest_of, kind_of}
-use Rattle.sigstore_verify.specs.Judged.{Terms, scheme_of, needed_of, supported_of, subject_in, key_judged_of, key_report_of}
+use Rattle.sigstore_verify.specs.Artifact.{Artifact, digest_of, bytes_of, kind_of}
+use Rattle.sigstore_verify.specs.Judged.{Terms, scheme_of, needed_of, supported_of, subject_by, key_judged_of, key_report_of}
 use Rattle.sigstore_verify.specs.Policy.{Meaning, PublicKey}
 
 -- the signature
@@ -41,7 +42,7 @@ pub record AcceptsKey (accepts : Judge) (policy : PublicKeyVerificationPolicy) (
   pub supported : supported_of (kind_of artifact) scheme (needed_of scheme bundle.content) ≡ Ok tt
   pub bound : IsBound (digest_in bundle.content) artifact
   pub subject : List ℕ
-  pub signs : subject_in scheme artifact ≡ Some subject
+  pub signs : subject_by (digest_algorithm_of scheme) (digest_of artifact) (bytes_of artifact) ≡ Some subject
   pub signed : IsTrue (is_good_over accepts (record { scheme = scheme; key = key.key }) subject (signature_in bundle.content))
 
 -- the bundle is accepted over the artifact under these terms

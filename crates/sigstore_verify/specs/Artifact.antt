@@ -1,10 +1,12 @@
 -- An artifact as it is judged: its digests by algorithm, and for a blob its bytes.
-use Rattle.std.specs.Prelude.{ℕ, List, Bool, true, false, Option, Some, None, if◌then◌else◌}
+use Rattle.std.specs.Prelude.{ℕ, List, Bool, true, false, Option, Some, None, option_map, find, if◌then◌else◌}
 use Rattle.sigstore_types_parts.specs.HashAlgorithm.{same_algorithm}
 use Rattle.sigstore_types_parts.specs.declared.hash_algorithm.HashAlgorithm.{HashAlgorithm}
 use Rattle.sigstore_crypto.specs.Digest.{is_hashed, digest_by}
 use Rattle.sigstore_verify.specs.declared.error.Error.{Error}
 use Rattle.sigstore_verify.specs.declared.error.Error.TheVariants.{UnsupportedArtifact, Crypto}
+use Rattle.sigstore_verify.specs.declared.judge.Handed.{Handed}
+use Rattle.sigstore_verify.specs.declared.judge.Handed.TheVariants as handed
 
 -- all its bytes; those that a reader gave up to its end, of which only digests are kept; or one digest of it alone
 pub data Artifact : Type 0 where
@@ -12,15 +14,11 @@ pub data Artifact : Type 0 where
   Read : List ℕ → Artifact
   Digest : HashAlgorithm → List ℕ → Artifact
 
-abbrev pub digest_if : Bool → List ℕ → Option (List ℕ)
-digest_if true digest = Some digest
-digest_if false digest = None
-
 -- its digest by an algorithm, where it can be had
 abbrev pub digest_of : Artifact → HashAlgorithm → Option (List ℕ)
-digest_of (Blob bytes) algorithm = digest_if (is_hashed algorithm) (digest_by algorithm bytes)
-digest_of (Read bytes) algorithm = digest_if (is_hashed algorithm) (digest_by algorithm bytes)
-digest_of (Digest given digest) algorithm = digest_if (same_algorithm given algorithm) digest
+digest_of (Blob bytes) algorithm = if is_hashed algorithm then Some (digest_by algorithm bytes) else None
+digest_of (Read bytes) algorithm = if is_hashed algorithm then Some (digest_by algorithm bytes) else None
+digest_of (Digest given digest) algorithm = if same_algorithm given algorithm then Some digest else None
 
 -- its bytes, where they are kept
 abbrev pub bytes_of : Artifact → Option (List ℕ)
@@ -48,3 +46,12 @@ abbrev pub kind_of : Artifact → Kind
 kind_of (Blob bytes) = blob_kind
 kind_of (Read bytes) = read_kind
 kind_of (Digest given digest) = digest_kind given
+
+abbrev pub kind_in : Handed → Kind
+kind_in handed.Blob = blob_kind
+kind_in handed.Read = read_kind
+kind_in (handed.Digest given) = digest_kind given
+
+-- the digest by an algorithm among those that were taken
+abbrev pub had_digest : List (HashAlgorithm × List ℕ) → HashAlgorithm → Option (List ℕ)
+had_digest digests algorithm = option_map (λ taken. taken.1) (find (λ taken. same_algorithm taken.0 algorithm) digests)

@@ -1,6 +1,6 @@
 -- What each refusal of the top call tells: of the root and the repository, or of the trust file, the bundle, the policy and the
 -- artifact (TUF specification, section 5; Sigstore bundle format; FIPS 180-4, FIPS 186-5).
-use Rattle.std.specs.Prelude.{◌≡◌, ◌≢◌, ◌⊎◌, ℕ, List, true, false, Some, Result, Ok, Err, ⊤}
+use Rattle.std.specs.Prelude.{◌≡◌, ◌≢◌, ◌⊎◌, ℕ, List, true, false, Some, None, Result, Ok, Err, ⊤}
 use Rattle.std.specs.List.{list_all}
 use Rattle.foundation.specs.Watched.{Watched}
 use Rattle.sigstore_types_parts.specs.declared.form.Form.{Form}
@@ -95,7 +95,8 @@ pub record IsUnsigned (accepts : Judge) (policy : PublicKeyVerificationPolicy) (
   pub is : HasBundle policy bundle
   pub bytes : List ℕ
   pub whole : ReadWhole source source' max bytes
-  pub unsigned : is_signed accepts (record { scheme = is.scheme; key = is.key.key }) (Read bytes) (signature_in is.reading.content) ≡ false
+  pub unsigned : 
+      is_signed accepts (record { scheme = is.scheme; key = is.key.key }) (digest_of (Read bytes)) None (signature_in is.reading.content) ≡ false
 
 -- the trust file is read, and no verifier can be made of it
 abbrev pub IsUnusable : List ℕ → Error → Type 0

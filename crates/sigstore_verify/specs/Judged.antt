@@ -93,33 +93,38 @@ abbrev pub is_digest : List ℕ → Option (List ℕ) → Bool
 is_digest told None = false
 is_digest told (Some digest) = bytes_eq told digest
 
+-- digests by algorithm, where they can be had
+abbrev pub Digests : Type 0
+Digests = HashAlgorithm → Option (List ℕ)
+
 -- the digest that the bundle tells of its message, where it tells one, is the artifact's by that algorithm
-abbrev pub is_bound : Option MessageDigest → Artifact → Bool
-is_bound None artifact = true
-is_bound (Some told) artifact = is_digest told.digest (digest_of artifact told.algorithm)
+abbrev pub is_bound : Option MessageDigest → Digests → Bool
+is_bound None digest = true
+is_bound (Some told) digest = is_digest told.digest (digest told.algorithm)
 
 -- what a signature of the artifact is over: its digest where the scheme has one, and else its bytes
-abbrev pub subject_by : Option HashAlgorithm → Artifact → Option (List ℕ)
-subject_by (Some algorithm) artifact = digest_of artifact algorithm
-subject_by None artifact = bytes_of artifact
-
-abbrev pub subject_in : SigningScheme → Artifact → Option (List ℕ)
-subject_in scheme artifact = subject_by (digest_algorithm_of scheme) artifact
+abbrev pub subject_by : Option HashAlgorithm → Digests → Option (List ℕ) → Option (List ℕ)
+subject_by (Some algorithm) digest bytes = digest algorithm
+subject_by None digest bytes = bytes
 
 abbrev pub is_good_of : Judge → VerificationKey → Option (List ℕ) → List ℕ → Bool
 is_good_of accepts key None signature = false
 is_good_of accepts key (Some subject) signature = is_good_over accepts key subject signature
 
-abbrev pub is_signed : Judge → VerificationKey → Artifact → List ℕ → Bool
-is_signed accepts key artifact signature = is_good_of accepts key (subject_in key.scheme artifact) signature
+abbrev pub is_signed : Judge → VerificationKey → Digests → Option (List ℕ) → List ℕ → Bool
+is_signed accepts key digest bytes signature =
+    is_good_of accepts key (subject_by (digest_algorithm_of key.scheme) digest bytes) signature
 
 -- The bundle's digest of the message is the artifact's (else the bundle is of another artifact), then the signature is good over
 -- it (else anyone could have written the bundle).
-abbrev pub content_judged_of : Judge → VerificationKey → SignatureContent → Artifact → Result ⊤ Error
-content_judged_of accepts key (OfMessage message) artifact =
-    if is_bound message.message_digest artifact then
-    (if is_signed accepts key artifact message.signature then Ok tt else Err SignatureInvalid)
+abbrev pub content_judged_by : Judge → VerificationKey → SignatureContent → Digests → Option (List ℕ) → Result ⊤ Error
+content_judged_by accepts key (OfMessage message) digest bytes =
+    if is_bound message.message_digest digest then
+    (if is_signed accepts key digest bytes message.signature then Ok tt else Err SignatureInvalid)
     else Err ArtifactMismatch
+
+abbrev pub content_judged_of : Judge → VerificationKey → SignatureContent → Artifact → Result ⊤ Error
+content_judged_of accepts key content artifact = content_judged_by accepts key content (digest_of artifact) (bytes_of artifact)
 
 -- what an acceptance under a managed key shows
 abbrev pub key_report_of : PublicKeyVerificationPolicy → VerificationResult
