@@ -8,4 +8,6 @@ pub mod Judged
 pub mod Policy
 pub mod Promise
 pub mod Promises
+pub mod Taken
+pub mod Taking
 pub mod Trust
