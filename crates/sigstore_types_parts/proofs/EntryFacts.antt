@@ -35,6 +35,7 @@ named-ascend (e ∷ es) h = (all_below e.0 es h.0, named-ascend es h.1)
 pub entries_move : {A T : Type 0} (found : List (List ℕ × T)) (k : List ℕ) (x : T) (left : List (String A × T)) → found ++ ((k, x) ∷ named left) ≡ (found ++ (k, x) ∷ []) ++ named left
 entries_move found k x left = sym (append_assoc found ((k, x) ∷ []) (named left))
 
+-- the maps are equal where their entries are the same
 pub pointwise-named : {A T : Type 0} (same : T → T → Bool) (es fs : List (String A × T)) → pointwise (λ e f. string_eq e.0 f.0 && same e.1 f.1) es fs ≡ same_entries same (named es) (named fs)
 pointwise-named same [] [] = refl
 pointwise-named same (e ∷ es) (f ∷ fs) = rw (pointwise-named same es fs)

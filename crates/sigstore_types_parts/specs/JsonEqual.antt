@@ -2,25 +2,8 @@
 use Rattle.std.specs.Prelude.{◌&&◌, Bool, true, false, ◌==◌, bytes_eq}
 use Rattle.std.specs.Bool.{beq}
 use Rattle.std.specs.Ordering.{int_eq}
-use Rattle.serde_json.specs.Data.{
-  Num,
-  unsigned,
-  negative,
-  float,
-  Data,
-  null,
-  boolean,
-  number,
-  string,
-  array,
-  object,
-  Items,
-  no_items,
-  item,
-  Members,
-  no_members,
-  member,
-}
+use Rattle.serde_json.specs.Data.{Num, unsigned, negative, float, Data, null, boolean, number, string, array, object}
+use Rattle.serde_json.specs.Data.{Items, no_items, item, Members, no_members, member}
 
 -- unsigned and negative numbers by their number
 abbrev pub same_number : Num → Num → Bool

@@ -1,28 +1,11 @@
 -- A JSON value is the same as itself, both ways round, and along a third.
-use Rattle.std.specs.Prelude.{◌≡◌, ◌&&◌, List, ℕ, true, false, bytes_eq, refl}
-use Rattle.std.proofs.Common.{sym}
-use Rattle.std.specs.Cmp.{IsEquivalence, partial_equiv_from_equiv, equiv, nat_eq_equiv, int_eq_equiv, bool_eq_equiv, first_so, second_so}
+use Rattle.std.specs.Prelude.{◌≡◌, ◌&&◌, List, ℕ, true, bytes_eq, refl}
+use Rattle.std.proofs.Common.{sym, true≢false}
+use Rattle.std.specs.Cmp.{IsEquivalence, partial_equiv_from_equiv, equiv, nat_eq_equiv, int_eq_equiv, bool_eq_equiv}
+use Rattle.std.specs.Cmp.{first_so, second_so}
 use Rattle.std.specs.Cmp.Lexicographic.{nat_list_eq_equiv}
-use mathlib.Core.Bool.{true≢false}
-use Rattle.serde_json.specs.Data.{
-  Num,
-  unsigned,
-  negative,
-  float,
-  Data,
-  null,
-  boolean,
-  number,
-  string,
-  array,
-  object,
-  Items,
-  no_items,
-  item,
-  Members,
-  no_members,
-  member,
-}
+use Rattle.serde_json.specs.Data.{Num, unsigned, negative, float, Data, null, boolean, number, string, array, object}
+use Rattle.serde_json.specs.Data.{Items, no_items, item, Members, no_members, member}
 use Rattle.sigstore_types_parts.specs.JsonEqual.{same_number, same_data, same_items, same_members}
 
 number_itself : (m : Num) → same_number m m ≡ true

@@ -1,5 +1,5 @@
 // Equality of JSON values, with any two floats alike.
-ghost use Rattle.std.specs.Prelude.{◌≡◌, ◌&&◌, bytes_eq};
+ghost use Rattle.std.specs.Prelude.{◌≡◌};
 ghost use Rattle.serde_json.specs.View.{view, number_view, items_view, members_view};
 ghost use Rattle.sigstore_types_parts.specs.JsonEqual.{same_number, same_data, same_items, same_members};
 
@@ -10,14 +10,25 @@ use serde_json::{Map, Number, Value};
 pub(crate) fn same(left: &Value, right: &Value) -> bool
     ensures { result ≡ same_data (view left.now) (view right.now) }
 {
-    match (left, right) {
-        (Value::Null, Value::Null) => true,
-        (Value::Bool(a), Value::Bool(b)) => *a == *b,
-        (Value::Number(a), Value::Number(b)) => same_numbers(a, b),
-        (Value::String(a), Value::String(b)) => a.as_str() == b.as_str(),
-        (Value::Array(a), Value::Array(b)) => same_lists(a, b),
-        (Value::Object(a), Value::Object(b)) => same_objects(a, b),
-        _ => false,
+    match left {
+        Value::Null => right.is_null(),
+        Value::Bool(a) => right.as_bool() == Some(*a),
+        Value::Number(a) => match right {
+            Value::Number(b) => same_numbers(a, b),
+            _ => false,
+        },
+        Value::String(a) => match right {
+            Value::String(b) => a.as_str() == b.as_str(),
+            _ => false,
+        },
+        Value::Array(a) => match right {
+            Value::Array(b) => same_lists(a, b),
+            _ => false,
+        },
+        Value::Object(a) => match right {
+            Value::Object(b) => same_objects(a, b),
+            _ => false,
+        },
     }
 }
 

@@ -11,7 +11,7 @@ use serde_json::Value;
 use std::alloc::Global;
 use std::marker::Model;
 
-/// A JSON value as it was read; contracts see its data.
+/// A JSON value as it was read; contracts see its data. Any two floats are equal.
 #[derive(Drop)]
 pub struct Json {
     value: Value,
