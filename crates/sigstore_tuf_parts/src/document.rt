@@ -18,7 +18,7 @@ use std::alloc::Global;
 use std::marker::Model;
 
 /// A signature: the id of the key that made it, and the signature in hexadecimal.
-#[derive(Drop)]
+#[derive(PartialEq, Drop)]
 pub struct Signature {
     pub keyid: Text,
     pub sig: Text,

@@ -10,14 +10,14 @@ use sigstore_types_parts::{FromValue, Json, Text, TextMap, required};
 use std::alloc::Global;
 
 /// The text of a public key.
-#[derive(Drop)]
+#[derive(PartialEq, Drop)]
 pub struct KeyVal {
     pub public: Text,
     pub extra: TextMap<Json>,
 }
 
 /// A key as a document declares it.
-#[derive(Drop)]
+#[derive(PartialEq, Drop)]
 pub struct Key {
     pub keytype: Text,
     pub scheme: Text,
@@ -26,7 +26,7 @@ pub struct Key {
 }
 
 /// The ids of the keys that sign for a role, and how many of them have to.
-#[derive(Drop)]
+#[derive(PartialEq, Drop)]
 pub struct RoleKeys {
     pub keyids: Sequence<Text>,
     pub threshold: u64,

@@ -16,7 +16,7 @@ use sigstore_types_parts::{FromValue, Json, Text, TextMap, defaulted, required};
 use std::alloc::Global;
 
 /// The content of a root document: the keys and the roles that they sign for.
-#[derive(Drop)]
+#[derive(PartialEq, Drop)]
 pub struct Root {
     pub type_: Text,
     pub spec_version: Text,

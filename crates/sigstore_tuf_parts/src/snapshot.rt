@@ -18,7 +18,7 @@ use sigstore_types_parts::{FromValue, Json, Text, TextMap, required};
 use std::alloc::Global;
 
 /// The content of a snapshot document: the pins of the targets documents.
-#[derive(Drop)]
+#[derive(PartialEq, Drop)]
 pub struct Snapshot {
     pub type_: Text,
     pub spec_version: Text,

@@ -16,7 +16,7 @@ use sigstore_types_parts::{FromValue, Json, Text, TextMap, defaulted, optional, 
 use std::alloc::Global;
 
 /// The length and the digests of a target.
-#[derive(Drop)]
+#[derive(PartialEq, Drop)]
 pub struct TargetFile {
     pub length: u64,
     pub hashes: TextMap<Text>,
@@ -25,7 +25,7 @@ pub struct TargetFile {
 }
 
 /// A role that targets are delegated to.
-#[derive(Drop)]
+#[derive(PartialEq, Drop)]
 pub struct DelegatedRole {
     pub name: Text,
     pub keyids: Sequence<Text>,
@@ -37,7 +37,7 @@ pub struct DelegatedRole {
 }
 
 /// The roles that targets are delegated to, in their order, and the keys that sign for them.
-#[derive(Drop)]
+#[derive(PartialEq, Drop)]
 pub struct Delegations {
     pub keys: TextMap<Key>,
     pub roles: Sequence<DelegatedRole>,
@@ -45,7 +45,7 @@ pub struct Delegations {
 }
 
 /// The content of a targets document.
-#[derive(Drop)]
+#[derive(PartialEq, Drop)]
 pub struct Targets {
     pub type_: Text,
     pub spec_version: Text,

@@ -17,7 +17,7 @@ use sigstore_types_parts::{FromValue, Json, Text, TextMap, optional, required};
 use std::alloc::Global;
 
 /// The pin of a document: its version, and its length and digests where they are given.
-#[derive(Drop)]
+#[derive(PartialEq, Drop)]
 pub struct MetaFile {
     pub version: u64,
     pub length: Option<u64>,
@@ -26,7 +26,7 @@ pub struct MetaFile {
 }
 
 /// The content of a timestamp document: the pin of the snapshot.
-#[derive(Drop)]
+#[derive(PartialEq, Drop)]
 pub struct Timestamp {
     pub type_: Text,
     pub spec_version: Text,

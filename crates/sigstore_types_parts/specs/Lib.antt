@@ -1,5 +1,7 @@
 pub mod Error
 pub mod Instant
+pub mod JsonEqual
+pub mod JsonEqualLaws
 pub mod Read
 pub mod Encoded
 pub mod Entries

@@ -12,6 +12,7 @@ mod float;
 mod form;
 mod hash;
 mod hash_algorithm;
+mod json_equal;
 mod json_value;
 mod leaves;
 mod member;

@@ -1,11 +1,12 @@
 // A map from texts, seen as its entries in the order of their names.
 ghost use Rattle.std.specs.Prelude.{◌≡◌, [], IfOk, OnOk, OnErr, string_bytes, option_copied};
 ghost use Rattle.std.specs.Ordering.{nat_cmp};
-ghost use Rattle.std.specs.Cmp.Lexicographic.{slice_cmp};
+ghost use Rattle.std.specs.Cmp.{partial_equiv_from_equiv, on_per, and_per, on_equiv, and_equiv};
+ghost use Rattle.std.specs.Cmp.Lexicographic.{slice_cmp, nat_list_eq_equiv, lists_per, lists_equiv};
 ghost use Rattle.std.specs.BTreeMap.{insert_entry};
 ghost use Rattle.std.specs.List.Sorted.{IsStrictlySortedBy};
 ghost use Rattle.std.specs.Map.{keys_of};
-ghost use Rattle.sigstore_types_parts.specs.Entries.{text_cmp, at_name, named};
+ghost use Rattle.sigstore_types_parts.specs.Entries.{text_cmp, at_name, named, same_entries};
 
 use crate::text::Text;
 use foundation::{Duplicate, NoMemory};
@@ -94,4 +95,21 @@ fn copies<T: Duplicate>(alloc: Global, entries: &TextMap<T>) -> Result<TextMap<T
         put(alloc, &mut found, name.as_str(), item.duplicate(alloc)?)?;
     }
     Ok(found)
+}
+
+impl<T: PartialEq> PartialEq for TextMap<T> {
+    ghost eq = { same_entries T.eq };
+
+    ghost laws = { lists_per
+        (and_per (on_per (λ e. e.0) (partial_equiv_from_equiv nat_list_eq_equiv))
+        (on_per (λ e. e.1) T.laws)) };
+
+    fn eq(&self, other: &TextMap<T>) -> bool {
+        self.inner == other.inner
+    }
+}
+
+impl<T: Eq> Eq for TextMap<T> {
+    ghost laws = { lists_equiv
+        (and_equiv (on_equiv (λ e. e.0) nat_list_eq_equiv) (on_equiv (λ e. e.1) T.Eq.laws)) };
 }
