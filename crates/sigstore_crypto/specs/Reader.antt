@@ -20,7 +20,7 @@ FedBy grows hashers hashers' bytes (Ok count) = Fed grows hashers hashers' bytes
 FedBy grows hashers hashers' bytes (Err e) = (seen rest : List ℕ) × (bytes ≡ seen ++ rest) × Fed grows hashers hashers' seen
 
 -- the promise of a reading to the end, in which these bytes were taken
-pub record Took {H : Type 0} (grows : H → List ℕ → Type 0) (old new : Watched (List ℕ)) (hashers hashers' : List H) (max : ℕ)
+pub record Took {H : Type 0} (grows : H → List ℕ → H → Type 0) (old new : Watched (List ℕ)) (hashers hashers' : List H) (max : ℕ)
     (result : Result ℕ ReadError) (bytes : List ℕ) : Type 0 where
   pub later : old.faults ≤ new.faults
   pub given : old.told ≡ prepend_known bytes new.told

@@ -79,7 +79,11 @@ impl ArtifactHasher {
 }
 
 // The digest of an algorithm, which these octets are.
-fn digest_in(alloc: Global, algorithm: HashAlgorithm, octets: &[u8]) -> Result<ArtifactDigest, Error>
+fn digest_in(
+    alloc: Global,
+    algorithm: HashAlgorithm,
+    octets: &[u8],
+) -> Result<ArtifactDigest, Error>
     requires { length octets.now ≡ digest_len_of algorithm }
     ensures ok { IfOk result (λ digest. digest ≡ (algorithm, octets.now)) }
     ensures err { IfErr result (λ e. e ≡ NoMemory) }

@@ -2,6 +2,8 @@
 use Rattle.std.specs.Prelude.{ℕ, List, Bool, true, false, Option, Some, None, option_map, find, if◌then◌else◌}
 use Rattle.sigstore_types_parts.specs.HashAlgorithm.{same_algorithm}
 use Rattle.sigstore_types_parts.specs.declared.hash_algorithm.HashAlgorithm.{HashAlgorithm}
+use Rattle.sigstore_types_parts.specs.declared.hash_algorithm.Artifact.{Artifact as Given}
+use Rattle.sigstore_types_parts.specs.declared.hash_algorithm.Artifact.TheVariants as given
 use Rattle.sigstore_crypto.specs.Digest.{is_hashed, digest_by}
 use Rattle.sigstore_verify.specs.declared.error.Error.{Error}
 use Rattle.sigstore_verify.specs.declared.error.Error.TheVariants.{UnsupportedArtifact, Crypto}
@@ -19,6 +21,11 @@ abbrev pub digest_of : Artifact → HashAlgorithm → Option (List ℕ)
 digest_of (Blob bytes) algorithm = if is_hashed algorithm then Some (digest_by algorithm bytes) else None
 digest_of (Read bytes) algorithm = if is_hashed algorithm then Some (digest_by algorithm bytes) else None
 digest_of (Digest given digest) algorithm = if same_algorithm given algorithm then Some digest else None
+
+-- what is handed in, as an artifact
+abbrev pub artifact_of : Given → Artifact
+artifact_of (given.Blob bytes) = Blob bytes.now
+artifact_of (given.Digest digest) = Digest digest.0 digest.1
 
 -- its bytes, where they are kept
 abbrev pub bytes_of : Artifact → Option (List ℕ)

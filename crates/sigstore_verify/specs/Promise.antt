@@ -1,6 +1,7 @@
 -- What the verification of an artifact promises: of one that is read, and of one that is handed in.
 use Rattle.std.specs.Prelude.{◌≡◌, ◌≢◌, ◌⊎◌, ℕ, ◌≤◌, ◌+◌, List, length, Result, Ok, Err, IfOk, IfErr}
 use Rattle.std.specs.Io.KnownBytes.{prepend_known, IsAtEnd}
+use Rattle.foundation.specs.Steps.{◌>>=◌}
 use Rattle.foundation.specs.Watched.{Watched, Rose}
 use Rattle.sigstore_types.specs.declared.bundle.Bundle.{Bundle}
 use Rattle.sigstore_crypto.specs.Digest.{digests_by}
@@ -12,6 +13,7 @@ use Rattle.sigstore_verify.specs.declared.report.VerificationResult.{Verificatio
 use Rattle.sigstore_verify.specs.declared.report.Kept.{Kept}
 use Rattle.sigstore_verify.specs.Artifact.{Artifact, Read, read_kind}
 use Rattle.sigstore_verify.specs.Judged.{Terms, ready_of, judged_of, needed_by}
+use Rattle.sigstore_verify.specs.Trust.{usable_of}
 
 -- the artifact is these bytes: a source that tells its bytes gave exactly them, up to its end
 pub record ReadWhole (old new : Watched (List ℕ)) (max : ℕ) (bytes : List ℕ) : Type 0 where
@@ -70,3 +72,8 @@ pub record VerifiesKept (terms : Terms) (bundle : Bundle) (old new : Watched (Li
 pub record VerifiesHanded (terms : Terms) (bundle : Bundle) (artifact : Artifact) (result : Result VerificationResult Error) : Type 0 where
   pub accepted : IfOk result (λ report. judged_of terms bundle artifact ≡ Ok report)
   pub refused : IfErr result (λ e. e ≢ NoMemory → judged_of terms bundle artifact ≡ Err e)
+
+-- the promise of a verification that makes its verifier: that of the trust file comes first
+pub record VerifiesUnder (terms : Terms) (bundle : Bundle) (artifact : Artifact) (result : Result VerificationResult Error) : Type 0 where
+  pub accepted : IfOk result (λ report. (usable_of terms.trust ≡ Ok tt) × (judged_of terms bundle artifact ≡ Ok report))
+  pub refused : IfErr result (λ e. e ≢ NoMemory → (usable_of terms.trust >>= λ _. judged_of terms bundle artifact) ≡ Err e)

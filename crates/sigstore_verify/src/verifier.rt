@@ -1,97 +1,177 @@
 // The verification of a bundle over an artifact.
-ghost use Rattle.std.specs.Prelude.{◌≡◌, ◌≢◌, ◌∷◌, [], Ok, Err, Some, IfOk, IfErr, length};
-ghost use Rattle.sigstore_types_parts.specs.declared.hash_algorithm.HashAlgorithm.TheVariants.{Sha2256};
-ghost use Rattle.sigstore_crypto.specs.Scheme.{digest_algorithm_of};
+ghost use Rattle.std.specs.Prelude.{◌≡◌, ◌≢◌, None, Ok, Err, IfOk, IfErr};
+ghost use Rattle.sigstore_tuf_parts.specs.By.{crypto_by};
+ghost use Rattle.sigstore_verify.specs.Artifact.{Blob, Digest, artifact_of, had_digest};
+ghost use Rattle.sigstore_verify.specs.Judged.{Terms, content_judged_by, key_report_of};
 ghost use Rattle.sigstore_verify.specs.Policy.{PublicKey};
 ghost use Rattle.sigstore_verify.specs.Trust.{usable_of};
-ghost use Rattle.sigstore_verify.specs.Promise.{Keeps, Verifies, VerifiesKept};
+ghost use Rattle.sigstore_verify.specs.Promise.{Verifies, VerifiesKept, VerifiesHanded, VerifiesUnder};
 
 use crate::error::Error;
-use crate::judge::{judge_content, key_report, prepare};
+use crate::judge::{Handed, judge_content, key_report, prepare};
 use crate::policy::{Policy, PolicyKind, PublicKeyVerificationPolicy};
 use crate::report::{Kept, VerificationResult};
-use foundation::{NoMemory, Sequence};
+use crate::taking::{digests_in, read_digests};
+use foundation::{Duplicate, Sequence};
 use jiff::Timestamp;
-use sigstore_crypto::{ArtifactSource, CryptoProvider, VerificationKey, sha256_reader};
+use sigstore_crypto::{ArtifactSource, CryptoProvider, VerificationKey};
 use sigstore_types::{Bundle, TrustedRoot};
-use sigstore_types_parts::{Armor, ArtifactDigest, Bytes, HashAlgorithm, Sha256Hash};
+use sigstore_types_parts::{Armor, Artifact, ArtifactDigest};
 use std::alloc::Global;
+use std::slice;
 
 /// Verifies bundles by a provider, an armour and a trust file.
 #[derive(Drop)]
 pub struct Verifier<'p, C: CryptoProvider, M: Armor> {
     provider: &'p C,
     armor: &'p M,
+    trust: TrustedRoot,
 }
 
-// The one digest of an artifact that is taken.
-fn kept_digests(alloc: Global, digest: &Sha256Hash) -> Result<Sequence<ArtifactDigest>, NoMemory>
-    requires { length digest.now ≡ 32 }
-    ensures { IfOk result (λ digests. digests ≡ (Sha2256, digest.now) ∷ []) }
-{
-    let bytes = Bytes::new(alloc, digest.as_bytes())?;
-    let kept = ArtifactDigest::new(HashAlgorithm::Sha2256, bytes).unwrap();
-    let mut digests = Sequence::new(alloc);
-    digests.push(kept)?;
-    Ok(digests)
-}
-
-// The judgement over the digest, and what is kept of it.
+// The judgement over digests that were taken, and what is kept of it.
 fn keep<C: CryptoProvider>(
     alloc: Global,
     provider: &C,
     key: &VerificationKey,
     bundle: &Bundle,
     policy: &PublicKeyVerificationPolicy,
-    digest: &Sha256Hash,
+    digests: Sequence<ArtifactDigest>,
 ) -> Result<Kept, Error>
-    requires scheme { digest_algorithm_of key.now.scheme ≡ Some Sha2256 }
-    requires size { length digest.now ≡ 32 }
-    ensures { Keeps (C.accepts provider.now) policy.now bundle.now key.now digest.now result }
+    ensures accepted { IfOk result (λ kept.
+        (content_judged_by (C.accepts provider.now) key.now bundle.now.content (had_digest digests) None ≡ Ok tt)
+        × (kept.result ≡ key_report_of policy.now) × (kept.digests ≡ digests)) }
+    ensures refused { IfErr result (λ e.
+        content_judged_by (C.accepts provider.now) key.now bundle.now.content (had_digest digests) None ≡ Err e) }
 {
-    judge_content(provider, key, &bundle.content, digest)?;
-    Ok(Kept {
-        result: key_report(alloc, policy),
-        digests: kept_digests(alloc, digest)?,
-    })
-}
-
-fn verify_with_key<C: CryptoProvider, A: ArtifactSource>(
-    alloc: Global,
-    provider: &C,
-    source: &mut A,
-    max: u64,
-    bundle: &Bundle,
-    policy: &PublicKeyVerificationPolicy,
-) -> Result<Kept, Error>
-    ensures { VerifiesKept (C.accepts provider.now) (PublicKey policy.now) bundle.now (A.seen source.old) (A.seen source.new) max result }
-{
-    let key = prepare(alloc, policy, bundle)?;
-    match sha256_reader(source, max) {
-        Err(fault) => Err(Error::ArtifactRead(fault)),
-        Ok(digest) => keep(alloc, provider, &key, bundle, policy, &digest),
+    match judge_content(provider, key, &bundle.content, digests.as_slice(), None) {
+        Ok(()) => Ok(Kept {
+            result: key_report(alloc, policy),
+            digests,
+        }),
+        Err(e) => Err(e),
     }
 }
 
 impl<'p, C: CryptoProvider, M: Armor> Verifier<'p, C, M> {
-    /// A verifier over a trust file; takes no memory yet.
+    /// A verifier over a trust file. Errors: none but want of memory, as no trust file that is read can't
+    /// be used yet.
     pub fn new(
-        _alloc: Global,
+        alloc: Global,
         provider: &'p C,
         armor: &'p M,
-        _trusted_root: &TrustedRoot,
+        trusted_root: &TrustedRoot,
     ) -> Result<Verifier<'p, C, M>, Error>
         ensures provider { IfOk result (λ verifier. verifier.provider.now ≡ provider.now) }
         ensures armor { IfOk result (λ verifier. verifier.armor.now ≡ armor.now) }
-        ensures ok { IfOk result (λ verifier. usable_of _trusted_root.now ≡ Ok tt) }
-        ensures err { IfErr result (λ e. e ≢ Error.NoMemory → usable_of _trusted_root.now ≡ Err e) }
+        ensures trust { IfOk result (λ verifier. verifier.trust ≡ trusted_root.now) }
+        ensures ok { IfOk result (λ verifier. usable_of trusted_root.now ≡ Ok tt) }
+        ensures err { IfErr result (λ e. e ≢ Error.NoMemory → usable_of trusted_root.now ≡ Err e) }
     {
-        Ok(Verifier { provider, armor })
+        Ok(Verifier {
+            provider,
+            armor,
+            trust: trusted_root.duplicate(alloc)?,
+        })
+    }
+
+    // An artifact that is read, under a managed key.
+    fn read_with_key<A: ArtifactSource>(
+        &self,
+        alloc: Global,
+        source: &mut A,
+        max: u64,
+        bundle: &Bundle,
+        policy: &PublicKeyVerificationPolicy,
+        _now: Timestamp,
+    ) -> Result<Kept, Error>
+        ensures { let crypto = crypto_by C.CryptoProvider M.Armor self.now.provider.now self.now.armor.now in
+            let terms : Terms = record { crypto = crypto; trust = self.now.trust; policy = PublicKey policy.now; now = _now } in
+            VerifiesKept terms bundle.now (A.seen source.old) (A.seen source.new) max result }
+    {
+        let ready = prepare(alloc, Handed::Read, policy, bundle)?;
+        match read_digests(alloc, source, max, ready.needed.as_slice()) {
+            Ok(digests) => keep(alloc, self.provider, &ready.key, bundle, policy, digests),
+            Err(e) => Err(e),
+        }
+    }
+
+    // An artifact of which all bytes are handed in, under a managed key.
+    fn judge_blob(
+        &self,
+        alloc: Global,
+        bytes: &[u8],
+        bundle: &Bundle,
+        policy: &PublicKeyVerificationPolicy,
+        _now: Timestamp,
+    ) -> Result<VerificationResult, Error>
+        ensures { let crypto = crypto_by C.CryptoProvider M.Armor self.now.provider.now self.now.armor.now in
+            let terms : Terms = record { crypto = crypto; trust = self.now.trust; policy = PublicKey policy.now; now = _now } in
+            VerifiesHanded terms bundle.now (Blob bytes.now) result }
+    {
+        let ready = prepare(alloc, Handed::Blob, policy, bundle)?;
+        let digests = digests_in(alloc, bytes, ready.needed.as_slice())?;
+        judge_content(
+            self.provider,
+            &ready.key,
+            &bundle.content,
+            digests.as_slice(),
+            Some(bytes),
+        )?;
+        Ok(key_report(alloc, policy))
+    }
+
+    // An artifact of which one digest is handed in, under a managed key.
+    fn judge_digest(
+        &self,
+        alloc: Global,
+        digest: &ArtifactDigest,
+        bundle: &Bundle,
+        policy: &PublicKeyVerificationPolicy,
+        _now: Timestamp,
+    ) -> Result<VerificationResult, Error>
+        ensures { let crypto = crypto_by C.CryptoProvider M.Armor self.now.provider.now self.now.armor.now in
+            let terms : Terms = record { crypto = crypto; trust = self.now.trust; policy = PublicKey policy.now; now = _now } in
+            VerifiesHanded terms bundle.now (Digest digest.now.0 digest.now.1) result }
+    {
+        let ready = prepare(alloc, Handed::Digest(digest.algorithm()), policy, bundle)?;
+        judge_content(
+            self.provider,
+            &ready.key,
+            &bundle.content,
+            slice::from_ref(digest),
+            None,
+        )?;
+        Ok(key_report(alloc, policy))
+    }
+
+    /// Verifies the bundle over an artifact that is handed in. Errors, in order: `Bundle`, `Unbuilt` or
+    /// `Crypto` for the policy's key and its scheme, `UnsupportedArtifact` where the scheme signs the bytes
+    /// themselves or a digest that is needed wasn't handed in, `Crypto` where one has no hasher,
+    /// `ArtifactMismatch`, `SignatureInvalid`.
+    pub fn verify<P: Policy>(
+        &self,
+        alloc: Global,
+        artifact: Artifact<'_>,
+        bundle: &Bundle,
+        policy: &P,
+        now: Timestamp,
+    ) -> Result<VerificationResult, Error>
+        ensures { let crypto = crypto_by C.CryptoProvider M.Armor self.now.provider.now self.now.armor.now in
+            let terms : Terms = record { crypto = crypto; trust = self.now.trust; policy = P.meant policy.now; now = now } in
+            VerifiesHanded terms bundle.now (artifact_of artifact) result }
+    {
+        match policy.kind() {
+            PolicyKind::PublicKey(policy) => match artifact {
+                Artifact::Blob(bytes) => self.judge_blob(alloc, bytes, bundle, policy, now),
+                Artifact::Digest(digest) => self.judge_digest(alloc, &digest, bundle, policy, now),
+            },
+        }
     }
 
     /// Reads the artifact to its end and verifies the bundle over it; gives also the digests that were
-    /// taken. Errors, in order: `Bundle`, `Unbuilt` or `Crypto` for the policy's key, `UnsupportedArtifact`,
-    /// `ArtifactRead`, `ArtifactMismatch`, `SignatureInvalid`.
+    /// needed, in their order. Errors, in order: `Bundle`, `Unbuilt` or `Crypto` for the policy's key and
+    /// its scheme, `UnsupportedArtifact` where the scheme signs the bytes themselves, `Crypto` where a
+    /// digest has no hasher, `ArtifactRead`, `ArtifactMismatch`, `SignatureInvalid`.
     pub fn verify_reader_kept<A: ArtifactSource, P: Policy>(
         &self,
         alloc: Global,
@@ -99,13 +179,15 @@ impl<'p, C: CryptoProvider, M: Armor> Verifier<'p, C, M> {
         max: u64,
         bundle: &Bundle,
         policy: &P,
-        _now: Timestamp,
+        now: Timestamp,
     ) -> Result<Kept, Error>
-        ensures { VerifiesKept (C.accepts self.now.provider.now) (P.meant policy.now) bundle.now (A.seen source.old) (A.seen source.new) max result }
+        ensures { let crypto = crypto_by C.CryptoProvider M.Armor self.now.provider.now self.now.armor.now in
+            let terms : Terms = record { crypto = crypto; trust = self.now.trust; policy = P.meant policy.now; now = now } in
+            VerifiesKept terms bundle.now (A.seen source.old) (A.seen source.new) max result }
     {
         match policy.kind() {
             PolicyKind::PublicKey(policy) => {
-                verify_with_key(alloc, self.provider, source, max, bundle, policy)
+                self.read_with_key(alloc, source, max, bundle, policy, now)
             }
         }
     }
@@ -120,9 +202,31 @@ impl<'p, C: CryptoProvider, M: Armor> Verifier<'p, C, M> {
         policy: &P,
         now: Timestamp,
     ) -> Result<VerificationResult, Error>
-        ensures { Verifies (C.accepts self.now.provider.now) (P.meant policy.now) bundle.now (A.seen source.old) (A.seen source.new) max result }
+        ensures { let crypto = crypto_by C.CryptoProvider M.Armor self.now.provider.now self.now.armor.now in
+            let terms : Terms = record { crypto = crypto; trust = self.now.trust; policy = P.meant policy.now; now = now } in
+            Verifies terms bundle.now (A.seen source.old) (A.seen source.new) max result }
     {
         let kept = self.verify_reader_kept(alloc, source, max, bundle, policy, now)?;
         Ok(kept.result)
     }
+}
+
+/// Verifies a bundle over an artifact by a verifier that is made for it. Errors are those of
+/// `Verifier::new`, then those of `Verifier::verify`.
+pub fn verify<P: Policy, C: CryptoProvider, M: Armor>(
+    alloc: Global,
+    provider: &C,
+    armor: &M,
+    artifact: Artifact<'_>,
+    bundle: &Bundle,
+    policy: &P,
+    trusted_root: &TrustedRoot,
+    now: Timestamp,
+) -> Result<VerificationResult, Error>
+    ensures { let crypto = crypto_by C.CryptoProvider M.Armor provider.now armor.now in
+        let terms : Terms = record { crypto = crypto; trust = trusted_root.now; policy = P.meant policy.now; now = now } in
+        VerifiesUnder terms bundle.now (artifact_of artifact) result }
+{
+    let verifier = Verifier::new(alloc, provider, armor, trusted_root)?;
+    Ok(verifier.verify(alloc, artifact, bundle, policy, now)?)
 }

@@ -6,7 +6,7 @@ use Rattle.sigstore_crypto.proofs.Feeding.{fed_nothing, fed_more}
 use Rattle.sigstore_crypto.proofs.reader.hash_reader.Goals as goal
 
 pub pieces-init : goal.pieces-init
-pieces-init g c = ([], record { later = search rules; given = search rules; fed = fed_nothing _ g.H.HashUpdate.none _; taken = search rules })
+pieces-init g c = ([], record { later = search rules; given = search rules; fed = fed_nothing _ g.met.H.HashUpdate.none _; taken = search rules })
 
 pub returns-then-count-left : goal.returns-then-count-left
 returns-then-count-left g c =
@@ -30,7 +30,7 @@ pieces-preserved g c =
       record {
         later = omega arith;
         given = prepend_more _ _ _ _ _ inv.1.given c.in-Ok.ensures.given;
-        fed = fed_more _ g.H.HashUpdate.more _ _ _ _ _ inv.1.fed (rw take-append-le at c.update_each.ensures);
+        fed = fed_more _ g.met.H.HashUpdate.more _ _ _ _ _ inv.1.fed (rw take-append-le at c.update_each.ensures);
         taken = simp length-append (grind (arith, common_steps, c.in-Ok.ensures.bound));
       },
     )
