@@ -1,11 +1,11 @@
--- The judgement, check by check, and what it means.
-use Rattle.std.proofs.Common.{◌≡◌, ℕ, List, Bool, true, false, if◌then◌else◌, Option, Some, None, Result, Ok, Err, refl, ap, sym, ◌∙◌, subst}
+-- The judgement accepts exactly the bundles that are to be accepted.
+use Rattle.std.proofs.Common.{◌≡◌, ℕ, List, Bool, true, false, ◌||◌, if◌then◌else◌, Option, Some, None, Result, Ok, Err, refl, sym, ap, subst, ◌∙◌}
 use Rattle.std.specs.Prelude.{⊤, IsTrue}
+use Rattle.std.specs.List.{list_all}
 use Rattle.std.proofs.lemmas.Slice.Eq.{bytes_eq-Decides}
 use Rattle.foundation.specs.Steps.{◌>>=◌}
 use Rattle.foundation.specs.Results.{step_ok}
 use Rattle.sigstore_types_parts.specs.declared.hash_algorithm.HashAlgorithm.{HashAlgorithm}
-use Rattle.sigstore_types_parts.specs.declared.hash_algorithm.HashAlgorithm.TheVariants.{Sha2256, Sha2384, Sha2512, Sha3256, Sha3384}
 use Rattle.sigstore_types_parts.specs.declared.error.TypesError.{TypesError}
 use Rattle.sigstore_types.specs.declared.bundle.Bundle.{Bundle}
 use Rattle.sigstore_types.specs.declared.content.SignatureContent.{SignatureContent}
@@ -15,14 +15,18 @@ use Rattle.sigstore_types.specs.Bundle.{structure_of}
 use Rattle.sigstore_crypto.specs.declared.error.Error.{Error as CryptoError}
 use Rattle.sigstore_crypto.specs.declared.scheme.SigningScheme.{SigningScheme}
 use Rattle.sigstore_crypto.specs.declared.key.VerificationKey.{VerificationKey}
-use Rattle.sigstore_crypto.specs.Scheme.{digest_algorithm_of}
+use Rattle.sigstore_crypto.specs.Scheme.{digest_algorithm_of, has_digest}
+use Rattle.sigstore_crypto.specs.Digest.{is_hashed}
 use Rattle.sigstore_crypto.specs.Key.{spki_key_of}
 use Rattle.sigstore_crypto.specs.Good.{Judge, is_good_over}
 use Rattle.sigstore_verify.specs.declared.error.Error.{Error}
-use Rattle.sigstore_verify.specs.declared.error.Error.TheVariants.{SignatureInvalid, ArtifactMismatch}
+use Rattle.sigstore_verify.specs.declared.error.Error.TheVariants.{SignatureInvalid, ArtifactMismatch, UnsupportedArtifact}
+use Rattle.sigstore_verify.specs.declared.judge.Ready.{Ready}
 use Rattle.sigstore_verify.specs.declared.policy.PublicKeyVerificationPolicy.{PublicKeyVerificationPolicy}
 use Rattle.sigstore_verify.specs.declared.report.VerificationResult.{VerificationResult}
-use Rattle.sigstore_verify.specs.Judged.{by_types, by_crypto, scheme_of, needed_of, prepared_of, is_bound, content_judged_of, key_judged_of, key_report_of}
+use Rattle.sigstore_verify.specs.Artifact.{Artifact, Kind, kind_of, digest_of, bytes_of}
+use Rattle.sigstore_verify.specs.Judged.{by_types, by_crypto, scheme_of, needed_of, supported_of, prepared_of, Digests, is_digest, is_bound, subject_by, is_good_of, is_signed}
+use Rattle.sigstore_verify.specs.Judged.{content_judged_of, key_judged_of, key_report_of}
 use Rattle.sigstore_verify.specs.Accepts.{signature_in, digest_in, IsBound, AcceptsKey, AcceptsExactly}
 
 through_types : {A : Type 0} (r : Result A TypesError) (x : A) → by_types r ≡ Ok x → r ≡ Ok x
@@ -33,117 +37,160 @@ pub ok_crypto : {A : Type 0} (r : Result A CryptoError) (x : A) → by_crypto r 
 ok_crypto (Ok y) x h = cc
 ok_crypto (Err e) x h = cc
 
-only_sha256 : (o : Option HashAlgorithm) (x : ⊤) → needed_of o ≡ Ok x → o ≡ Some Sha2256
-only_sha256 None x h = cc
-only_sha256 (Some Sha2256) x h = refl
-only_sha256 (Some Sha2384) x h = cc
-only_sha256 (Some Sha2512) x h = cc
-only_sha256 (Some Sha3256) x h = cc
-only_sha256 (Some Sha3384) x h = cc
+-- ---- the content
 
 both : (b g : Bool) (x : ⊤) → ◌≡◌ {A = Result ⊤ Error} (if b then (if g then Ok tt else Err SignatureInvalid) else Err ArtifactMismatch) (Ok x) → (b ≡ true) × (g ≡ true)
 both true true x h = (refl, refl)
 both true false x h = cc
 both false g x h = cc
 
-bound : (o : Option MessageDigest) (digest : List ℕ) → is_bound o digest ≡ true → IsBound o digest
-bound None digest h = tt
-bound (Some told) digest h = (bytes_eq-Decides told.digest digest).0 h
+is_it : (told : List ℕ) (o : Option (List ℕ)) → is_digest told o ≡ true → o ≡ Some told
+is_it told None h = cc
+is_it told (Some digest) h = ap Some (sym ((bytes_eq-Decides told digest).0 h))
 
-is_told : (o : Option MessageDigest) (digest : List ℕ) → IsBound o digest → is_bound o digest ≡ true
-is_told None digest h = refl
-is_told (Some told) digest h = (bytes_eq-Decides told.digest digest).1 h
+it_is : (told : List ℕ) (o : Option (List ℕ)) → o ≡ Some told → is_digest told o ≡ true
+it_is told None h = cc
+it_is told (Some digest) h = (bytes_eq-Decides told digest).1 (let same : digest ≡ told = cc in sym same)
 
-content_means : (accepts : Judge) (key : VerificationKey) (content : SignatureContent) (digest : List ℕ) (x : ⊤) → content_judged_of accepts key content digest ≡ Ok x
-    → IsBound (digest_in content) digest × IsTrue (is_good_over accepts key digest (signature_in content))
-content_means accepts key (OfMessage message) digest x h =
-    let two = both (is_bound message.message_digest digest) (is_good_over accepts key digest message.signature) x h in
-    (bound message.message_digest digest two.0, two.1)
+bound : (o : Option MessageDigest) (artifact : Artifact) → is_bound o (digest_of artifact) ≡ true → IsBound o artifact
+bound None artifact h = tt
+bound (Some told) artifact h = is_it told.digest (digest_of artifact told.algorithm) h
 
-content_accepted : (accepts : Judge) (key : VerificationKey) (content : SignatureContent) (digest : List ℕ)
-    → IsBound (digest_in content) digest → IsTrue (is_good_over accepts key digest (signature_in content)) → content_judged_of accepts key content digest ≡ Ok tt
-content_accepted accepts key (OfMessage message) digest b g =
-    ap (λ c. if c then (if is_good_over accepts key digest message.signature then Ok tt else Err SignatureInvalid) else Err ArtifactMismatch) (is_told message.message_digest digest b)
-    ∙ ap (λ (c : Bool). if c then Ok tt else Err SignatureInvalid) g
+is_told : (o : Option MessageDigest) (artifact : Artifact) → IsBound o artifact → is_bound o (digest_of artifact) ≡ true
+is_told None artifact h = refl
+is_told (Some told) artifact h = it_is told.digest (digest_of artifact told.algorithm) h
+
+-- the signature is over a subject, and good
+abbrev pub Signs : Judge → VerificationKey → Option (List ℕ) → List ℕ → Type 0
+Signs accepts key o signature = (subject : List ℕ) × (o ≡ Some subject) × IsTrue (is_good_over accepts key subject signature)
+
+signs : (accepts : Judge) (key : VerificationKey) (o : Option (List ℕ)) (signature : List ℕ) → is_good_of accepts key o signature ≡ true → Signs accepts key o signature
+signs accepts key None signature h = cc
+signs accepts key (Some subject) signature h = (subject, refl, h)
+
+signed : (accepts : Judge) (key : VerificationKey) (o : Option (List ℕ)) (signature : List ℕ) → Signs accepts key o signature → is_good_of accepts key o signature ≡ true
+signed accepts key o signature s = ap (λ o. is_good_of accepts key o signature) s.1 ∙ s.2
+
+abbrev subject_of : VerificationKey → Artifact → Option (List ℕ)
+subject_of key artifact = subject_by (digest_algorithm_of key.scheme) (digest_of artifact) (bytes_of artifact)
+
+content_means : (accepts : Judge) (key : VerificationKey) (content : SignatureContent) (artifact : Artifact) (x : ⊤) → content_judged_of accepts key content artifact ≡ Ok x
+    → IsBound (digest_in content) artifact × Signs accepts key (subject_of key artifact) (signature_in content)
+content_means accepts key (OfMessage message) artifact x h =
+    let two = both (is_bound message.message_digest (digest_of artifact)) (is_signed accepts key (digest_of artifact) (bytes_of artifact) message.signature) x h in
+    (bound message.message_digest artifact two.0, signs accepts key (subject_of key artifact) message.signature two.1)
+
+content_accepted : (accepts : Judge) (key : VerificationKey) (content : SignatureContent) (artifact : Artifact)
+    → IsBound (digest_in content) artifact → Signs accepts key (subject_of key artifact) (signature_in content) → content_judged_of accepts key content artifact ≡ Ok tt
+content_accepted accepts key (OfMessage message) artifact b s =
+    ap (λ c. if c then (if is_signed accepts key (digest_of artifact) (bytes_of artifact) message.signature then Ok tt else Err SignatureInvalid) else Err ArtifactMismatch)
+        (is_told message.message_digest artifact b)
+    ∙ ap (λ (c : Bool). if c then Ok tt else Err SignatureInvalid) (signed accepts key (subject_of key artifact) message.signature s)
+
+-- ---- what is prepared
 
 -- the key under that scheme
 abbrev pub key_under : SigningScheme → VerificationKey → VerificationKey
 key_under scheme key = record { scheme = scheme; key = key.key }
 
-abbrev after_scheme : VerificationKey → SigningScheme → Result VerificationKey Error
-after_scheme key scheme = needed_of (digest_algorithm_of scheme) >>= λ _. Ok (key_under scheme key)
+abbrev ready_under : SigningScheme → VerificationKey → SignatureContent → Ready
+ready_under scheme key content = record { key = key_under scheme key; needed = needed_of scheme content }
 
-abbrev after_key : Bundle → VerificationKey → Result VerificationKey Error
-after_key bundle key = by_crypto (scheme_of key.scheme bundle.content) >>= after_scheme key
+abbrev after_scheme : Kind → VerificationKey → Bundle → SigningScheme → Result Ready Error
+after_scheme kind key bundle scheme = supported_of kind scheme (needed_of scheme bundle.content) >>= λ _. Ok (ready_under scheme key bundle.content)
 
-abbrev after_structure : PublicKeyVerificationPolicy → Bundle → Result VerificationKey Error
-after_structure policy bundle = by_crypto (spki_key_of policy.key) >>= after_key bundle
+abbrev after_key : Kind → Bundle → VerificationKey → Result Ready Error
+after_key kind bundle key = by_crypto (scheme_of key.scheme bundle.content) >>= after_scheme kind key bundle
+
+abbrev after_structure : Kind → PublicKeyVerificationPolicy → Bundle → Result Ready Error
+after_structure kind policy bundle = by_crypto (spki_key_of policy.key) >>= after_key kind bundle
 
 -- the parts of what was prepared
-pub record Prepared (policy : PublicKeyVerificationPolicy) (bundle : Bundle) (ready : VerificationKey) : Type 0 where
+pub record Prepared (kind : Kind) (policy : PublicKeyVerificationPolicy) (bundle : Bundle) (ready : Ready) : Type 0 where
   pub structure : structure_of bundle policy.verify_tlog ≡ Ok tt
   pub key : VerificationKey
   pub read : spki_key_of policy.key ≡ Ok key
   pub scheme : SigningScheme
   pub chosen : scheme_of key.scheme bundle.content ≡ Ok scheme
-  pub needed : digest_algorithm_of scheme ≡ Some Sha2256
-  pub same : ready ≡ key_under scheme key
+  pub supported : supported_of kind scheme (needed_of scheme bundle.content) ≡ Ok tt
+  pub same : ready ≡ ready_under scheme key bundle.content
 
-same_ok : (x y : VerificationKey) → ◌≡◌ {A = Result VerificationKey Error} (Ok x) (Ok y) → y ≡ x
+same_ok : (x y : Ready) → ◌≡◌ {A = Result Ready Error} (Ok x) (Ok y) → y ≡ x
 same_ok x y h = cc
 
-pub prepared_means : (policy : PublicKeyVerificationPolicy) (bundle : Bundle) (ready : VerificationKey) → prepared_of policy bundle ≡ Ok ready → Prepared policy bundle ready
+pub prepared_means : (kind : Kind) (policy : PublicKeyVerificationPolicy) (bundle : Bundle) (ready : Ready) → prepared_of kind policy bundle ≡ Ok ready
+    → Prepared kind policy bundle ready
 unfolding prepared_of
-prepared_means policy bundle ready h =
-    let a = step_ok (by_types (structure_of bundle policy.verify_tlog)) (λ _. after_structure policy bundle) ready h in
-    let b = step_ok (by_crypto (spki_key_of policy.key)) (after_key bundle) ready a.2 in
-    let c = step_ok (by_crypto (scheme_of (b.0).scheme bundle.content)) (after_scheme b.0) ready b.2 in
-    let d = step_ok (needed_of (digest_algorithm_of c.0)) (λ _. Ok (key_under c.0 b.0)) ready c.2 in
+prepared_means kind policy bundle ready h =
+    let a = step_ok (by_types (structure_of bundle policy.verify_tlog)) (λ _. after_structure kind policy bundle) ready h in
+    let b = step_ok (by_crypto (spki_key_of policy.key)) (after_key kind bundle) ready a.2 in
+    let c = step_ok (by_crypto (scheme_of (b.0).scheme bundle.content)) (after_scheme kind b.0 bundle) ready b.2 in
+    let d = step_ok (supported_of kind c.0 (needed_of c.0 bundle.content)) (λ _. Ok (ready_under c.0 b.0 bundle.content)) ready c.2 in
     record {
       structure = through_types (structure_of bundle policy.verify_tlog) tt a.1;
       key = b.0;
       read = ok_crypto (spki_key_of policy.key) b.0 b.1;
       scheme = c.0;
       chosen = ok_crypto (scheme_of (b.0).scheme bundle.content) c.0 c.1;
-      needed = only_sha256 (digest_algorithm_of c.0) d.0 d.1;
-      same = same_ok (key_under c.0 b.0) ready d.2;
+      supported = d.1;
+      same = same_ok (ready_under c.0 b.0 bundle.content) ready d.2;
     }
+
+-- what was prepared for an artifact that is read or is a blob has hashers alone
+pub all_hashed : (kind : Kind) (scheme : SigningScheme) (needed : List HashAlgorithm) → kind.has ≡ is_hashed → supported_of kind scheme needed ≡ Ok tt
+    → list_all is_hashed needed ≡ true
+all_hashed kind scheme needed is h = by_test (has_digest scheme || kind.keeps_bytes) (list_all kind.has needed) refl h
+  where
+    by_test : (a b : Bool) → list_all kind.has needed ≡ b → ◌≡◌ {A = Result ⊤ Error} (if a then (if b then Ok tt else Err kind.lacking) else Err UnsupportedArtifact) (Ok tt) → list_all is_hashed needed ≡ true
+    by_test true true e k = subst (λ t. list_all t needed ≡ true) is e
+    by_test true false e k = cc
+    by_test false b e k = cc
+
+-- ---- both ways
 
 same_report : (x y : VerificationResult) → ◌≡◌ {A = Result VerificationResult Error} (Ok x) (Ok y) → y ≡ x
 same_report x y h = cc
 
-means : (accepts : Judge) (policy : PublicKeyVerificationPolicy) (bundle : Bundle) (digest : List ℕ) (report : VerificationResult)
-    → key_judged_of accepts policy bundle digest ≡ Ok report → AcceptsKey accepts policy bundle digest × (report ≡ key_report_of policy)
+abbrev after_ready : Judge → PublicKeyVerificationPolicy → Bundle → Artifact → Ready → Result VerificationResult Error
+after_ready accepts policy bundle artifact ready = content_judged_of accepts ready.key bundle.content artifact >>= λ _. Ok (key_report_of policy)
+
+means : (accepts : Judge) (policy : PublicKeyVerificationPolicy) (bundle : Bundle) (artifact : Artifact) (report : VerificationResult)
+    → key_judged_of accepts policy bundle artifact ≡ Ok report → AcceptsKey accepts policy bundle artifact × (report ≡ key_report_of policy)
 unfolding key_judged_of
-means accepts policy bundle digest report h =
-    let one = step_ok (prepared_of policy bundle) (λ key. content_judged_of accepts key bundle.content digest >>= λ _. Ok (key_report_of policy)) report h in
-    let two = step_ok (content_judged_of accepts one.0 bundle.content digest) (λ _. Ok (key_report_of policy)) report one.2 in
-    let p = prepared_means policy bundle one.0 one.1 in
-    let q = content_means accepts one.0 bundle.content digest two.0 two.1 in (
+means accepts policy bundle artifact report h =
+    let one = step_ok (prepared_of (kind_of artifact) policy bundle) (after_ready accepts policy bundle artifact) report h in
+    let two = step_ok (content_judged_of accepts (one.0).key bundle.content artifact) (λ _. Ok (key_report_of policy)) report one.2 in
+    let p = prepared_means (kind_of artifact) policy bundle one.0 one.1 in
+    let judged = subst (λ (ready : Ready). content_judged_of accepts ready.key bundle.content artifact ≡ Ok two.0) p.same two.1 in
+    let q = content_means accepts (key_under p.scheme p.key) bundle.content artifact two.0 judged in (
       record {
         structure = p.structure;
         key = p.key;
         read = p.read;
         scheme = p.scheme;
         chosen = p.chosen;
-        needed = p.needed;
+        supported = p.supported;
         bound = q.0;
-        signed = subst (λ key. IsTrue (is_good_over accepts key digest (signature_in bundle.content))) p.same q.1;
+        subject = q.1.0;
+        signs = q.1.1;
+        signed = q.1.2;
       },
       same_report (key_report_of policy) report two.2,
     )
 
-accepted : (accepts : Judge) (policy : PublicKeyVerificationPolicy) (bundle : Bundle) (digest : List ℕ) (report : VerificationResult)
-    → AcceptsKey accepts policy bundle digest × (report ≡ key_report_of policy) → key_judged_of accepts policy bundle digest ≡ Ok report
+accepted : (accepts : Judge) (policy : PublicKeyVerificationPolicy) (bundle : Bundle) (artifact : Artifact) (report : VerificationResult)
+    → AcceptsKey accepts policy bundle artifact × (report ≡ key_report_of policy) → key_judged_of accepts policy bundle artifact ≡ Ok report
 unfolding key_judged_of prepared_of
-accepted accepts policy bundle digest report h =
+accepted accepts policy bundle artifact report h =
     let a = h.0 in
-    ap (λ r. (by_types r >>= λ _. after_structure policy bundle) >>= λ key. content_judged_of accepts key bundle.content digest >>= λ _. Ok (key_report_of policy)) a.structure
-    ∙ ap (λ r. (by_crypto r >>= after_key bundle) >>= λ key. content_judged_of accepts key bundle.content digest >>= λ _. Ok (key_report_of policy)) a.read
-    ∙ ap (λ r. (by_crypto r >>= after_scheme a.key) >>= λ key. content_judged_of accepts key bundle.content digest >>= λ _. Ok (key_report_of policy)) a.chosen
-    ∙ ap (λ o. (needed_of o >>= λ _. Ok (key_under a.scheme a.key)) >>= λ key. content_judged_of accepts key bundle.content digest >>= λ _. Ok (key_report_of policy)) a.needed
-    ∙ ap (λ r. r >>= λ _. Ok (key_report_of policy)) (content_accepted accepts (key_under a.scheme a.key) bundle.content digest a.bound a.signed)
+    let kind = kind_of artifact in
+    let judge = after_ready accepts policy bundle artifact in
+    ap (λ r. (by_types r >>= λ _. after_structure kind policy bundle) >>= judge) a.structure
+    ∙ ap (λ r. (by_crypto r >>= after_key kind bundle) >>= judge) a.read
+    ∙ ap (λ r. (by_crypto r >>= after_scheme kind a.key bundle) >>= judge) a.chosen
+    ∙ ap (λ r. (r >>= λ _. Ok (ready_under a.scheme a.key bundle.content)) >>= judge) a.supported
+    ∙ ap (λ r. r >>= λ _. Ok (key_report_of policy)) (content_accepted accepts (key_under a.scheme a.key) bundle.content artifact a.bound (a.subject, a.signs, a.signed))
     ∙ ap Ok (sym h.1)
 
 pub accepts_exactly : AcceptsExactly
-accepts_exactly accepts policy bundle digest report = (means accepts policy bundle digest report, accepted accepts policy bundle digest report)
+accepts_exactly accepts policy bundle artifact report = (means accepts policy bundle artifact report, accepted accepts policy bundle artifact report)

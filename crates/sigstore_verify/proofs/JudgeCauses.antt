@@ -1,15 +1,10 @@
 -- Each refusal of the judgement has its cause.
-use Rattle.std.proofs.Common.{◌≡◌, ◌≢◌, ◌⊎◌, inl, inr, ℕ, List, Bool, true, false, if◌then◌else◌, Option, Some, None, Result, Ok, Err, refl, sym, ap, ◌∙◌, subst}
+use Rattle.std.proofs.Common.{◌≡◌, ◌≢◌, ◌⊎◌, inl, inr, ℕ, List, Bool, true, false, ◌||◌, if◌then◌else◌, Option, Some, None, Result, Ok, Err, refl, sym, ap, ◌∙◌, subst}
 use Rattle.std.specs.Prelude.{⊤}
-use Rattle.std.proofs.lemmas.Slice.Eq.{bytes_eq-Decides}
-use Rattle.sha2.specs.Sha256.{sha256}
 use Rattle.foundation.specs.Steps.{◌>>=◌}
 use Rattle.foundation.specs.Watched.{Watched}
 use Rattle.foundation.specs.Results.{err_same, refused_at}
 use Rattle.sigstore_types_parts.specs.declared.form.Form.{Form}
-use Rattle.sigstore_types_parts.specs.declared.form.Form.TheVariants as form
-use Rattle.sigstore_types_parts.specs.declared.hash_algorithm.HashAlgorithm.{HashAlgorithm}
-use Rattle.sigstore_types_parts.specs.declared.hash_algorithm.HashAlgorithm.TheVariants.{Sha2256, Sha2384, Sha2512, Sha3256, Sha3384}
 use Rattle.sigstore_types_parts.specs.declared.error.TypesError.{TypesError}
 use Rattle.sigstore_types_parts.specs.declared.error.TypesError.TheVariants as types
 use Rattle.sigstore_types.specs.declared.bundle.Bundle.{Bundle}
@@ -22,19 +17,29 @@ use Rattle.sigstore_crypto.specs.declared.error.Error.{Error as CryptoError}
 use Rattle.sigstore_crypto.specs.declared.error.Error.TheVariants as crypto
 use Rattle.sigstore_crypto.specs.declared.key.VerificationKey.{VerificationKey}
 use Rattle.sigstore_crypto.specs.declared.scheme.SigningScheme.{SigningScheme}
-use Rattle.sigstore_crypto.specs.Good.{Judge, is_good_over}
 use Rattle.sigstore_crypto.specs.Key.{spki_key_of}
-use Rattle.sigstore_crypto.specs.Scheme.{digest_algorithm_of}
 use Rattle.sigstore_verify.specs.declared.error.Error.{Error}
 use Rattle.sigstore_verify.specs.declared.error.Error.TheVariants as verify
 use Rattle.sigstore_verify.specs.declared.policy.PublicKeyVerificationPolicy.{PublicKeyVerificationPolicy}
-use Rattle.sigstore_verify.specs.Accepts.{signature_in, digest_in}
-use Rattle.sigstore_verify.specs.Cause.{IsRefusedAs, IsRead, HasScheme, LacksScheme, key_unread, no_scheme, trust_unbuilt, bundle_unbuilt, scheme_unbuilt, digest_unbuilt, JudgeCause}
 use Rattle.sigstore_verify.specs.Error.{error_of_crypto, lowered}
-use Rattle.sigstore_verify.specs.Judged.{by_crypto, by_types, scheme_of, needed_of, prepared_of, is_bound, content_judged_of, key_judged_of, ready_of}
+use Rattle.std.specs.List.{list_all}
+use Rattle.std.proofs.lemmas.Slice.Eq.{bytes_eq-Decides}
+use Rattle.sigstore_types_parts.specs.declared.hash_algorithm.HashAlgorithm.{HashAlgorithm}
+use Rattle.sigstore_types.specs.declared.trusted_root.TrustedRoot.{TrustedRoot}
+use Rattle.sigstore_crypto.specs.Digest.{is_hashed}
+use Rattle.sigstore_crypto.specs.Good.{Judge}
+use Rattle.sigstore_crypto.specs.Scheme.{has_digest}
+use Rattle.sigstore_verify.specs.declared.judge.Ready.{Ready}
+use Rattle.sigstore_verify.specs.Accepts.{signature_in, digest_in}
+use Rattle.sigstore_verify.specs.Artifact.{Artifact, Read, read_kind, digest_of}
+use Rattle.sigstore_verify.specs.Cause.{IsRefusedAs, IsRead, HasScheme, HasBundle, LacksScheme, key_unread, no_scheme, no_hasher, IsUnusable}
+use Rattle.sigstore_verify.specs.Cause.{trust_unbuilt, unusable, bundle_unbuilt, scheme_unbuilt, KeyCause, CauseUnder, JudgeCause}
+use Rattle.sigstore_verify.specs.FromRoot.{or_fault, trust_fault, bundle_fault, JudgesBundle, trust_refused, verifier_refused, bundle_refused, judged}
+use Rattle.sigstore_verify.specs.Given.{Asked, terms_of}
+use Rattle.sigstore_verify.specs.Judged.{by_crypto, by_types, scheme_of, needed_of, supported_of, prepared_of, is_digest, is_bound, is_signed, content_judged_of, key_judged_of, judged_by, ready_of}
 use Rattle.sigstore_verify.specs.Policy.{Meaning, PublicKey}
 use Rattle.sigstore_verify.specs.Promise as promise
-use Rattle.sigstore_verify.specs.FromRoot.{or_fault, trust_fault, bundle_fault, JudgesBundle, trust_refused, verifier_refused, bundle_refused, judged}
+use Rattle.sigstore_verify.specs.Trust.{usable_of}
 use Rattle.sigstore_verify.proofs.Accepts.{ok_crypto, Prepared, prepared_means}
 
 by_fault : {T : Type 0} (fault : TypesError → Error) (r : Result T TypesError) (e : Error) → or_fault fault r ≡ Err e → IsRefusedAs fault r e
@@ -81,20 +86,28 @@ as_lowered o types.NoMemory = inl refl
 as_lowered o (types.Unbuilt f) = inr (inl (f, refl, refl))
 
 -- the artifact's digest is another than the one that is told
-told_another : {C : Type 0} (o : Option MessageDigest) (digest : List ℕ) → is_bound o digest ≡ false → ((told : MessageDigest) → o ≡ Some told → told.digest ≢ digest → C) → C
-told_another None digest h f = cc
-told_another (Some told) digest h f = f told refl (λ same. let equal = (bytes_eq-Decides told.digest digest).1 same in cc)
+told_another : {C : Type 0} (o : Option MessageDigest) (artifact : Artifact) → is_bound o (digest_of artifact) ≡ false
+    → ((told : MessageDigest) → o ≡ Some told → digest_of artifact told.algorithm ≢ Some told.digest → C) → C
+told_another None artifact h f = cc
+told_another (Some told) artifact h f = f told refl (λ same. not_it (digest_of artifact told.algorithm) h same)
+  where
+    not_it : (o : Option (List ℕ)) → is_digest told.digest o ≡ false → o ≡ Some told.digest → ⊥
+    not_it None h same = cc
+    not_it (Some digest) h same =
+        let is : digest ≡ told.digest = cc in
+        let equal = (bytes_eq-Decides told.digest digest).1 (sym is) in
+        cc
 
-module _ (accepts : Judge) (policy : PublicKeyVerificationPolicy) (file bundle : List ℕ) (source source' : Watched (List ℕ)) (max : ℕ) where
+module _ (accepts : Judge) (policy : PublicKeyVerificationPolicy) (asked : Asked) (file : List ℕ) (source source' : Watched (List ℕ)) where
   abbrev Cause : Error → Type 0
-  Cause e = JudgeCause accepts (PublicKey policy) file bundle source source' max e
+  Cause e = KeyCause accepts policy asked file source source' e
 
   by_trust : (e : Error) (x : TypesError) → trusted_root_of_bytes file ≡ Err x → trust_fault x ≡ e → IsLowered verify.TrustRoot x → Cause e
   by_trust e x h q (inl want) = subst Cause (sym want ∙ q) tt
   by_trust e x h q (inr (inl (f, same, is))) = subst Cause (sym is ∙ q) (trust_unbuilt (h ∙ ap Err same))
   by_trust e x h q (inr (inr is)) = subst Cause (sym is ∙ q) (x, h, is)
 
-  by_bundle : (e : Error) (x : TypesError) → bundle_of_bytes bundle ≡ Err x → bundle_fault x ≡ e → IsLowered verify.InvalidBundle x → Cause e
+  by_bundle : (e : Error) (x : TypesError) → bundle_of_bytes asked.bundle ≡ Err x → bundle_fault x ≡ e → IsLowered verify.InvalidBundle x → Cause e
   by_bundle e x h q (inl want) = subst Cause (sym want ∙ q) tt
   by_bundle e x h q (inr (inl (f, same, is))) = subst Cause (sym is ∙ q) (bundle_unbuilt (h ∙ ap Err same))
   by_bundle e x h q (inr (inr is)) = subst Cause (sym is ∙ q) (x, h, is)
@@ -120,35 +133,30 @@ module _ (accepts : Judge) (policy : PublicKeyVerificationPolicy) (file bundle :
   wants verify.NoMemory f = tt
   wants (verify.Unbuilt a) f = f (λ h. cc)
 
-  by_scheme : (e : Error) → LacksScheme policy bundle e → Cause e
+  -- the refusal of a lower call, by what it is here
+  by_kind : (d e : Error) → d ≡ e → IsKind d → LacksScheme policy asked.bundle e → Cause e
+  by_kind d e same (inl is) l = subst Cause (sym (sym same ∙ is)) (inl (subst (LacksScheme policy asked.bundle) (sym same ∙ is) l))
+  by_kind d e same (inr (inl is)) l = subst Cause (sym (sym same ∙ is.1)) (scheme_unbuilt (subst (LacksScheme policy asked.bundle) (sym same ∙ is.1) l))
+  by_kind d e same (inr (inr is)) l = subst Cause (sym (sym same ∙ is)) tt
+
+  by_scheme : (e : Error) → LacksScheme policy asked.bundle e → Cause e
   by_scheme e (key_unread r) = by_kind (error_of_crypto r.0) e r.2 (as_crypto r.0) (key_unread r)
-    where
-      by_kind : (d e : Error) → d ≡ e → IsKind d → LacksScheme policy bundle e → Cause e
-      by_kind d e same (inl is) l = subst Cause (sym (sym same ∙ is)) (subst (LacksScheme policy bundle) (sym same ∙ is) l)
-      by_kind d e same (inr (inl is)) l = subst Cause (sym (sym same ∙ is.1)) (scheme_unbuilt (subst (LacksScheme policy bundle) (sym same ∙ is.1) l))
-      by_kind d e same (inr (inr is)) l = subst Cause (sym (sym same ∙ is)) tt
   by_scheme e (no_scheme reading key read k r) = by_kind (error_of_crypto r.0) e r.2 (as_crypto r.0) (no_scheme reading key read k r)
-    where
-      by_kind : (d e : Error) → d ≡ e → IsKind d → LacksScheme policy bundle e → Cause e
-      by_kind d e same (inl is) l = subst Cause (sym (sym same ∙ is)) (subst (LacksScheme policy bundle) (sym same ∙ is) l)
-      by_kind d e same (inr (inl is)) l = subst Cause (sym (sym same ∙ is.1)) (scheme_unbuilt (subst (LacksScheme policy bundle) (sym same ∙ is.1) l))
-      by_kind d e same (inr (inr is)) l = subst Cause (sym (sym same ∙ is)) tt
+  by_scheme e (no_hasher is lacking same) = subst Cause (sym same) (inl (no_hasher is lacking refl))
 
   -- the log is asked for
-  unstructured : (reading : Bundle) → IsRead bundle reading → (b : Bool) → policy.verify_tlog ≡ b → (e : Error) → by_types (structure_of reading b) ≡ Err e → Cause e
-  unstructured reading read true asked e h = subst Cause (err_same verify.Bundle e h) (record { reading = reading; read = read; asked = asked; lacking = refl })
-  unstructured reading read false asked e h = cc
+  unstructured : (reading : Bundle) → IsRead asked.bundle reading → (b : Bool) → policy.verify_tlog ≡ b → (e : Error) → by_types (structure_of reading b) ≡ Err e → Cause e
+  unstructured reading read true asks e h = subst Cause (err_same verify.Bundle e h) (record { reading = reading; read = read; asked = asks; lacking = refl })
+  unstructured reading read false asks e h = cc
 
-  undigested : (reading : Bundle) → IsRead bundle reading → (scheme : SigningScheme) (key : VerificationKey) → HasScheme policy reading scheme key → (o : Option HashAlgorithm) → digest_algorithm_of scheme ≡ o
-      → (e : Error) → needed_of o ≡ Err e → Cause e
-  undigested reading read scheme key has None is e h = subst Cause (err_same verify.UnsupportedArtifact e h) (record { reading = reading; read = read; scheme = scheme; key = key; has = has; lacking = is })
-  undigested reading read scheme key has (Some Sha2256) is e h = cc
-  undigested reading read scheme key has (Some Sha2384) is e h = subst Cause (err_same (verify.Unbuilt form.Digest) e h) (digest_unbuilt reading scheme key Sha2384 read has is (λ p. cc) refl)
-  undigested reading read scheme key has (Some Sha2512) is e h = subst Cause (err_same (verify.Unbuilt form.Digest) e h) (digest_unbuilt reading scheme key Sha2512 read has is (λ p. cc) refl)
-  undigested reading read scheme key has (Some Sha3256) is e h = subst Cause (err_same (verify.Unbuilt form.Digest) e h) (digest_unbuilt reading scheme key Sha3256 read has is (λ p. cc) refl)
-  undigested reading read scheme key has (Some Sha3384) is e h = subst Cause (err_same (verify.Unbuilt form.Digest) e h) (digest_unbuilt reading scheme key Sha3384 read has is (λ p. cc) refl)
+  -- the artifact can't be judged
+  unsupported : (is : HasBundle policy asked.bundle) → (a b : Bool) → has_digest is.scheme ≡ a → list_all is_hashed (needed_of is.scheme is.reading.content) ≡ b → (e : Error)
+      → ◌≡◌ {A = Result ⊤ Error} (if a || false then (if b then Ok tt else Err verify.Crypto) else Err verify.UnsupportedArtifact) (Err e) → Cause e
+  unsupported is true true has hashed e h = cc
+  unsupported is true false has hashed e h = by_scheme e (no_hasher is hashed (sym (err_same verify.Crypto e h)))
+  unsupported is false b has hashed e h = subst Cause (err_same verify.UnsupportedArtifact e h) (record { is = is; lacking = has })
 
-  unprepared : (reading : Bundle) → IsRead bundle reading → (e : Error) → prepared_of policy reading ≡ Err e → Cause e
+  unprepared : (reading : Bundle) → IsRead asked.bundle reading → (e : Error) → prepared_of read_kind policy reading ≡ Err e → Cause e
   unfolding prepared_of
   unprepared reading read e h =
       refused_at (by_types (structure_of reading policy.verify_tlog)) _ e h (unstructured reading read policy.verify_tlog refl e) (λ u p k.
@@ -156,61 +164,74 @@ module _ (accepts : Judge) (policy : PublicKeyVerificationPolicy) (file bundle :
       let known = ok_crypto (spki_key_of policy.key) key q in
       refused_at (by_crypto (scheme_of key.scheme reading.content)) _ e l (λ r. by_scheme e (no_scheme reading key read known (through_crypto (scheme_of key.scheme reading.content) e r))) (λ scheme r m.
       let has : HasScheme policy reading scheme key = record { read = known; chosen = ok_crypto (scheme_of key.scheme reading.content) scheme r } in
-      refused_at (needed_of (digest_algorithm_of scheme)) _ e m (undigested reading read scheme key has (digest_algorithm_of scheme) refl e) (λ u s n. cc))))
+      let is : HasBundle policy asked.bundle = record { reading = reading; read = read; scheme = scheme; key = key; has = has } in
+      refused_at (supported_of read_kind scheme (needed_of scheme reading.content)) _ e m (unsupported is (has_digest scheme) (list_all is_hashed (needed_of scheme reading.content)) refl refl e) (λ u s n. cc))))
 
-  mismatched : (reading : Bundle) → IsRead bundle reading → (ready : VerificationKey) → Prepared policy reading ready → (bytes : List ℕ) → promise.ReadWhole source source' max bytes → (content : SignatureContent) → reading.content ≡ content
-      → (b g : Bool) → is_bound (digest_in content) (sha256 bytes) ≡ b → is_good_over accepts ready (sha256 bytes) (signature_in content) ≡ g → (e : Error)
+  mismatched : (reading : Bundle) → IsRead asked.bundle reading → (ready : Ready) → Prepared read_kind policy reading ready → (bytes : List ℕ) → promise.ReadWhole source source' asked.max bytes → (content : SignatureContent) → reading.content ≡ content
+      → (b g : Bool) → is_bound (digest_in content) (digest_of (Read bytes)) ≡ b → is_signed accepts ready.key (digest_of (Read bytes)) None (signature_in content) ≡ g → (e : Error)
       → ◌≡◌ {A = Result ⊤ Error} (if b then (if g then Ok tt else Err verify.SignatureInvalid) else Err verify.ArtifactMismatch) (Err e) → Cause e
   mismatched reading read ready p bytes whole content is true true bound good e h = cc
   mismatched reading read ready p bytes whole content is true false bound good e h =
       subst Cause (err_same verify.SignatureInvalid e h) (record {
-        reading = reading;
-        read = read;
-        scheme = p.scheme;
-        key = p.key;
-        has = record { read = p.read; chosen = p.chosen };
-        needed = p.needed;
+        is = record { reading = reading; read = read; scheme = p.scheme; key = p.key; has = record { read = p.read; chosen = p.chosen } };
         bytes = bytes;
         whole = whole;
-        unsigned = ap (λ k. is_good_over accepts k (sha256 bytes) (signature_in reading.content)) (sym p.same) ∙ ap (λ c. is_good_over accepts ready (sha256 bytes) (signature_in c)) is ∙ good;
+        unsigned = ap (λ (r : Ready). is_signed accepts r.key (digest_of (Read bytes)) None (signature_in reading.content)) (sym p.same)
+            ∙ ap (λ c. is_signed accepts ready.key (digest_of (Read bytes)) None (signature_in c)) is ∙ good;
       })
   mismatched reading read ready p bytes whole content is false g bound good e h =
-      told_another (digest_in content) (sha256 bytes) bound (λ told tells other.
+      told_another (digest_in content) (Read bytes) bound (λ told tells other.
       subst Cause (err_same verify.ArtifactMismatch e h) (record { reading = reading; read = read; told = told; tells = ap digest_in is ∙ tells; bytes = bytes; whole = whole; other = other }))
 
-  unaccepted : (reading : Bundle) → IsRead bundle reading → (ready : VerificationKey) → Prepared policy reading ready → (bytes : List ℕ) → promise.ReadWhole source source' max bytes → (content : SignatureContent) → reading.content ≡ content
-      → (e : Error) → content_judged_of accepts ready content (sha256 bytes) ≡ Err e → Cause e
+  unaccepted : (reading : Bundle) → IsRead asked.bundle reading → (ready : Ready) → Prepared read_kind policy reading ready → (bytes : List ℕ) → promise.ReadWhole source source' asked.max bytes → (content : SignatureContent) → reading.content ≡ content
+      → (e : Error) → content_judged_of accepts ready.key content (Read bytes) ≡ Err e → Cause e
   unaccepted reading read ready p bytes whole (OfMessage message) is e h =
-      mismatched reading read ready p bytes whole (OfMessage message) is (is_bound message.message_digest (sha256 bytes)) (is_good_over accepts ready (sha256 bytes) message.signature) refl refl e h
+      mismatched reading read ready p bytes whole (OfMessage message) is (is_bound message.message_digest (digest_of (Read bytes))) (is_signed accepts ready.key (digest_of (Read bytes)) None message.signature) refl refl e h
 
-  unjudged : (reading : Bundle) → IsRead bundle reading → (bytes : List ℕ) → promise.ReadWhole source source' max bytes → (e : Error) → key_judged_of accepts policy reading (sha256 bytes) ≡ Err e → Cause e
+  unjudged : (reading : Bundle) → IsRead asked.bundle reading → (bytes : List ℕ) → promise.ReadWhole source source' asked.max bytes → (e : Error) → key_judged_of accepts policy reading (Read bytes) ≡ Err e → Cause e
   unfolding key_judged_of
   unjudged reading read bytes whole e h =
-      refused_at (prepared_of policy reading) _ e h (unprepared reading read e) (λ ready p k.
-      refused_at (content_judged_of accepts ready reading.content (sha256 bytes)) _ e k (unaccepted reading read ready (prepared_means policy reading ready p) bytes whole reading.content refl e) (λ u q l. cc))
+      refused_at (prepared_of read_kind policy reading) _ e h (unprepared reading read e) (λ (ready : Ready) p k.
+      refused_at (content_judged_of accepts ready.key reading.content (Read bytes)) _ e k (unaccepted reading read ready (prepared_means read_kind policy reading ready p) bytes whole reading.content refl e) (λ u q l. cc))
 
-  before_reading : (reading : Bundle) → IsRead bundle reading → (e : Error) → ready_of (PublicKey policy) reading ≡ Err e → Cause e
-  before_reading reading read e h = refused_at (prepared_of policy reading) _ e h (unprepared reading read e) (λ ready p k. cc)
+  before_reading : (reading : Bundle) → IsRead asked.bundle reading → (e : Error) → ready_of read_kind (PublicKey policy) reading ≡ Err e → Cause e
+  before_reading reading read e h = refused_at (prepared_of read_kind policy reading) _ e h (unprepared reading read e) (λ ready p k. cc)
 
-  by_stage : (reading : Bundle) → IsRead bundle reading → (e : Error) → promise.Cause accepts (PublicKey policy) reading source source' max e → Cause e
-  by_stage reading read e (inl want) = subst Cause (sym want) tt
-  by_stage reading read e (inr (inl before)) = before_reading reading read e before.refusal
-  by_stage reading read e (inr (inr (inl within))) = subst Cause (sym within.refusal.1) within.refusal.2
-  by_stage reading read e (inr (inr (inr after))) = unjudged reading read after.refusal.0 after.refusal.1 e after.refusal.2
+-- the judgement's refusal under a key, with the parts of what is asked named
+key_refused : (asked : Asked) (policy : PublicKeyVerificationPolicy) (file : List ℕ) (source source' : Watched (List ℕ)) (e : Error) → asked.policy ≡ PublicKey policy
+    → JudgesBundle asked file source source' (Err e) → KeyCause asked.crypto.accepts policy asked file source source' e
+key_refused asked policy file source source' e under (trust_refused d h s n) =
+    subst (Cause asked.crypto.accepts policy asked file source source') (err_same d e (sym n))
+        (wants asked.crypto.accepts policy asked file source source' d (λ other. let r = by_fault trust_fault (trusted_root_of_bytes file) d (h other) in
+        by_trust asked.crypto.accepts policy asked file source source' d r.0 r.1 r.2 (as_lowered verify.TrustRoot r.0)))
+key_refused asked policy file source source' e under (verifier_refused trust d t h s n) =
+    subst (Cause asked.crypto.accepts policy asked file source source') (err_same d e (sym n))
+        (wants asked.crypto.accepts policy asked file source source' d (λ other. let r = h other in cc))
+key_refused asked policy file source source' e under (bundle_refused trust d t u h s n) =
+    subst (Cause asked.crypto.accepts policy asked file source source') (err_same d e (sym n))
+        (wants asked.crypto.accepts policy asked file source source' d (λ other. let r = by_fault bundle_fault (bundle_of_bytes asked.bundle) d (h other) in
+        by_bundle asked.crypto.accepts policy asked file source source' d r.0 r.1 r.2 (as_lowered verify.InvalidBundle r.0)))
+key_refused asked policy file source source' e under (judged trust reading t u b v) = by_stage v.refused
+  where
+    read_of : (r : Result Bundle TypesError) (x : Bundle) → or_fault bundle_fault r ≡ Ok x → r ≡ Ok x
+    read_of (Ok y) x h = cc
+    read_of (Err t) x h = cc
 
-  key_refused : (e : Error) → JudgesBundle accepts (PublicKey policy) file bundle source source' max (Err e) → Cause e
-  key_refused e (trust_refused d h s n) =
-      subst Cause (err_same d e (sym n)) (wants d (λ other. let r = by_fault trust_fault (trusted_root_of_bytes file) d (h other) in by_trust d r.0 r.1 r.2 (as_lowered verify.TrustRoot r.0)))
-  key_refused e (verifier_refused trust d t h s n) = subst Cause (err_same d e (sym n)) (wants d (λ other. let r = h other in cc))
-  key_refused e (bundle_refused trust d t u h s n) =
-      subst Cause (err_same d e (sym n)) (wants d (λ other. let r = by_fault bundle_fault (bundle_of_bytes bundle) d (h other) in by_bundle d r.0 r.1 r.2 (as_lowered verify.InvalidBundle r.0)))
-  key_refused e (judged trust reading t u b v) = by_stage reading (read_of (bundle_of_bytes bundle) reading b) e v.refused
-    where
-      read_of : (r : Result Bundle TypesError) (x : Bundle) → or_fault bundle_fault r ≡ Ok x → r ≡ Ok x
-      read_of (Ok y) x h = cc
-      read_of (Err t) x h = cc
+    read = read_of (bundle_of_bytes asked.bundle) reading b
+
+    by_stage : promise.Cause (terms_of asked trust) reading source source' asked.max e → KeyCause asked.crypto.accepts policy asked file source source' e
+    by_stage (inl want) = subst (Cause asked.crypto.accepts policy asked file source source') (sym want) tt
+    by_stage (inr (inl before)) =
+        before_reading asked.crypto.accepts policy asked file source source' reading read e (subst (λ p. ready_of read_kind p reading ≡ Err e) under before.refusal)
+    by_stage (inr (inr (inl within))) = subst (Cause asked.crypto.accepts policy asked file source source') (sym within.refusal.1) within.refusal.2
+    by_stage (inr (inr (inr after))) =
+        unjudged asked.crypto.accepts policy asked file source source' reading read after.refusal.0 after.refusal.1 e
+        (subst (λ p. judged_by (terms_of asked trust) p reading (Read after.refusal.0) ≡ Err e) under after.refusal.2)
 
 -- the judgement's refusal, under a policy of any kind
-pub judge_refused : (accepts : Judge) (policy : Meaning) (file bundle : List ℕ) (source source' : Watched (List ℕ)) (max : ℕ) (e : Error) → JudgesBundle accepts policy file bundle source source' max (Err e)
-    → JudgeCause accepts policy file bundle source source' max e
-judge_refused accepts (PublicKey policy) file bundle source source' max e j = key_refused accepts policy file bundle source source' max e j
+pub judge_refused : (asked : Asked) (file : List ℕ) (source source' : Watched (List ℕ)) (e : Error) → JudgesBundle asked file source source' (Err e)
+    → JudgeCause asked file source source' e
+judge_refused asked file source source' e j = by_policy asked.policy refl
+  where
+    by_policy : (p : Meaning) → asked.policy ≡ p → CauseUnder asked.policy asked file source source' e
+    by_policy (PublicKey policy) is = subst (λ p. CauseUnder p asked file source source' e) (sym is) (key_refused asked policy file source source' e is j)

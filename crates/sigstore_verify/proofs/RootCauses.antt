@@ -13,7 +13,7 @@ use Rattle.sigstore_verify.specs.declared.error.Error.{Error}
 use Rattle.sigstore_verify.specs.declared.error.Error.TheVariants as verify
 use Rattle.sigstore_verify.specs.declared.from_root.RootFault.{RootFault}
 use Rattle.sigstore_verify.specs.Cause.{JudgeCause, RootCause}
-use Rattle.sigstore_verify.specs.Given.{Anchor, Given, Outside}
+use Rattle.sigstore_verify.specs.Given.{Anchor, Given, Outside, asked_by}
 use Rattle.sigstore_verify.specs.FromRoot as top
 use Rattle.sigstore_verify.specs.FromRoot.{trust_path, TrustsChain, GivesChain, root_of_tuf, root_of_verify, Runs}
 use Rattle.sigstore_verify.proofs.JudgeCauses.{judge_refused}
@@ -59,7 +59,7 @@ module _ (given : Given) (before after : Outside) where
   by_tuf (tuf.Unbuilt a) h s = (h, s)
 
   by_verify : (e : Error) (chain : TrustChain) → TrustsChain given.anchor chain
-      → JudgeCause given.anchor.crypto.accepts given.policy chain.file given.bundle before.source after.source given.max e → Cause (root_of_verify e chain)
+      → JudgeCause (asked_by given) chain.file before.source after.source e → Cause (root_of_verify e chain)
   by_verify (verify.IdentityMismatch a b) chain t h = (t, h)
   by_verify (verify.IssuerMismatch a b) chain t h = (t, h)
   by_verify verify.SignatureInvalid chain t h = (t, h)
@@ -84,5 +84,5 @@ module _ (given : Given) (before after : Outside) where
   runs_cause fault (top.chain_refused e c s r) = subst Cause (err_same (root_of_tuf e) fault (sym r)) (by_tuf e (chain_cause given.anchor before.repo after.repo e c) s)
   runs_cause fault (top.judgement_refused chain e c j r) =
       subst Cause (err_same (root_of_verify e chain) fault (sym r))
-      (by_verify e chain (chain_trusts given.anchor before.repo after.repo chain c) (judge_refused given.anchor.crypto.accepts given.policy chain.file given.bundle before.source after.source given.max e j))
+      (by_verify e chain (chain_trusts given.anchor before.repo after.repo chain c) (judge_refused (asked_by given) chain.file before.source after.source e j))
   runs_cause fault (top.accepted rooted c j r) = cc

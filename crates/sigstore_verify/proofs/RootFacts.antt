@@ -3,7 +3,6 @@ use Rattle.std.proofs.Common.{◌≡◌, ℕ, List, Result, Ok, Err, ap, sym, su
 use Rattle.foundation.specs.Watched.{Watched}
 use Rattle.foundation.specs.Results.{no_both}
 use Rattle.sigstore_types_parts.specs.declared.error.TypesError.{TypesError}
-use Rattle.sigstore_crypto.specs.Good.{Judge}
 use Rattle.sigstore_tuf.specs.Repository.{Folders}
 use Rattle.sigstore_tuf.specs.declared.chain.TrustChain.{TrustChain}
 use Rattle.sigstore_tuf.specs.Target.{GetsTarget}
@@ -14,17 +13,20 @@ use Rattle.sigstore_verify.specs.declared.from_root.Rooted.{Rooted}
 use Rattle.sigstore_types.specs.declared.bundle.Bundle.{Bundle}
 use Rattle.sigstore_verify.specs.declared.report.VerificationResult.{VerificationResult}
 use Rattle.sigstore_verify.specs.Policy.{Meaning, PublicKey}
-use Rattle.sigstore_verify.specs.Given.{Anchor, Given, Outside}
-use Rattle.sigstore_verify.specs.Judged.{judged_of}
+use Rattle.sigstore_verify.specs.Given.{Anchor, Given, Outside, asked_by, terms_of}
+use Rattle.sigstore_verify.specs.Accepts.{AcceptsBy}
+use Rattle.sigstore_verify.specs.Artifact.{Artifact, Read}
+use Rattle.sigstore_verify.specs.Judged.{Terms, judged_by}
 use Rattle.sigstore_verify.proofs.Accepts.{accepts_exactly}
-use Rattle.sigstore_verify.specs.FromRoot.{or_fault, trust_fault, bundle_fault, trust_path, TrustsChain, GivesChain, root_refused, refresh_refused, target_refused, chain_given, JudgesGiven, trust_refused, verifier_refused, bundle_refused, judged, AcceptsUnder, IsAccepted}
+use Rattle.sigstore_verify.specs.FromRoot.{or_fault, trust_fault, bundle_fault, trust_path, TrustsChain, GivesChain, root_refused, refresh_refused, target_refused, chain_given, JudgesGiven, trust_refused, verifier_refused, bundle_refused, judged, IsAccepted}
 
 read_of : {T : Type 0} (fault : TypesError → Error) (r : Result T TypesError) (x : T) → or_fault fault r ≡ Ok x → r ≡ Ok x
 read_of fault (Ok y) x h = let same : y ≡ x = cc in ap Ok same
 read_of fault (Err e) x h = cc
 
-under : (accepts : Judge) (policy : Meaning) (bundle : Bundle) (digest : List ℕ) (report : VerificationResult) → judged_of accepts policy bundle digest ≡ Ok report → AcceptsUnder accepts policy bundle digest
-under accepts (PublicKey policy) bundle digest report h = ((accepts_exactly accepts policy bundle digest report).0 h).0
+under : (terms : Terms) (policy : Meaning) (bundle : Bundle) (artifact : Artifact) (report : VerificationResult) → judged_by terms policy bundle artifact ≡ Ok report
+    → AcceptsBy terms policy bundle artifact
+under terms (PublicKey policy) bundle artifact report h = ((accepts_exactly terms.crypto.accepts policy bundle artifact report).0 h).0
 
 -- a chain that is given is trusted from the root
 pub chain_trusts : (anchor : Anchor) (repo repo' : Watched Folders) (chain : TrustChain) → GivesChain anchor repo repo' (Ok chain) → TrustsChain anchor chain
@@ -55,6 +57,6 @@ module _ (given : Given) (before after : Outside) (rooted : Rooted) where
         bytes = a.0;
         whole = a.1.read;
         judged = a.1.judged;
-        means = under given.anchor.crypto.accepts given.policy reading _ rooted.result a.1.judged;
+        means = under (terms_of (asked_by given) trust) given.policy reading (Read a.0) rooted.result a.1.judged;
         digests = a.2;
       }

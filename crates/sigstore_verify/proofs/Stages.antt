@@ -1,68 +1,129 @@
--- What is refused or accepted after the artifact was read.
-use Rattle.std.proofs.Common.{◌≡◌, ℕ, List, [], ◌∷◌, ap, ◌∙◌, sym, subst, Result, Ok, Err, inl, inr}
-use Rattle.std.specs.Prelude.{⊤, ◌⊎◌, length}
-use Rattle.sha2.proofs.Facts256.{length-sha256}
-use Rattle.sha2.specs.Sha256.{sha256}
+-- What is refused or accepted by the digests that were taken.
+use Rattle.std.proofs.Common.{◌≡◌, ◌≢◌, ℕ, List, [], ◌∷◌, ap, ◌∙◌, sym, subst, Option, Some, None, Result, Ok, Err, inl, inr, refl, true, IfOk, IfErr}
+use Rattle.std.specs.Prelude.{⊤, ◌⊎◌}
+use Rattle.std.specs.List.{list_all}
+use Rattle.jiff_core.specs.declared.timestamp.Timestamp as jiff
 use Rattle.foundation.specs.Watched.{Watched}
 use Rattle.foundation.specs.Steps.{◌>>=◌}
-use Rattle.sigstore_types_parts.specs.declared.hash_algorithm.HashAlgorithm.TheVariants.{Sha2256}
+use Rattle.sigstore_types_parts.specs.declared.hash_algorithm.HashAlgorithm.{HashAlgorithm}
 use Rattle.sigstore_types.specs.declared.bundle.Bundle.{Bundle}
+use Rattle.sigstore_types.specs.declared.trusted_root.TrustedRoot.{TrustedRoot}
+use Rattle.sigstore_crypto.specs.Digest.{is_hashed, digests_by}
 use Rattle.sigstore_crypto.specs.Good.{Judge}
-use Rattle.sigstore_crypto.specs.Reader.{HashesToEnd}
-use Rattle.sigstore_crypto.specs.declared.key.VerificationKey.{VerificationKey}
+use Rattle.sigstore_crypto.specs.declared.reader.ReadError.{ReadError}
+use Rattle.sigstore_tuf_parts.specs.Crypto.{Crypto}
 use Rattle.sigstore_verify.specs.declared.error.Error.{Error}
-use Rattle.sigstore_verify.specs.declared.error.Error.TheVariants.{NoMemory}
+use Rattle.sigstore_verify.specs.declared.error.Error.TheVariants.{ArtifactRead, NoMemory}
+use Rattle.sigstore_verify.specs.declared.judge.Ready.{Ready}
 use Rattle.sigstore_verify.specs.declared.policy.PublicKeyVerificationPolicy.{PublicKeyVerificationPolicy}
 use Rattle.sigstore_verify.specs.declared.report.Kept.{Kept}
+use Rattle.sigstore_verify.specs.declared.report.VerificationResult.{VerificationResult}
+use Rattle.sigstore_verify.specs.Artifact.{Artifact, Blob, Read, Digest, Kind, kind_of, read_kind, blob_kind, digest_of, bytes_of, had_digest}
 use Rattle.sigstore_verify.specs.Policy.{PublicKey}
-use Rattle.sigstore_verify.specs.Judged.{prepared_of, key_judged_of, content_judged_of, key_report_of, ready_of}
-use Rattle.sigstore_verify.specs.Promise.{ReadWhole, Cause, Keeps, VerifiesKept}
+use Rattle.sigstore_verify.specs.Judged.{Terms, prepared_of, needed_of, key_judged_of, content_judged_by, content_judged_of, key_report_of, ready_of, needed_by, needed_in}
+use Rattle.sigstore_verify.specs.Promise.{ReadWhole, ReadCause, Cause, VerifiesKept, VerifiesHanded}
+use Rattle.sigstore_verify.specs.Taking.{Takes}
+use Rattle.sigstore_verify.proofs.Accepts.{prepared_means, all_hashed}
+use Rattle.sigstore_verify.proofs.Had.{judged_by_taken, judged_by_one}
 
-ready : (policy : PublicKeyVerificationPolicy) (bundle : Bundle) (key : VerificationKey) → prepared_of policy bundle ≡ Ok key → ready_of (PublicKey policy) bundle ≡ Ok tt
-ready policy bundle key p = ap (λ r. r >>= λ _. Ok tt) p
+-- what was prepared needs the digests of its scheme
+pub prepared_needs : (kind : Kind) (policy : PublicKeyVerificationPolicy) (bundle : Bundle) (ready : Ready) → prepared_of kind policy bundle ≡ Ok ready
+    → ready.needed ≡ needed_of ready.key.scheme bundle.content
+prepared_needs kind policy bundle ready p =
+    let q = prepared_means kind policy bundle ready p in
+    subst (λ (r : Ready). r.needed ≡ needed_of r.key.scheme bundle.content) (sym q.same) refl
 
-judged : (accepts : Judge) (policy : PublicKeyVerificationPolicy) (bundle : Bundle) (key : VerificationKey) (digest : List ℕ) (r : Result ⊤ Error)
-    → prepared_of policy bundle ≡ Ok key → content_judged_of accepts key bundle.content digest ≡ r
-    → key_judged_of accepts policy bundle digest ≡ (r >>= λ _. Ok (key_report_of policy))
+-- and each of them has a hasher, where the artifact is read or is a blob
+pub prepared_hashed : (kind : Kind) (policy : PublicKeyVerificationPolicy) (bundle : Bundle) (ready : Ready) → kind.has ≡ is_hashed → prepared_of kind policy bundle ≡ Ok ready
+    → list_all is_hashed ready.needed ≡ true
+prepared_hashed kind policy bundle ready is p =
+    let q = prepared_means kind policy bundle ready p in
+    subst (λ (r : Ready). list_all is_hashed r.needed ≡ true) (sym q.same) (all_hashed kind q.scheme (needed_of q.scheme bundle.content) is q.supported)
+
+-- the whole judgement of what was prepared
+judged : (accepts : Judge) (policy : PublicKeyVerificationPolicy) (bundle : Bundle) (ready : Ready) (artifact : Artifact) (r : Result ⊤ Error)
+    → prepared_of (kind_of artifact) policy bundle ≡ Ok ready → content_judged_of accepts ready.key bundle.content artifact ≡ r
+    → key_judged_of accepts policy bundle artifact ≡ (r >>= λ _. Ok (key_report_of policy))
 unfolding key_judged_of
-judged accepts policy bundle key digest r p q =
-    ap (λ s. s >>= λ k. content_judged_of accepts k bundle.content digest >>= λ _. Ok (key_report_of policy)) p
+judged accepts policy bundle ready artifact r p q =
+    ap (λ s. s >>= λ (k : Ready). content_judged_of accepts k.key bundle.content artifact >>= λ _. Ok (key_report_of policy)) p
     ∙ ap (λ s. s >>= λ _. Ok (key_report_of policy)) q
 
-whole : (old new : Watched (List ℕ)) (max : ℕ) (digest : List ℕ) → HashesToEnd old new max (Ok digest) → (bytes : List ℕ) × (digest ≡ sha256 bytes) × ReadWhole old new max bytes
-whole old new max digest h = (h.0, h.1.answer.0, record { given = h.1.given; ended = h.1.answer.2; short = h.1.answer.1 })
+-- the judgement by the digests of all the bytes is that of the artifact
+taken_judged : (accepts : Judge) (policy : PublicKeyVerificationPolicy) (bundle : Bundle) (ready : Ready) (kind : Kind) (kept : Option (List ℕ)) (bytes : List ℕ) (digests : List (HashAlgorithm × List ℕ))
+    → kind.has ≡ is_hashed → prepared_of kind policy bundle ≡ Ok ready → digests ≡ digests_by ready.needed bytes
+    → content_judged_by accepts ready.key bundle.content (had_digest digests) kept ≡ content_judged_by accepts ready.key bundle.content (digest_of (Read bytes)) kept
+taken_judged accepts policy bundle ready kind kept bytes digests is p d =
+    let n = prepared_needs kind policy bundle ready p in
+    ap (λ ds. content_judged_by accepts ready.key bundle.content (had_digest ds) kept) (d ∙ ap (λ l. digests_by l bytes) n)
+    ∙ judged_by_taken accepts ready.key bundle.content kept bytes (subst (λ l. list_all is_hashed l ≡ true) n (prepared_hashed kind policy bundle ready is p))
 
-pub digest_size : (old new : Watched (List ℕ)) (max : ℕ) (digest : List ℕ) → HashesToEnd old new max (Ok digest) → length digest ≡ 32
-digest_size old new max digest h = ap length h.1.answer.0 ∙ length-sha256 h.0
+module _ (crypto : Crypto) (trust : TrustedRoot) (now : jiff.Timestamp) (policy : PublicKeyVerificationPolicy) (bundle : Bundle) where
+  abbrev terms : Terms
+  terms = record { crypto = crypto; trust = trust; policy = PublicKey policy; now = now }
 
-cause : (accepts : Judge) (policy : PublicKeyVerificationPolicy) (bundle : Bundle) (old new : Watched (List ℕ)) (max : ℕ) (key : VerificationKey) (digest : List ℕ) (e : Error)
-    → prepared_of policy bundle ≡ Ok key → HashesToEnd old new max (Ok digest) → (e ≡ NoMemory) ⊎ (content_judged_of accepts key bundle.content digest ≡ Err e)
-    → Cause accepts (PublicKey policy) bundle old new max e
-cause accepts policy bundle old new max key digest e p h (inl want) = inl want
-cause accepts policy bundle old new max key digest e p h (inr q) =
-    let w = whole old new max digest h in
-    inr (inr (inr (record {
-      ready = ready policy bundle key p;
-      refusal = (w.0, w.2, subst (λ d. key_judged_of accepts policy bundle d ≡ Err e) w.1 (judged accepts policy bundle key digest (Err e) p q));
-    })))
+  abbrev judges : Result ⊤ Error → Ready → List (HashAlgorithm × List ℕ) → Option (List ℕ) → Type 0
+  judges r ready digests kept = content_judged_by crypto.accepts ready.key bundle.content (had_digest digests) kept ≡ r
 
-pub after_reading : (accepts : Judge) (policy : PublicKeyVerificationPolicy) (bundle : Bundle) (old new : Watched (List ℕ)) (max : ℕ) (key : VerificationKey) (digest : List ℕ) (result : Result Kept Error)
-    → prepared_of policy bundle ≡ Ok key → HashesToEnd old new max (Ok digest) → Keeps accepts policy bundle key digest result
-    → VerifiesKept accepts (PublicKey policy) bundle old new max result
-after_reading accepts policy bundle old new max key digest (Err e) p h k =
-    record { later = h.1.later; accepted = tt; refused = cause accepts policy bundle old new max key digest e p h k.refused }
-after_reading accepts policy bundle old new max key digest (Ok kept) p h k =
-    let w = whole old new max digest h in
-    let q = k.accepted in
-    record {
-      later = h.1.later;
-      accepted = (
-        w.0,
-        record {
-          read = w.2;
-          judged = subst (λ d. key_judged_of accepts policy bundle d ≡ Ok kept.result) w.1 (judged accepts policy bundle key digest (Ok tt) p q.0 ∙ ap Ok (sym q.1));
-        },
-        q.2 ∙ ap (λ d. (Sha2256, d) ∷ []) w.1,
-      );
-      refused = tt;
-    }
+  -- ---- an artifact that is read
+
+  ready_so : (ready : Ready) → prepared_of read_kind policy bundle ≡ Ok ready → ready_of read_kind (PublicKey policy) bundle ≡ Ok tt
+  ready_so ready p = ap (λ r. r >>= λ _. Ok tt) p
+
+  pub reading_refused : (old new : Watched (List ℕ)) (max : ℕ) (ready : Ready) (e : Error) → prepared_of read_kind policy bundle ≡ Ok ready
+      → Takes old new max ready.needed (Err e) → VerifiesKept terms bundle old new max (Err e)
+  reading_refused old new max ready e p t = record { later = t.later; accepted = tt; refused = why t.refused }
+    where
+      why : (e ≡ NoMemory) ⊎ ((fault : ReadError) × (e ≡ ArtifactRead fault) × ReadCause old new max fault) → Cause terms bundle old new max e
+      why (inl want) = inl want
+      why (inr r) = inr (inr (inl (record { ready = ready_so ready p; refusal = r })))
+
+  pub after_reading : (old new : Watched (List ℕ)) (max : ℕ) (ready : Ready) (digests : List (HashAlgorithm × List ℕ)) (result : Result Kept Error)
+      → prepared_of read_kind policy bundle ≡ Ok ready → Takes old new max ready.needed (Ok digests)
+      → IfOk result (λ kept. judges (Ok tt) ready digests None × (kept.result ≡ key_report_of policy) × (kept.digests ≡ digests))
+      → IfErr result (λ e. judges (Err e) ready digests None)
+      → VerifiesKept terms bundle old new max result
+  after_reading old new max ready digests (Err e) p t a r =
+      let w = t.taken in
+      record {
+        later = t.later;
+        accepted = tt;
+        refused = inr (inr (inr (record {
+          ready = ready_so ready p;
+          refusal = (
+            w.0,
+            w.1,
+            judged crypto.accepts policy bundle ready (Read w.0) (Err e) p (sym (taken_judged crypto.accepts policy bundle ready read_kind None w.0 digests refl p w.2) ∙ r),
+          );
+        })));
+      }
+  after_reading old new max ready digests (Ok kept) p t a r =
+      let w = t.taken in
+      record {
+        later = t.later;
+        accepted = (
+          w.0,
+          record {
+            read = w.1;
+            judged = judged crypto.accepts policy bundle ready (Read w.0) (Ok tt) p (sym (taken_judged crypto.accepts policy bundle ready read_kind None w.0 digests refl p w.2) ∙ a.0) ∙ ap Ok (sym a.1);
+          },
+          a.2 ∙ w.2 ∙ ap (λ r. digests_by (needed_in r) w.0) (sym p),
+        );
+        refused = tt;
+      }
+
+  -- ---- a blob
+
+  pub blob_judged : (bytes : List ℕ) (ready : Ready) (digests : List (HashAlgorithm × List ℕ)) (r : Result ⊤ Error) → prepared_of blob_kind policy bundle ≡ Ok ready
+      → digests ≡ digests_by ready.needed bytes → judges r ready digests (Some bytes)
+      → key_judged_of crypto.accepts policy bundle (Blob bytes) ≡ (r >>= λ _. Ok (key_report_of policy))
+  blob_judged bytes ready digests r p d j =
+      judged crypto.accepts policy bundle ready (Blob bytes) r p (sym (taken_judged crypto.accepts policy bundle ready blob_kind (Some bytes) bytes digests refl p d) ∙ j)
+
+  -- ---- one digest
+
+  pub digest_judged : (given : HashAlgorithm) (digest : List ℕ) (ready : Ready) (r : Result ⊤ Error) → prepared_of (kind_of (Digest given digest)) policy bundle ≡ Ok ready
+      → judges r ready ((given, digest) ∷ []) None
+      → key_judged_of crypto.accepts policy bundle (Digest given digest) ≡ (r >>= λ _. Ok (key_report_of policy))
+  digest_judged given digest ready r p j =
+      judged crypto.accepts policy bundle ready (Digest given digest) r p (sym (judged_by_one crypto.accepts ready.key bundle.content given digest) ∙ j)

@@ -1,4 +1,5 @@
 pub mod Accepts
+pub mod Agree
 pub mod Artifact
 pub mod Cause
 pub mod Error

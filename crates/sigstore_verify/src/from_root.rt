@@ -3,7 +3,7 @@ ghost use Rattle.std.specs.Prelude.{◌≡◌, ◌≢◌, ℕ, List, Ok, Err, If
 ghost use Rattle.sigstore_tuf_parts.specs.By.{crypto_by};
 ghost use Rattle.sigstore_tuf.specs.Update.{first_root_of};
 ghost use Rattle.sigstore_verify.specs.FromRoot.{trust_of, bundle_of, GivesChain, JudgesBundle, root_of_tuf, root_of_verify};
-ghost use Rattle.sigstore_verify.specs.Given.{Anchor, Given, Outside};
+ghost use Rattle.sigstore_verify.specs.Given.{Anchor, Given, Outside, Asked};
 ghost use Rattle.sigstore_verify.specs.Promises.{Promises};
 
 use crate::error::{Error, lowered};
@@ -168,8 +168,9 @@ fn judge_bundle<C: CryptoProvider, M: Armor, A: ArtifactSource, P: Policy>(
     max_artifact: u64,
     policy: &P,
 ) -> Result<Kept, Error>
-    ensures { JudgesBundle (C.accepts provider.now) (P.meant policy.now) file.now bundle_bytes.now
-        (A.seen artifact.old) (A.seen artifact.new) max_artifact result }
+    ensures { let crypto = crypto_by C.CryptoProvider M.Armor provider.now armor.now in
+        let asked : Asked = record { crypto = crypto; policy = P.meant policy.now; now = now; bundle = bundle_bytes.now; max = max_artifact } in
+        JudgesBundle asked file.now (A.seen artifact.old) (A.seen artifact.new) result }
 {
     let trust = match read_trust(alloc, file) {
         Ok(trust) => trust,

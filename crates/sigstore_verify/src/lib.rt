@@ -7,11 +7,12 @@ mod judge;
 mod laws;
 mod policy;
 mod report;
+mod taking;
 mod verifier;
 
 pub use error::{CertificateError, Error, TimestampError, TransparencyLogError};
 pub use from_root::{RootFault, Rooted, verify_from_root};
-pub use laws::accepts_exactly;
+pub use laws::{accepts_exactly, blob_and_reader_agree};
 pub use policy::{Policy, PolicyKind, PublicKeyVerificationPolicy};
 pub use report::{Kept, VerificationResult};
-pub use verifier::Verifier;
+pub use verifier::{Verifier, verify};
