@@ -155,12 +155,33 @@ fn of_file<X: AllocGlobal + Abort>(rt: &X, bytes: &str) -> String {
     answer
 }
 
+// Whether the copy of a document is the same document.
+fn is_copied<X: AllocGlobal + Abort, T: Role + Duplicate + PartialEq>(rt: &X, text: &str) -> String {
+    let read = good(rt, document::<T>(rt.alloc(), text));
+    let copy = good(rt, read.duplicate(rt.alloc()));
+    let same = copy.signed() == read.signed() && copy.signatures() == read.signatures();
+    drop(copy);
+    drop(read);
+    printed(rt, same)
+}
+
+fn of_copy<X: AllocGlobal + Abort>(rt: &X, kind: &str) -> String {
+    match kind {
+        "root" => is_copied::<X, Root>(rt, ROOT),
+        "timestamp" => is_copied::<X, Timestamp>(rt, TIMESTAMP),
+        "snapshot" => is_copied::<X, Snapshot>(rt, SNAPSHOT),
+        "targets" => is_copied::<X, Targets>(rt, TARGETS),
+        _ => is_copied::<X, Targets>(rt, DELEGATING),
+    }
+}
+
 // What is told of one of the documents.
 fn told<X: AllocGlobal + Abort>(rt: &X, row: &str) -> String {
     let (what, value) = halves(rt, row, " ");
     match what {
         "root" => of_root(rt, value),
         "file" => of_file(rt, value),
+        "copy" => of_copy(rt, value),
         "snapshot" => word(rt, document::<Snapshot>(rt.alloc(), SNAPSHOT)),
         _ => of_timestamp(rt, what, value),
     }
@@ -178,7 +199,16 @@ moment 2030-01-01T00:00:00Z => Ok
 moment 2030-01-01T00:00:01Z => Expired { role: "timestamp", expires: 2030-01-01T00:00:00Z }
 file {} => Ok
 file {  => IntegrityMismatch(Digest)
-file { => IntegrityMismatch(Length)"#;
+file { => IntegrityMismatch(Length)
+copy root => true
+copy timestamp => true
+copy snapshot => true
+copy targets => true
+copy delegating => true"#;
+
+// A targets document with delegations, and members that no kind has.
+const DELEGATING: &str =
+    r#"{"signatures":[{"keyid":"k","sig":""}],"signed":{"_type":"targets","spec_version":"1.0","version":1,"expires":"2030-01-01T00:00:00Z","x":[null,true,-1,{"y":"z"}],"targets":{"a":{"length":2,"hashes":{"sha256":"00"},"custom":{}}},"delegations":{"keys":{"k":{"keytype":"t","scheme":"s","keyval":{"public":"p","q":1}}},"roles":[{"name":"d","keyids":["k"],"threshold":1,"terminating":true,"paths":["a/*"],"path_hash_prefixes":["0"]}]}}}"#;
 
 #[test]
 fn documents(rt: HostRuntime) {

@@ -122,6 +122,7 @@ fn scheme_of(name: &str) -> Option<SigningScheme> {
 fn scheme<X: AllocGlobal + Abort>(rt: &X, name: &str) -> String {
     let scheme = there(rt, scheme_of(name));
     let (name, key) = (scheme.name(), scheme.key_algorithm());
+    assert!(rt; SigningScheme::from_name(name) == Some(scheme));
     let (digest, prehashed) = (scheme.hash_algorithm(), scheme.supports_prehashed());
     printed(rt, (name, key, digest, prehashed))
 }

@@ -1,6 +1,6 @@
 // Display texts, and the encodings on outside values.
 use crate::bundles;
-use crate::words::{copied, good, hold, number, numbered, printed, string};
+use crate::words::{copied, good, halves, hold, number, numbered, printed, string};
 use foundation::{Duplicate, Sequence};
 use serde_json::Value;
 use sigstore_types_parts::*;
@@ -16,9 +16,33 @@ pub fn answer<X: AllocGlobal + Abort>(rt: &X, call: &str, given: &str) -> String
         "member" => member(rt, given),
         "fail list" => listed(rt, given),
         "hint" => hint(rt, given),
+        "same" => same(rt, given),
         _ => bundles::answer(rt, call, given),
     }
 }
+
+// Whether two JSON texts are of one value.
+fn same<X: AllocGlobal + Abort>(rt: &X, row: &str) -> String {
+    let (left, right) = halves(rt, row, " | ");
+    let left = Json::new(good(rt, Value::from_str(rt.alloc(), left)));
+    let right = Json::new(good(rt, Value::from_str(rt.alloc(), right)));
+    let same = left == right;
+    drop(left);
+    drop(right);
+    printed(rt, same)
+}
+
+const SAME: &str = r#"{"a":[1,-1,true,null,"b"]} | {"a":[1,-1,true,null,"b"]} => true
+{"a":1,"b":2} | {"b":2,"a":1} => true
+1.5 | 2.5 => true
+1 | 1.5 => false
+[1] | [1,2] => false
+[1,2] | [1] => false
+{"a":1} | {"b":1} => false
+{"a":1} | {} => false
+{} | {"a":1} => false
+-1 | 1 => false
+"1" | 1 => false"#;
 
 fn shown<X: AllocGlobal + Abort>(rt: &X, error: TypesError) -> String {
     numbered(rt, error.number(), error)
@@ -251,6 +275,7 @@ fn texts(rt: HostRuntime) {
     hold(&rt, "encoding", ENCODINGS);
     hold(&rt, "hint", HINTS);
     hold(&rt, "parse_json", FAULTS);
+    hold(&rt, "same", SAME);
     hold(&rt, "member", MEMBERS);
     hold(&rt, "fail list", LISTED);
 }
