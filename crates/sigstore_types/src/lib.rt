@@ -12,11 +12,12 @@ pub use bundle::{Bundle, validate_structure};
 pub use content::{MessageDigest, MessageSignature, SignatureContent};
 pub use material::{VerificationMaterial, VerificationMaterialContent};
 pub use sigstore_types_parts::{
-    Armor, ArtifactDigest, ByteString, Bytes, Calls, CanonicalBody, CanonicalizedBody, Certificate,
-    CheckpointRule, DerCertificate, DerPublicKey, Digest, DigestBytes, EntryPromise, FailList,
-    Form, FromValue, Hash, HashAlgorithm, Json, JsonFault, KeyHint, LogKey, LogKeyId, Member,
-    Misread, Payload, PayloadBytes, Pem, PemContent, PublicKey, Refusal, Sha256Hash, Sha384Hash,
-    Sha512Hash, Signature, SignatureBytes, SignedTimestamp, Text, TextMap, TimestampToken, Token,
-    TypesError, TypesMember, contains_float, defaulted, instant, optional, parse_json, required,
+    Armor, Artifact, ArtifactDigest, ByteString, Bytes, Calls, CanonicalBody, CanonicalizedBody,
+    Certificate, CheckpointRule, DerCertificate, DerPublicKey, Digest, DigestBytes, EntryPromise,
+    FailList, Form, FromValue, Hash, HashAlgorithm, Json, JsonFault, KeyHint, LogKey, LogKeyId,
+    Member, Misread, Payload, PayloadBytes, Pem, PemContent, PublicKey, Refusal, Sha256Hash,
+    Sha384Hash, Sha512Hash, Signature, SignatureBytes, SignedTimestamp, Text, TextMap,
+    TimestampToken, Token, TypesError, TypesMember, contains_float, defaulted, instant, optional,
+    parse_json, required,
 };
 pub use trusted_root::TrustedRoot;

@@ -138,6 +138,7 @@ impl ArtifactDigest {
 }
 
 /// An artifact that is handed in: its bytes, or a digest of it alone.
+#[derive(Drop)]
 pub enum Artifact<'a> {
     Blob(&'a [u8]),
     Digest(ArtifactDigest),

@@ -84,7 +84,7 @@ content_accepted : (accepts : Judge) (key : VerificationKey) (content : Signatur
     → IsBound (digest_in content) artifact → Signs accepts key (subject_of key artifact) (signature_in content) → content_judged_of accepts key content artifact ≡ Ok tt
 content_accepted accepts key (OfMessage message) artifact b s =
     ap (λ c. if c then (if is_signed accepts key (digest_of artifact) (bytes_of artifact) message.signature then Ok tt else Err SignatureInvalid) else Err ArtifactMismatch)
-        (is_told message.message_digest artifact b)
+    (is_told message.message_digest artifact b)
     ∙ ap (λ (c : Bool). if c then Ok tt else Err SignatureInvalid) (signed accepts key (subject_of key artifact) message.signature s)
 
 -- ---- what is prepared

@@ -36,7 +36,7 @@ content_alike : (accepts : Judge) (key : VerificationKey) (content : SignatureCo
     → content_judged_of accepts key content (Blob bytes) ≡ content_judged_of accepts key content (Read bytes)
 content_alike accepts key (OfMessage message) bytes h =
     ap (λ o. if is_bound message.message_digest (digest_of (Read bytes)) then (if is_good_of accepts key o message.signature then Ok tt else Err SignatureInvalid) else Err ArtifactMismatch)
-        (subject_alike (digest_algorithm_of key.scheme) bytes h)
+    (subject_alike (digest_algorithm_of key.scheme) bytes h)
 
 there : (o : Option HashAlgorithm) (scheme : SigningScheme) → digest_algorithm_of scheme ≡ o → has_digest scheme ≡ true → digest_algorithm_of scheme ≢ None
 there None scheme is h e = not_both (has_digest scheme) h

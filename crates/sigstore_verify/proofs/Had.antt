@@ -107,7 +107,7 @@ had_needed bytes a (b ∷ bs) h k = by_first (same_algorithm b a) refl
     by_first true e =
         ap (λ t. option_map taken (cond t (Some first) (find (λ x. same_algorithm x.0 a) (digests_by bs bytes)))) e
         ∙ subst (λ c. Some (digest_by b bytes) ≡ digest_if bytes c) (same_is b a e)
-            (sym (ap (λ t. if t then Some (digest_by b bytes) else None) hashed.0))
+        (sym (ap (λ t. if t then Some (digest_by b bytes) else None) hashed.0))
     by_first false e =
         ap (λ t. option_map taken (cond t (Some first) (find (λ x. same_algorithm x.0 a) (digests_by bs bytes)))) e
         ∙ had_needed bytes a bs hashed.1 (or_later (same_algorithm a b) (list_any (same_algorithm a) bs) (same_sym a b ∙ e) k)
@@ -172,9 +172,9 @@ judged_alike : (accepts : Judge) (key : VerificationKey) (content : SignatureCon
     → content_judged_by accepts key content one bytes ≡ content_judged_by accepts key content two bytes
 judged_alike accepts key (OfMessage message) one two bytes told signs =
     ap (λ b. if b then (if is_good_of accepts key (subject_by (digest_algorithm_of key.scheme) one bytes) message.signature then Ok tt else Err SignatureInvalid) else Err ArtifactMismatch)
-        (bound message.message_digest told)
+    (bound message.message_digest told)
     ∙ ap (λ o. if is_bound message.message_digest two then (if is_good_of accepts key o message.signature then Ok tt else Err SignatureInvalid) else Err ArtifactMismatch)
-        (subject (digest_algorithm_of key.scheme) signs)
+    (subject (digest_algorithm_of key.scheme) signs)
   where
     bound : (o : Option MessageDigest) → ((a : HashAlgorithm) → algorithm_told o ≡ Some a → one a ≡ two a) → is_bound o one ≡ is_bound o two
     bound None f = refl

@@ -202,21 +202,20 @@ key_refused : (asked : Asked) (policy : PublicKeyVerificationPolicy) (file : Lis
     → JudgesBundle asked file source source' (Err e) → KeyCause asked.crypto.accepts policy asked file source source' e
 key_refused asked policy file source source' e under (trust_refused d h s n) =
     subst (Cause asked.crypto.accepts policy asked file source source') (err_same d e (sym n))
-        (wants asked.crypto.accepts policy asked file source source' d (λ other. let r = by_fault trust_fault (trusted_root_of_bytes file) d (h other) in
-        by_trust asked.crypto.accepts policy asked file source source' d r.0 r.1 r.2 (as_lowered verify.TrustRoot r.0)))
+    (wants asked.crypto.accepts policy asked file source source' d (λ other. let r = by_fault trust_fault (trusted_root_of_bytes file) d (h other) in
+    by_trust asked.crypto.accepts policy asked file source source' d r.0 r.1 r.2 (as_lowered verify.TrustRoot r.0)))
 key_refused asked policy file source source' e under (verifier_refused trust d t h s n) =
     subst (Cause asked.crypto.accepts policy asked file source source') (err_same d e (sym n))
-        (wants asked.crypto.accepts policy asked file source source' d (λ other. let r = h other in cc))
+    (wants asked.crypto.accepts policy asked file source source' d (λ other. let r = h other in cc))
 key_refused asked policy file source source' e under (bundle_refused trust d t u h s n) =
     subst (Cause asked.crypto.accepts policy asked file source source') (err_same d e (sym n))
-        (wants asked.crypto.accepts policy asked file source source' d (λ other. let r = by_fault bundle_fault (bundle_of_bytes asked.bundle) d (h other) in
-        by_bundle asked.crypto.accepts policy asked file source source' d r.0 r.1 r.2 (as_lowered verify.InvalidBundle r.0)))
+    (wants asked.crypto.accepts policy asked file source source' d (λ other. let r = by_fault bundle_fault (bundle_of_bytes asked.bundle) d (h other) in
+    by_bundle asked.crypto.accepts policy asked file source source' d r.0 r.1 r.2 (as_lowered verify.InvalidBundle r.0)))
 key_refused asked policy file source source' e under (judged trust reading t u b v) = by_stage v.refused
   where
     read_of : (r : Result Bundle TypesError) (x : Bundle) → or_fault bundle_fault r ≡ Ok x → r ≡ Ok x
     read_of (Ok y) x h = cc
     read_of (Err t) x h = cc
-
     read = read_of (bundle_of_bytes asked.bundle) reading b
 
     by_stage : promise.Cause (terms_of asked trust) reading source source' asked.max e → KeyCause asked.crypto.accepts policy asked file source source' e

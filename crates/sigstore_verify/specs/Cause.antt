@@ -95,7 +95,7 @@ pub record IsUnsigned (accepts : Judge) (policy : PublicKeyVerificationPolicy) (
   pub is : HasBundle policy bundle
   pub bytes : List ℕ
   pub whole : ReadWhole source source' max bytes
-  pub unsigned : 
+  pub unsigned :
       is_signed accepts (record { scheme = is.scheme; key = is.key.key }) (digest_of (Read bytes)) None (signature_in is.reading.content) ≡ false
 
 -- the trust file is read, and no verifier can be made of it

@@ -215,7 +215,9 @@ fn is_signed<C: CryptoProvider>(
 {
     match key.scheme.hash_algorithm() {
         Some(algorithm) => match had(digests, algorithm) {
-            Some(digest) => key.verify_prehashed(provider, digest.as_bytes(), signature).is_ok(),
+            Some(digest) => key
+                .verify_prehashed(provider, digest.as_bytes(), signature)
+                .is_ok(),
             None => false,
         },
         None => match bytes {

@@ -11,5 +11,4 @@ pub fn accepts_exactly()
 /// the scheme signs the bytes themselves.
 pub fn blob_and_reader_agree()
     ensures { BlobAgrees }
-{
-}
+{}

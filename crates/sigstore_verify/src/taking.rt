@@ -18,13 +18,19 @@ fn hashers_for(alloc: Global, algorithms: &[HashAlgorithm]) -> Result<Vec<Artifa
 {
     let mut hashers = Vec::new(alloc);
     'algorithms: for algorithm in algorithms {
-        hashers.push(ArtifactHasher::new(*algorithm)?)?;
+        let hasher = ArtifactHasher::new(*algorithm)?;
+        if hashers.push(hasher).is_err() {
+            return Err(Error::NoMemory);
+        }
     }
     Ok(hashers)
 }
 
 // The digests of hashers, in their order.
-fn finalize_all(alloc: Global, hashers: Vec<ArtifactHasher>) -> Result<Sequence<ArtifactDigest>, Error>
+fn finalize_all(
+    alloc: Global,
+    hashers: Vec<ArtifactHasher>,
+) -> Result<Sequence<ArtifactDigest>, Error>
     ensures ok { IfOk result (λ digests. Finalized hashers.items digests) }
     ensures err { IfErr result (λ e. e ≡ Error.NoMemory) }
 {

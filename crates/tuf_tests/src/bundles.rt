@@ -70,8 +70,8 @@ const CONTENTS: &str = r#" => Json
 ,"messageSignature":{"messageDigest":{}} => Field { member: Algorithm }
 ,"messageSignature":{"messageDigest":{"algorithm":0}} => Field { member: Algorithm }
 ,"messageSignature":{"messageDigest":{"algorithm":"md5"}} => Field { member: Algorithm }
-,"messageSignature":{"messageDigest":{"algorithm":"SHA2_384"}} => Unbuilt(Digest)
-,"messageSignature":{"messageDigest":{"algorithm":"sha256"}} => Unbuilt(Digest)
+,"messageSignature":{"messageDigest":{"algorithm":"SHA2_384"}} => Field { member: Digest }
+,"messageSignature":{"messageDigest":{"algorithm":"sha3-256","digest":"AQ=="},"signature":"AQ=="} => Ok
 ,"messageSignature":{"messageDigest":{"algorithm":"SHA2_256"}} => Field { member: Digest }
 ,"messageSignature":{"messageDigest":{"algorithm":"SHA2_256","digest":"?"},"signature":0} => Base64
 ,"messageSignature":{"messageDigest":{"algorithm":"SHA2_256","digest":"AQ=="}} => Field { member: Signature }

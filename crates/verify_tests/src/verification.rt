@@ -3,14 +3,16 @@ ghost use Rattle.std.specs.Prelude.{bytes_eq, Some, None, false};
 ghost use Rattle.sigstore_crypto.specs.Good.{subject_of};
 
 use crate::fixture;
-use crate::tables::{Change, change_in, debug, good, hold, number, source, text, there, word};
+use crate::tables::{
+    Change, change_in, debug, good, halves, hold, number, source, text, there, word,
+};
 use foundation::{Duplicate, NoMemory};
 use jiff::Timestamp;
 use sigstore_crypto::{CryptoProvider, ReadError, SigningScheme, sha256, sha384, sha512};
 use sigstore_types::{
-    Armor, Bundle, Bytes, DerPublicKey, DigestBytes, Form, HashAlgorithm, LogKeyId, MessageDigest,
-    MessageSignature, SignatureBytes, SignatureContent, Text, TrustedRoot, VerificationMaterial,
-    VerificationMaterialContent,
+    Armor, Artifact, ArtifactDigest, Bundle, Bytes, DerPublicKey, DigestBytes, Form, HashAlgorithm,
+    LogKeyId, MessageDigest, MessageSignature, SignatureBytes, SignatureContent, Text, TrustedRoot,
+    VerificationMaterial, VerificationMaterialContent,
 };
 use sigstore_verify::*;
 use std::alloc::Global;
@@ -23,6 +25,7 @@ pub(crate) fn answer<X: AllocGlobal + Abort>(rt: &X, call: &str, given: &str) ->
         "judgement" => judged(rt, given),
         "policy" => policy_shown(rt),
         "acceptance" => accepted(rt, given),
+        "handed" => handed(rt, given),
         _ => fixture::said(rt, given),
     }
 }
@@ -225,6 +228,7 @@ const PARTS: &str = "nothing
 key
 log
 algorithm
+by
 signed
 told and signed
 greatest length
@@ -247,31 +251,40 @@ fn policy<X: AllocGlobal + Abort>(rt: &X, change: Change) -> PublicKeyVerificati
     }
 }
 
-// The SHA-256 value that a bundle tells under an algorithm; under no algorithm it tells none.
+// The digest of a text by the algorithm of a change, and by SHA-256 where it names none.
+fn digested<X: AllocGlobal + Abort>(rt: &X, change: Change, text: &str) -> Bytes {
+    let bytes = text.as_bytes();
+    let copy = match change.of("by", "SHA2_256") {
+        "SHA2_384" => Bytes::new(rt.alloc(), sha384(bytes).as_bytes()),
+        _ => Bytes::new(rt.alloc(), sha256(bytes).as_bytes()),
+    };
+    good(rt, copy)
+}
+
+// The digest that a bundle tells under an algorithm; under no algorithm it tells none.
 fn told<X: AllocGlobal + Abort>(rt: &X, change: Change) -> Option<MessageDigest> {
-    let digest = sha256(change.of("told and signed", "hello").as_bytes());
-    match HashAlgorithm::from_name(change.of("algorithm", "SHA2_256")) {
-        None => None,
+    let digest = digested(rt, change, change.of("told and signed", "hello"));
+    match HashAlgorithm::from_name(change.of("algorithm", change.of("by", "SHA2_256"))) {
+        None => {
+            drop(digest);
+            None
+        }
         Some(algorithm) => Some(MessageDigest {
             algorithm,
-            digest: good(rt, DigestBytes::from_bytes(rt.alloc(), digest.as_bytes())),
+            digest: DigestBytes::new(digest),
         }),
     }
 }
 
-// A bundle over what it tells and over the SHA-256 value of what is signed.
+// A bundle over what it tells and over the digest of what is signed.
 fn bundle<X: AllocGlobal + Abort>(rt: &X, change: Change) -> Bundle {
-    let signed = sha256(
-        change
-            .of("signed", change.of("told and signed", "hello"))
-            .as_bytes(),
-    );
-    let signature = SignatureBytes::from_bytes(rt.alloc(), signed.as_bytes());
+    let text = change.of("signed", change.of("told and signed", "hello"));
+    let signature = SignatureBytes::new(digested(rt, change, text));
     Bundle {
         media_type: Text::from_string(String::new(rt.alloc())),
         content: SignatureContent::MessageSignature(MessageSignature {
             message_digest: told(rt, change),
-            signature: good(rt, signature),
+            signature,
         }),
         verification_material: VerificationMaterial {
             content: VerificationMaterialContent::PublicKey { hint: None },
@@ -308,7 +321,10 @@ key | MCowBQYDK2VwAyEAAAAAAAAAAAAAAAAAAAAAAAAAAAAAAAAAAAAAAAAAAAA= | Unbuilt(Key
 greatest length | 4 | ArtifactRead(TooLong { max: 4 })
 failing read | 2 | ArtifactRead(Failed)
 algorithm | none | accepted
-algorithm | SHA2_384 | Unbuilt(Digest)
+algorithm | SHA2_384 | ArtifactMismatch
+algorithm | SHA3_256 | Crypto
+by | SHA2_384 | accepted
+by | SHA2_256 | accepted
 algorithm | SHA2_512 | Crypto
 told and signed | jello | ArtifactMismatch
 signed | jello | SignatureInvalid";
@@ -380,10 +396,60 @@ fn policy_shown<X: AllocGlobal + Abort>(rt: &X) -> String {
     debug(rt, (length, verifies, is_copied))
 }
 
+// An artifact that is handed in: its bytes, or its digest by an algorithm.
+fn artifact<'a, X: AllocGlobal + Abort>(rt: &X, how: &str, text: &'a str) -> Artifact<'a> {
+    let bytes = text.as_bytes();
+    let digest = match how {
+        "SHA2_256" => Bytes::new(rt.alloc(), sha256(bytes).as_bytes()),
+        "SHA2_512" => Bytes::new(rt.alloc(), sha512(bytes).as_bytes()),
+        _ => return Artifact::Blob(bytes),
+    };
+    let algorithm = there(rt, HashAlgorithm::from_name(how));
+    Artifact::Digest(good(rt, ArtifactDigest::new(algorithm, good(rt, digest))))
+}
+
+// The answer over an artifact that is handed in, which is that of the call which makes the verifier.
+fn handed<X: AllocGlobal + Abort>(rt: &X, row: &str) -> String {
+    let (how, text) = halves(rt, row, " ");
+    let (policy, bundle) = (policy(rt, UNCHANGED), bundle(rt, UNCHANGED));
+    let verifier = good(rt, Verifier::new(rt.alloc(), &Echo, &Bare, &TrustedRoot {}));
+    let (first, second) = (artifact(rt, how, text), artifact(rt, how, text));
+    let (alloc, now) = (rt.alloc(), Timestamp::UNIX_EPOCH);
+    let by_it = word(
+        rt,
+        "accepted",
+        verifier.verify(alloc, first, &bundle, &policy, now),
+    );
+    let alone = verify(
+        alloc,
+        &Echo,
+        &Bare,
+        second,
+        &bundle,
+        &policy,
+        &TrustedRoot {},
+        now,
+    );
+    let alone = word(rt, "accepted", alone);
+    assert!(rt; alone == by_it);
+    drop(alone);
+    drop(verifier);
+    drop(bundle);
+    drop(policy);
+    by_it
+}
+
+const HANDED: &str = "blob hello | accepted
+blob jello | ArtifactMismatch
+SHA2_256 hello | accepted
+SHA2_256 jello | ArtifactMismatch
+SHA2_512 hello | UnsupportedArtifact";
+
 #[test]
 fn verifications(rt: HostRuntime) {
     hold(&rt, "refusal", REFUSALS);
     hold(&rt, "judgement", JUDGED);
     hold(&rt, "policy", " | (91, false, true)");
     hold(&rt, "acceptance", ACCEPTANCE);
+    hold(&rt, "handed", HANDED);
 }
