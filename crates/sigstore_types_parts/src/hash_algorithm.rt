@@ -1,5 +1,5 @@
 // Digest algorithms, and digests of an artifact.
-ghost use Rattle.std.specs.Prelude.{◌≡◌};
+ghost use Rattle.std.specs.Prelude.{◌≡◌, length};
 ghost use Rattle.sigstore_types_parts.specs.Error.{types_of};
 ghost use Rattle.sigstore_types_parts.specs.HashAlgorithm.{same_algorithm, digest_len_of, rekor_name_of, algorithm_named, artifact_digest_of};
 
@@ -131,7 +131,8 @@ impl ArtifactDigest {
 
     /// The digest.
     pub fn as_bytes(&self) -> &[u8]
-        ensures { result.now ≡ self.now.1 }
+        ensures bytes { result.now ≡ self.now.1 }
+        ensures size { length result.now ≡ digest_len_of self.now.0 }
     {
         self.bytes.as_bytes()
     }

@@ -93,16 +93,16 @@ content_accepted accepts key (OfMessage message) artifact b s =
 abbrev pub key_under : SigningScheme → VerificationKey → VerificationKey
 key_under scheme key = record { scheme = scheme; key = key.key }
 
-abbrev ready_under : SigningScheme → VerificationKey → SignatureContent → Ready
+abbrev pub ready_under : SigningScheme → VerificationKey → SignatureContent → Ready
 ready_under scheme key content = record { key = key_under scheme key; needed = needed_of scheme content }
 
-abbrev after_scheme : Kind → VerificationKey → Bundle → SigningScheme → Result Ready Error
+abbrev pub after_scheme : Kind → VerificationKey → Bundle → SigningScheme → Result Ready Error
 after_scheme kind key bundle scheme = supported_of kind scheme (needed_of scheme bundle.content) >>= λ _. Ok (ready_under scheme key bundle.content)
 
-abbrev after_key : Kind → Bundle → VerificationKey → Result Ready Error
+abbrev pub after_key : Kind → Bundle → VerificationKey → Result Ready Error
 after_key kind bundle key = by_crypto (scheme_of key.scheme bundle.content) >>= after_scheme kind key bundle
 
-abbrev after_structure : Kind → PublicKeyVerificationPolicy → Bundle → Result Ready Error
+abbrev pub after_structure : Kind → PublicKeyVerificationPolicy → Bundle → Result Ready Error
 after_structure kind policy bundle = by_crypto (spki_key_of policy.key) >>= after_key kind bundle
 
 -- the parts of what was prepared

@@ -89,47 +89,46 @@ or_later : (a b : Bool) → a ≡ false → (a || b) ≡ true → b ≡ true
 or_later true b e h = cc
 or_later false b e h = h
 
+abbrev taken_by : HashAlgorithm × List ℕ → List ℕ
+taken_by x = x.1
+
+-- the first of the digests, or one of the others
+had_first : (bytes : List ℕ) (a b : HashAlgorithm) (bs : List HashAlgorithm) (t : Bool) → same_algorithm b a ≡ t → is_hashed b ≡ true
+    → (t ≡ false → had_digest (digests_by bs bytes) a ≡ digest_if bytes a) → had_digest (digests_by (b ∷ bs) bytes) a ≡ digest_if bytes a
+had_first bytes a b bs true e hashed later =
+    ap (λ t. option_map taken_by (cond t (Some (b, digest_by b bytes)) (find (λ (x : HashAlgorithm × List ℕ). same_algorithm x.0 a) (digests_by bs bytes)))) e
+    ∙ subst (λ c. Some (digest_by b bytes) ≡ digest_if bytes c) (same_is b a e) (sym (ap (λ t. if t then Some (digest_by b bytes) else None) hashed))
+had_first bytes a b bs false e hashed later =
+    ap (λ t. option_map taken_by (cond t (Some (b, digest_by b bytes)) (find (λ (x : HashAlgorithm × List ℕ). same_algorithm x.0 a) (digests_by bs bytes)))) e
+    ∙ later refl
+
 -- of an algorithm that is needed the digest was taken
 pub had_needed : (bytes : List ℕ) (a : HashAlgorithm) (needed : List HashAlgorithm) → list_all is_hashed needed ≡ true → list_any (same_algorithm a) needed ≡ true
     → had_digest (digests_by needed bytes) a ≡ digest_if bytes a
 had_needed bytes a [] h k = cc
-had_needed bytes a (b ∷ bs) h k = by_first (same_algorithm b a) refl
-  where
-    hashed = and_true (is_hashed b) (list_all is_hashed bs) h
-
-    first : HashAlgorithm × List ℕ
-    first = (b, digest_by b bytes)
-
-    taken : HashAlgorithm × List ℕ → List ℕ
-    taken x = x.1
-
-    by_first : (t : Bool) → same_algorithm b a ≡ t → had_digest (digests_by (b ∷ bs) bytes) a ≡ digest_if bytes a
-    by_first true e =
-        ap (λ t. option_map taken (cond t (Some first) (find (λ x. same_algorithm x.0 a) (digests_by bs bytes)))) e
-        ∙ subst (λ c. Some (digest_by b bytes) ≡ digest_if bytes c) (same_is b a e)
-        (sym (ap (λ t. if t then Some (digest_by b bytes) else None) hashed.0))
-    by_first false e =
-        ap (λ t. option_map taken (cond t (Some first) (find (λ x. same_algorithm x.0 a) (digests_by bs bytes)))) e
-        ∙ had_needed bytes a bs hashed.1 (or_later (same_algorithm a b) (list_any (same_algorithm a) bs) (same_sym a b ∙ e) k)
+had_needed bytes a (b ∷ bs) h k =
+    let hashed = and_true (is_hashed b) (list_all is_hashed bs) h in
+    had_first bytes a b bs (same_algorithm b a) refl hashed.0
+    (λ other. had_needed bytes a bs hashed.1 (or_later (same_algorithm a b) (list_any (same_algorithm a) bs) (same_sym a b ∙ other) k))
 
 -- ---- what is needed
 
+or_kept : (t u v : Bool) → (u ≡ true → v ≡ true) → (t || u) ≡ true → (t || v) ≡ true
+or_kept true u v f h = refl
+or_kept false u v f h = f h
+
 any_appended : (a b : HashAlgorithm) (list : List HashAlgorithm) → list_any (same_algorithm a) list ≡ true → list_any (same_algorithm a) (list ++ b ∷ []) ≡ true
 any_appended a b [] h = cc
-any_appended a b (x ∷ xs) h = by_first (same_algorithm a x) refl
-  where
-    by_first : (t : Bool) → same_algorithm a x ≡ t → (same_algorithm a x || list_any (same_algorithm a) (xs ++ b ∷ [])) ≡ true
-    by_first true e = ap (λ t. t || list_any (same_algorithm a) (xs ++ b ∷ [])) e
-    by_first false e =
-        ap (λ t. t || list_any (same_algorithm a) (xs ++ b ∷ [])) e ∙ any_appended a b xs (or_later (same_algorithm a x) (list_any (same_algorithm a) xs) e h)
+any_appended a b (x ∷ xs) h =
+    or_kept (same_algorithm a x) (list_any (same_algorithm a) xs) (list_any (same_algorithm a) (xs ++ b ∷ [])) (λ k. any_appended a b xs k) h
+
+or_either : (t u : Bool) → u ≡ true → (t || u) ≡ true
+or_either true u h = refl
+or_either false u h = h
 
 any_last : (a : HashAlgorithm) (list : List HashAlgorithm) → list_any (same_algorithm a) (list ++ a ∷ []) ≡ true
 any_last a [] = ap (λ t. t || false) (same_self a)
-any_last a (x ∷ xs) = either (same_algorithm a x) (any_last a xs)
-  where
-    either : (t : Bool) → list_any (same_algorithm a) (xs ++ a ∷ []) ≡ true → (t || list_any (same_algorithm a) (xs ++ a ∷ [])) ≡ true
-    either true h = refl
-    either false h = h
+any_last a (x ∷ xs) = or_either (same_algorithm a x) (list_any (same_algorithm a) (xs ++ a ∷ [])) (any_last a xs)
 
 kept : (a b : HashAlgorithm) (list : List HashAlgorithm) → list_any (same_algorithm a) list ≡ true → list_any (same_algorithm a) (with_algorithm list b) ≡ true
 kept a b list h = by_there (list_any (same_algorithm b) list) refl

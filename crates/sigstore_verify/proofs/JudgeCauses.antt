@@ -211,19 +211,18 @@ key_refused asked policy file source source' e under (bundle_refused trust d t u
     subst (Cause asked.crypto.accepts policy asked file source source') (err_same d e (sym n))
     (wants asked.crypto.accepts policy asked file source source' d (λ other. let r = by_fault bundle_fault (bundle_of_bytes asked.bundle) d (h other) in
     by_bundle asked.crypto.accepts policy asked file source source' d r.0 r.1 r.2 (as_lowered verify.InvalidBundle r.0)))
-key_refused asked policy file source source' e under (judged trust reading t u b v) = by_stage v.refused
+key_refused asked policy file source source' e under (judged trust reading t u b v) = by_stage (read_of (bundle_of_bytes asked.bundle) reading b) v.refused
   where
     read_of : (r : Result Bundle TypesError) (x : Bundle) → or_fault bundle_fault r ≡ Ok x → r ≡ Ok x
     read_of (Ok y) x h = cc
     read_of (Err t) x h = cc
-    read = read_of (bundle_of_bytes asked.bundle) reading b
 
-    by_stage : promise.Cause (terms_of asked trust) reading source source' asked.max e → KeyCause asked.crypto.accepts policy asked file source source' e
-    by_stage (inl want) = subst (Cause asked.crypto.accepts policy asked file source source') (sym want) tt
-    by_stage (inr (inl before)) =
+    by_stage : IsRead asked.bundle reading → promise.Cause (terms_of asked trust) reading source source' asked.max e → KeyCause asked.crypto.accepts policy asked file source source' e
+    by_stage read (inl want) = subst (Cause asked.crypto.accepts policy asked file source source') (sym want) tt
+    by_stage read (inr (inl before)) =
         before_reading asked.crypto.accepts policy asked file source source' reading read e (subst (λ p. ready_of read_kind p reading ≡ Err e) under before.refusal)
-    by_stage (inr (inr (inl within))) = subst (Cause asked.crypto.accepts policy asked file source source') (sym within.refusal.1) within.refusal.2
-    by_stage (inr (inr (inr after))) =
+    by_stage read (inr (inr (inl within))) = subst (Cause asked.crypto.accepts policy asked file source source') (sym within.refusal.1) within.refusal.2
+    by_stage read (inr (inr (inr after))) =
         unjudged asked.crypto.accepts policy asked file source source' reading read after.refusal.0 after.refusal.1 e
         (subst (λ p. judged_by (terms_of asked trust) p reading (Read after.refusal.0) ≡ Err e) under after.refusal.2)
 

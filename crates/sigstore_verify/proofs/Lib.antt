@@ -4,4 +4,6 @@ pub mod RootFacts
 pub mod JudgeCauses
 pub mod RootCauses
 pub mod Had
+pub mod Signed
 pub mod Agree
+pub mod Taken

@@ -1,6 +1,6 @@
 -- What is refused or accepted by the digests that were taken.
 use Rattle.std.proofs.Common.{◌≡◌, ◌≢◌, ℕ, List, [], ◌∷◌, ap, ◌∙◌, sym, subst, Option, Some, None, Result, Ok, Err, inl, inr, refl, true, IfOk, IfErr}
-use Rattle.std.specs.Prelude.{⊤, ◌⊎◌}
+use Rattle.std.specs.Prelude.{⊤, ◌⊎◌, ◌≤◌}
 use Rattle.std.specs.List.{list_all}
 use Rattle.jiff_core.specs.declared.timestamp.Timestamp as jiff
 use Rattle.foundation.specs.Watched.{Watched}
@@ -14,17 +14,40 @@ use Rattle.sigstore_crypto.specs.declared.reader.ReadError.{ReadError}
 use Rattle.sigstore_tuf_parts.specs.Crypto.{Crypto}
 use Rattle.sigstore_verify.specs.declared.error.Error.{Error}
 use Rattle.sigstore_verify.specs.declared.error.Error.TheVariants.{ArtifactRead, NoMemory}
+use Rattle.sigstore_verify.specs.declared.error.Error.TheVariants as verify
 use Rattle.sigstore_verify.specs.declared.judge.Ready.{Ready}
 use Rattle.sigstore_verify.specs.declared.policy.PublicKeyVerificationPolicy.{PublicKeyVerificationPolicy}
 use Rattle.sigstore_verify.specs.declared.report.Kept.{Kept}
 use Rattle.sigstore_verify.specs.declared.report.VerificationResult.{VerificationResult}
 use Rattle.sigstore_verify.specs.Artifact.{Artifact, Blob, Read, Digest, Kind, kind_of, read_kind, blob_kind, digest_of, bytes_of, had_digest}
 use Rattle.sigstore_verify.specs.Policy.{PublicKey}
-use Rattle.sigstore_verify.specs.Judged.{Terms, prepared_of, needed_of, key_judged_of, content_judged_by, content_judged_of, key_report_of, ready_of, needed_by, needed_in}
+use Rattle.sigstore_verify.specs.Judged.{Terms, prepared_of, needed_of, key_judged_of, content_judged_by, content_judged_of, judged_had, key_report_of, ready_of, needed_by, needed_in}
 use Rattle.sigstore_verify.specs.Promise.{ReadWhole, ReadCause, Cause, VerifiesKept, VerifiesHanded}
 use Rattle.sigstore_verify.specs.Taking.{Takes}
 use Rattle.sigstore_verify.proofs.Accepts.{prepared_means, all_hashed}
 use Rattle.sigstore_verify.proofs.Had.{judged_by_taken, judged_by_one}
+
+-- want of memory, or what holds of every other refusal
+wanting : {A : Type 0} (e : Error) → (e ≢ NoMemory → A) → (e ≡ NoMemory) ⊎ A
+wanting (verify.IdentityMismatch a b) f = inr (f (λ h. cc))
+wanting (verify.IssuerMismatch a b) f = inr (f (λ h. cc))
+wanting verify.SignatureInvalid f = inr (f (λ h. cc))
+wanting verify.ArtifactMismatch f = inr (f (λ h. cc))
+wanting verify.UnsupportedArtifact f = inr (f (λ h. cc))
+wanting (verify.Certificate a) f = inr (f (λ h. cc))
+wanting (verify.TransparencyLog a) f = inr (f (λ h. cc))
+wanting (verify.Timestamp a) f = inr (f (λ h. cc))
+wanting verify.InvalidBundle f = inr (f (λ h. cc))
+wanting verify.UnsupportedBundle f = inr (f (λ h. cc))
+wanting verify.InvalidTrustRoot f = inr (f (λ h. cc))
+wanting verify.Types f = inr (f (λ h. cc))
+wanting verify.Crypto f = inr (f (λ h. cc))
+wanting verify.Bundle f = inr (f (λ h. cc))
+wanting verify.TrustRoot f = inr (f (λ h. cc))
+wanting verify.TrustedCertificate f = inr (f (λ h. cc))
+wanting (verify.ArtifactRead a) f = inr (f (λ h. cc))
+wanting verify.NoMemory f = inl refl
+wanting (verify.Unbuilt a) f = inr (f (λ h. cc))
 
 -- what was prepared needs the digests of its scheme
 pub prepared_needs : (kind : Kind) (policy : PublicKeyVerificationPolicy) (bundle : Bundle) (ready : Ready) → prepared_of kind policy bundle ≡ Ok ready
@@ -49,26 +72,45 @@ judged accepts policy bundle ready artifact r p q =
     ap (λ s. s >>= λ (k : Ready). content_judged_of accepts k.key bundle.content artifact >>= λ _. Ok (key_report_of policy)) p
     ∙ ap (λ s. s >>= λ _. Ok (key_report_of policy)) q
 
+-- and of what wasn't
+unready : (accepts : Judge) (policy : PublicKeyVerificationPolicy) (bundle : Bundle) (artifact : Artifact) (e : Error) → prepared_of (kind_of artifact) policy bundle ≡ Err e
+    → key_judged_of accepts policy bundle artifact ≡ Err e
+unfolding key_judged_of
+unready accepts policy bundle artifact e p =
+    ap (λ s. s >>= λ (k : Ready). content_judged_of accepts k.key bundle.content artifact >>= λ _. Ok (key_report_of policy)) p
+
 -- the judgement by the digests of all the bytes is that of the artifact
 taken_judged : (accepts : Judge) (policy : PublicKeyVerificationPolicy) (bundle : Bundle) (ready : Ready) (kind : Kind) (kept : Option (List ℕ)) (bytes : List ℕ) (digests : List (HashAlgorithm × List ℕ))
     → kind.has ≡ is_hashed → prepared_of kind policy bundle ≡ Ok ready → digests ≡ digests_by ready.needed bytes
-    → content_judged_by accepts ready.key bundle.content (had_digest digests) kept ≡ content_judged_by accepts ready.key bundle.content (digest_of (Read bytes)) kept
+    → content_judged_by accepts ready.key bundle.content (digest_of (Read bytes)) kept ≡ content_judged_by accepts ready.key bundle.content (had_digest digests) kept
 taken_judged accepts policy bundle ready kind kept bytes digests is p d =
     let n = prepared_needs kind policy bundle ready p in
+    sym (
     ap (λ ds. content_judged_by accepts ready.key bundle.content (had_digest ds) kept) (d ∙ ap (λ l. digests_by l bytes) n)
     ∙ judged_by_taken accepts ready.key bundle.content kept bytes (subst (λ l. list_all is_hashed l ≡ true) n (prepared_hashed kind policy bundle ready is p))
+    )
 
 module _ (crypto : Crypto) (trust : TrustedRoot) (now : jiff.Timestamp) (policy : PublicKeyVerificationPolicy) (bundle : Bundle) where
   abbrev terms : Terms
   terms = record { crypto = crypto; trust = trust; policy = PublicKey policy; now = now }
 
-  abbrev judges : Result ⊤ Error → Ready → List (HashAlgorithm × List ℕ) → Option (List ℕ) → Type 0
-  judges r ready digests kept = content_judged_by crypto.accepts ready.key bundle.content (had_digest digests) kept ≡ r
+  abbrev judges : Ready → List (HashAlgorithm × List ℕ) → Option (List ℕ) → Result VerificationResult Error
+  judges ready digests kept = judged_had crypto.accepts ready.key bundle policy (had_digest digests) kept
 
   -- ---- an artifact that is read
 
   ready_so : (ready : Ready) → prepared_of read_kind policy bundle ≡ Ok ready → ready_of read_kind (PublicKey policy) bundle ≡ Ok tt
   ready_so ready p = ap (λ r. r >>= λ _. Ok tt) p
+
+  read_judged : (bytes : List ℕ) (ready : Ready) (digests : List (HashAlgorithm × List ℕ)) → prepared_of read_kind policy bundle ≡ Ok ready → digests ≡ digests_by ready.needed bytes
+      → key_judged_of crypto.accepts policy bundle (Read bytes) ≡ judges ready digests None
+  read_judged bytes ready digests p d =
+      judged crypto.accepts policy bundle ready (Read bytes) (content_judged_by crypto.accepts ready.key bundle.content (had_digest digests) None) p
+      (taken_judged crypto.accepts policy bundle ready read_kind None bytes digests refl p d)
+
+  pub unprepared : (old new : Watched (List ℕ)) (max : ℕ) (e : Error) → old.faults ≤ new.faults → new ≡ old → (e ≢ NoMemory → prepared_of read_kind policy bundle ≡ Err e)
+      → VerifiesKept terms bundle old new max (Err e)
+  unprepared old new max e l s f = record { later = l; accepted = tt; refused = wanting e (λ n. inl (record { unread = s; refusal = ap (λ r. r >>= λ (_ : Ready). Ok tt) (f n) })) }
 
   pub reading_refused : (old new : Watched (List ℕ)) (max : ℕ) (ready : Ready) (e : Error) → prepared_of read_kind policy bundle ≡ Ok ready
       → Takes old new max ready.needed (Err e) → VerifiesKept terms bundle old new max (Err e)
@@ -80,22 +122,15 @@ module _ (crypto : Crypto) (trust : TrustedRoot) (now : jiff.Timestamp) (policy 
 
   pub after_reading : (old new : Watched (List ℕ)) (max : ℕ) (ready : Ready) (digests : List (HashAlgorithm × List ℕ)) (result : Result Kept Error)
       → prepared_of read_kind policy bundle ≡ Ok ready → Takes old new max ready.needed (Ok digests)
-      → IfOk result (λ kept. judges (Ok tt) ready digests None × (kept.result ≡ key_report_of policy) × (kept.digests ≡ digests))
-      → IfErr result (λ e. judges (Err e) ready digests None)
+      → IfOk result (λ kept. (judges ready digests None ≡ Ok kept.result) × (kept.digests ≡ digests))
+      → IfErr result (λ e. judges ready digests None ≡ Err e)
       → VerifiesKept terms bundle old new max result
   after_reading old new max ready digests (Err e) p t a r =
       let w = t.taken in
       record {
         later = t.later;
         accepted = tt;
-        refused = inr (inr (inr (record {
-          ready = ready_so ready p;
-          refusal = (
-            w.0,
-            w.1,
-            judged crypto.accepts policy bundle ready (Read w.0) (Err e) p (sym (taken_judged crypto.accepts policy bundle ready read_kind None w.0 digests refl p w.2) ∙ r),
-          );
-        })));
+        refused = inr (inr (inr (record { ready = ready_so ready p; refusal = (w.0, w.1, read_judged w.0 ready digests p w.2 ∙ r) })));
       }
   after_reading old new max ready digests (Ok kept) p t a r =
       let w = t.taken in
@@ -103,27 +138,32 @@ module _ (crypto : Crypto) (trust : TrustedRoot) (now : jiff.Timestamp) (policy 
         later = t.later;
         accepted = (
           w.0,
-          record {
-            read = w.1;
-            judged = judged crypto.accepts policy bundle ready (Read w.0) (Ok tt) p (sym (taken_judged crypto.accepts policy bundle ready read_kind None w.0 digests refl p w.2) ∙ a.0) ∙ ap Ok (sym a.1);
-          },
-          a.2 ∙ w.2 ∙ ap (λ r. digests_by (needed_in r) w.0) (sym p),
+          record { read = w.1; judged = read_judged w.0 ready digests p w.2 ∙ a.0 },
+          a.1 ∙ w.2 ∙ ap (λ r. digests_by (needed_in r) w.0) (sym p),
         );
         refused = tt;
       }
 
-  -- ---- a blob
+  -- ---- an artifact that is handed in
 
-  pub blob_judged : (bytes : List ℕ) (ready : Ready) (digests : List (HashAlgorithm × List ℕ)) (r : Result ⊤ Error) → prepared_of blob_kind policy bundle ≡ Ok ready
-      → digests ≡ digests_by ready.needed bytes → judges r ready digests (Some bytes)
-      → key_judged_of crypto.accepts policy bundle (Blob bytes) ≡ (r >>= λ _. Ok (key_report_of policy))
-  blob_judged bytes ready digests r p d j =
-      judged crypto.accepts policy bundle ready (Blob bytes) r p (sym (taken_judged crypto.accepts policy bundle ready blob_kind (Some bytes) bytes digests refl p d) ∙ j)
+  pub handed : (artifact : Artifact) (r : Result VerificationResult Error) → key_judged_of crypto.accepts policy bundle artifact ≡ r → VerifiesHanded terms bundle artifact r
+  handed artifact (Ok report) h = record { accepted = h; refused = tt }
+  handed artifact (Err e) h = record { accepted = tt; refused = λ n. h }
 
-  -- ---- one digest
+  pub handed_unready : (artifact : Artifact) (e : Error) → (e ≢ NoMemory → prepared_of (kind_of artifact) policy bundle ≡ Err e) → VerifiesHanded terms bundle artifact (Err e)
+  handed_unready artifact e f = record { accepted = tt; refused = λ n. unready crypto.accepts policy bundle artifact e (f n) }
 
-  pub digest_judged : (given : HashAlgorithm) (digest : List ℕ) (ready : Ready) (r : Result ⊤ Error) → prepared_of (kind_of (Digest given digest)) policy bundle ≡ Ok ready
-      → judges r ready ((given, digest) ∷ []) None
-      → key_judged_of crypto.accepts policy bundle (Digest given digest) ≡ (r >>= λ _. Ok (key_report_of policy))
-  digest_judged given digest ready r p j =
-      judged crypto.accepts policy bundle ready (Digest given digest) r p (sym (judged_by_one crypto.accepts ready.key bundle.content given digest) ∙ j)
+  pub handed_wanting : (artifact : Artifact) (e : Error) → e ≡ NoMemory → VerifiesHanded terms bundle artifact (Err e)
+  handed_wanting artifact e want = record { accepted = tt; refused = λ n. absurd (n want) }
+
+  pub blob_judged : (bytes : List ℕ) (ready : Ready) (digests : List (HashAlgorithm × List ℕ)) → prepared_of blob_kind policy bundle ≡ Ok ready
+      → digests ≡ digests_by ready.needed bytes → key_judged_of crypto.accepts policy bundle (Blob bytes) ≡ judges ready digests (Some bytes)
+  blob_judged bytes ready digests p d =
+      judged crypto.accepts policy bundle ready (Blob bytes) (content_judged_by crypto.accepts ready.key bundle.content (had_digest digests) (Some bytes)) p
+      (taken_judged crypto.accepts policy bundle ready blob_kind (Some bytes) bytes digests refl p d)
+
+  pub digest_judged : (given : HashAlgorithm) (digest : List ℕ) (ready : Ready) → prepared_of (kind_of (Digest given digest)) policy bundle ≡ Ok ready
+      → key_judged_of crypto.accepts policy bundle (Digest given digest) ≡ judges ready ((given, digest) ∷ []) None
+  digest_judged given digest ready p =
+      judged crypto.accepts policy bundle ready (Digest given digest) (content_judged_by crypto.accepts ready.key bundle.content (had_digest ((given, digest) ∷ [])) None) p
+      (sym (judged_by_one crypto.accepts ready.key bundle.content given digest))

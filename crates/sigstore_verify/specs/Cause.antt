@@ -145,6 +145,5 @@ RootCause given before after (refusal.Tuf e) =
     × (after.source ≡ before.source)
 RootCause given before after (refusal.Verify verify.NoMemory chain) = ⊥
 RootCause given before after (refusal.Verify e chain) =
-    TrustsChain given.anchor chain
-    × JudgeCause given.anchor.crypto.accepts given.policy chain.file given.bundle before.source after.source given.max e
+    TrustsChain given.anchor chain × JudgeCause (asked_by given) chain.file before.source after.source e
 RootCause given before after refusal.NoMemory = ⊤

@@ -1,6 +1,6 @@
 // The judgement of a bundle under a managed key, before and after its artifact is had.
 ghost use Rattle.std.specs.Prelude.{◌≡◌, ◌≢◌, Ok, Err, IfOk, IfErr, OnOk, find, option_copied};
-ghost use Rattle.std.specs.List.{list_any};
+ghost use Rattle.std.specs.List.{list_any, list_all};
 ghost use Rattle.sigstore_types_parts.specs.HashAlgorithm.{same_algorithm, with_optional};
 ghost use Rattle.sigstore_verify.specs.Artifact.{kind_in, had_digest};
 ghost use Rattle.sigstore_verify.specs.Judged.{by_types, by_crypto, scheme_of, algorithm_in, needed_of, supported_of, prepared_of, key_report_of, is_bound, is_signed, content_judged_by};
@@ -137,6 +137,17 @@ impl Handed {
     }
 }
 
+fn has_all(handed: Handed, needed: &[HashAlgorithm]) -> bool
+    ensures { result ≡ list_all (kind_in handed).has needed.now }
+{
+    'each: for algorithm in needed {
+        if !handed.has(*algorithm) {
+            return false;
+        }
+    }
+    true
+}
+
 // The artifact can be judged: its bytes are kept where the scheme signs the message itself, and each digest
 // that is needed can be had. Else a check would have to be passed over.
 fn check_supported(
@@ -149,7 +160,7 @@ fn check_supported(
     if !scheme.supports_prehashed() && !handed.keeps_bytes() {
         return Err(Error::UnsupportedArtifact);
     }
-    if needed.iter().all(|algorithm| handed.has(*algorithm)) {
+    if has_all(handed, needed) {
         Ok(())
     } else {
         Err(handed.lacking())
@@ -193,7 +204,7 @@ fn had<'d>(digests: &'d [ArtifactDigest], algorithm: HashAlgorithm) -> Option<&'
 
 // The digest that the bundle tells of its message is the artifact's by that algorithm.
 fn is_bound(told: Option<&MessageDigest>, digests: &[ArtifactDigest]) -> bool
-    ensures { result ≡ is_bound (option_copied told) (had_digest digests.now) }
+    ensures { result ≡ is_bound (option_copied told.entry) (had_digest digests.now) }
 {
     match told {
         None => true,
@@ -211,7 +222,7 @@ fn is_signed<C: CryptoProvider>(
     bytes: Option<&[u8]>,
     signature: &SignatureBytes,
 ) -> bool
-    ensures { result ≡ is_signed (C.accepts provider.now) key.now (had_digest digests.now) (option_copied bytes) signature.now }
+    ensures { result ≡ is_signed (C.accepts provider.now) key.now (had_digest digests.now) (option_copied bytes.entry) signature.now }
 {
     match key.scheme.hash_algorithm() {
         Some(algorithm) => match had(digests, algorithm) {
@@ -236,7 +247,7 @@ pub(crate) fn judge_content<C: CryptoProvider>(
     digests: &[ArtifactDigest],
     bytes: Option<&[u8]>,
 ) -> Result<(), Error>
-    ensures { result ≡ content_judged_by (C.accepts provider.now) key.now content.now (had_digest digests.now) (option_copied bytes) }
+    ensures { result ≡ content_judged_by (C.accepts provider.now) key.now content.now (had_digest digests.now) (option_copied bytes.entry) }
 {
     match content {
         SignatureContent::MessageSignature(message) => {

@@ -17,7 +17,7 @@ fn hashers_for(alloc: Global, algorithms: &[HashAlgorithm]) -> Result<Vec<Artifa
     ensures err { IfErr result (λ e. (e ≡ Error.NoMemory) ⊎ (list_all is_hashed algorithms.now ≡ false)) }
 {
     let mut hashers = Vec::new(alloc);
-    'algorithms: for algorithm in algorithms {
+    'each: for algorithm in algorithms {
         let hasher = ArtifactHasher::new(*algorithm)?;
         if hashers.push(hasher).is_err() {
             return Err(Error::NoMemory);
@@ -35,7 +35,7 @@ fn finalize_all(
     ensures err { IfErr result (λ e. e ≡ Error.NoMemory) }
 {
     let mut digests = Sequence::new(alloc);
-    'hashers: for hasher in hashers {
+    'each: for hasher in hashers {
         digests.push(hasher.finalize(alloc)?)?;
     }
     Ok(digests)
@@ -70,7 +70,7 @@ pub(crate) fn digests_in(
     ensures err { list_all is_hashed algorithms.now ≡ true → IfErr result (λ e. e ≡ Error.NoMemory) }
 {
     let mut digests = Sequence::new(alloc);
-    'algorithms: for algorithm in algorithms {
+    'each: for algorithm in algorithms {
         let mut hasher = ArtifactHasher::new(*algorithm)?;
         hasher.update(bytes);
         digests.push(hasher.finalize(alloc)?)?;

@@ -1,8 +1,8 @@
 // The verification of a bundle over an artifact.
-ghost use Rattle.std.specs.Prelude.{◌≡◌, ◌≢◌, None, Ok, Err, IfOk, IfErr};
+ghost use Rattle.std.specs.Prelude.{◌≡◌, ◌≢◌, None, Ok, Err, IfOk, IfErr, option_copied};
 ghost use Rattle.sigstore_tuf_parts.specs.By.{crypto_by};
 ghost use Rattle.sigstore_verify.specs.Artifact.{Blob, Digest, artifact_of, had_digest};
-ghost use Rattle.sigstore_verify.specs.Judged.{Terms, content_judged_by, key_report_of};
+ghost use Rattle.sigstore_verify.specs.Judged.{Terms, judged_had};
 ghost use Rattle.sigstore_verify.specs.Policy.{PublicKey};
 ghost use Rattle.sigstore_verify.specs.Trust.{usable_of};
 ghost use Rattle.sigstore_verify.specs.Promise.{Verifies, VerifiesKept, VerifiesHanded, VerifiesUnder};
@@ -28,7 +28,25 @@ pub struct Verifier<'p, C: CryptoProvider, M: Armor> {
     trust: TrustedRoot,
 }
 
-// The judgement over digests that were taken, and what is kept of it.
+// The judgement over digests that were taken, and the bytes where they are kept.
+fn judge_had<C: CryptoProvider>(
+    alloc: Global,
+    provider: &C,
+    key: &VerificationKey,
+    bundle: &Bundle,
+    policy: &PublicKeyVerificationPolicy,
+    digests: &[ArtifactDigest],
+    bytes: Option<&[u8]>,
+) -> Result<VerificationResult, Error>
+    ensures { result ≡ judged_had (C.accepts provider.now) key.now bundle.now policy.now (had_digest digests.now) (option_copied bytes.entry) }
+{
+    match judge_content(provider, key, &bundle.content, digests, bytes) {
+        Ok(()) => Ok(key_report(alloc, policy)),
+        Err(e) => Err(e),
+    }
+}
+
+// The judgement over digests that were read, and these.
 fn keep<C: CryptoProvider>(
     alloc: Global,
     provider: &C,
@@ -38,16 +56,21 @@ fn keep<C: CryptoProvider>(
     digests: Sequence<ArtifactDigest>,
 ) -> Result<Kept, Error>
     ensures accepted { IfOk result (λ kept.
-        (content_judged_by (C.accepts provider.now) key.now bundle.now.content (had_digest digests) None ≡ Ok tt)
-        × (kept.result ≡ key_report_of policy.now) × (kept.digests ≡ digests)) }
+        (judged_had (C.accepts provider.now) key.now bundle.now policy.now (had_digest digests) None ≡ Ok kept.result)
+        × (kept.digests ≡ digests)) }
     ensures refused { IfErr result (λ e.
-        content_judged_by (C.accepts provider.now) key.now bundle.now.content (had_digest digests) None ≡ Err e) }
+        judged_had (C.accepts provider.now) key.now bundle.now policy.now (had_digest digests) None ≡ Err e) }
 {
-    match judge_content(provider, key, &bundle.content, digests.as_slice(), None) {
-        Ok(()) => Ok(Kept {
-            result: key_report(alloc, policy),
-            digests,
-        }),
+    match judge_had(
+        alloc,
+        provider,
+        key,
+        bundle,
+        policy,
+        digests.as_slice(),
+        None,
+    ) {
+        Ok(result) => Ok(Kept { result, digests }),
         Err(e) => Err(e),
     }
 }
@@ -88,9 +111,11 @@ impl<'p, C: CryptoProvider, M: Armor> Verifier<'p, C, M> {
             let terms : Terms = record { crypto = crypto; trust = self.now.trust; policy = PublicKey policy.now; now = _now } in
             VerifiesKept terms bundle.now (A.seen source.old) (A.seen source.new) max result }
     {
-        let ready = prepare(alloc, Handed::Read, policy, bundle)?;
-        match read_digests(alloc, source, max, ready.needed.as_slice()) {
-            Ok(digests) => keep(alloc, self.provider, &ready.key, bundle, policy, digests),
+        match prepare(alloc, Handed::Read, policy, bundle) {
+            Ok(ready) => match read_digests(alloc, source, max, ready.needed.as_slice()) {
+                Ok(digests) => keep(alloc, self.provider, &ready.key, bundle, policy, digests),
+                Err(e) => Err(e),
+            },
             Err(e) => Err(e),
         }
     }
@@ -108,16 +133,21 @@ impl<'p, C: CryptoProvider, M: Armor> Verifier<'p, C, M> {
             let terms : Terms = record { crypto = crypto; trust = self.now.trust; policy = PublicKey policy.now; now = _now } in
             VerifiesHanded terms bundle.now (Blob bytes.now) result }
     {
-        let ready = prepare(alloc, Handed::Blob, policy, bundle)?;
-        let digests = digests_in(alloc, bytes, ready.needed.as_slice())?;
-        judge_content(
-            self.provider,
-            &ready.key,
-            &bundle.content,
-            digests.as_slice(),
-            Some(bytes),
-        )?;
-        Ok(key_report(alloc, policy))
+        match prepare(alloc, Handed::Blob, policy, bundle) {
+            Ok(ready) => match digests_in(alloc, bytes, ready.needed.as_slice()) {
+                Ok(digests) => judge_had(
+                    alloc,
+                    self.provider,
+                    &ready.key,
+                    bundle,
+                    policy,
+                    digests.as_slice(),
+                    Some(bytes),
+                ),
+                Err(e) => Err(e),
+            },
+            Err(e) => Err(e),
+        }
     }
 
     // An artifact of which one digest is handed in, under a managed key.
@@ -133,15 +163,18 @@ impl<'p, C: CryptoProvider, M: Armor> Verifier<'p, C, M> {
             let terms : Terms = record { crypto = crypto; trust = self.now.trust; policy = PublicKey policy.now; now = _now } in
             VerifiesHanded terms bundle.now (Digest digest.now.0 digest.now.1) result }
     {
-        let ready = prepare(alloc, Handed::Digest(digest.algorithm()), policy, bundle)?;
-        judge_content(
-            self.provider,
-            &ready.key,
-            &bundle.content,
-            slice::from_ref(digest),
-            None,
-        )?;
-        Ok(key_report(alloc, policy))
+        match prepare(alloc, Handed::Digest(digest.algorithm()), policy, bundle) {
+            Ok(ready) => judge_had(
+                alloc,
+                self.provider,
+                &ready.key,
+                bundle,
+                policy,
+                slice::from_ref(digest),
+                None,
+            ),
+            Err(e) => Err(e),
+        }
     }
 
     /// Verifies the bundle over an artifact that is handed in. Errors, in order: `Bundle`, `Unbuilt` or
@@ -158,7 +191,7 @@ impl<'p, C: CryptoProvider, M: Armor> Verifier<'p, C, M> {
     ) -> Result<VerificationResult, Error>
         ensures { let crypto = crypto_by C.CryptoProvider M.Armor self.now.provider.now self.now.armor.now in
             let terms : Terms = record { crypto = crypto; trust = self.now.trust; policy = P.meant policy.now; now = now } in
-            VerifiesHanded terms bundle.now (artifact_of artifact) result }
+            VerifiesHanded terms bundle.now (artifact_of artifact.entry) result }
     {
         match policy.kind() {
             PolicyKind::PublicKey(policy) => match artifact {
@@ -225,7 +258,7 @@ pub fn verify<P: Policy, C: CryptoProvider, M: Armor>(
 ) -> Result<VerificationResult, Error>
     ensures { let crypto = crypto_by C.CryptoProvider M.Armor provider.now armor.now in
         let terms : Terms = record { crypto = crypto; trust = trusted_root.now; policy = P.meant policy.now; now = now } in
-        VerifiesUnder terms bundle.now (artifact_of artifact) result }
+        VerifiesUnder terms bundle.now (artifact_of artifact.entry) result }
 {
     let verifier = Verifier::new(alloc, provider, armor, trusted_root)?;
     Ok(verifier.verify(alloc, artifact, bundle, policy, now)?)
