@@ -25,7 +25,7 @@ use Rattle.sigstore_verify.specs.declared.judge.Ready.{Ready}
 use Rattle.sigstore_verify.specs.declared.policy.PublicKeyVerificationPolicy.{PublicKeyVerificationPolicy}
 use Rattle.sigstore_verify.specs.declared.report.VerificationResult.{VerificationResult}
 use Rattle.sigstore_verify.specs.Artifact.{Artifact, Kind, kind_of, digest_of, bytes_of}
-use Rattle.sigstore_verify.specs.Judged.{by_types, by_crypto, scheme_of, needed_of, supported_of, prepared_of, Digests, is_digest, is_bound, subject_by, is_good_of, is_signed}
+use Rattle.sigstore_verify.specs.Judged.{by_types, by_crypto, scheme_of, needed_of, supported_of, prepared_of, is_digest, is_bound, subject_by, is_good_of, is_signed}
 use Rattle.sigstore_verify.specs.Judged.{content_judged_of, key_judged_of, key_report_of}
 use Rattle.sigstore_verify.specs.Accepts.{signature_in, digest_in, IsBound, AcceptsKey, AcceptsExactly}
 

@@ -1,5 +1,5 @@
 -- A blob and a reader that tells the same bytes get one answer.
-use Rattle.std.proofs.Common.{◌≡◌, ◌≢◌, ℕ, List, Bool, true, false, ◌||◌, if◌then◌else◌, Option, Some, None, Result, Ok, Err, refl, sym, ap, ◌∙◌}
+use Rattle.std.proofs.Common.{◌≡◌, ◌≢◌, ℕ, List, Bool, true, false, ◌||◌, if◌then◌else◌, Option, Some, None, Result, Ok, Err, refl, ap}
 use Rattle.std.specs.Prelude.{⊤}
 use Rattle.std.specs.List.{list_all}
 use Rattle.foundation.specs.Steps.{◌>>=◌}
@@ -8,8 +8,6 @@ use Rattle.sigstore_types.specs.declared.content.SignatureContent.{SignatureCont
 use Rattle.sigstore_types.specs.declared.content.SignatureContent.TheVariants.{MessageSignature as OfMessage}
 use Rattle.sigstore_types.specs.Bundle.{structure_of}
 use Rattle.sigstore_types_parts.specs.declared.hash_algorithm.HashAlgorithm.{HashAlgorithm}
-use Rattle.sigstore_types_parts.specs.declared.error.TypesError.{TypesError}
-use Rattle.sigstore_crypto.specs.declared.error.Error.{Error as CryptoError}
 use Rattle.sigstore_crypto.specs.declared.key.VerificationKey.{VerificationKey}
 use Rattle.sigstore_crypto.specs.declared.scheme.SigningScheme.{SigningScheme}
 use Rattle.sigstore_crypto.specs.Digest.{is_hashed}
@@ -22,8 +20,8 @@ use Rattle.sigstore_verify.specs.declared.judge.Ready.{Ready}
 use Rattle.sigstore_verify.specs.declared.policy.PublicKeyVerificationPolicy.{PublicKeyVerificationPolicy}
 use Rattle.sigstore_verify.specs.declared.report.VerificationResult.{VerificationResult}
 use Rattle.sigstore_verify.specs.Agree.{BlobAgrees}
-use Rattle.sigstore_verify.specs.Artifact.{Artifact, Blob, Read, Kind, blob_kind, read_kind, digest_of}
-use Rattle.sigstore_verify.specs.Judged.{Terms, by_types, by_crypto, scheme_of, needed_of, supported_of, prepared_of, is_bound, subject_by, is_good_of, content_judged_of, key_judged_of, key_report_of, judged_by, judged_of}
+use Rattle.sigstore_verify.specs.Artifact.{Artifact, Blob, Read, blob_kind, read_kind, digest_of}
+use Rattle.sigstore_verify.specs.Judged.{Terms, by_types, by_crypto, scheme_of, needed_of, prepared_of, is_bound, subject_by, is_good_of, content_judged_of, key_judged_of, key_report_of, judged_by}
 use Rattle.sigstore_verify.specs.Policy.{Meaning, PublicKey}
 use Rattle.sigstore_verify.proofs.Accepts.{after_scheme, after_key, after_structure, ready_under, key_under}
 

@@ -1,7 +1,6 @@
 -- The digests that were taken of an artifact are the artifact's, for each algorithm that is needed.
-use Rattle.std.proofs.Common.{◌≡◌, ℕ, List, [], ◌∷◌, ◌++◌, Bool, true, false, ◌||◌, ◌&&◌, cond, if◌then◌else◌, Option, Some, None, option_map, find}
-use Rattle.std.proofs.Common.{Result, Ok, Err, refl, sym, ap, ◌∙◌, subst}
-use Rattle.std.specs.Prelude.{⊤}
+use Rattle.std.proofs.Common.{◌≡◌, ℕ, List, [], ◌∷◌, ◌++◌, Bool, true, false, ◌||◌, cond, if◌then◌else◌, Option, Some, None, option_map, find}
+use Rattle.std.proofs.Common.{Ok, Err, refl, sym, ap, ◌∙◌, subst}
 use Rattle.std.specs.List.{list_any, list_all}
 use Rattle.foundation.specs.Results.{and_true}
 use Rattle.sigstore_types_parts.specs.HashAlgorithm.{same_algorithm, with_algorithm, with_optional}
@@ -15,9 +14,8 @@ use Rattle.sigstore_crypto.specs.declared.scheme.SigningScheme.{SigningScheme}
 use Rattle.sigstore_crypto.specs.Digest.{is_hashed, digest_by, digests_by}
 use Rattle.sigstore_crypto.specs.Good.{Judge}
 use Rattle.sigstore_crypto.specs.Scheme.{digest_algorithm_of}
-use Rattle.sigstore_verify.specs.declared.error.Error.{Error}
 use Rattle.sigstore_verify.specs.declared.error.Error.TheVariants.{SignatureInvalid, ArtifactMismatch}
-use Rattle.sigstore_verify.specs.Artifact.{Artifact, Blob, Read, Digest, digest_of, had_digest}
+use Rattle.sigstore_verify.specs.Artifact.{Read, Digest, digest_of, had_digest}
 use Rattle.sigstore_verify.specs.Judged.{Digests, algorithm_told, algorithm_in, needed_of, is_digest, is_bound, subject_by, is_good_of, content_judged_by, content_judged_of}
 
 pub same_is : (a b : HashAlgorithm) → same_algorithm a b ≡ true → a ≡ b

@@ -1,7 +1,6 @@
 -- Each refusal of the judgement has its cause.
 use Rattle.std.proofs.Common.{◌≡◌, ◌≢◌, ◌⊎◌, inl, inr, ℕ, List, Bool, true, false, ◌||◌, if◌then◌else◌, Option, Some, None, Result, Ok, Err, refl, sym, ap, ◌∙◌, subst}
 use Rattle.std.specs.Prelude.{⊤}
-use Rattle.foundation.specs.Steps.{◌>>=◌}
 use Rattle.foundation.specs.Watched.{Watched}
 use Rattle.foundation.specs.Results.{err_same, refused_at}
 use Rattle.sigstore_types_parts.specs.declared.form.Form.{Form}
@@ -15,8 +14,6 @@ use Rattle.sigstore_types.specs.Bundle.{bundle_of_bytes, structure_of}
 use Rattle.sigstore_types.specs.TrustedRoot.{trusted_root_of_bytes}
 use Rattle.sigstore_crypto.specs.declared.error.Error.{Error as CryptoError}
 use Rattle.sigstore_crypto.specs.declared.error.Error.TheVariants as crypto
-use Rattle.sigstore_crypto.specs.declared.key.VerificationKey.{VerificationKey}
-use Rattle.sigstore_crypto.specs.declared.scheme.SigningScheme.{SigningScheme}
 use Rattle.sigstore_crypto.specs.Key.{spki_key_of}
 use Rattle.sigstore_verify.specs.declared.error.Error.{Error}
 use Rattle.sigstore_verify.specs.declared.error.Error.TheVariants as verify
@@ -24,22 +21,19 @@ use Rattle.sigstore_verify.specs.declared.policy.PublicKeyVerificationPolicy.{Pu
 use Rattle.sigstore_verify.specs.Error.{error_of_crypto, lowered}
 use Rattle.std.specs.List.{list_all}
 use Rattle.std.proofs.lemmas.Slice.Eq.{bytes_eq-Decides}
-use Rattle.sigstore_types_parts.specs.declared.hash_algorithm.HashAlgorithm.{HashAlgorithm}
-use Rattle.sigstore_types.specs.declared.trusted_root.TrustedRoot.{TrustedRoot}
 use Rattle.sigstore_crypto.specs.Digest.{is_hashed}
 use Rattle.sigstore_crypto.specs.Good.{Judge}
 use Rattle.sigstore_crypto.specs.Scheme.{has_digest}
 use Rattle.sigstore_verify.specs.declared.judge.Ready.{Ready}
 use Rattle.sigstore_verify.specs.Accepts.{signature_in, digest_in}
 use Rattle.sigstore_verify.specs.Artifact.{Artifact, Read, read_kind, digest_of}
-use Rattle.sigstore_verify.specs.Cause.{IsRefusedAs, IsRead, HasScheme, HasBundle, LacksScheme, key_unread, no_scheme, no_hasher, IsUnusable}
-use Rattle.sigstore_verify.specs.Cause.{trust_unbuilt, unusable, bundle_unbuilt, scheme_unbuilt, KeyCause, CauseUnder, JudgeCause}
+use Rattle.sigstore_verify.specs.Cause.{IsRefusedAs, IsRead, HasScheme, HasBundle, LacksScheme, key_unread, no_scheme, no_hasher}
+use Rattle.sigstore_verify.specs.Cause.{trust_unbuilt, bundle_unbuilt, scheme_unbuilt, KeyCause, CauseUnder, JudgeCause}
 use Rattle.sigstore_verify.specs.FromRoot.{or_fault, trust_fault, bundle_fault, JudgesBundle, trust_refused, verifier_refused, bundle_refused, judged}
 use Rattle.sigstore_verify.specs.Given.{Asked, terms_of}
 use Rattle.sigstore_verify.specs.Judged.{by_crypto, by_types, scheme_of, needed_of, supported_of, prepared_of, is_digest, is_bound, is_signed, content_judged_of, key_judged_of, judged_by, ready_of}
 use Rattle.sigstore_verify.specs.Policy.{Meaning, PublicKey}
 use Rattle.sigstore_verify.specs.Promise as promise
-use Rattle.sigstore_verify.specs.Trust.{usable_of}
 use Rattle.sigstore_verify.proofs.Accepts.{ok_crypto, Prepared, prepared_means}
 
 by_fault : {T : Type 0} (fault : TypesError → Error) (r : Result T TypesError) (e : Error) → or_fault fault r ≡ Err e → IsRefusedAs fault r e

@@ -1,5 +1,5 @@
 -- Each refusal of the top call has its cause.
-use Rattle.std.proofs.Common.{◌≡◌, Result, Err, sym, subst}
+use Rattle.std.proofs.Common.{◌≡◌, Err, sym, subst}
 use Rattle.foundation.specs.Watched.{Watched}
 use Rattle.foundation.specs.Results.{err_same}
 use Rattle.sigstore_tuf_parts.specs.declared.error.Error.{Error as TufError}

@@ -1,5 +1,5 @@
 -- What an acceptance of the top call means.
-use Rattle.std.proofs.Common.{◌≡◌, ℕ, List, Result, Ok, Err, ap, sym, subst}
+use Rattle.std.proofs.Common.{◌≡◌, Result, Ok, Err, ap, sym, subst}
 use Rattle.foundation.specs.Watched.{Watched}
 use Rattle.foundation.specs.Results.{no_both}
 use Rattle.sigstore_types_parts.specs.declared.error.TypesError.{TypesError}

@@ -1,11 +1,10 @@
 -- A signature over a digest that was taken by the scheme's algorithm.
-use Rattle.std.proofs.Common.{◌≡◌, ℕ, List, [], ◌∷◌, length, nat_eq, Bool, true, false, ◌&&◌, cond, if◌then◌else◌, Option, Some, None, option_map, find}
+use Rattle.std.proofs.Common.{◌≡◌, ℕ, List, [], ◌∷◌, length, nat_eq, Bool, true, false, ◌&&◌, cond, if◌then◌else◌, Option, Some, option_map, find}
 use Rattle.std.proofs.Common.{Result, Ok, Err, is_ok, refl, sym, ap, ◌∙◌, subst}
 use Rattle.std.specs.Prelude.{⊤}
 use Rattle.foundation.specs.Results.{some_same}
 use Rattle.foundation.specs.Steps.{◌>>=◌}
 use Rattle.sigstore_types_parts.specs.HashAlgorithm.{same_algorithm, digest_len_of}
-use Rattle.sigstore_types_parts.specs.declared.form.Form.TheVariants.{Key}
 use Rattle.sigstore_types_parts.specs.declared.hash_algorithm.HashAlgorithm.{HashAlgorithm}
 use Rattle.sigstore_types_parts.specs.declared.hash_algorithm.HashAlgorithm.TheVariants.{Sha2256, Sha2384, Sha2512, Sha3256, Sha3384}
 use Rattle.sigstore_crypto.specs.declared.error.Error.{Error}

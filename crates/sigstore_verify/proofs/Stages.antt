@@ -19,10 +19,10 @@ use Rattle.sigstore_verify.specs.declared.judge.Ready.{Ready}
 use Rattle.sigstore_verify.specs.declared.policy.PublicKeyVerificationPolicy.{PublicKeyVerificationPolicy}
 use Rattle.sigstore_verify.specs.declared.report.Kept.{Kept}
 use Rattle.sigstore_verify.specs.declared.report.VerificationResult.{VerificationResult}
-use Rattle.sigstore_verify.specs.Artifact.{Artifact, Blob, Read, Digest, Kind, kind_of, read_kind, blob_kind, digest_of, bytes_of, had_digest}
+use Rattle.sigstore_verify.specs.Artifact.{Artifact, Blob, Read, Digest, Kind, kind_of, read_kind, blob_kind, digest_of, had_digest}
 use Rattle.sigstore_verify.specs.Policy.{PublicKey}
-use Rattle.sigstore_verify.specs.Judged.{Terms, prepared_of, needed_of, key_judged_of, content_judged_by, content_judged_of, judged_had, key_report_of, ready_of, needed_by, needed_in}
-use Rattle.sigstore_verify.specs.Promise.{ReadWhole, ReadCause, Cause, VerifiesKept, VerifiesHanded}
+use Rattle.sigstore_verify.specs.Judged.{Terms, prepared_of, needed_of, key_judged_of, content_judged_by, content_judged_of, judged_had, key_report_of, ready_of, needed_in}
+use Rattle.sigstore_verify.specs.Promise.{ReadCause, Cause, VerifiesKept, VerifiesHanded}
 use Rattle.sigstore_verify.specs.Taking.{Takes}
 use Rattle.sigstore_verify.proofs.Accepts.{prepared_means, all_hashed}
 use Rattle.sigstore_verify.proofs.Had.{judged_by_taken, judged_by_one}

@@ -1,6 +1,5 @@
 -- What it means that a bundle is accepted under a managed key, told without any order of checks.
 use Rattle.std.specs.Prelude.{◌≡◌, ◌↔◌, ℕ, List, ⊤, Option, Some, None, Ok, IsTrue}
-use Rattle.sigstore_types_parts.specs.declared.hash_algorithm.HashAlgorithm.{HashAlgorithm}
 use Rattle.sigstore_types.specs.declared.bundle.Bundle.{Bundle}
 use Rattle.sigstore_types.specs.declared.content.SignatureContent.{SignatureContent}
 use Rattle.sigstore_types.specs.declared.content.SignatureContent.TheVariants.{MessageSignature as OfMessage}

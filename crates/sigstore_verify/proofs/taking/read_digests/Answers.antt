@@ -1,7 +1,7 @@
-use Rattle.std.proofs.Common.{◌≡◌, List, [], length, sym, subst, ap, ◌∙◌}
+use Rattle.std.proofs.Common.{◌≡◌, length, sym, subst, ◌∙◌}
 use Rattle.std.proofs.lemmas.List.{take_at}
 use Rattle.sigstore_crypto.specs.Hasher.{Fed, Grows}
-use Rattle.sigstore_verify.specs.Taken.{AreOf, Finalized}
+use Rattle.sigstore_verify.specs.Taken.{Finalized}
 use Rattle.sigstore_verify.proofs.Taken.{fed_are, fed_length, finalized_are}
 use Rattle.sigstore_verify.proofs.taking.read_digests.Goals as goal
 
@@ -20,7 +20,7 @@ returns-in-Ok-finalize_all g c hashed =
         bytes,
         record { given = t.given; ended = t.answer.2; short = t.answer.1 },
         finalized_are after c.args.algorithms.now digests bytes (fed_are hashers.items after c.args.algorithms.now bytes fed c.in_ok-hashers.ensures.ok)
-        (subst (λ ks. Finalized ks digests) (take_at after _ hashers.len full) c.in-Ok-finalize_all.ensures.ok),
+            (subst (λ ks. Finalized ks digests) (take_at after _ hashers.len full) c.in-Ok-finalize_all.ensures.ok),
       );
       refused = tt;
     }

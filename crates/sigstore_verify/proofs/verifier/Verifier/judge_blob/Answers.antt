@@ -12,20 +12,20 @@ returns-in-Ok-digests_in g c =
     let crypto = crypto_by g.C.CryptoProvider g.M.Armor c.args.self.now.provider.now c.args.self.now.armor.now in
     let ready = c.in-Ok.ready in
     let hashed : list_all is_hashed c.as_slice.result.now ≡ true =
-        ap (list_all is_hashed) c.as_slice.ensures ∙ prepared_hashed blob_kind c.args.policy.now c.args.bundle.now ready refl c.in-Ok.ensures.ok in
+    ap (list_all is_hashed) c.as_slice.ensures ∙ prepared_hashed blob_kind c.args.policy.now c.args.bundle.now ready refl c.in-Ok.ensures.ok in
     let taken : c.in-Ok-digests_in.digests ≡ digests_by ready.needed c.args.bytes.now =
-        c.in-Ok-digests_in.ensures.ok hashed ∙ ap (λ l. digests_by l c.args.bytes.now) c.as_slice.ensures in
+    c.in-Ok-digests_in.ensures.ok hashed ∙ ap (λ l. digests_by l c.args.bytes.now) c.as_slice.ensures in
     handed crypto c.args.self.now.trust c.args._now c.args.policy.now c.args.bundle.now (Blob c.args.bytes.now) c.judge_had.result (
-      blob_judged crypto c.args.self.now.trust c.args._now c.args.policy.now c.args.bundle.now c.args.bytes.now ready c.in-Ok-digests_in.digests c.in-Ok.ensures.ok taken
-      ∙ ap (λ ds. judged_had crypto.accepts ready.key c.args.bundle.now c.args.policy.now (had_digest ds) (Some c.args.bytes.now)) (sym c.as_slice-in-Ok-digests_in.ensures)
-      ∙ sym c.judge_had.ensures
+    blob_judged crypto c.args.self.now.trust c.args._now c.args.policy.now c.args.bundle.now c.args.bytes.now ready c.in-Ok-digests_in.digests c.in-Ok.ensures.ok taken
+    ∙ ap (λ ds. judged_had crypto.accepts ready.key c.args.bundle.now c.args.policy.now (had_digest ds) (Some c.args.bytes.now)) (sym c.as_slice-in-Ok-digests_in.ensures)
+    ∙ sym c.judge_had.ensures
     )
 
 pub returns-in-Ok : goal.returns-in-Ok
 returns-in-Ok g c =
     let crypto = crypto_by g.C.CryptoProvider g.M.Armor c.args.self.now.provider.now c.args.self.now.armor.now in
     let hashed : list_all is_hashed c.as_slice.result.now ≡ true =
-        ap (list_all is_hashed) c.as_slice.ensures ∙ prepared_hashed blob_kind c.args.policy.now c.args.bundle.now c.in-Ok.ready refl c.in-Ok.ensures.ok in
+    ap (list_all is_hashed) c.as_slice.ensures ∙ prepared_hashed blob_kind c.args.policy.now c.args.bundle.now c.in-Ok.ready refl c.in-Ok.ensures.ok in
     handed_wanting crypto c.args.self.now.trust c.args._now c.args.policy.now c.args.bundle.now (Blob c.args.bytes.now) c.in-Err-digests_in.e (c.in-Err-digests_in.ensures.err hashed)
 
 pub returns : goal.returns

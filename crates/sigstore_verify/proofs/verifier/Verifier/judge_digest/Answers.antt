@@ -12,16 +12,16 @@ returns-in-Ok g c =
     let ready = c.in-Ok.ready in
     let digest = c.args.digest.now in
     let prepared : prepared_of (digest_kind digest.0) c.args.policy.now c.args.bundle.now ≡ Ok ready =
-        ap (λ a. prepared_of (digest_kind a) c.args.policy.now c.args.bundle.now) (sym c.algorithm.ensures) ∙ c.in-Ok.ensures.ok in
+    ap (λ a. prepared_of (digest_kind a) c.args.policy.now c.args.bundle.now) (sym c.algorithm.ensures) ∙ c.in-Ok.ensures.ok in
     handed crypto c.args.self.now.trust c.args._now c.args.policy.now c.args.bundle.now (Digest digest.0 digest.1) c.judge_had.result (
-      digest_judged crypto c.args.self.now.trust c.args._now c.args.policy.now c.args.bundle.now digest.0 digest.1 ready prepared
-      ∙ ap (λ ds. judged_had crypto.accepts ready.key c.args.bundle.now c.args.policy.now (had_digest ds) None) (sym c.from_ref.ensures.value)
-      ∙ sym c.judge_had.ensures
+    digest_judged crypto c.args.self.now.trust c.args._now c.args.policy.now c.args.bundle.now digest.0 digest.1 ready prepared
+    ∙ ap (λ ds. judged_had crypto.accepts ready.key c.args.bundle.now c.args.policy.now (had_digest ds) None) (sym c.from_ref.ensures.value)
+    ∙ sym c.judge_had.ensures
     )
 
 pub returns-in-Err : goal.returns-in-Err
 returns-in-Err g c =
     let unready : c.in-Err.e ≢ NoMemory → prepared_of (digest_kind c.args.digest.now.0) c.args.policy.now c.args.bundle.now ≡ Err c.in-Err.e =
-        λ n. ap (λ a. prepared_of (digest_kind a) c.args.policy.now c.args.bundle.now) (sym c.algorithm.ensures) ∙ c.in-Err.ensures.err n in
+    λ n. ap (λ a. prepared_of (digest_kind a) c.args.policy.now c.args.bundle.now) (sym c.algorithm.ensures) ∙ c.in-Err.ensures.err n in
     handed_unready (crypto_by g.C.CryptoProvider g.M.Armor c.args.self.now.provider.now c.args.self.now.armor.now) c.args.self.now.trust c.args._now c.args.policy.now c.args.bundle.now
     (Digest c.args.digest.now.0 c.args.digest.now.1) c.in-Err.e unready
