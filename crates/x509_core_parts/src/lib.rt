@@ -9,6 +9,7 @@ mod extension;
 mod laws;
 mod precert;
 mod read;
+mod rsa;
 mod sct;
 mod scts;
 mod signed;
@@ -22,6 +23,7 @@ pub use laws::{
     signed_part_is_its_parts,
 };
 pub use precert::{precert_tbs, sct_signed_bytes};
+pub use rsa::RsaKeyView;
 pub use sct::Sct;
 pub use scts::sct_list;
 pub use spki::SpkiView;
