@@ -7,3 +7,4 @@ pub mod Rsa
 pub mod Scts
 pub mod Spki
 pub mod Views
+pub mod Walk

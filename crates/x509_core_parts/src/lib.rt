@@ -14,10 +14,11 @@ mod sct;
 mod scts;
 mod signed;
 mod spki;
+mod walk;
 
 pub use certificate::{CertView, is_certificate};
 pub use error::X509Error;
-pub use extension::ExtensionView;
+pub use extension::{ExtensionView, NamedExtension};
 pub use laws::{
     certificate_is_its_parts, extension_stands_once, key_is_its_parts, precertificate_is_there,
     signed_part_is_its_parts,
@@ -27,3 +28,4 @@ pub use rsa::RsaKeyView;
 pub use sct::Sct;
 pub use scts::sct_list;
 pub use spki::SpkiView;
+pub use walk::Extensions;
