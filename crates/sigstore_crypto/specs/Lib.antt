@@ -3,6 +3,7 @@ pub mod Error
 pub mod Good
 pub mod Hasher
 pub mod Key
+pub mod KeyAlgorithm
 pub mod Reader
 pub mod Scheme
 pub mod Source

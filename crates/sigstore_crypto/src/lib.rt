@@ -6,13 +6,14 @@ mod error;
 mod file_source;
 mod hasher;
 mod key;
+mod key_algorithm;
 mod memory_source;
 mod provider;
 mod reader;
 mod scheme;
 mod source;
 
-pub use digest::{sha256, sha384, sha512};
+pub use digest::{compute_key_hint, sha256, sha384, sha512};
 pub use error::{CertificateFault, CheckpointFault, Error, KeyRule, VerificationFault};
 pub use file_source::FileSource;
 pub use hasher::{ArtifactHasher, HashUpdate, Sha256Hasher};
