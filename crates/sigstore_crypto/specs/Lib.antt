@@ -4,6 +4,7 @@ pub mod Good
 pub mod Hasher
 pub mod Key
 pub mod KeyAlgorithm
+pub mod Pairs
 pub mod Reader
 pub mod Scheme
 pub mod Source
