@@ -27,7 +27,7 @@ const ML_DSA_65_OID: [u8; 9] = [0x60, 0x86, 0x48, 0x01, 0x65, 0x03, 0x04, 0x03, 
 
 const ML_DSA_87_OID: [u8; 9] = [0x60, 0x86, 0x48, 0x01, 0x65, 0x03, 0x04, 0x03, 0x13];
 
-fn curve(parameters: Option<&[u8]>) -> Result<KeyAlgorithm, Error>
+fn curve_in(parameters: Option<&[u8]>) -> Result<KeyAlgorithm, Error>
     ensures { result ≡ curve_of (option_copied parameters.entry) }
 {
     match parameters {
@@ -37,7 +37,7 @@ fn curve(parameters: Option<&[u8]>) -> Result<KeyAlgorithm, Error>
     }
 }
 
-fn null(parameters: Option<&[u8]>) -> Result<KeyAlgorithm, Error>
+fn null_in(parameters: Option<&[u8]>) -> Result<KeyAlgorithm, Error>
     ensures { result ≡ null_of (option_copied parameters.entry) }
 {
     match parameters {
@@ -61,9 +61,9 @@ fn named(view: &SpkiView) -> Result<KeyAlgorithm, Error>
     ensures { result ≡ named_of (spki_parts view.now).algorithm }
 {
     if view.oid == EC_OID.as_slice() {
-        curve(view.parameters)
+        curve_in(view.parameters)
     } else if view.oid == RSA_OID.as_slice() {
-        null(view.parameters)
+        null_in(view.parameters)
     } else if view.oid == ED25519_OID.as_slice() {
         bare(KeyAlgorithm::Ed25519, view.parameters)
     } else if view.oid == ML_DSA_44_OID.as_slice() {
