@@ -1,5 +1,5 @@
 // A walk over a certificate's extensions.
-ghost use Rattle.std.specs.Prelude.{◌≡◌, length, option_copied};
+ghost use Rattle.std.specs.Prelude.{◌≡◌, option_copied};
 ghost use Rattle.x509_core_parts.specs.Walk.{all_extensions, left_of};
 
 use crate::certificate::CertView;
