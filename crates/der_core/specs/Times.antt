@@ -79,6 +79,14 @@ nanos_of c =
 abbrev pub nearest : ℤ → ℤ
 nearest n = int_max (neg_ℤ (pos 377_705_023_201_000_000_000)) (int_min (pos 253_402_207_200_999_999_999) n)
 
+-- the first instant that there is
+abbrev pub least_instant : ℤ
+least_instant = neg_ℤ (pos 377_705_023_201_000_000_000)
+
+-- the instant of a civil time, or the nearest one; the least of what is no real date or time of day
+abbrev pub instant_of_civil : Civil → ℤ
+instant_of_civil c = if is_civil c then nearest (nanos_of c) else least_instant
+
 -- the instant lies in the second
 abbrev pub IsWithinSecond : ℤ → Civil → Type 0
 IsWithinSecond n c = (nanos_of c ≤ℤ n) × (n <ℤ (nanos_of c +ℤ pos 1_000_000_000))

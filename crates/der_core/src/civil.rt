@@ -43,7 +43,8 @@ fn days_in(year: u16, month: u8) -> u8
     }
 }
 
-fn is_real(civil: &Civil) -> bool
+/// Whether it is a real date with a time of day.
+pub fn is_real(civil: &Civil) -> bool
     ensures { result ≡ is_civil civil.now }
 {
     civil.year < 10000

@@ -1,10 +1,10 @@
 // Moments that civil times of UTC name.
 ghost use Rattle.std.specs.Prelude.{◌≡◌, true, IfSome, IfNone};
 ghost use Rattle.jiff_core.specs.DateTime.{civil_nanos};
-ghost use Rattle.der_core.specs.Times.{is_civil, nanos_of, nearest, IsWithinSecond};
+ghost use Rattle.der_core.specs.Times.{is_civil, nanos_of, nearest, instant_of_civil, IsWithinSecond};
 ghost use Rattle.der_core.specs.declared.civil.Civil.{Civil as CivilTime};
 
-use crate::civil::Civil;
+use crate::civil::{Civil, is_real};
 use jiff::Timestamp;
 use jiff_core::civil::{Date, DateTime, Time};
 
@@ -51,6 +51,20 @@ pub fn moment_of(civil: &Civil) -> Timestamp
     ensures { result.nanosecond ≡ nearest (nanos_of civil.now) }
 {
     at_nanosecond(datetime_of(civil).to_nanosecond())
+}
+
+impl Civil {
+    /// The moment of this time of UTC, or the nearest one in the range of `Timestamp`; the least one
+    /// where this is no real date with a time of day.
+    pub fn moment(&self) -> Timestamp
+        ensures { result.nanosecond ≡ instant_of_civil self.now }
+    {
+        if is_real(self) {
+            moment_of(self)
+        } else {
+            Timestamp::MIN
+        }
+    }
 }
 
 /// The civil time of UTC in whose second a moment lies; None before the year 0.

@@ -129,7 +129,7 @@ impl Der for ObjectIdentifier {
     ghost grammar = { oid_type.grammar };
 
     fn accepts(tag: Tag) -> bool {
-        tag.0 == 6
+        tag.0 == tag::OID
     }
 
     fn from_contents(

@@ -63,6 +63,13 @@ fn signed(alloc: Global, digits: &[u8]) -> Result<OctetString, NoMemory>
 }
 
 impl Uint {
+    /// Whether octets are the contents of an INTEGER from 0 on; no memory is taken.
+    pub fn is_contents(contents: &[u8]) -> bool
+        ensures { result ≡ is_uint contents.now }
+    {
+        is_unsigned(contents)
+    }
+
     /// The number of these octets, the most significant first, leading zeros dropped; Value exactly
     /// where there is none.
     pub fn new(alloc: Global, bytes: &[u8]) -> Result<Uint, DerError>
@@ -89,7 +96,7 @@ impl Der for Uint {
     ghost grammar = { uint_type.grammar };
 
     fn accepts(tag: Tag) -> bool {
-        tag.0 == 2
+        tag.0 == tag::INTEGER
     }
 
     fn from_contents(alloc: Global, _tag: Tag, contents: &[u8]) -> Result<Uint, DerError> {

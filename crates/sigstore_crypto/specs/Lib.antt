@@ -3,6 +3,8 @@ pub mod Error
 pub mod Good
 pub mod Hasher
 pub mod Key
+pub mod KeyAlgorithm
+pub mod Pairs
 pub mod Reader
 pub mod Scheme
 pub mod Source

@@ -50,6 +50,8 @@ pub enum KeyRule {
     Encoding,
     /// The key's bit string has unused bits.
     UnusedBits,
+    /// The algorithm's identifier with its parameters is of no known sort of key.
+    Algorithm,
 }
 
 /// Why a key, a signature or a digest is refused.

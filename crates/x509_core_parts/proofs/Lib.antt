@@ -5,4 +5,5 @@ mod Once
 mod Repeated
 mod SctLists
 mod Shorter
+mod Walks
 mod Wholes

@@ -9,6 +9,7 @@ use Rattle.der_core_parts.specs.Choices.{is_tag}
 use Rattle.der_core_parts.specs.Tags.{bit_string_tag, integer_tag, oid_tag}
 use Rattle.der_core.specs.Oid.{is_oid}
 use Rattle.der_core.specs.Strings.{is_int, is_bit_string}
+use Rattle.der_core.specs.Unsigned.{is_uint}
 use Rattle.x509_core_parts.specs.declared.error.X509Error.{X509Error}
 use Rattle.x509_core_parts.specs.declared.error.X509Error.TheVariants.{Der, Version, Algorithms, Time, Extension, SctList, NoMemory}
 
@@ -56,6 +57,10 @@ oid_at bytes = contents_at oid_tag bytes >>= λ x. checked (is_oid x.0) x
 -- the contents of an INTEGER
 unfoldable pub int_at : List ℕ → Reading (List ℕ × List ℕ)
 int_at bytes = contents_at integer_tag bytes >>= λ x. checked (is_int x.0) x
+
+-- the contents of an INTEGER from 0 on
+unfoldable pub uint_at : List ℕ → Reading (List ℕ × List ℕ)
+uint_at bytes = contents_at integer_tag bytes >>= λ x. checked (is_uint x.0) x
 
 -- whether a value with this tag comes next
 abbrev pub begins_with : ℕ → List ℕ → Bool

@@ -19,8 +19,11 @@ pub struct ExtensionView<'a> {
 /// An extension with its identifier.
 #[derive(Clone, Copy)]
 pub struct NamedExtension<'a> {
+    /// The contents of the identifier.
     pub oid: &'a [u8],
+    /// Whether who doesn't know the extension has to refuse the certificate.
     pub critical: bool,
+    /// The contents of the OCTET STRING.
     pub value: &'a [u8],
 }
 

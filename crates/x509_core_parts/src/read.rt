@@ -1,11 +1,11 @@
 // Reading parts from the front of bytes; each part and what follows it are slices of them.
 ghost use Rattle.std.specs.Prelude.{◌≡◌, ◌<◌, IfOk, IfErr, Ok, Err, length, option_copied};
 ghost use Rattle.der_core_parts.specs.Tlv.{tlv, tlv_at};
-ghost use Rattle.x509_core_parts.specs.Reading.{of_der, contents_at, encoded_at, oid_at, int_at, any_at, bits_of, bits_at, at_end, begins_with, before};
+ghost use Rattle.x509_core_parts.specs.Reading.{of_der, contents_at, encoded_at, oid_at, int_at, uint_at, any_at, bits_of, bits_at, at_end, begins_with, before};
 
 use crate::error::X509Error;
 use der_core::{
-    BitStringKind, DerError, IntKind, ObjectIdentifier, PrimitiveKind, Reader, Tlv, tag,
+    BitStringKind, DerError, IntKind, ObjectIdentifier, PrimitiveKind, Reader, Tlv, Uint, tag,
 };
 
 /// The value at the front, and what follows.
@@ -87,6 +87,19 @@ pub fn int(bytes: &[u8]) -> Result<(&[u8], &[u8]), X509Error>
 {
     let (octets, rest) = contents(tag::INTEGER, bytes)?;
     if !IntKind::allows(octets) {
+        return Err(X509Error::Der(DerError::Value));
+    }
+    Ok((octets, rest))
+}
+
+/// The contents of an INTEGER from 0 on.
+#[tactic(auto, unfolding(crate::specs::Reading::uint_at))]
+pub fn uint(bytes: &[u8]) -> Result<(&[u8], &[u8]), X509Error>
+    ensures ok { IfOk result (λ x. uint_at bytes.now ≡ Ok (x.0.now, x.1.now)) }
+    ensures err { IfErr result (λ e. uint_at bytes.now ≡ Err e) }
+{
+    let (octets, rest) = contents(tag::INTEGER, bytes)?;
+    if !Uint::is_contents(octets) {
         return Err(X509Error::Der(DerError::Value));
     }
     Ok((octets, rest))
