@@ -16,7 +16,7 @@ pub use sigstore_types_parts::{
     Certificate, CheckpointRule, DerCertificate, DerPublicKey, Digest, DigestBytes, EntryPromise,
     FailList, Form, FromValue, Hash, HashAlgorithm, Json, JsonFault, KeyHint, LogKey, LogKeyId,
     Member, Misread, Payload, PayloadBytes, Pem, PemContent, PublicKey, Refusal, Sha256Hash,
-    Sha384Hash, Sha512Hash, Signature, SignatureBytes, SignedTimestamp, Text, TextMap,
+    Sha384Hash, Sha512Hash, Signature, SignatureBytes, SignedTimestamp, Text, TextMap, TimeRange,
     TimestampToken, Token, TypesError, TypesMember, contains_float, defaulted, instant, optional,
     parse_json, required,
 };

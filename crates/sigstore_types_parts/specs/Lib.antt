@@ -10,3 +10,4 @@ pub mod DataCode
 pub mod Calls
 pub mod HashAlgorithm
 pub mod File
+pub mod TimeRange

@@ -21,6 +21,7 @@ mod parse;
 mod read;
 mod text;
 mod text_map;
+mod time_range;
 
 pub use armor::Armor;
 pub use byte_string::{
@@ -44,3 +45,4 @@ pub use parse::{JsonFault, parse_json};
 pub use read::{FromValue, Member, defaulted, optional, required};
 pub use text::Text;
 pub use text_map::TextMap;
+pub use time_range::TimeRange;
