@@ -1,8 +1,8 @@
 // Certificates that OpenSSL made, changes of them, and encodings worked out by hand.
 use crate::certificate_data::{ISSUER, LOG};
 use crate::tables::{
-    Hexadecimal, check_rows, debug, encoded, good, halves, in_hexadecimal, number, shown, tagged,
-    there,
+    Hexadecimal, check_rows, debug, encoded, good, halves, hex_of, in_hexadecimal, number, shown,
+    tagged, there,
 };
 use der_core::{DerError, ObjectIdentifier, OctetString};
 use foundation::Duplicate;
@@ -15,6 +15,10 @@ pub fn answer<X: AllocGlobal + Abort>(rt: &X, name: &str, bytes: &[u8], words: &
         "part" => stands_at(rt, bytes, words),
         "extension" => extension_of(rt, &read(rt, bytes), words),
         "validity" => validity_of(rt, &read(rt, bytes)),
+        "moments" => moments_of(rt, &read(rt, bytes)),
+        "each_extension" => extensions_of(rt, &read(rt, bytes)),
+        "modulus_bits" => shown(rt, rsa_key_in(key_bits(rt, &read(rt, bytes)))),
+        "RsaKeyView" => shown(rt, rsa_key_in(bytes)),
         "key" => shown(rt, key_in(read(rt, bytes).spki)),
         "SpkiView" => shown(rt, key_in(bytes)),
         "changed" => refusal_of(rt, bytes, words),
@@ -95,7 +99,8 @@ fn part_named<'a>(cert: &CertView<'a>, name: &str) -> &'a [u8] {
     }
 }
 
-// The critical mark and the value of an extension; the start and the end of the validity.
+// The critical mark and the value of an extension; the identifiers of all, each with its mark behind it; the
+// start and the end of the validity, as a date and in seconds since 1970.
 const EXTENSIONS: &str = "\
 extension p256 2.5.29.15 => Some((true, 03020780))
 extension p256 2.5.29.37 => Some((false, 300a06082b06010505070303))
@@ -105,7 +110,28 @@ extension p384 2.5.29.19 => Some((true, 30060101ff020101))
 extension rsa 2.5.29.17 => Some((false, 300f810d62406578616d706c652e6f7267))
 extension ed25519 2.5.29.19 => Some((true, 3000))
 extension p256 2.5.29.19 => None
-validity p384 => (Civil { year: 2026, month: 11, day: 27, hour: 6, minute: 38, second: 59 }, Civil { year: 2036, month: 11, day: 24, hour: 6, minute: 38, second: 59 })";
+each_extension p256 => 551d0f01551d2500551d11012b0601040183bf30010800551d0e00
+each_extension p384 => 551d1301551d0f01551d0e00
+each_extension ed25519 => 551d1301551d0e00
+validity p384 => (Civil { year: 2026, month: 11, day: 27, hour: 6, minute: 38, second: 59 }, Civil { year: 2036, month: 11, day: 24, hour: 6, minute: 38, second: 59 })
+moments p384 => (1795761539, 2111121539)";
+
+/// The identifiers of a certificate's extensions in their order, each with its critical mark behind it.
+fn extensions_of<X: AllocGlobal + Abort>(rt: &X, cert: &CertView) -> String {
+    let mut marked = Vec::new(rt.alloc());
+    'each: for extension in cert.each_extension() {
+        good(rt, marked.extend_from_slice(extension.oid));
+        good(rt, marked.push(extension.critical as u8));
+    }
+    let answer = hex_of(rt, &marked);
+    drop(marked);
+    answer
+}
+
+fn moments_of<X: AllocGlobal + Abort>(rt: &X, cert: &CertView) -> String {
+    let (from, to) = (cert.not_before.moment(), cert.not_after.moment());
+    debug(rt, (from.as_second(), to.as_second()))
+}
 
 fn extension_of<X: AllocGlobal + Abort>(rt: &X, cert: &CertView, oid: &str) -> String {
     let oid = good(rt, ObjectIdentifier::new(oid));
@@ -147,6 +173,28 @@ fn key_in(bytes: &[u8]) -> Result<KeyParts, X509Error> {
         key.key.len(),
         key.key.last(),
     ))
+}
+
+// The bits of an RSA key's modulus, and its public exponent.
+const RSA_KEYS: &str = "\
+modulus_bits rsa => (1024, 010001)
+RsaKeyView 3006020100020103 => (0, 03)
+RsaKeyView 3006020101020103 => (1, 03)
+RsaKeyView 300702020080020103 => (8, 03)
+RsaKeyView 300702020100020103 => (9, 03)
+RsaKeyView 30060201ff020103 => Der(Value)
+RsaKeyView 300702020001020103 => Der(Value)
+RsaKeyView 3003020101 => Der(Truncated)
+RsaKeyView 3009020101020103020105 => Der(Trailing)
+RsaKeyView 300602010102010300 => Der(Trailing)";
+
+fn rsa_key_in(bytes: &[u8]) -> Result<(u64, Hexadecimal), X509Error> {
+    let key = RsaKeyView::parse(bytes)?;
+    Ok((key.modulus_bits(), Hexadecimal(key.exponent)))
+}
+
+fn key_bits<'a, X: Abort>(rt: &X, cert: &CertView<'a>) -> &'a [u8] {
+    good(rt, SpkiView::parse(cert.spki)).key
 }
 
 // Why the P-256 certificate with the octet at a place changed, or one more behind it, is refused.
@@ -313,6 +361,7 @@ fn certificates(rt: HostRuntime) {
     check_rows(&rt, PLACES);
     check_rows(&rt, EXTENSIONS);
     check_rows(&rt, KEYS);
+    check_rows(&rt, RSA_KEYS);
     check_rows(&rt, CHANGES);
     check_rows(&rt, TIMESTAMPS);
     check_rows(&rt, OTHER_NAMES);

@@ -45,6 +45,7 @@ pub fn answer_to_octets<X: AllocGlobal + Abort>(
         "SetOfVec::len" => members_of(rt, bytes),
         "ObjectIdentifier::from_arcs" => three_arcs(rt, bytes),
         "ObjectIdentifier::is_contents" => debug(rt, ObjectIdentifier::is_contents(bytes)),
+        "Uint::is_contents" => debug(rt, Uint::is_contents(bytes)),
         "Reader" => two_values(rt, bytes),
         "read_default" => { shown(rt, read_default(rt.alloc(), false, &mut Reader::new(bytes))) }
         "append_default" => truth_written(rt, bytes == [1u8].as_slice()),
@@ -172,6 +173,9 @@ ObjectIdentifier::parent 1.3 => Oid
 ObjectIdentifier::from_arcs 0203e703 => 0603883703
 ObjectIdentifier::is_contents 2a03 => true
 ObjectIdentifier::is_contents 8001 => false
+Uint::is_contents 0080 => true
+Uint::is_contents 80 => false
+Uint::is_contents 007f => false
 ObjectIdentifier::new 3.1 => Oid
 ObjectIdentifier::new  => Oid
 ObjectIdentifier::new 1 => Oid

@@ -17,6 +17,7 @@ pub fn answer<X: AllocGlobal + Abort>(rt: &X, call: &str, given: &str) -> String
         "fail list" => listed(rt, given),
         "hint" => hint(rt, given),
         "same" => same(rt, given),
+        "range" => range(rt, given),
         _ => bundles::answer(rt, call, given),
     }
 }
@@ -43,6 +44,21 @@ const SAME: &str = r#"{"a":[1,-1,true,null,"b"]} | {"a":[1,-1,true,null,"b"]} =>
 {} | {"a":1} => false
 -1 | 1 => false
 "1" | 1 => false"#;
+
+// Whether a range from a moment to another, or to none, has begun by a third, and whether that lies in it.
+fn range<X: AllocGlobal + Abort>(rt: &X, row: &str) -> String {
+    let (start, others) = halves(rt, row, " ");
+    let (end, moment) = halves(rt, others, " ");
+    let range = TimeRange::new(instant(start).expect(rt, "a start"), instant(end));
+    let moment = instant(moment).expect(rt, "a moment");
+    printed(rt, (range.has_started_by(moment), range.contains(moment)))
+}
+
+const RANGES: &str = "2025-01-02T00:00:00Z 2025-01-03T00:00:00Z 2025-01-02T00:00:00Z => (true, true)
+2025-01-02T00:00:00Z 2025-01-03T00:00:00Z 2025-01-01T23:59:59.999999999Z => (false, false)
+2025-01-02T00:00:00Z 2025-01-03T00:00:00Z 2025-01-03T00:00:00Z => (true, true)
+2025-01-02T00:00:00Z 2025-01-03T00:00:00Z 2025-01-03T00:00:00.000000001Z => (true, false)
+2025-01-02T00:00:00Z none 9999-01-01T00:00:00Z => (true, true)";
 
 fn shown<X: AllocGlobal + Abort>(rt: &X, error: TypesError) -> String {
     numbered(rt, error.number(), error)
@@ -276,6 +292,7 @@ fn texts(rt: HostRuntime) {
     hold(&rt, "hint", HINTS);
     hold(&rt, "parse_json", FAULTS);
     hold(&rt, "same", SAME);
+    hold(&rt, "range", RANGES);
     hold(&rt, "member", MEMBERS);
     hold(&rt, "fail list", LISTED);
 }
