@@ -1,7 +1,9 @@
+pub mod Claims
 pub mod Digest
 pub mod Error
 pub mod Good
 pub mod Hasher
+pub mod Info
 pub mod Key
 pub mod KeyAlgorithm
 pub mod Pairs

@@ -1,6 +1,8 @@
 //! Signature schemes and keys, digests, who judges signatures, and where an artifact is read from.
 #![tactic(auto)]
 
+mod certificate_info;
+mod claims;
 mod digest;
 mod error;
 mod file_source;
@@ -14,6 +16,8 @@ mod reader;
 mod scheme;
 mod source;
 
+pub use certificate_info::{CertificateInfo, SubjectAltName, parse_certificate_info};
+pub use claims::{DeprecatedGitHubClaims, FulcioCiClaims};
 pub use digest::{compute_key_hint, sha256, sha384, sha512};
 pub use error::{CertificateFault, CheckpointFault, Error, KeyRule, VerificationFault};
 pub use file_source::FileSource;
