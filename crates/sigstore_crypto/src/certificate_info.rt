@@ -68,7 +68,8 @@ fn names(alloc: Global, value: &[u8]) -> Result<Vec<GeneralName>, DerError>
     }
 }
 
-// An IA5String as a text: octets below 128 are UTF-8 (RFC 3629, section 3).
+// An IA5String as a text. Its octets are below 128, which is UTF-8 (RFC 3629, section 3), so the last line is
+// never reached.
 fn text_of_ia5(alloc: Global, ia5: &Ia5) -> Result<Text, Error>
     ensures ok { IfOk result (λ text. text ≡ ia5.now) }
     ensures err { IfErr result (λ e. e ≡ NoMemory) }

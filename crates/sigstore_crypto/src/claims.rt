@@ -1,5 +1,5 @@
 // What Fulcio's extensions claim of a certificate's identity.
-ghost use Rattle.std.specs.Prelude.{◌≡◌, ◌≢◌, IfOk, IfErr, Ok, Err, option_copied};
+ghost use Rattle.std.specs.Prelude.{◌≡◌, ◌≢◌, ◌↔◌, true, None, IfOk, IfErr, Ok, Err, option_copied};
 ghost use Rattle.der_core_parts.specs.Grammar.{read_all};
 ghost use Rattle.der_core.specs.Strings.{utf8_type};
 ghost use Rattle.x509_core_parts.specs.Walk.{coming};
@@ -42,6 +42,69 @@ pub struct DeprecatedGitHubClaims {
     pub workflow_name: Option<Text>,
     pub workflow_repository: Option<Text>,
     pub workflow_ref: Option<Text>,
+}
+
+fn are_none(
+    first: &Option<Text>,
+    second: &Option<Text>,
+    third: &Option<Text>,
+    fourth: &Option<Text>,
+) -> bool
+    ensures { result ≡ true ↔ ((first.now ≡ None) × (second.now ≡ None) × (third.now ≡ None) × (fourth.now ≡ None)) }
+{
+    first.is_none() && second.is_none() && third.is_none() && fourth.is_none()
+}
+
+impl FulcioCiClaims {
+    /// No claim.
+    pub fn none() -> FulcioCiClaims
+        ensures { result ≡ no_claims }
+    {
+        FulcioCiClaims::default()
+    }
+
+    /// Whether there is no claim, the older ones included.
+    pub fn is_empty(&self) -> bool
+        ensures { result ≡ true ↔ self.now ≡ no_claims }
+    {
+        are_none(
+            &self.build_signer_uri,
+            &self.build_signer_digest,
+            &self.runner_environment,
+            &self.source_repository_uri,
+        ) && are_none(
+            &self.source_repository_digest,
+            &self.source_repository_ref,
+            &self.source_repository_identifier,
+            &self.source_repository_owner_uri,
+        ) && are_none(
+            &self.source_repository_owner_identifier,
+            &self.build_config_uri,
+            &self.build_config_digest,
+            &self.build_trigger,
+        ) && are_none(
+            &self.run_invocation_uri,
+            &self.source_repository_visibility_at_signing,
+            &self.deployment_environment,
+            &self.token_subject,
+        ) && self.deprecated_github.is_empty()
+    }
+}
+
+impl DeprecatedGitHubClaims {
+    /// No claim.
+    pub fn none() -> DeprecatedGitHubClaims
+        ensures { result ≡ no_old_claims }
+    {
+        DeprecatedGitHubClaims::default()
+    }
+
+    /// Whether there is no claim.
+    pub fn is_empty(&self) -> bool
+        ensures { result ≡ true ↔ self.now ≡ no_old_claims }
+    {
+        *self == DeprecatedGitHubClaims::none()
+    }
 }
 
 /// The value of the extension with this identifier; no memory is taken.
