@@ -1,4 +1,5 @@
 pub mod Claims
+pub mod Coming
 pub mod Digest
 pub mod Error
 pub mod Good

@@ -3,15 +3,17 @@ ghost use Rattle.std.specs.Prelude.{◌≡◌, ◌≢◌, None, ℕ, List, [], l
 ghost use Rattle.std.specs.List.{starts_with};
 ghost use Rattle.sigstore_crypto.specs.declared.error.Error.TheVariants.{NoMemory, Verification};
 ghost use Rattle.sigstore_crypto.specs.declared.error.VerificationFault.TheVariants.{NoKey};
-ghost use Rattle.sigstore_crypto.specs.Keyring.{held_at, with_held, is_used_at, is_used_by, key_in, key_at, key_by, keys_meant, verified_with, GoodUnder};
+ghost use Rattle.sigstore_crypto.specs.Keyring.{held_at, with_held, is_used_at, is_used_by, key_in, key_at, key_by, is_meant, keys_meant, verified_with, GoodUnder};
+ghost use Rattle.sigstore_crypto.specs.Coming.{coming};
 
 use crate::error::{Error, VerificationFault};
 use crate::key::VerificationKey;
 use crate::provider::CryptoProvider;
 use jiff::Timestamp;
-use sigstore_types_parts::{Hash, Sha256Hash, SignatureBytes, TimeRange};
+use sigstore_types_parts::{Hash, KeyHint, Sha256Hash, SignatureBytes, TimeRange};
 use std::alloc::Global;
 use std::collections::BTreeMap;
+use std::collections::btree_map::Iter;
 use std::marker::Model;
 
 /// A key, and the window in which it is used.
@@ -215,5 +217,57 @@ impl Keyring {
             }
         }
         Err(Error::Verification(VerificationFault::NoKey))
+    }
+
+    /// The keys whose id begins with a hint and whose window has started by a moment, in ascending order of
+    /// their ids.
+    pub fn keys_by_hint(&self, hint: &KeyHint, time: Timestamp) -> KeysByHint<'_>
+        ensures { coming result ≡ keys_meant hint.now time self.now }
+    {
+        KeysByHint {
+            entries: self.keys.iter(),
+            hint: Hash::new(*hint.as_array()),
+            time,
+        }
+    }
+}
+
+/// The keys of a ring that a hint means, in ascending order of their ids; no memory is taken.
+#[derive(Drop)]
+pub struct KeysByHint<'a> {
+    entries: Iter<'a, Sha256Hash, HeldKey>,
+    hint: KeyHint,
+    time: Timestamp,
+}
+
+// Whether an id begins with a hint, and a window has started by a moment.
+fn is_meant(hint: &KeyHint, time: Timestamp, id: &Sha256Hash, held: &HeldKey) -> bool
+    ensures { result ≡ is_meant hint.now time (id.now, held.now) }
+{
+    id.as_bytes().starts_with(hint.as_bytes()) && is_used_by(time, held.validity)
+}
+
+impl<'a> Iterator for KeysByHint<'a> {
+    ghost use Rattle.std.specs.Iterator.{at_most, YieldsFirstBy};
+    ghost use Rattle.std.specs.Prelude.{length};
+    ghost use Rattle.sigstore_crypto.specs.Coming.{coming};
+
+    type Item = &'a VerificationKey;
+
+    ghost next_gives = { YieldsFirstBy (λ key. key.now) coming };
+
+    ghost remaining = { λ keys. at_most (length keys.entries) };
+
+    fn next(&mut self) -> Option<&'a VerificationKey> {
+        'entries: loop {
+            match self.entries.next() {
+                Some((id, held)) => {
+                    if is_meant(&self.hint, self.time, id, held) {
+                        return Some(&held.key);
+                    }
+                }
+                None => return None,
+            }
+        }
     }
 }

@@ -24,7 +24,7 @@ pub use error::{CertificateFault, CheckpointFault, Error, KeyRule, VerificationF
 pub use file_source::FileSource;
 pub use hasher::{ArtifactHasher, HashUpdate, Sha256Hasher};
 pub use key::{VerificationKey, validate_raw_public_key};
-pub use keyring::Keyring;
+pub use keyring::{Keyring, KeysByHint};
 pub use memory_source::MemorySource;
 pub use pairs::{SignatureAlgorithm, webpki_verification_algs};
 pub use provider::{CryptoProvider, answers_alike};
