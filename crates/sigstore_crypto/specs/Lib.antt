@@ -7,6 +7,7 @@ pub mod Hasher
 pub mod Info
 pub mod Key
 pub mod KeyAlgorithm
+pub mod KeyPair
 pub mod Keyring
 pub mod Pairs
 pub mod Reader

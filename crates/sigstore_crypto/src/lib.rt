@@ -9,6 +9,7 @@ mod file_source;
 mod hasher;
 mod key;
 mod key_algorithm;
+mod key_pair;
 mod keyring;
 mod memory_source;
 mod pairs;
@@ -24,6 +25,7 @@ pub use error::{CertificateFault, CheckpointFault, Error, KeyRule, VerificationF
 pub use file_source::FileSource;
 pub use hasher::{ArtifactHasher, HashUpdate, Sha256Hasher};
 pub use key::{VerificationKey, validate_raw_public_key};
+pub use key_pair::{KeyPair, SigningKeyPair};
 pub use keyring::{Keyring, KeysByHint};
 pub use memory_source::MemorySource;
 pub use pairs::{SignatureAlgorithm, webpki_verification_algs};
