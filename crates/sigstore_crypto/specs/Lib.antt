@@ -1,9 +1,14 @@
+pub mod Claims
+pub mod Coming
 pub mod Digest
 pub mod Error
 pub mod Good
 pub mod Hasher
+pub mod Info
 pub mod Key
 pub mod KeyAlgorithm
+pub mod KeyPair
+pub mod Keyring
 pub mod Pairs
 pub mod Reader
 pub mod Scheme

@@ -1,12 +1,16 @@
 //! Signature schemes and keys, digests, who judges signatures, and where an artifact is read from.
 #![tactic(auto)]
 
+mod certificate_info;
+mod claims;
 mod digest;
 mod error;
 mod file_source;
 mod hasher;
 mod key;
 mod key_algorithm;
+mod key_pair;
+mod keyring;
 mod memory_source;
 mod pairs;
 mod provider;
@@ -14,11 +18,15 @@ mod reader;
 mod scheme;
 mod source;
 
+pub use certificate_info::{CertificateInfo, SubjectAltName, parse_certificate_info};
+pub use claims::{DeprecatedGitHubClaims, FulcioCiClaims};
 pub use digest::{compute_key_hint, sha256, sha384, sha512};
 pub use error::{CertificateFault, CheckpointFault, Error, KeyRule, VerificationFault};
 pub use file_source::FileSource;
 pub use hasher::{ArtifactHasher, HashUpdate, Sha256Hasher};
 pub use key::{VerificationKey, validate_raw_public_key};
+pub use key_pair::{KeyPair, SigningKeyPair};
+pub use keyring::{Keyring, KeysByHint};
 pub use memory_source::MemorySource;
 pub use pairs::{SignatureAlgorithm, webpki_verification_algs};
 pub use provider::{CryptoProvider, answers_alike};

@@ -4,6 +4,10 @@
 #[cfg(test)]
 mod bundles;
 #[cfg(test)]
+mod claim_data;
+#[cfg(test)]
+mod claims;
+#[cfg(test)]
 mod client;
 #[cfg(test)]
 mod documents;
@@ -15,6 +19,8 @@ mod places;
 mod provider;
 #[cfg(test)]
 mod refusals;
+#[cfg(test)]
+mod rings;
 #[cfg(test)]
 mod texts;
 #[cfg(test)]

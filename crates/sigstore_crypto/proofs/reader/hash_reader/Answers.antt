@@ -1,4 +1,4 @@
-use Rattle.std.proofs.Common.{rules, arith, refl, ◌≡◌, ◌+◌, ◌++◌, [], take, length, length-append}
+use Rattle.std.proofs.Common.{rules, arith, refl, ◌++◌, [], take, length-append}
 use Rattle.std.proofs.lemmas.Grind.{common_steps}
 use Rattle.std.proofs.lemmas.List.{take-append-le}
 use Rattle.sigstore_crypto.proofs.Parts.{prepend_more}

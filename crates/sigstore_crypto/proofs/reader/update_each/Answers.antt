@@ -1,4 +1,4 @@
-use Rattle.std.proofs.Common.{rules, arith, ap, ◌∙◌, sym, drop, ◌≡◌, ◌+◌}
+use Rattle.std.proofs.Common.{arith, ap, ◌∙◌, sym, drop, ◌+◌}
 use Rattle.std.proofs.lemmas.List.{drop-set-lt, drop-drop}
 use Rattle.sigstore_crypto.proofs.Feeding.{fed_next}
 use Rattle.sigstore_crypto.proofs.reader.update_each.Goals as goal
