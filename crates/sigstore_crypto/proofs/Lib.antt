@@ -2,3 +2,4 @@ pub mod Parts
 pub mod SoFar
 pub mod Subjects
 pub mod Feeding
+pub mod Schemes
