@@ -156,7 +156,10 @@ fn of_file<X: AllocGlobal + Abort>(rt: &X, bytes: &str) -> String {
 }
 
 // Whether the copy of a document is the same document.
-fn is_copied<X: AllocGlobal + Abort, T: Role + Duplicate + PartialEq>(rt: &X, text: &str) -> String {
+fn is_copied<X: AllocGlobal + Abort, T: Role + Duplicate + PartialEq>(
+    rt: &X,
+    text: &str,
+) -> String {
     let read = good(rt, document::<T>(rt.alloc(), text));
     let copy = good(rt, read.duplicate(rt.alloc()));
     let same = copy.signed() == read.signed() && copy.signatures() == read.signatures();
