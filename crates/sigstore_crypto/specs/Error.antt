@@ -3,7 +3,7 @@ use Rattle.std.specs.Prelude.{ℕ}
 use Rattle.sigstore_crypto.specs.declared.error.Error.{Error}
 use Rattle.sigstore_crypto.specs.declared.error.Error.TheVariants.{Signing, Verification, InvalidKeyFormat}
 use Rattle.sigstore_crypto.specs.declared.error.Error.TheVariants.{UnsupportedAlgorithm, Checkpoint, InvalidCertificate}
-use Rattle.sigstore_crypto.specs.declared.error.Error.TheVariants.{InvalidKey, NoMemory, Unbuilt}
+use Rattle.sigstore_crypto.specs.declared.error.Error.TheVariants.{InvalidKey, NoMemory}
 
 abbrev pub number_of : Error → ℕ
 number_of Signing = 1
@@ -14,4 +14,3 @@ number_of (Checkpoint fault) = 5
 number_of (InvalidCertificate fault) = 6
 number_of (InvalidKey rule) = 7
 number_of NoMemory = 8
-number_of (Unbuilt form) = 90

@@ -1,14 +1,15 @@
 -- When a signature is good, over any provider's relation.
-use Rattle.std.specs.Prelude.{ℕ, List, [], ◌∷◌, length, nat_eq, Bool, true, false, ◌&&◌, ⊤, if◌then◌else◌, Option, Some}
+use Rattle.std.specs.Prelude.{ℕ, List, [], ◌∷◌, length, nat_eq, nat_le, Bool, true, false, ◌&&◌, ⊤, if◌then◌else◌, Option, Some}
 use Rattle.std.specs.Prelude.{None, Result, Ok, Err, IsTrue}
 use Rattle.sha2.specs.Sha256.{sha256}
 use Rattle.sha2.specs.Sha512.{sha384, sha512}
 use Rattle.foundation.specs.Steps.{◌>>=◌}
+use Rattle.x509_core_parts.specs.Reading.{Reading}
+use Rattle.x509_core_parts.specs.Rsa.{RsaKey, rsa_key_of, bit_length}
 use Rattle.sigstore_types_parts.specs.declared.hash_algorithm.HashAlgorithm.{HashAlgorithm}
 use Rattle.sigstore_types_parts.specs.HashAlgorithm.{digest_len_of}
-use Rattle.sigstore_types_parts.specs.declared.form.Form.TheVariants.{Key}
 use Rattle.sigstore_crypto.specs.declared.error.Error.{Error}
-use Rattle.sigstore_crypto.specs.declared.error.Error.TheVariants.{Verification, UnsupportedAlgorithm, InvalidKey, Unbuilt}
+use Rattle.sigstore_crypto.specs.declared.error.Error.TheVariants.{Verification, UnsupportedAlgorithm, InvalidKey}
 use Rattle.sigstore_crypto.specs.declared.error.VerificationFault.TheVariants as fault
 use Rattle.sigstore_crypto.specs.declared.error.KeyRule.TheVariants as rule
 use Rattle.sigstore_crypto.specs.declared.scheme.SigningScheme.{SigningScheme}
@@ -21,6 +22,7 @@ use Rattle.sigstore_crypto.specs.declared.scheme.KeyAlgorithm.{KeyAlgorithm}
 use Rattle.sigstore_crypto.specs.declared.scheme.KeyAlgorithm.TheVariants as sort
 use Rattle.sigstore_crypto.specs.Scheme.{key_algorithm_of, digest_algorithm_of}
 use Rattle.sigstore_crypto.specs.declared.key.VerificationKey.{VerificationKey}
+use Rattle.sigstore_crypto.specs.Key.{der_key_of}
 
 -- whether a scheme, a raw key, a subject and a signature go together
 abbrev pub Judge : Type 0
@@ -48,27 +50,31 @@ abbrev pub is_uncompressed : List ℕ → Bool
 is_uncompressed [] = false
 is_uncompressed (first ∷ others) = nat_eq first 4
 
--- the test of a raw key, with the refusal of a key that fails it; that of RSA keys isn't built yet
-abbrev pub raw_key_by : Error → KeyAlgorithm → List ℕ → Result ⊤ Error
-raw_key_by refusal sort.EcdsaP256 key = if is_uncompressed key then Ok tt else Err refusal
-raw_key_by refusal sort.EcdsaP384 key = if is_uncompressed key then Ok tt else Err refusal
-raw_key_by refusal sort.Ed25519 key = Ok tt
-raw_key_by refusal sort.Rsa key = Err (Unbuilt Key)
-raw_key_by refusal sort.MlDsa44 key = Ok tt
-raw_key_by refusal sort.MlDsa65 key = Ok tt
-raw_key_by refusal sort.MlDsa87 key = Ok tt
+-- the modulus has 2048 to 8192 bits
+abbrev pub is_modulus : List ℕ → Bool
+is_modulus modulus = nat_le 2048 (bit_length modulus) && nat_le (bit_length modulus) 8192
 
-abbrev pub raw_key_of : SigningScheme → List ℕ → Result ⊤ Error
-raw_key_of scheme key = raw_key_by (InvalidKey rule.RawKey) (key_algorithm_of scheme) key
+-- an RSA key (RFC 8017, A.1.1) with such a modulus
+abbrev pub is_rsa_key : Reading RsaKey → Bool
+is_rsa_key (Ok key) = is_modulus key.modulus
+is_rsa_key (Err e) = false
 
+-- the test of a raw key; those of Ed25519 and ML-DSA aren't tested
 abbrev pub is_raw_key : KeyAlgorithm → List ℕ → Bool
 is_raw_key sort.EcdsaP256 key = is_uncompressed key
 is_raw_key sort.EcdsaP384 key = is_uncompressed key
 is_raw_key sort.Ed25519 key = true
-is_raw_key sort.Rsa key = false
+is_raw_key sort.Rsa key = is_rsa_key (rsa_key_of key)
 is_raw_key sort.MlDsa44 key = true
 is_raw_key sort.MlDsa65 key = true
 is_raw_key sort.MlDsa87 key = true
+
+-- with the refusal of a key that fails its test
+abbrev pub raw_key_by : Error → KeyAlgorithm → List ℕ → Result ⊤ Error
+raw_key_by refusal algorithm key = if is_raw_key algorithm key then Ok tt else Err refusal
+
+abbrev pub raw_key_of : SigningScheme → List ℕ → Result ⊤ Error
+raw_key_of scheme key = raw_key_by (InvalidKey rule.RawKey) (key_algorithm_of scheme) key
 
 -- the raw key passes its test and the provider accepts the signature over the subject
 abbrev pub is_good_over : Judge → VerificationKey → List ℕ → List ℕ → Bool
@@ -107,3 +113,31 @@ abbrev pub prehashed_of : Judge → VerificationKey → List ℕ → List ℕ �
 prehashed_of accepts key digest signature = do
   _ ← sized_digest_of (digest_algorithm_of key.scheme) digest
   judged_over accepts key digest signature
+
+-- ---- under a key in DER
+
+-- a signature of a message
+abbrev pub der_verified_of : Judge → SigningScheme → List ℕ → List ℕ → List ℕ → Result ⊤ Error
+der_verified_of accepts scheme der message signature = do
+  key ← der_key_of scheme der
+  verified_of accepts key message signature
+
+-- a signature of a message with that digest
+abbrev pub der_prehashed_of : Judge → SigningScheme → List ℕ → List ℕ → List ℕ → Result ⊤ Error
+der_prehashed_of accepts scheme der digest signature = do
+  key ← der_key_of scheme der
+  prehashed_of accepts key digest signature
+
+-- the bytes are read as a key that has a property
+abbrev pub is_of_key : (VerificationKey → Bool) → Result VerificationKey Error → Bool
+is_of_key has (Ok key) = has key
+is_of_key has (Err e) = false
+
+-- the signature is good under the key that the bytes are read as
+abbrev pub is_der_good_over : Judge → SigningScheme → List ℕ → List ℕ → List ℕ → Bool
+is_der_good_over accepts scheme der subject signature =
+    is_of_key (λ key. is_good_over accepts key subject signature) (der_key_of scheme der)
+
+abbrev pub is_der_good : Judge → SigningScheme → List ℕ → List ℕ → List ℕ → Bool
+is_der_good accepts scheme der message signature =
+    is_of_key (λ key. is_good accepts key message signature) (der_key_of scheme der)

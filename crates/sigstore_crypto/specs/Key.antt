@@ -1,42 +1,72 @@
--- Keys in DER: the SubjectPublicKeyInfo of RFC 5280, section 4.1, with the identifiers of RFC 5480, section 2.1.
-use Rattle.std.specs.Prelude.{ℕ, List, [], ◌∷◌, bytes_eq, Bool, false, ◌&&◌, ◌==◌, if◌then◌else◌, Option, Some, None, Result, Ok, Err}
+-- Keys in DER: the SubjectPublicKeyInfo of RFC 5280, section 4.1, and the bare RSA key of RFC 8017, A.1.1.
+use Rattle.std.specs.Prelude.{ℕ, List, Bool, true, false, ◌&&◌, if◌then◌else◌, ⊤, Result, Ok, Err, is_ok}
 use Rattle.foundation.specs.Steps.{◌>>=◌}
 use Rattle.x509_core_parts.specs.declared.error.X509Error.{X509Error}
-use Rattle.x509_core_parts.specs.Spki.{Algorithm, Spki, spki_view_of}
-use Rattle.sigstore_types_parts.specs.declared.form.Form.TheVariants.{Key}
+use Rattle.x509_core_parts.specs.Rsa.{rsa_key_of}
+use Rattle.x509_core_parts.specs.Spki.{Spki, spki_view_of}
 use Rattle.sigstore_crypto.specs.declared.error.Error.{Error}
-use Rattle.sigstore_crypto.specs.declared.error.Error.TheVariants.{InvalidKey, Unbuilt}
-use Rattle.sigstore_crypto.specs.declared.error.KeyRule.TheVariants.{Encoding, UnusedBits}
-use Rattle.sigstore_crypto.specs.declared.scheme.SigningScheme.TheVariants.{EcdsaP256Sha256}
+use Rattle.sigstore_crypto.specs.declared.error.Error.TheVariants.{InvalidKey}
+use Rattle.sigstore_crypto.specs.declared.error.KeyRule.TheVariants as rule
+use Rattle.sigstore_crypto.specs.declared.scheme.SigningScheme.{SigningScheme}
+use Rattle.sigstore_crypto.specs.declared.scheme.KeyAlgorithm.{KeyAlgorithm}
+use Rattle.sigstore_crypto.specs.declared.scheme.KeyAlgorithm.TheVariants.{EcdsaP256, EcdsaP384, Ed25519, Rsa, MlDsa44, MlDsa65, MlDsa87}
 use Rattle.sigstore_crypto.specs.declared.key.VerificationKey.{VerificationKey}
+use Rattle.sigstore_crypto.specs.KeyAlgorithm.{algorithm_of_parts, or_invalid}
+use Rattle.sigstore_crypto.specs.Scheme.{key_algorithm_of, default_scheme_of}
 
--- id-ecPublicKey, 1.2.840.10045.2.1
-abbrev pub ec_oid : List ℕ
-ec_oid = 0x2a ∷ 0x86 ∷ 0x48 ∷ 0xce ∷ 0x3d ∷ 0x02 ∷ 0x01 ∷ []
+abbrev pub key_with : SigningScheme → List ℕ → VerificationKey
+key_with scheme raw = record { scheme = scheme; key = raw }
 
--- secp256r1, 1.2.840.10045.3.1.7, as it is encoded
-abbrev pub p256_curve : List ℕ
-p256_curve = 0x06 ∷ 0x08 ∷ 0x2a ∷ 0x86 ∷ 0x48 ∷ 0xce ∷ 0x3d ∷ 0x03 ∷ 0x01 ∷ 0x07 ∷ []
+-- ---- under the default scheme
 
-abbrev pub is_p256_curve : Option (List ℕ) → Bool
-is_p256_curve None = false
-is_p256_curve (Some parameters) = bytes_eq parameters p256_curve
-
-abbrev pub is_p256 : Algorithm → Bool
-is_p256 algorithm = bytes_eq algorithm.oid ec_oid && is_p256_curve algorithm.parameters
-
--- the key is a number of whole octets
-abbrev pub p256_key_of : Spki → Result VerificationKey Error
-p256_key_of spki = if spki.unused_bits == 0 then Ok (record { scheme = EcdsaP256Sha256; key = spki.key }) else Err (InvalidKey UnusedBits)
-
--- no other algorithm is built yet
+-- the raw key is the octets of the bit string
 unfoldable pub key_of_parts : Spki → Result VerificationKey Error
-key_of_parts spki = if is_p256 spki.algorithm then p256_key_of spki else Err (Unbuilt Key)
-
-abbrev pub or_invalid : Result Spki X509Error → Result Spki Error
-or_invalid (Ok spki) = Ok spki
-or_invalid (Err e) = Err (InvalidKey Encoding)
+key_of_parts spki = do
+  algorithm ← algorithm_of_parts spki
+  Ok (key_with (default_scheme_of algorithm) spki.key)
 
 -- the key of a SubjectPublicKeyInfo under its default scheme
 unfoldable pub spki_key_of : List ℕ → Result VerificationKey Error
 spki_key_of der = or_invalid (spki_view_of der) >>= key_of_parts
+
+-- ---- under a scheme that is named
+
+abbrev pub is_same : KeyAlgorithm → KeyAlgorithm → Bool
+is_same EcdsaP256 EcdsaP256 = true
+is_same EcdsaP384 EcdsaP384 = true
+is_same Ed25519 Ed25519 = true
+is_same Rsa Rsa = true
+is_same MlDsa44 MlDsa44 = true
+is_same MlDsa65 MlDsa65 = true
+is_same MlDsa87 MlDsa87 = true
+is_same a b = false
+
+-- the key is of the sort that signs under the scheme
+abbrev pub of_scheme : SigningScheme → KeyAlgorithm → Result ⊤ Error
+of_scheme scheme algorithm = if is_same algorithm (key_algorithm_of scheme) then Ok tt else Err (InvalidKey rule.Scheme)
+
+unfoldable pub key_under : SigningScheme → Spki → Result VerificationKey Error
+key_under scheme spki = do
+  algorithm ← algorithm_of_parts spki
+  _ ← of_scheme scheme algorithm
+  Ok (key_with scheme spki.key)
+
+-- the key of a SubjectPublicKeyInfo under a scheme
+unfoldable pub spki_key_under : SigningScheme → List ℕ → Result VerificationKey Error
+spki_key_under scheme der = or_invalid (spki_view_of der) >>= key_under scheme
+
+-- ---- in either encoding
+
+-- for the schemes of RSA the bytes are a bare key, and themselves the raw key
+abbrev pub bare_key_under : SigningScheme → List ℕ → Result VerificationKey Error
+bare_key_under scheme der =
+    if is_same Rsa (key_algorithm_of scheme) && is_ok (rsa_key_of der) then Ok (key_with scheme der)
+    else Err (InvalidKey rule.Encoding)
+
+abbrev pub key_in_either : SigningScheme → List ℕ → Result Spki X509Error → Result VerificationKey Error
+key_in_either scheme der (Ok spki) = key_under scheme spki
+key_in_either scheme der (Err e) = bare_key_under scheme der
+
+-- the key of a SubjectPublicKeyInfo under a scheme; where the bytes are none, a bare RSA key
+unfoldable pub der_key_of : SigningScheme → List ℕ → Result VerificationKey Error
+der_key_of scheme der = key_in_either scheme der (spki_view_of der)

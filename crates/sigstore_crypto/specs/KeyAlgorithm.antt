@@ -3,12 +3,20 @@ use Rattle.std.specs.Prelude.{ℕ, List, [], ◌∷◌, bytes_eq, ◌==◌, if�
 use Rattle.foundation.specs.Steps.{◌>>=◌}
 use Rattle.x509_core_parts.specs.Rsa.{rsa_key_of}
 use Rattle.x509_core_parts.specs.Spki.{Algorithm, Spki, spki_view_of}
+use Rattle.x509_core_parts.specs.declared.error.X509Error.{X509Error}
 use Rattle.sigstore_crypto.specs.declared.error.Error.{Error}
 use Rattle.sigstore_crypto.specs.declared.error.Error.TheVariants.{InvalidKey}
 use Rattle.sigstore_crypto.specs.declared.error.KeyRule.TheVariants as rule
 use Rattle.sigstore_crypto.specs.declared.scheme.KeyAlgorithm.{KeyAlgorithm}
 use Rattle.sigstore_crypto.specs.declared.scheme.KeyAlgorithm.TheVariants.{EcdsaP256, EcdsaP384, Ed25519, Rsa, MlDsa44, MlDsa65, MlDsa87}
-use Rattle.sigstore_crypto.specs.Key.{ec_oid, p256_curve, or_invalid}
+
+-- id-ecPublicKey, 1.2.840.10045.2.1
+abbrev pub ec_oid : List ℕ
+ec_oid = 0x2a ∷ 0x86 ∷ 0x48 ∷ 0xce ∷ 0x3d ∷ 0x02 ∷ 0x01 ∷ []
+
+-- secp256r1, 1.2.840.10045.3.1.7, as it is encoded
+abbrev pub p256_curve : List ℕ
+p256_curve = 0x06 ∷ 0x08 ∷ 0x2a ∷ 0x86 ∷ 0x48 ∷ 0xce ∷ 0x3d ∷ 0x03 ∷ 0x01 ∷ 0x07 ∷ []
 
 -- secp384r1, 1.3.132.0.34, as it is encoded
 abbrev pub p384_curve : List ℕ
@@ -79,6 +87,10 @@ algorithm_of_parts spki = do
   _ ← whole_octets spki.unused_bits
   _ ← key_read sort spki.key
   Ok sort
+
+abbrev pub or_invalid : Result Spki X509Error → Result Spki Error
+or_invalid (Ok spki) = Ok spki
+or_invalid (Err e) = Err (InvalidKey rule.Encoding)
 
 -- the sort of key of a SubjectPublicKeyInfo, or the first refusal
 unfoldable pub algorithm_of_spki : List ℕ → Result KeyAlgorithm Error

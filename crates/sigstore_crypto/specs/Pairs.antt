@@ -9,8 +9,7 @@ use Rattle.sigstore_crypto.specs.declared.scheme.SigningScheme.TheVariants.{RsaP
 use Rattle.sigstore_crypto.specs.declared.scheme.SigningScheme.TheVariants.{RsaPkcs1Sha256, RsaPkcs1Sha384}
 use Rattle.sigstore_crypto.specs.declared.scheme.SigningScheme.TheVariants.{RsaPkcs1Sha512, MlDsa44, MlDsa65, MlDsa87}
 use Rattle.sigstore_crypto.specs.declared.pairs.SignatureAlgorithm.{SignatureAlgorithm}
-use Rattle.sigstore_crypto.specs.Key.{ec_oid, p256_curve}
-use Rattle.sigstore_crypto.specs.KeyAlgorithm.{p384_curve, rsa_oid, null, ed25519_oid, ml_dsa_oid}
+use Rattle.sigstore_crypto.specs.KeyAlgorithm.{ec_oid, p256_curve, p384_curve, rsa_oid, null, ed25519_oid, ml_dsa_oid}
 
 pub record Pair : Type 0 where
   pub key_id : List ℕ

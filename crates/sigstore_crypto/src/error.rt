@@ -4,7 +4,6 @@ ghost use Rattle.sigstore_crypto.specs.Error.{number_of};
 ghost use Rattle.sigstore_crypto.specs.declared.error.Error.TheVariants.{NoMemory};
 
 use foundation::NoMemory;
-use sigstore_types_parts::Form;
 use std::{error, fmt};
 
 /// Why a signature isn't good: the provider refuses it, the raw key fails its test, the digest has
@@ -46,12 +45,14 @@ pub enum CertificateFault {
 pub enum KeyRule {
     /// The raw key fails its test.
     RawKey,
-    /// The bytes are no SubjectPublicKeyInfo (RFC 5280, section 4.1).
+    /// The bytes are no SubjectPublicKeyInfo (RFC 5280, section 4.1), or no RSA key where one is wanted.
     Encoding,
     /// The key's bit string has unused bits.
     UnusedBits,
     /// The algorithm's identifier with its parameters is of no known sort of key.
     Algorithm,
+    /// The key isn't of the scheme's algorithm.
+    Scheme,
 }
 
 /// Why a key, a signature or a digest is refused.
@@ -73,8 +74,6 @@ pub enum Error {
     InvalidKey(KeyRule),
     /// An allocation was refused.
     NoMemory,
-    /// The key is of a form that is known and isn't built yet.
-    Unbuilt(Form),
 }
 
 impl Error {
@@ -91,7 +90,6 @@ impl Error {
             Error::InvalidCertificate(_) => 6,
             Error::InvalidKey(_) => 7,
             Error::NoMemory => 8,
-            Error::Unbuilt(_) => 90,
         }
     }
 }
@@ -115,7 +113,6 @@ impl fmt::Display for Error {
             Error::InvalidCertificate(_) => "InvalidCertificate",
             Error::InvalidKey(_) => "InvalidKey",
             Error::NoMemory => "NoMemory",
-            Error::Unbuilt(_) => "Unbuilt",
         })
     }
 }

@@ -2,16 +2,18 @@
 ghost use Rattle.std.specs.Prelude.{◌≡◌, ◌≢◌, ◌↔◌, Ok, Err, IsTrue, IsOk, IfOk, IfErr, length};
 ghost use Rattle.sigstore_crypto.specs.Scheme.{has_digest, key_algorithm_of, digest_size_of};
 ghost use Rattle.x509_core_parts.specs.Views.{spki_parts};
-ghost use Rattle.sigstore_crypto.specs.Key.{is_p256, key_of_parts, spki_key_of};
-ghost use Rattle.sigstore_crypto.specs.Good.{is_uncompressed, raw_key_by, raw_key_of, verified_of, prehashed_of, is_good, is_good_over};
+ghost use Rattle.sigstore_crypto.specs.Key.{key_of_parts, spki_key_of, of_scheme, key_under, spki_key_under, bare_key_under, der_key_of};
+ghost use Rattle.sigstore_crypto.specs.Good.{verified_of, prehashed_of, is_good, is_good_over};
 
 use crate::error::{Error, KeyRule, VerificationFault};
+use crate::key_algorithm::algorithm_in;
 use crate::provider::CryptoProvider;
+use crate::raw_key::raw_key;
 use crate::scheme::{KeyAlgorithm, SigningScheme};
 use foundation::{Duplicate, NoMemory};
-use sigstore_types_parts::{Bytes, DerPublicKey, Form, SignatureBytes};
+use sigstore_types_parts::{Bytes, DerPublicKey, SignatureBytes};
 use std::alloc::Global;
-use x509_core_parts::SpkiView;
+use x509_core_parts::{RsaKeyView, SpkiView};
 
 /// A scheme and a raw key of its sort.
 #[derive(Debug, PartialEq, Eq, Drop)]
@@ -20,82 +22,64 @@ pub struct VerificationKey {
     pub key: Bytes,
 }
 
-// id-ecPublicKey, and the curve secp256r1 as it is encoded (RFC 5480, section 2.1).
-pub const EC_OID: [u8; 7] = [0x2a, 0x86, 0x48, 0xce, 0x3d, 0x02, 0x01];
-
-pub const P256_CURVE: [u8; 10] = [0x06, 0x08, 0x2a, 0x86, 0x48, 0xce, 0x3d, 0x03, 0x01, 0x07];
-
-fn is_p256(view: &SpkiView) -> bool
-    ensures { result ≡ is_p256 (spki_parts view.now).algorithm }
-{
-    if view.oid != EC_OID.as_slice() {
-        return false;
-    }
-    match view.parameters {
-        Some(parameters) => parameters == P256_CURVE.as_slice(),
-        None => false,
-    }
-}
-
+// The raw key is the octets of the bit string.
 #[tactic(auto, unfolding(crate::specs::Key::key_of_parts))]
 fn key_in(alloc: Global, view: &SpkiView) -> Result<VerificationKey, Error>
     ensures ok { IfOk result (λ key. key_of_parts (spki_parts view.now) ≡ Ok key) }
     ensures err { IfErr result (λ e. e ≢ Error.NoMemory → key_of_parts (spki_parts view.now) ≡ Err e) }
 {
-    if !is_p256(view) {
-        return Err(Error::Unbuilt(Form::Key));
-    }
-    if view.unused_bits != 0 {
-        return Err(Error::InvalidKey(KeyRule::UnusedBits));
-    }
+    let algorithm = algorithm_in(view)?;
     Ok(VerificationKey {
-        scheme: SigningScheme::EcdsaP256Sha256,
+        scheme: algorithm.default_signing_scheme(),
         key: Bytes::new(alloc, view.key)?,
     })
 }
 
-// A point that isn't compressed begins with 04 (SEC 1, section 2.3.3).
-fn is_uncompressed(key: &[u8]) -> bool
-    ensures { result ≡ is_uncompressed key.now }
+fn check_scheme(scheme: SigningScheme, algorithm: KeyAlgorithm) -> Result<(), Error>
+    ensures { result ≡ of_scheme scheme algorithm }
 {
-    matches!(key, [4, ..])
-}
-
-fn raw_key(algorithm: KeyAlgorithm, key: &[u8], refusal: Error) -> Result<(), Error>
-    ensures { result ≡ raw_key_by refusal algorithm key.now }
-{
-    match algorithm {
-        KeyAlgorithm::EcdsaP256 | KeyAlgorithm::EcdsaP384 => {
-            if is_uncompressed(key) {
-                Ok(())
-            } else {
-                Err(refusal)
-            }
-        }
-        KeyAlgorithm::Rsa => Err(Error::Unbuilt(Form::Key)),
-        KeyAlgorithm::Ed25519 => Ok(()),
-        KeyAlgorithm::MlDsa44 => Ok(()),
-        KeyAlgorithm::MlDsa65 => Ok(()),
-        KeyAlgorithm::MlDsa87 => Ok(()),
+    if algorithm == scheme.key_algorithm() {
+        Ok(())
+    } else {
+        Err(Error::InvalidKey(KeyRule::Scheme))
     }
 }
 
-/// The test of raw keys of a scheme. Errors: `InvalidKey` for a key that fails it, and `Unbuilt` for the
-/// RSA schemes.
-pub fn validate_raw_public_key(scheme: SigningScheme, key: &[u8]) -> Result<(), Error>
-    ensures { result ≡ raw_key_of scheme key.now }
+#[tactic(auto, unfolding(crate::specs::Key::key_under))]
+fn key_under(
+    alloc: Global,
+    scheme: SigningScheme,
+    view: &SpkiView,
+) -> Result<VerificationKey, Error>
+    ensures ok { IfOk result (λ key. key_under scheme (spki_parts view.now) ≡ Ok key) }
+    ensures err { IfErr result (λ e. e ≢ Error.NoMemory → key_under scheme (spki_parts view.now) ≡ Err e) }
 {
-    raw_key(
-        scheme.key_algorithm(),
-        key,
-        Error::InvalidKey(KeyRule::RawKey),
-    )
+    let algorithm = algorithm_in(view)?;
+    check_scheme(scheme, algorithm)?;
+    Ok(VerificationKey {
+        scheme,
+        key: Bytes::new(alloc, view.key)?,
+    })
+}
+
+// A bare RSA key (RFC 8017, A.1.1), for the schemes of RSA.
+fn bare_key(alloc: Global, scheme: SigningScheme, der: &[u8]) -> Result<VerificationKey, Error>
+    ensures ok { IfOk result (λ key. bare_key_under scheme der.now ≡ Ok key) }
+    ensures err { IfErr result (λ e. e ≢ Error.NoMemory → bare_key_under scheme der.now ≡ Err e) }
+{
+    if scheme.key_algorithm() != KeyAlgorithm::Rsa || RsaKeyView::parse(der).is_err() {
+        return Err(Error::InvalidKey(KeyRule::Encoding));
+    }
+    Ok(VerificationKey {
+        scheme,
+        key: Bytes::new(alloc, der)?,
+    })
 }
 
 impl VerificationKey {
     /// The key of a SubjectPublicKeyInfo (RFC 5280, section 4.1), under its default scheme. Errors:
-    /// `InvalidKey` where the bytes aren't one, or the bits of a P-256 key aren't whole octets; `Unbuilt`
-    /// for every other algorithm.
+    /// `InvalidKey` as `KeyAlgorithm::from_spki`: not one (`Encoding`), `Algorithm`, `UnusedBits`, then an
+    /// RSA key that isn't read (`Encoding`).
     #[tactic(auto, unfolding(crate::specs::Key::spki_key_of))]
     pub fn from_spki(alloc: Global, der: &DerPublicKey) -> Result<VerificationKey, Error>
         ensures ok { IfOk result (λ key. spki_key_of der.now ≡ Ok key) }
@@ -106,6 +90,44 @@ impl VerificationKey {
             Err(_) => return Err(Error::InvalidKey(KeyRule::Encoding)),
         };
         Ok(key_in(alloc, &view)?)
+    }
+
+    /// The key of a SubjectPublicKeyInfo under a scheme. Errors: `InvalidKey`, in order: not one
+    /// (`Encoding`), `Algorithm`, `UnusedBits`, an RSA key that isn't read (`Encoding`), and `Scheme` where
+    /// the key isn't of the scheme's algorithm.
+    #[tactic(auto, unfolding(crate::specs::Key::spki_key_under))]
+    pub fn from_spki_with_scheme(
+        alloc: Global,
+        der: &DerPublicKey,
+        scheme: SigningScheme,
+    ) -> Result<VerificationKey, Error>
+        ensures ok { IfOk result (λ key. spki_key_under scheme der.now ≡ Ok key) }
+        ensures err { IfErr result (λ e. e ≢ Error.NoMemory → spki_key_under scheme der.now ≡ Err e) }
+    {
+        let view = match SpkiView::parse(der.as_bytes()) {
+            Ok(view) => view,
+            Err(_) => return Err(Error::InvalidKey(KeyRule::Encoding)),
+        };
+        Ok(key_under(alloc, scheme, &view)?)
+    }
+
+    /// The key in DER under a scheme: of a SubjectPublicKeyInfo as there, and where the bytes are none, for
+    /// the schemes of RSA a bare RSA key (RFC 8017, A.1.1), the bytes being the raw key. Errors:
+    /// `InvalidKey`, in order: neither (`Encoding`), `Algorithm`, `UnusedBits`, the RSA key in it
+    /// (`Encoding`), `Scheme`.
+    #[tactic(auto, unfolding(crate::specs::Key::der_key_of))]
+    pub fn from_der(
+        alloc: Global,
+        der: &DerPublicKey,
+        scheme: SigningScheme,
+    ) -> Result<VerificationKey, Error>
+        ensures ok { IfOk result (λ key. der_key_of scheme der.now ≡ Ok key) }
+        ensures err { IfErr result (λ e. e ≢ Error.NoMemory → der_key_of scheme der.now ≡ Err e) }
+    {
+        match SpkiView::parse(der.as_bytes()) {
+            Ok(view) => Ok(key_under(alloc, scheme, &view)?),
+            Err(_) => Ok(bare_key(alloc, scheme, der.as_bytes())?),
+        }
     }
 
     /// The raw key.
@@ -123,7 +145,7 @@ impl VerificationKey {
     }
 
     /// Whether the signature of a message is good. Errors: `Verification(RawKey)` where the raw key fails
-    /// its test, then `Verification(Refused)` where the provider doesn't accept; `Unbuilt` for the RSA schemes.
+    /// its test, then `Verification(Refused)` where the provider doesn't accept.
     pub fn verify<C: CryptoProvider>(
         &self,
         provider: &C,

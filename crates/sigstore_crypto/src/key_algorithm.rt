@@ -4,10 +4,14 @@ ghost use Rattle.x509_core_parts.specs.Views.{spki_parts};
 ghost use Rattle.sigstore_crypto.specs.KeyAlgorithm.{curve_of, null_of, bare, named_of, whole_octets, key_read, algorithm_of_parts, algorithm_of_spki};
 
 use crate::error::{Error, KeyRule};
-use crate::key::{EC_OID, P256_CURVE};
 use crate::scheme::KeyAlgorithm;
 use sigstore_types_parts::DerPublicKey;
 use x509_core_parts::{RsaKeyView, SpkiView};
+
+// id-ecPublicKey, and the curve secp256r1 as it is encoded (RFC 5480, section 2.1).
+const EC_OID: [u8; 7] = [0x2a, 0x86, 0x48, 0xce, 0x3d, 0x02, 0x01];
+
+const P256_CURVE: [u8; 10] = [0x06, 0x08, 0x2a, 0x86, 0x48, 0xce, 0x3d, 0x03, 0x01, 0x07];
 
 // The curve secp384r1 as it is encoded (RFC 5480, section 2.1.1.1).
 const P384_CURVE: [u8; 7] = [0x06, 0x05, 0x2b, 0x81, 0x04, 0x00, 0x22];
@@ -97,8 +101,10 @@ fn check_key(algorithm: KeyAlgorithm, key: &[u8]) -> Result<(), Error>
     }
 }
 
+/// The sort of a key by its parts. Errors: `InvalidKey`, in order with `Algorithm`, `UnusedBits`, and
+/// `Encoding` for an RSA key that isn't read.
 #[tactic(auto, unfolding(crate::specs::KeyAlgorithm::algorithm_of_parts))]
-fn algorithm_in(view: &SpkiView) -> Result<KeyAlgorithm, Error>
+pub(crate) fn algorithm_in(view: &SpkiView) -> Result<KeyAlgorithm, Error>
     ensures { result ≡ algorithm_of_parts (spki_parts view.now) }
 {
     let algorithm = named(view)?;

@@ -196,7 +196,7 @@ module _ (crypto : Crypto) (given : List ℕ) (config : UpdaterConfig) (path : L
   by_none e is p = subst Cause (sym is) p
 
   pub by_form : (e : Error) → FormRefusal given old e → Cause e
-  by_form e r = subst Cause (sym (named r).1) (inr (subst (FormRefusal given old) (named r).1 r))
+  by_form e r = subst Cause (sym (named r).1) (subst (FormRefusal given old) (named r).1 r)
     where
       named : FormRefusal given old e → (f : Form) × (e ≡ tuf.Unbuilt f)
       named (next_root root bytes g v h is) = (form.Rotation, is)
@@ -269,7 +269,7 @@ module _ (crypto : Crypto) (given : List ℕ) (config : UpdaterConfig) (path : L
   by_role (tuf.Malformed rule.TopLevel) r = absurd (never_met (tuf.Malformed rule.TopLevel) (λ name h. cc) (λ T keys name doc role w. w) r)
   by_role (tuf.Malformed rule.NoDelegations) r = absurd (never_met (tuf.Malformed rule.NoDelegations) (λ name h. cc) (λ T keys name doc role w. w) r)
   by_role (tuf.IntegrityMismatch difference) r = absurd (never_met (tuf.IntegrityMismatch difference) (λ name h. cc) (λ T keys name doc role w. w) r)
-  by_role (tuf.Unbuilt unbuilt) r = inl r
+  by_role (tuf.Unbuilt unbuilt) r = absurd (never_met (tuf.Unbuilt unbuilt) (λ name h. cc) (λ T keys name doc role w. w) r)
   by_role (tuf.Transport fault) r = absurd (never_met (tuf.Transport fault) (λ name h. cc) (λ T keys name doc role w. w) r)
 
   -- want of memory needs no cause
@@ -313,10 +313,9 @@ module _ (crypto : Crypto) (given : List ℕ) (config : UpdaterConfig) (path : L
   by_walk root is tuf.NoMemory w = tt
   by_walk root is (tuf.Malformed broken) w = absurd w
   by_walk root is (tuf.IntegrityMismatch difference) w = absurd w
-  by_walk root is (tuf.Unbuilt form.Rotation) w = inr (next_root root w.1.0 is w.0 w.1.1 refl)
+  by_walk root is (tuf.Unbuilt form.Rotation) w = next_root root w.1.0 is w.0 w.1.1 refl
   by_walk root is (tuf.Unbuilt form.Consistent) w = absurd w
   by_walk root is (tuf.Unbuilt form.Delegations) w = absurd w
-  by_walk root is (tuf.Unbuilt form.Key) w = absurd w
   by_walk root is (tuf.Unbuilt form.Trust) w = absurd w
   by_walk root is (tuf.Unbuilt form.Tokens) w = absurd w
   by_walk root is (tuf.Unbuilt form.Entries) w = absurd w

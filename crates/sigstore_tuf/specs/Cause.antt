@@ -1,6 +1,6 @@
 -- What each refusal tells of a client that begins with a root, refreshes and asks for one target: of the root that it was given
 -- and of what the repository answered (TUF specification, section 5).
-use Rattle.std.specs.Prelude.{◌≡◌, ◌≢◌, ◌⊎◌, ℕ, ◌+◌, ◌-◌, ◌^◌, ◌<◌, List, true, false, Some, None, Result, Ok, codes, ⊤}
+use Rattle.std.specs.Prelude.{◌≡◌, ◌≢◌, ℕ, ◌+◌, ◌-◌, ◌^◌, ◌<◌, List, true, false, Some, None, Result, Ok, codes, ⊤}
 use Rattle.serde_json.specs.Data.{Data}
 use Rattle.jiff_core.specs.declared.timestamp.Timestamp as jiff
 use Rattle.foundation.specs.Watched.{Watched}
@@ -204,7 +204,6 @@ ClientCause crypto given config path now old new (tuf.IntegrityMismatch differen
     PinRefusal config path old (tuf.IntegrityMismatch difference)
 ClientCause crypto given config path now old new (tuf.TargetNotFound name) = (name ≡ path) × IsUnlisted config path old
 ClientCause crypto given config path now old new (tuf.Transport fault) = TransportRefusal given config path old new fault
-ClientCause crypto given config path now old new (tuf.Unbuilt unbuilt) =
-    RoleRefusal crypto given old (tuf.Unbuilt unbuilt) ⊎ FormRefusal given old (tuf.Unbuilt unbuilt)
+ClientCause crypto given config path now old new (tuf.Unbuilt unbuilt) = FormRefusal given old (tuf.Unbuilt unbuilt)
 ClientCause crypto given config path now old new tuf.NoMemory = ⊤
 ClientCause crypto given config path now old new _ = ⊥

@@ -1,5 +1,5 @@
 -- The test of a segment is true exactly where the text falls into parts for its pieces.
-use Rattle.std.proofs.Common.{◌≡◌, ◌↔◌, ℕ, List, [], ◌∷◌, ◌++◌, Bool, true, false, ◌&&◌, ◌||◌, ◌⊎◌, inl, inr, refl, ap, ◌∙◌, subst}
+use Rattle.std.proofs.Common.{◌≡◌, ◌↔◌, ℕ, List, [], ◌∷◌, ◌++◌, Bool, true, false, ◌||◌, ◌⊎◌, inl, inr, refl, ap, ◌∙◌, subst}
 use Rattle.std.specs.List.{AllZip, concat, list_any}
 use Rattle.foundation.specs.Results.{and_true}
 use Rattle.sigstore_tuf_parts.specs.Pattern.{Piece, run, one, StandsFor, Fits, suffixes, fits}

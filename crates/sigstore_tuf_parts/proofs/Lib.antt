@@ -11,3 +11,4 @@ pub mod ReadingCauses
 pub mod PinCauses
 pub mod RoleCauses
 mod Examples
+pub mod KeyText

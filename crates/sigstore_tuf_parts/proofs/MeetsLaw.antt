@@ -1,5 +1,5 @@
 -- `meets_of` is Ok exactly where the relation holds.
-use Rattle.std.proofs.Common.{◌≡◌, ◌↔◌, ℕ, zero, suc, ◌<◌, ◌≤◌, List, [], ◌∷◌, length, get_or, filter, Bool, true, false, cond, not, ◌&&◌, ◌||◌, ◌==◌, nat_le, if◌then◌else◌, bytes_eq, Option, Some, None, Result, Ok, Err, Contains, refl, sym, ap, ◌∙◌, subst, arith, le_trans, ◌⊎◌, inl, inr, ⊎_elim}
+use Rattle.std.proofs.Common.{◌≡◌, ◌↔◌, ℕ, zero, suc, ◌<◌, ◌≤◌, List, [], ◌∷◌, length, get_or, filter, Bool, true, false, cond, not, ◌||◌, ◌==◌, nat_le, if◌then◌else◌, bytes_eq, Option, Some, None, Result, Ok, Err, Contains, refl, sym, ap, ◌∙◌, subst, arith, le_trans, ◌⊎◌, inl, inr, ⊎_elim}
 use Rattle.std.specs.List.{AllByRecursion, IsDistinct, list_any}
 use Rattle.std.specs.Result.{result_ok}
 use Rattle.std.specs.Prelude.{⊤}
@@ -23,7 +23,7 @@ use Rattle.sigstore_crypto.specs.declared.key.VerificationKey.{VerificationKey}
 use Rattle.sigstore_tuf_parts.specs.declared.verification.KeyFault.{KeyFault}
 use Rattle.sigstore_tuf_parts.specs.Document.{Document, signatures_in, text_in}
 use Rattle.sigstore_tuf_parts.specs.Crypto.{Crypto}
-use Rattle.sigstore_tuf_parts.specs.Threshold.{Keys, is_among, is_counted, counted_of, ids_of, second_after, all_built, is_accepted, is_accepted_by, is_accepted_under, is_accepted_raw, found_of, no_second, enough_of, meets_of}
+use Rattle.sigstore_tuf_parts.specs.Threshold.{Keys, is_among, is_counted, counted_of, ids_of, second_after, is_accepted, is_accepted_by, is_accepted_under, is_accepted_raw, found_of, no_second, enough_of, meets_of}
 use Rattle.sigstore_tuf_parts.specs.Meets.{Signs, Meets}
 
 -- ---- ids that stand twice
@@ -227,31 +227,23 @@ module _ {T : Type 0} (crypto : Crypto) (keys : Keys) (role : RoleKeys) (name : 
   enough_ok true e h = le_of_test role.threshold Found e
   enough_ok false e h = cc
 
-  abbrev Built : Result ⊤ Error
-  Built = all_built crypto.key_of keys (counted_of role (signatures_in doc))
-
-  meets_from_parts : 1 ≤ role.threshold → second_after [] Ids ≡ None → Built ≡ Ok tt → role.threshold ≤ Found → Meets crypto keys role doc
-  meets_from_parts t s b e =
+  meets_from_parts : 1 ≤ role.threshold → second_after [] Ids ≡ None → role.threshold ≤ Found → Meets crypto keys role doc
+  meets_from_parts t s e =
       let once = (once_from_none [] Ids s).1 in
       record {
         threshold = t;
         once = once;
-        built = b;
         ids = ids_of (filter (is_accepted crypto keys (text_in doc)) (counted_of role (signatures_in doc)));
         distinct = distinct_filtered (is_accepted crypto keys (text_in doc)) (counted_of role (signatures_in doc)) once;
         sign = all_sign crypto keys role doc (signatures_in doc) (λ k s h i. (k, h, i));
         enough = subst (λ n. role.threshold ≤ n) (sym (found_is crypto keys role doc)) e;
       }
 
-  after_built : (r : Result ⊤ Error) → Built ≡ r → second_after [] Ids ≡ None → 1 ≤ role.threshold → (r >>= λ _. enough_of name Found role.threshold) ≡ Ok tt → Meets crypto keys role doc
-  after_built (Err e) b s t h = cc
-  after_built (Ok u) b s t h = meets_from_parts t s b (enough_ok (nat_le role.threshold Found) refl h)
-
-  after_second : (o : Option (List ℕ)) → second_after [] Ids ≡ o → 1 ≤ role.threshold → (no_second name o >>= λ _. Built >>= λ _. enough_of name Found role.threshold) ≡ Ok tt → Meets crypto keys role doc
+  after_second : (o : Option (List ℕ)) → second_after [] Ids ≡ o → 1 ≤ role.threshold → (no_second name o >>= λ _. enough_of name Found role.threshold) ≡ Ok tt → Meets crypto keys role doc
   after_second (Some id) s t h = cc
-  after_second None s t h = after_built Built refl s t h
+  after_second None s t h = meets_from_parts t s (enough_ok (nat_le role.threshold Found) refl h)
 
-  after_threshold : (b : Bool) → (role.threshold == 0) ≡ b → (◌>>=◌ {A = ⊤} (if b then Err (Malformed rule.Threshold) else Ok (tt {0})) (λ _. no_second name (second_after [] Ids) >>= λ _. Built >>= λ _. enough_of name Found role.threshold)) ≡ Ok tt → Meets crypto keys role doc
+  after_threshold : (b : Bool) → (role.threshold == 0) ≡ b → (◌>>=◌ {A = ⊤} (if b then Err (Malformed rule.Threshold) else Ok (tt {0})) (λ _. no_second name (second_after [] Ids) >>= λ _. enough_of name Found role.threshold)) ≡ Ok tt → Meets crypto keys role doc
   after_threshold true e h = cc
   after_threshold false e h = after_second (second_after [] Ids) refl (at_least_one role.threshold e) h
 
@@ -267,7 +259,7 @@ module _ {T : Type 0} (crypto : Crypto) (keys : Keys) (role : RoleKeys) (name : 
   ok_from_meets m =
       let least = found_least crypto keys role doc m.ids m.distinct m.sign in
       let fits : role.threshold ≤ Found = le_trans m.enough least in
-      rw (not_zero role.threshold m.threshold, none_from_once [] Ids (all_new Ids) m.once, m.built, test_of_le role.threshold Found fits)
+      rw (not_zero role.threshold m.threshold, none_from_once [] Ids (all_new Ids) m.once, test_of_le role.threshold Found fits)
 
   pub meets_exactly : (meets_of crypto keys role name doc ≡ Ok tt) ↔ Meets crypto keys role doc
   meets_exactly = (meets_from_ok, ok_from_meets)

@@ -1,30 +1,22 @@
 -- A document that doesn't meet a role has the cause of its refusal.
-use Rattle.std.proofs.Common.{◌≡◌, ℕ, suc, ◌<◌, List, [], ◌∷◌, ◌++◌, length, get_or, filter, cond, Bool, true, false, ◌||◌, ◌==◌, nat_le, if◌then◌else◌, bytes_eq, Option, Some, None, is_some, ok_or, Result, Ok, Err, Contains, refl, sym, ap, subst, arith, ◌⊎◌, inl, inr}
+use Rattle.std.proofs.Common.{◌≡◌, ℕ, ◌<◌, List, [], ◌∷◌, ◌++◌, filter, cond, Bool, true, false, ◌||◌, ◌==◌, nat_le, if◌then◌else◌, bytes_eq, Option, Some, None, ok_or, Result, Ok, Err, refl, sym, ap, subst, arith, ◌⊎◌, inl, inr}
 use Rattle.std.specs.List.{list_any}
-use Rattle.std.specs.Result.{result_ok}
 use Rattle.std.specs.Prelude.{⊤}
 use Rattle.std.proofs.lemmas.Bool.Decides.{nat_tests}
 use Rattle.std.proofs.lemmas.Slice.Eq.{bytes_eq-Decides}
-use Rattle.hex.specs.Hex.{decode_of}
-use Rattle.hex.specs.declared.error.FromHexError.{FromHexError}
 use Rattle.foundation.specs.Steps.{◌>>=◌}
 use Rattle.sigstore_types_parts.specs.Entries.{at_name}
-use Rattle.sigstore_types_parts.specs.declared.form.Form.{Form}
-use Rattle.sigstore_crypto.specs.declared.key.VerificationKey.{VerificationKey}
 use Rattle.sigstore_tuf_parts.specs.declared.document.Signature.{Signature}
 use Rattle.sigstore_tuf_parts.specs.declared.error.Error.{Error}
 use Rattle.sigstore_tuf_parts.specs.declared.error.Error.TheVariants as tuf
 use Rattle.sigstore_tuf_parts.specs.declared.error.Rule.TheVariants as rule
-use Rattle.sigstore_tuf_parts.specs.declared.keys.Key.{Key}
 use Rattle.sigstore_tuf_parts.specs.declared.keys.RoleKeys.{RoleKeys}
 use Rattle.sigstore_tuf_parts.specs.declared.root.Root.{Root}
-use Rattle.sigstore_tuf_parts.specs.declared.verification.KeyFault.{KeyFault}
-use Rattle.sigstore_tuf_parts.specs.declared.verification.KeyFault.TheVariants as key_fault
-use Rattle.sigstore_tuf_parts.specs.Cause.{SignsTwice, SignedBy, SignsByUnbuilt, MeetsCause, RoleCause}
+use Rattle.sigstore_tuf_parts.specs.Cause.{SignsTwice, SignedBy, MeetsCause, RoleCause}
 use Rattle.sigstore_tuf_parts.specs.Crypto.{Crypto}
 use Rattle.sigstore_tuf_parts.specs.Document.{Document, signatures_in, text_in}
 use Rattle.sigstore_tuf_parts.specs.RootRoles.{meets_role_of}
-use Rattle.sigstore_tuf_parts.specs.Threshold.{Keys, is_among, is_counted, counted_of, ids_of, second_after, unbuilt_in, built_by, built_of, all_built, is_accepted, found_of, threshold_of, no_second, meets_of}
+use Rattle.sigstore_tuf_parts.specs.Threshold.{Keys, is_among, is_counted, counted_of, ids_of, second_after, is_accepted, found_of, threshold_of, no_second, meets_of}
 use Rattle.sigstore_tuf_parts.proofs.MeetsLaw.{or_true, once_from_none, distinct_filtered, all_sign, found_of_signs, found_is}
 use Rattle.sigstore_tuf_parts.proofs.Steps.{same_refusal, refused_by}
 
@@ -111,40 +103,6 @@ module _ (role : RoleKeys) where
     | inr g ↦ g
   ]
 
--- ---- a key of a form that isn't built
-
-module _ (crypto : Crypto) (keys : Keys) (role : RoleKeys) (signatures : List Signature) (e : Error) where
-  abbrev Unbuilt : Type 0
-  Unbuilt = (form : Form) × (e ≡ tuf.Unbuilt form) × SignsByUnbuilt crypto keys role signatures form
-
-  module _ (s : Signature) (counts : Contains (counted_of role signatures) s) (raw : List ℕ) (hexadecimal : decode_of s.sig ≡ Ok raw) where
-    by_fault : (key : Key) → at_name s.keyid keys ≡ Some key → (r : Result VerificationKey KeyFault) → crypto.key_of key ≡ r → unbuilt_in r ≡ Err e → Unbuilt
-    by_fault key k (Ok v) u h = cc
-    by_fault key k (Err key_fault.Unusable) u h = cc
-    by_fault key k (Err key_fault.Unsupported) u h = cc
-    by_fault key k (Err key_fault.Refused) u h = cc
-    by_fault key k (Err (key_fault.Unbuilt form)) u h = (form, cc, record { signature = s; counts = counts; raw = raw; hexadecimal = hexadecimal; key = key; known = k; unbuilt = u })
-    by_fault key k (Err key_fault.NoMemory) u h = cc
-
-    by_key : (o : Option Key) → at_name s.keyid keys ≡ o → built_by crypto.key_of o ≡ Err e → Unbuilt
-    by_key None k h = cc
-    by_key (Some key) k h = by_fault key k (crypto.key_of key) refl h
-
-  by_text : (s : Signature) → Contains (counted_of role signatures) s → (r : Result (List ℕ) FromHexError) → decode_of s.sig ≡ r
-      → (if is_some (result_ok r) then built_by crypto.key_of (at_name s.keyid keys) else Ok tt) ≡ Err e → Unbuilt
-  by_text s counts (Ok raw) d h = by_key s counts raw d (at_name s.keyid keys) refl h
-  by_text s counts (Err fault) d h = cc
-
-  by_signatures : (xs : List Signature) → ((k : ℕ) (s : Signature) → k < length xs → get_or xs k s ≡ s → Contains (counted_of role signatures) s) → all_built crypto.key_of keys xs ≡ Err e → Unbuilt
-  by_signatures [] there h = cc
-  by_signatures (s ∷ xs) there h = elim (refused_by (built_of crypto.key_of keys s) _ e h) [
-    | inl here ↦ by_text s (there 0 s (omega arith) refl) (decode_of s.sig) refl here
-    | inr later ↦ by_signatures xs (λ k t below at. there (suc k) t (omega arith) at) later.2
-  ]
-
-  signs_by_unbuilt : all_built crypto.key_of keys (counted_of role signatures) ≡ Err e → Unbuilt
-  signs_by_unbuilt h = by_signatures (counted_of role signatures) (λ k s below at. (k, below, at)) h
-
 -- ---- a document that doesn't meet what is asked
 
 zero_of_test : (n : ℕ) → (n == 0) ≡ true → n ≡ 0
@@ -186,11 +144,6 @@ module _ {T : Type 0} (crypto : Crypto) (keys : Keys) (role : RoleKeys) (name : 
   none_second None h = refl
   none_second (Some id) h = cc
 
-  by_built : all_built crypto.key_of keys (counted_of role (signatures_in doc)) ≡ Err e → Cause e
-  by_built h =
-      let g = signs_by_unbuilt crypto keys role (signatures_in doc) e h in
-      subst Cause (sym g.1) g.2
-
   signed_by : second_after [] Ids ≡ None → SignedBy crypto keys role doc Found
   signed_by h =
       let accepted = filter (is_accepted crypto keys (text_in doc)) (counted_of role (signatures_in doc)) in
@@ -213,10 +166,7 @@ module _ {T : Type 0} (crypto : Crypto) (keys : Keys) (role : RoleKeys) (name : 
     | inl first ↦ by_threshold (role.threshold == 0) refl first
     | inr g ↦ elim (refused_by (no_second name (second_after [] Ids)) _ e g.2) [
       | inl second ↦ by_second (second_after [] Ids) refl second
-      | inr k ↦ elim (refused_by (all_built crypto.key_of keys (counted_of role (signatures_in doc))) _ e k.2) [
-        | inl third ↦ by_built third
-        | inr j ↦ by_count (none_second (second_after [] Ids) k.1) (nat_le role.threshold Found) refl j.2
-      ]
+      | inr k ↦ by_count (none_second (second_after [] Ids) k.1) (nat_le role.threshold Found) refl k.2
     ]
   ]
 

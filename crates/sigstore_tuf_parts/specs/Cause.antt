@@ -1,33 +1,29 @@
 -- What each refusal of a document tells: of its bytes, of the role that it is to meet, of its pin, of its expiry
 -- (TUF specification, sections 4 and 5).
 use Rattle.std.specs.Prelude.{◌≡◌, ◌≢◌, ◌⊎◌, ℕ, ◌<◌, List, ◌∷◌, ◌++◌, length, true, false, bytes_eq, Option, Some, None}
-use Rattle.std.specs.Prelude.{Result, Ok, Err, option_and_then, codes, ◌<ℤ◌, Contains}
+use Rattle.std.specs.Prelude.{Result, Ok, Err, option_and_then, codes, ◌<ℤ◌}
 use Rattle.std.specs.List.{AllByRecursion, IsDistinct}
 use Rattle.sha2.specs.Sha256.{sha256}
 use Rattle.sha2.specs.Sha512.{sha512}
-use Rattle.hex.specs.Hex.{decode_of}
 use Rattle.serde_json.specs.Data.{Data}
 use Rattle.serde_json.specs.Find.{get, as_str}
 use Rattle.jiff_core.specs.declared.timestamp.Timestamp as jiff
 use Rattle.sigstore_types_parts.specs.Entries.{at_name}
 use Rattle.sigstore_types_parts.specs.Parse.{parsed_of}
-use Rattle.sigstore_types_parts.specs.declared.form.Form.{Form}
 use Rattle.sigstore_types_parts.specs.declared.parse.JsonFault.TheVariants as fault
 use Rattle.sigstore_tuf_parts.specs.declared.document.Signature.{Signature}
 use Rattle.sigstore_tuf_parts.specs.declared.error.Error.{Error}
 use Rattle.sigstore_tuf_parts.specs.declared.error.Error.TheVariants as tuf
 use Rattle.sigstore_tuf_parts.specs.declared.error.Mismatch.TheVariants as mismatch
 use Rattle.sigstore_tuf_parts.specs.declared.error.Rule.TheVariants as rule
-use Rattle.sigstore_tuf_parts.specs.declared.keys.Key.{Key}
 use Rattle.sigstore_tuf_parts.specs.declared.keys.RoleKeys.{RoleKeys}
 use Rattle.sigstore_tuf_parts.specs.declared.root.Root.{Root}
-use Rattle.sigstore_tuf_parts.specs.declared.verification.KeyFault.TheVariants as key_fault
 use Rattle.sigstore_tuf_parts.specs.Crypto.{Crypto}
 use Rattle.sigstore_tuf_parts.specs.Document.{Document, signatures_in, signature_of}
 use Rattle.sigstore_tuf_parts.specs.Header.{is_version_one_text}
 use Rattle.sigstore_tuf_parts.specs.Integrity.{Hashes, spells}
 use Rattle.sigstore_tuf_parts.specs.Meets.{Signs}
-use Rattle.sigstore_tuf_parts.specs.Threshold.{Keys, is_among, is_counted, counted_of}
+use Rattle.sigstore_tuf_parts.specs.Threshold.{Keys, is_among, is_counted}
 use Rattle.sigstore_tuf_parts.specs.Words.{sequence}
 
 -- ---- bytes that aren't a document of the kind
@@ -106,23 +102,12 @@ pub record SignedBy {T : Type 0} (crypto : Crypto) (keys : Keys) (role : RoleKey
   pub others : (id : List ℕ) → Signs crypto keys role doc id → is_among ids id ≡ true
   pub number : length ids ≡ found
 
--- a hexadecimal signature that counts names a key of a form that isn't built
-pub record SignsByUnbuilt (crypto : Crypto) (keys : Keys) (role : RoleKeys) (signatures : List Signature) (form : Form) : Type 0 where
-  pub signature : Signature
-  pub counts : Contains (counted_of role signatures) signature
-  pub raw : List ℕ
-  pub hexadecimal : decode_of signature.sig ≡ Ok raw
-  pub key : Key
-  pub known : at_name signature.keyid keys ≡ Some key
-  pub unbuilt : crypto.key_of key ≡ Err (key_fault.Unbuilt form)
-
 -- why a document doesn't meet what is asked of a role
 abbrev pub MeetsCause : {T : Type 0} → Crypto → Keys → RoleKeys → List ℕ → Document T → Error → Type 0
 MeetsCause crypto keys role name doc (tuf.Malformed rule.Threshold) = role.threshold ≡ 0
 MeetsCause crypto keys role name doc (tuf.DuplicateSignature named id) = (named ≡ name) × SignsTwice role (signatures_in doc) id
 MeetsCause crypto keys role name doc (tuf.ThresholdNotMet named found threshold) =
     (named ≡ name) × (threshold ≡ role.threshold) × (found < threshold) × SignedBy crypto keys role doc found
-MeetsCause crypto keys role name doc (tuf.Unbuilt form) = SignsByUnbuilt crypto keys role (signatures_in doc) form
 MeetsCause crypto keys role name doc _ = ⊥
 
 -- the root declares no role of the name

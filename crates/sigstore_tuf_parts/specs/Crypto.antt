@@ -1,12 +1,11 @@
 -- What a declared key gives, and what signatures are judged by (TUF specification, section 4.2).
 use Rattle.std.specs.Prelude.{ℕ, List, ◌∷◌, ◌++◌, length, nat_eq, bytes_eq, Bool, true, false, ◌&&◌, if◌then◌else◌}
 use Rattle.std.specs.Prelude.{Option, Some, None, ok_or, Result, Ok, Err, codes}
-use Rattle.std.specs.List.{list_all}
-use Rattle.std.specs.Char.{is_ascii_hexdigit}
 use Rattle.std.specs.Str.{trim}
 use Rattle.sha2.specs.Sha512.{sha512}
+use Rattle.hex.specs.Hex.{decode_of}
+use Rattle.hex.specs.declared.error.FromHexError.{FromHexError}
 use Rattle.foundation.specs.Steps.{◌>>=◌}
-use Rattle.sigstore_types_parts.specs.declared.form.Form.TheVariants as form
 use Rattle.sigstore_crypto.specs.declared.scheme.SigningScheme.{SigningScheme}
 use Rattle.sigstore_crypto.specs.declared.scheme.SigningScheme.TheVariants.{EcdsaP256Sha256, EcdsaP384Sha384, Ed25519}
 use Rattle.sigstore_crypto.specs.declared.scheme.SigningScheme.TheVariants.{RsaPssSha256, RsaPssSha384, RsaPssSha512}
@@ -14,11 +13,11 @@ use Rattle.sigstore_crypto.specs.declared.scheme.SigningScheme.TheVariants.{MlDs
 use Rattle.sigstore_crypto.specs.declared.key.VerificationKey.{VerificationKey}
 use Rattle.sigstore_crypto.specs.declared.error.Error.TheVariants as crypto
 use Rattle.sigstore_crypto.specs.declared.error.Error as crypto_error
-use Rattle.sigstore_crypto.specs.Key.{spki_key_of}
+use Rattle.sigstore_crypto.specs.Key.{key_with, spki_key_under}
 use Rattle.sigstore_crypto.specs.Good.{Judge}
 use Rattle.sigstore_tuf_parts.specs.declared.keys.Key.{Key}
 use Rattle.sigstore_tuf_parts.specs.declared.verification.KeyFault.{KeyFault}
-use Rattle.sigstore_tuf_parts.specs.declared.verification.KeyFault.TheVariants.{Unusable, Unsupported, Refused, Unbuilt, NoMemory}
+use Rattle.sigstore_tuf_parts.specs.declared.verification.KeyFault.TheVariants.{Unusable, Unsupported, Refused, NoMemory}
 
 -- the scheme of that name
 abbrev pub declared_scheme : List ℕ → Option SigningScheme
@@ -36,7 +35,6 @@ declared_scheme name =
 
 -- what the maker of keys refuses
 abbrev pub spki_fault : crypto_error.Error → KeyFault
-spki_fault (crypto.Unbuilt f) = Unbuilt f
 spki_fault crypto.NoMemory = NoMemory
 spki_fault crypto.Signing = Refused
 spki_fault (crypto.Verification fault) = Refused
@@ -50,26 +48,22 @@ abbrev pub or_spki_fault : Result VerificationKey crypto_error.Error → Result 
 or_spki_fault (Ok key) = Ok key
 or_spki_fault (Err e) = Err (spki_fault e)
 
--- a key under a scheme: the keys that are built are of P-256, and so of one of the nine
-abbrev pub under_scheme : SigningScheme → VerificationKey → Result VerificationKey KeyFault
-under_scheme EcdsaP256Sha256 key = Ok key
-under_scheme scheme key = Err Refused
-
 -- the key of a SubjectPublicKeyInfo under a scheme
 abbrev pub der_key_of : SigningScheme → List ℕ → Result VerificationKey KeyFault
-der_key_of scheme der = or_spki_fault (spki_key_of der) >>= under_scheme scheme
+der_key_of scheme der = or_spki_fault (spki_key_under scheme der)
 
 abbrev pub is_ed25519 : SigningScheme → Bool
 is_ed25519 Ed25519 = true
 is_ed25519 scheme = false
 
--- 64 hexadecimal digits
-abbrev pub is_bare_key : List ℕ → Bool
-is_bare_key text = nat_eq (length text) 64 && list_all is_ascii_hexdigit text
+abbrev pub raw_ed25519_of : Result (List ℕ) FromHexError → Result VerificationKey KeyFault
+raw_ed25519_of (Ok raw) = Ok (key_with Ed25519 raw)
+raw_ed25519_of (Err e) = Err Unusable
 
--- a text that isn't armoured: for Ed25519 (RFC 8032) its 64 hexadecimal digits, which aren't built yet
+-- a text that isn't armoured: for Ed25519 (RFC 8032) 64 hexadecimal digits, whose 32 octets are the raw key
 abbrev pub bare_key_of : SigningScheme → List ℕ → Result VerificationKey KeyFault
-bare_key_of scheme text = if is_ed25519 scheme && is_bare_key text then Err (Unbuilt form.Key) else Err Unusable
+bare_key_of scheme text =
+    if is_ed25519 scheme && nat_eq (length text) 64 then raw_ed25519_of (decode_of text) else Err Unusable
 
 -- the key that a public text holds, under a scheme
 abbrev pub text_key_of : (List ℕ → Bool) → (List ℕ → Option (List ℕ)) → SigningScheme → List ℕ → Result VerificationKey KeyFault

@@ -23,3 +23,4 @@ pub mod Meets
 pub mod RootRoles
 pub mod Cause
 pub mod Laws
+pub mod DeclaredKeys

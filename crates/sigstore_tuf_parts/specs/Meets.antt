@@ -10,7 +10,7 @@ use Rattle.sigstore_tuf_parts.specs.declared.keys.Key.{Key}
 use Rattle.sigstore_tuf_parts.specs.declared.keys.RoleKeys.{RoleKeys}
 use Rattle.sigstore_tuf_parts.specs.Document.{Document, signatures_in, text_in}
 use Rattle.sigstore_tuf_parts.specs.Crypto.{Crypto, signed_text}
-use Rattle.sigstore_tuf_parts.specs.Threshold.{Keys, is_among, counted_of, ids_of, all_built}
+use Rattle.sigstore_tuf_parts.specs.Threshold.{Keys, is_among, counted_of, ids_of}
 
 -- the id is one that the role names, with a key among the keys, and a signature that is hexadecimal and good under it
 pub record Signs {T : Type 0} (crypto : Crypto) (keys : Keys) (role : RoleKeys) (doc : Document T) (id : List ℕ) : Type 0 where
@@ -27,12 +27,10 @@ pub record Signs {T : Type 0} (crypto : Crypto) (keys : Keys) (role : RoleKeys) 
   pub hexadecimal : decode_of signature.sig ≡ Ok raw
   pub good : Good crypto.accepts verifier (signed_text verifier.scheme (text_in doc)) raw
 
--- The threshold is at least 1, no id that the role names has two nonempty signatures, no key of a signature that counts is
--- one that isn't built, and a set of at least threshold ids signs.
+-- The threshold is at least 1, no id that the role names has two nonempty signatures, and a set of at least threshold ids signs.
 pub record Meets {T : Type 0} (crypto : Crypto) (keys : Keys) (role : RoleKeys) (doc : Document T) : Type 0 where
   pub threshold : 1 ≤ role.threshold
   pub once : IsDistinct bytes_eq (ids_of (counted_of role (signatures_in doc)))
-  pub built : all_built crypto.key_of keys (counted_of role (signatures_in doc)) ≡ Ok tt
   pub ids : List (List ℕ)
   pub distinct : IsDistinct bytes_eq ids
   pub sign : AllByRecursion (Signs crypto keys role doc) ids

@@ -1,6 +1,6 @@
 -- When a document meets a role (TUF specification, sections 4.2 and 5: thresholds).
 use Rattle.std.specs.Prelude.{ℕ, List, [], ◌∷◌, length, map, filter, count_by, Bool, false, not, ◌&&◌, ◌==◌, nat_le}
-use Rattle.std.specs.Prelude.{if◌then◌else◌, bytes_eq, Option, Some, None, is_some, Result, Ok, Err, ⊤}
+use Rattle.std.specs.Prelude.{if◌then◌else◌, bytes_eq, Option, Some, None, Result, Ok, Err, ⊤}
 use Rattle.std.specs.List.{list_any}
 use Rattle.std.specs.Result.{result_ok}
 use Rattle.hex.specs.Hex.{decode_of}
@@ -15,7 +15,6 @@ use Rattle.sigstore_tuf_parts.specs.declared.error.Rule.TheVariants.{Threshold}
 use Rattle.sigstore_tuf_parts.specs.declared.keys.Key.{Key}
 use Rattle.sigstore_tuf_parts.specs.declared.keys.RoleKeys.{RoleKeys}
 use Rattle.sigstore_tuf_parts.specs.declared.verification.KeyFault.{KeyFault}
-use Rattle.sigstore_tuf_parts.specs.declared.verification.KeyFault.TheVariants as fault
 use Rattle.sigstore_tuf_parts.specs.Document.{Document, signatures_in, text_in}
 use Rattle.sigstore_tuf_parts.specs.Crypto.{Crypto, signed_text}
 
@@ -47,29 +46,6 @@ ids_of signatures = map (λ s. s.keyid) signatures
 abbrev pub second_after : List (List ℕ) → List (List ℕ) → Option (List ℕ)
 second_after seen [] = None
 second_after seen (id ∷ ids) = if is_among seen id then Some id else second_after (id ∷ seen) ids
-
--- ---- keys that aren't built
-
-abbrev pub unbuilt_in : Result VerificationKey KeyFault → Result ⊤ Error
-unbuilt_in (Ok key) = Ok tt
-unbuilt_in (Err fault.Unusable) = Ok tt
-unbuilt_in (Err fault.Unsupported) = Ok tt
-unbuilt_in (Err fault.Refused) = Ok tt
-unbuilt_in (Err (fault.Unbuilt form)) = Err (tuf.Unbuilt form)
-unbuilt_in (Err fault.NoMemory) = Ok tt
-
-abbrev pub built_by : KeyOf → Option Key → Result ⊤ Error
-built_by key_of None = Ok tt
-built_by key_of (Some key) = unbuilt_in (key_of key)
-
--- where the signature is hexadecimal and its key is there, that key isn't an unbuilt one
-abbrev pub built_of : KeyOf → Keys → Signature → Result ⊤ Error
-built_of key_of keys s = if is_some (result_ok (decode_of s.sig)) then built_by key_of (at_name s.keyid keys) else Ok tt
-
--- each of them, in order
-abbrev pub all_built : KeyOf → Keys → List Signature → Result ⊤ Error
-all_built key_of keys [] = Ok tt
-all_built key_of keys (s ∷ signatures) = built_of key_of keys s >>= λ _. all_built key_of keys signatures
 
 -- ---- accepted signatures
 
@@ -107,11 +83,9 @@ abbrev pub enough_of : List ℕ → ℕ → ℕ → Result ⊤ Error
 enough_of name found threshold = if nat_le threshold found then Ok tt else Err (tuf.ThresholdNotMet name found threshold)
 
 -- A threshold of 0 would be met without any signature, so it is refused first.
--- The document meets the role: its threshold isn't 0; no id that it names signed twice; no key of one that signed isn't
--- built yet; and at least threshold ids signed.
+-- The document meets the role: its threshold isn't 0; no id that it names signed twice; and at least threshold ids signed.
 unfoldable pub meets_of : {T : Type 0} → Crypto → Keys → RoleKeys → List ℕ → Document T → Result ⊤ Error
 meets_of crypto keys role name doc = do
   _ ← threshold_of role.threshold
   _ ← no_second name (second_after [] (ids_of (counted_of role (signatures_in doc))))
-  _ ← all_built crypto.key_of keys (counted_of role (signatures_in doc))
   enough_of name (found_of crypto keys role (signatures_in doc) (text_in doc)) role.threshold

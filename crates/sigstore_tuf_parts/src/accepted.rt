@@ -59,7 +59,7 @@ fn is_accepted_by<C: CryptoProvider, M: Armor>(
     ensures { IfOk result (λ b. b ≡ is_accepted_under (C.accepts provider.now) text.now sig.now
         (key_by M.Armor armor.now key.now)) }
 {
-    match key.verification_key(alloc, armor) {
+    match key.read_key(alloc, armor) {
         Ok(key) => is_accepted_under(alloc, provider, &key, text, sig),
         Err(KeyFault::NoMemory) => Err(NoMemory),
         Err(_) => Ok(false),
@@ -82,7 +82,8 @@ fn is_accepted_under<C: CryptoProvider>(
     }
 }
 
-fn is_good_text<C: CryptoProvider>(
+/// Whether the signature of a text is good under a key: as TUF signs a text under its scheme.
+pub(crate) fn is_good_text<C: CryptoProvider>(
     alloc: Global,
     provider: &C,
     key: &VerificationKey,

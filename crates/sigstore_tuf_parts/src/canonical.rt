@@ -143,6 +143,23 @@ fn write_byte(byte: u8, out: &mut Vec<u8>) -> Result<(), AllocError>
     Ok(())
 }
 
+/// Writes a member whose value is a text, behind a comma where another stands before.
+pub(crate) fn write_member(
+    later: bool,
+    name: &str,
+    text: &str,
+    out: &mut Vec<u8>,
+) -> Result<(), AllocError>
+    ensures { OnOk result
+        (out.new.items ≡ out.old.items ++ (comma_if later ++ (quoted name.now ++ 58 ∷ quoted text.now))) }
+{
+    write_comma(later, out)?;
+    write_text(name, out)?;
+    out.push(b':')?;
+    write_text(text, out)?;
+    Ok(())
+}
+
 fn write_text(text: &str, out: &mut Vec<u8>) -> Result<(), AllocError>
     ensures { OnOk result (out.new.items ≡ out.old.items ++ quoted text.now) }
 {

@@ -4,6 +4,7 @@
 mod accepted;
 mod canonical;
 mod counted;
+mod declared_key;
 mod document;
 mod error;
 mod extra;

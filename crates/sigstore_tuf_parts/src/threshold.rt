@@ -1,14 +1,13 @@
 // Whether a document meets a role.
 ghost use Rattle.std.specs.Prelude.{◌≡◌, ◌≢◌, [], Ok, Err, IfOk, IfErr, map, count_by};
-ghost use Rattle.sigstore_tuf_parts.specs.By.{key_by, crypto_by};
-ghost use Rattle.sigstore_tuf_parts.specs.Threshold.{ids_of, second_after, unbuilt_in, built_of, all_built, is_accepted, threshold_of, no_second, enough_of, meets_of};
+ghost use Rattle.sigstore_tuf_parts.specs.By.{crypto_by};
+ghost use Rattle.sigstore_tuf_parts.specs.Threshold.{ids_of, second_after, is_accepted, threshold_of, no_second, enough_of, meets_of};
 
-use crate::accepted::{decoded, is_accepted};
+use crate::accepted::is_accepted;
 use crate::counted::{counted, second_id};
 use crate::document::{Metadata, Signature};
 use crate::error::{Error, Rule};
 use crate::keys::{Key, RoleKeys};
-use crate::verification::KeyFault;
 use foundation::NoMemory;
 use sigstore_crypto::CryptoProvider;
 use sigstore_types_parts::{Armor, Text, TextMap};
@@ -17,7 +16,7 @@ use std::alloc::Global;
 impl<T> Metadata<T> {
     /// Whether enough keys of a role signed this document. Errors, the first that holds:
     /// `Malformed(Threshold)` for a threshold of 0, `DuplicateSignature` for an id of the role that
-    /// signed twice, `Unbuilt` for a key that isn't built, `ThresholdNotMet`.
+    /// signed twice, `ThresholdNotMet`.
     #[tactic(auto, unfolding(crate::specs::Threshold::meets_of))]
     pub fn verify_threshold<C: CryptoProvider, M: Armor>(
         &self,
@@ -41,7 +40,6 @@ impl<T> Metadata<T> {
         let counting = counted(alloc, role_keys, signatures)?;
         let counting = counting.as_slice();
         check_once(alloc, role, counting)?;
-        check_built(alloc, armor, keys, counting)?;
         let found = count_accepted(alloc, provider, armor, keys, counting, text)?;
         check_enough(alloc, role, found, role_keys.threshold)?;
         Ok(())
@@ -71,56 +69,6 @@ fn check_once(alloc: Global, role: &str, signatures: &[&Signature]) -> Result<()
         }),
         None => Ok(()),
     }
-}
-
-fn check_key<M: Armor>(alloc: Global, armor: &M, key: &Key) -> Result<(), Error>
-    ensures ok { IfOk result
-        (λ v. unbuilt_in (key_by M.Armor armor.now key.now) ≡ Ok v) }
-    ensures err { IfErr result (λ e. e ≢ Error.NoMemory
-        → unbuilt_in (key_by M.Armor armor.now key.now) ≡ Err e) }
-{
-    match key.verification_key(alloc, armor) {
-        Err(KeyFault::Unbuilt(form)) => Err(Error::Unbuilt(form)),
-        Err(KeyFault::NoMemory) => Err(Error::NoMemory),
-        _ => Ok(()),
-    }
-}
-
-fn check_signature<M: Armor>(
-    alloc: Global,
-    armor: &M,
-    keys: &TextMap<Key>,
-    signature: &Signature,
-) -> Result<(), Error>
-    ensures ok { IfOk result
-        (λ v. built_of (key_by M.Armor armor.now) keys.now signature.now ≡ Ok v) }
-    ensures err { IfErr result (λ e. e ≢ Error.NoMemory
-        → built_of (key_by M.Armor armor.now) keys.now signature.now ≡ Err e) }
-{
-    if decoded(alloc, &signature.sig)?.is_none() {
-        return Ok(());
-    }
-    match keys.get(signature.keyid.as_str()) {
-        Some(key) => check_key(alloc, armor, key),
-        None => Ok(()),
-    }
-}
-
-fn check_built<M: Armor>(
-    alloc: Global,
-    armor: &M,
-    keys: &TextMap<Key>,
-    signatures: &[&Signature],
-) -> Result<(), Error>
-    ensures ok { IfOk result (λ v. all_built (key_by M.Armor armor.now)
-        keys.now (map (λ s. s.now) signatures.now) ≡ Ok v) }
-    ensures err { IfErr result (λ e. e ≢ Error.NoMemory → all_built (key_by M.Armor armor.now)
-        keys.now (map (λ s. s.now) signatures.now) ≡ Err e) }
-{
-    for signature in signatures {
-        check_signature(alloc, armor, keys, signature)?;
-    }
-    Ok(())
 }
 
 fn count_accepted<C: CryptoProvider, M: Armor>(

@@ -1,21 +1,20 @@
 // The key that a declared key gives.
 ghost use Rattle.std.specs.Prelude.{◌≡◌, ◌≢◌, Ok, Err, IfOk, IfErr};
-ghost use Rattle.std.specs.List.{list_all};
-ghost use Rattle.std.specs.Char.{is_ascii_hexdigit};
 ghost use Rattle.std.specs.Str.{trim};
-ghost use Rattle.sigstore_crypto.specs.Key.{spki_key_of};
-ghost use Rattle.sigstore_tuf_parts.specs.Crypto.{text_key_of, declared_scheme, spki_fault, der_key_of, under_scheme, or_spki_fault, is_bare_key, bare_key_of};
+ghost use Rattle.hex.specs.Hex.{decode_of};
+ghost use Rattle.sigstore_tuf_parts.specs.Crypto.{text_key_of, declared_scheme, spki_fault, der_key_of, raw_ed25519_of, bare_key_of};
 ghost use Rattle.sigstore_tuf_parts.specs.By.{key_by};
 ghost use Rattle.sigstore_tuf_parts.specs.declared.verification.KeyFault.TheVariants.{NoMemory};
 
 use crate::keys::Key;
 use foundation::NoMemory;
+use hex::FromHexError;
 use sigstore_crypto::{Error as CryptoError, SigningScheme, VerificationKey};
-use sigstore_types_parts::{Armor, Bytes, DerPublicKey, Form};
+use sigstore_types_parts::{Armor, Bytes, DerPublicKey};
 use std::alloc::Global;
 
 /// Why a declared key gives no key: its text holds none, its scheme is none of the nine, the maker of
-/// keys refuses it, it isn't built yet, or memory is wanting.
+/// keys refuses it, or memory is wanting.
 #[derive(Clone, Copy, Debug, PartialEq, Eq, Drop)]
 pub enum KeyFault {
     /// The text holds no key.
@@ -24,8 +23,6 @@ pub enum KeyFault {
     Unsupported,
     /// The maker of keys refuses the bytes.
     Refused,
-    /// The key is of a form that isn't built yet.
-    Unbuilt(Form),
     /// An allocation was refused.
     NoMemory,
 }
@@ -43,7 +40,6 @@ impl From<CryptoError> for KeyFault {
 
     fn from(fault: CryptoError) -> KeyFault {
         match fault {
-            CryptoError::Unbuilt(form) => KeyFault::Unbuilt(form),
             CryptoError::NoMemory => KeyFault::NoMemory,
             _ => KeyFault::Refused,
         }
@@ -52,9 +48,9 @@ impl From<CryptoError> for KeyFault {
 
 impl Key {
     /// The key that this declaration gives. Errors, the first that holds: `Unsupported` for its scheme,
-    /// `Unusable` where the trimmed text holds no key, `Unbuilt` for all but P-256.
+    /// `Unusable` where the trimmed text holds no key, `Refused` by the maker of keys.
     #[tactic(auto, unfolding(crate::specs::Crypto::key_of))]
-    pub fn verification_key<M: Armor>(
+    pub(crate) fn read_key<M: Armor>(
         &self,
         alloc: Global,
         armor: &M,
@@ -70,7 +66,8 @@ impl Key {
     }
 }
 
-fn declared_scheme(name: &str) -> Option<SigningScheme>
+/// The scheme of that name.
+pub(crate) fn declared_scheme(name: &str) -> Option<SigningScheme>
     ensures { result ≡ declared_scheme name.now }
 {
     match name {
@@ -107,7 +104,7 @@ fn text_key<M: Armor>(
 {
     let text = text.as_bytes();
     if !armor.is_armored(text) {
-        return Err(bare_fault(scheme, text));
+        return bare_key(alloc, scheme, text);
     }
     match armor.read_key(alloc, text)? {
         Some(der) => der_key(alloc, scheme, der),
@@ -115,27 +112,31 @@ fn text_key<M: Armor>(
     }
 }
 
-// Why a text that isn't armoured gives no key.
-fn bare_fault(scheme: SigningScheme, text: &[u8]) -> KeyFault
-    ensures { bare_key_of scheme text.now ≡ Err result }
+// The key of a text that isn't armoured: for Ed25519 64 hexadecimal digits.
+fn bare_key(alloc: Global, scheme: SigningScheme, text: &[u8]) -> Result<VerificationKey, KeyFault>
+    ensures ok { IfOk result (λ v. bare_key_of scheme text.now ≡ Ok v) }
+    ensures err { IfErr result (λ e. e ≢ KeyFault.NoMemory → bare_key_of scheme text.now ≡ Err e) }
 {
-    if scheme == SigningScheme::Ed25519 && is_bare_key(text) {
-        KeyFault::Unbuilt(Form::Key)
+    if scheme == SigningScheme::Ed25519 && text.len() == 64 {
+        raw_ed25519(alloc, text)
     } else {
-        KeyFault::Unusable
+        Err(KeyFault::Unusable)
     }
 }
 
-fn is_bare_key(text: &[u8]) -> bool
-    ensures { result ≡ is_bare_key text.now }
+fn raw_ed25519(alloc: Global, text: &[u8]) -> Result<VerificationKey, KeyFault>
+    ensures ok { IfOk result (λ v. raw_ed25519_of (decode_of text.now) ≡ Ok v) }
+    ensures err { IfErr result
+        (λ e. e ≢ KeyFault.NoMemory → raw_ed25519_of (decode_of text.now) ≡ Err e) }
 {
-    text.len() == 64 && are_digits(text)
-}
-
-fn are_digits(text: &[u8]) -> bool
-    ensures { result ≡ list_all is_ascii_hexdigit text.now }
-{
-    text.iter().all(|b| b.is_ascii_hexdigit())
+    match hex::decode(alloc, text) {
+        Ok(raw) => Ok(VerificationKey {
+            scheme: SigningScheme::Ed25519,
+            key: Bytes::from_vec(raw),
+        }),
+        Err(FromHexError::OutOfMemory) => Err(KeyFault::NoMemory),
+        Err(_) => Err(KeyFault::Unusable),
+    }
 }
 
 // The key of a SubjectPublicKeyInfo, under a scheme.
@@ -143,25 +144,7 @@ fn der_key(alloc: Global, scheme: SigningScheme, der: Bytes) -> Result<Verificat
     ensures ok { IfOk result (λ v. der_key_of scheme der ≡ Ok v) }
     ensures err { IfErr result (λ e. e ≢ KeyFault.NoMemory → der_key_of scheme der ≡ Err e) }
 {
-    let key = spki_key(alloc, der)?;
-    under_scheme(scheme, key)
-}
-
-// The keys that are built are of P-256, and so of one of the nine schemes.
-fn under_scheme(scheme: SigningScheme, key: VerificationKey) -> Result<VerificationKey, KeyFault>
-    ensures { result ≡ under_scheme scheme key }
-{
-    match scheme {
-        SigningScheme::EcdsaP256Sha256 => Ok(key),
-        _ => Err(KeyFault::Refused),
-    }
-}
-
-fn spki_key(alloc: Global, der: Bytes) -> Result<VerificationKey, KeyFault>
-    ensures ok { IfOk result (λ v. or_spki_fault (spki_key_of der) ≡ Ok v) }
-    ensures err { IfErr result (λ e. e ≢ KeyFault.NoMemory → or_spki_fault (spki_key_of der) ≡ Err e) }
-{
-    match VerificationKey::from_spki(alloc, &DerPublicKey::new(der)) {
+    match VerificationKey::from_spki_with_scheme(alloc, &DerPublicKey::new(der), scheme) {
         Ok(key) => Ok(key),
         Err(fault) => Err(KeyFault::from(fault)),
     }

@@ -6,7 +6,6 @@ pub enum Form {
     Rotation,
     Consistent,
     Delegations,
-    Key,
     Trust,
     Tokens,
     Entries,

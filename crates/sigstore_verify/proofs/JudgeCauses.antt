@@ -28,7 +28,7 @@ use Rattle.sigstore_verify.specs.declared.judge.Ready.{Ready}
 use Rattle.sigstore_verify.specs.Accepts.{signature_in, digest_in}
 use Rattle.sigstore_verify.specs.Artifact.{Artifact, Read, read_kind, digest_of}
 use Rattle.sigstore_verify.specs.Cause.{IsRefusedAs, IsRead, HasScheme, HasBundle, LacksScheme, key_unread, no_scheme, no_hasher}
-use Rattle.sigstore_verify.specs.Cause.{trust_unbuilt, bundle_unbuilt, scheme_unbuilt, KeyCause, CauseUnder, JudgeCause}
+use Rattle.sigstore_verify.specs.Cause.{trust_unbuilt, bundle_unbuilt, KeyCause, CauseUnder, JudgeCause}
 use Rattle.sigstore_verify.specs.FromRoot.{or_fault, trust_fault, bundle_fault, JudgesBundle, trust_refused, verifier_refused, bundle_refused, judged}
 use Rattle.sigstore_verify.specs.Given.{Asked, terms_of}
 use Rattle.sigstore_verify.specs.Judged.{by_crypto, by_types, scheme_of, needed_of, supported_of, prepared_of, is_digest, is_bound, is_signed, content_judged_of, key_judged_of, judged_by, ready_of}
@@ -45,7 +45,7 @@ through_crypto (Ok x) e h = cc
 through_crypto (Err t) e h = (t, refl, err_same (error_of_crypto t) e h)
 
 abbrev IsKind : Error → Type 0
-IsKind e = (e ≡ verify.Crypto) ⊎ (((f : Form) × (e ≡ verify.Unbuilt f)) ⊎ (e ≡ verify.NoMemory))
+IsKind e = (e ≡ verify.Crypto) ⊎ (e ≡ verify.NoMemory)
 
 -- what a refusal of the crate of keys is here
 as_crypto : (x : CryptoError) → IsKind (error_of_crypto x)
@@ -56,8 +56,7 @@ as_crypto crypto.UnsupportedAlgorithm = inl refl
 as_crypto (crypto.Checkpoint a) = inl refl
 as_crypto (crypto.InvalidCertificate a) = inl refl
 as_crypto (crypto.InvalidKey a) = inl refl
-as_crypto crypto.NoMemory = inr (inr refl)
-as_crypto (crypto.Unbuilt f) = inr (inl (f, refl))
+as_crypto crypto.NoMemory = inr refl
 
 -- what a refusal of the crates of values is here
 abbrev IsLowered : Error → TypesError → Type 0
@@ -130,8 +129,7 @@ module _ (accepts : Judge) (policy : PublicKeyVerificationPolicy) (asked : Asked
   -- the refusal of a lower call, by what it is here
   by_kind : (d e : Error) → d ≡ e → IsKind d → LacksScheme policy asked.bundle e → Cause e
   by_kind d e same (inl is) l = subst Cause (sym (sym same ∙ is)) (inl (subst (LacksScheme policy asked.bundle) (sym same ∙ is) l))
-  by_kind d e same (inr (inl is)) l = subst Cause (sym (sym same ∙ is.1)) (scheme_unbuilt (subst (LacksScheme policy asked.bundle) (sym same ∙ is.1) l))
-  by_kind d e same (inr (inr is)) l = subst Cause (sym (sym same ∙ is)) tt
+  by_kind d e same (inr is) l = subst Cause (sym (sym same ∙ is)) tt
 
   by_scheme : (e : Error) → LacksScheme policy asked.bundle e → Cause e
   by_scheme e (key_unread r) = by_kind (error_of_crypto r.0) e r.2 (as_crypto r.0) (key_unread r)

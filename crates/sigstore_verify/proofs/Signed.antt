@@ -11,9 +11,7 @@ use Rattle.sigstore_crypto.specs.declared.error.Error.{Error}
 use Rattle.sigstore_crypto.specs.declared.error.Error.TheVariants.{Verification}
 use Rattle.sigstore_crypto.specs.declared.error.VerificationFault.TheVariants as fault
 use Rattle.sigstore_crypto.specs.declared.key.VerificationKey.{VerificationKey}
-use Rattle.sigstore_crypto.specs.declared.scheme.KeyAlgorithm.{KeyAlgorithm}
-use Rattle.sigstore_crypto.specs.declared.scheme.KeyAlgorithm.TheVariants as sort
-use Rattle.sigstore_crypto.specs.Good.{Judge, is_uncompressed, raw_key_by, is_raw_key, accepted_of, judged_over, is_good_over, sized_digest_of, prehashed_of}
+use Rattle.sigstore_crypto.specs.Good.{Judge, is_raw_key, accepted_of, judged_over, is_good_over, sized_digest_of, prehashed_of}
 use Rattle.sigstore_crypto.specs.Scheme.{key_algorithm_of, digest_algorithm_of}
 use Rattle.sigstore_verify.specs.Artifact.{had_digest}
 use Rattle.sigstore_verify.specs.Judged.{subject_by, is_good_of, is_signed}
@@ -43,19 +41,9 @@ by_test o true true = refl
 by_test o true false = refl
 by_test o false u = refl
 
-by_raw_key : (o : Error) (algorithm : KeyAlgorithm) (key : List ℕ) (accepted : Bool)
-    → is_ok (raw_key_by o algorithm key >>= λ _. accepted_of accepted) ≡ (is_raw_key algorithm key && accepted)
-by_raw_key o sort.EcdsaP256 key accepted = by_test o (is_uncompressed key) accepted
-by_raw_key o sort.EcdsaP384 key accepted = by_test o (is_uncompressed key) accepted
-by_raw_key o sort.Ed25519 key accepted = by_test o true accepted
-by_raw_key o sort.Rsa key accepted = refl
-by_raw_key o sort.MlDsa44 key accepted = by_test o true accepted
-by_raw_key o sort.MlDsa65 key accepted = by_test o true accepted
-by_raw_key o sort.MlDsa87 key accepted = by_test o true accepted
-
 over : (accepts : Judge) (key : VerificationKey) (subject signature : List ℕ) → is_ok (judged_over accepts key subject signature) ≡ is_good_over accepts key subject signature
 over accepts key subject signature =
-    by_raw_key (Verification fault.RawKey) (key_algorithm_of key.scheme) key.key (accepts key.scheme key.key subject signature)
+    by_test (Verification fault.RawKey) (is_raw_key (key_algorithm_of key.scheme) key.key) (accepts key.scheme key.key subject signature)
 
 same_size : (a : HashAlgorithm) → nat_eq (digest_len_of a) (digest_len_of a) ≡ true
 same_size Sha2256 = refl

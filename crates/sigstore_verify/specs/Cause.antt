@@ -102,12 +102,11 @@ pub record IsUnsigned (accepts : Judge) (policy : PublicKeyVerificationPolicy) (
 abbrev pub IsUnusable : List ℕ → Error → Type 0
 IsUnusable file e = (trust : TrustedRoot) × (trusted_root_of_bytes file ≡ Ok trust) × (usable_of trust ≡ Err e)
 
--- a form that isn't built: of the trust file, of the bundle, or of the policy's key
-pub data IsUnbuilt (policy : PublicKeyVerificationPolicy) (file bundle : List ℕ) (unbuilt : Form) : Type 0 where
-  trust_unbuilt : trusted_root_of_bytes file ≡ Err (types.Unbuilt unbuilt) → IsUnbuilt policy file bundle unbuilt
-  unusable : IsUnusable file (verify.Unbuilt unbuilt) → IsUnbuilt policy file bundle unbuilt
-  bundle_unbuilt : bundle_of_bytes bundle ≡ Err (types.Unbuilt unbuilt) → IsUnbuilt policy file bundle unbuilt
-  scheme_unbuilt : LacksScheme policy bundle (verify.Unbuilt unbuilt) → IsUnbuilt policy file bundle unbuilt
+-- a form that isn't built: of the trust file or of the bundle
+pub data IsUnbuilt (file bundle : List ℕ) (unbuilt : Form) : Type 0 where
+  trust_unbuilt : trusted_root_of_bytes file ≡ Err (types.Unbuilt unbuilt) → IsUnbuilt file bundle unbuilt
+  unusable : IsUnusable file (verify.Unbuilt unbuilt) → IsUnbuilt file bundle unbuilt
+  bundle_unbuilt : bundle_of_bytes bundle ≡ Err (types.Unbuilt unbuilt) → IsUnbuilt file bundle unbuilt
 
 -- ---- each refusal of the judgement, by its number and name
 
@@ -124,7 +123,7 @@ KeyCause accepts policy asked file source source' verify.Bundle = LacksEntry pol
 KeyCause accepts policy asked file source source' verify.TrustRoot = IsRefusedAs trust_fault (trusted_root_of_bytes file) verify.TrustRoot
 KeyCause accepts policy asked file source source' verify.TrustedCertificate = IsUnusable file verify.TrustedCertificate
 KeyCause accepts policy asked file source source' (verify.ArtifactRead fault) = ReadCause source source' asked.max fault
-KeyCause accepts policy asked file source source' (verify.Unbuilt unbuilt) = IsUnbuilt policy file asked.bundle unbuilt
+KeyCause accepts policy asked file source source' (verify.Unbuilt unbuilt) = IsUnbuilt file asked.bundle unbuilt
 KeyCause accepts policy asked file source source' verify.NoMemory = ⊤
 KeyCause accepts policy asked file source source' _ = ⊥
 

@@ -116,7 +116,6 @@ error_of_crypto (crypto.Checkpoint fault) = Crypto
 error_of_crypto (crypto.InvalidCertificate fault) = Crypto
 error_of_crypto (crypto.InvalidKey rule) = Crypto
 error_of_crypto crypto.NoMemory = NoMemory
-error_of_crypto (crypto.Unbuilt form) = Unbuilt form
 
 -- A refusal of the crates of values: want of memory and a form that isn't built stay what they are, and every other is this one.
 abbrev pub lowered : Error → TypesError → Error

@@ -263,7 +263,6 @@ impl From<sigstore_crypto::Error> for Error {
     fn from(fault: sigstore_crypto::Error) -> Error {
         match fault {
             sigstore_crypto::Error::NoMemory => Error::NoMemory,
-            sigstore_crypto::Error::Unbuilt(form) => Error::Unbuilt(form),
             _ => Error::Crypto,
         }
     }

@@ -2,19 +2,19 @@
 ghost use Rattle.std.specs.Prelude.{bytes_eq};
 ghost use Rattle.sigstore_crypto.specs.Good.{subject_of};
 
-use crate::refusals;
+use crate::key_forms;
 use crate::words::{
     check, displayed, good, halves, hold, key_in, number, numbered, printed, text, there,
 };
 use foundation::Duplicate;
 use sigstore_crypto::*;
-use sigstore_types_parts::{Bytes, FailList, Form, HashAlgorithm, SignatureBytes, Text};
+use sigstore_types_parts::{Bytes, FailList, HashAlgorithm, SignatureBytes, Text};
 use std::fmt::Debug;
 use std::fs;
 use std::num::NonZeroU32;
 use std::process::Abort;
 
-/// The answer of a call that is given a text; for any other name that of a call of sigstore_tuf_parts.
+/// The answer of a call that is given a text; for any other name that of a call about keys in DER.
 pub fn answer<X: AllocGlobal + Abort>(rt: &X, call: &str, given: &str) -> String {
     match call {
         "refusal of crypto" => named(rt, given),
@@ -27,12 +27,12 @@ pub fn answer<X: AllocGlobal + Abort>(rt: &X, call: &str, given: &str) -> String
         "judgement" => judged(rt, given),
         "answers_alike" => alike(rt, given.as_bytes()),
         "source" => source_read(rt, given),
-        _ => refusals::answer(rt, call, given),
+        _ => key_forms::answer(rt, call, given),
     }
 }
 
-// Accepts a signature that equals its subject.
-struct Echo;
+/// Accepts a signature that equals its subject.
+pub struct Echo;
 
 impl CryptoProvider for Echo {
     ghost accepts = { λ _ scheme key subject signature. bytes_eq subject signature };
@@ -80,8 +80,7 @@ fn named<X: AllocGlobal + Abort>(rt: &X, name: &str) -> String {
         "NoMemory" => shown(rt, Error::NoMemory),
         "Failed" => displayed(rt, ReadError::Failed),
         "TooLong" => displayed(rt, ReadError::TooLong { max: 1 }),
-        "ReadFault" => displayed(rt, ReadFault::Failed),
-        _ => shown(rt, Error::Unbuilt(Form::Key)),
+        _ => displayed(rt, ReadFault::Failed),
     }
 }
 
@@ -93,12 +92,11 @@ Checkpoint => 5 Checkpoint
 InvalidCertificate => 6 InvalidCertificate
 InvalidKey => 7 InvalidKey
 NoMemory => 8 NoMemory
-Unbuilt => 90 Unbuilt
 Failed => Failed
 TooLong => TooLong
 ReadFault => Failed";
 
-fn scheme_of(name: &str) -> Option<SigningScheme> {
+pub fn scheme_of(name: &str) -> Option<SigningScheme> {
     match name {
         "EcdsaP256Sha256" => Some(SigningScheme::EcdsaP256Sha256),
         "EcdsaP256Sha384" => Some(SigningScheme::EcdsaP256Sha384),
@@ -232,8 +230,8 @@ MBkwEwYHKoZIzj0CAQYIKoZIzj0DAQcDAgAF => (1, Some(5), EcdsaP256Sha256, Err(Invali
 MBgwEwYHKoZIzj0CAQYIKoZIzj0DAQcDAQA= => (0, None, EcdsaP256Sha256, Err(InvalidKey(RawKey)), true)
 MBkwEwYHKoZIzj0CAQYIKoZIzj0DAQcDAgEE => InvalidKey(UnusedBits)
 MBkwEwYHKoZIzj0CAQYIKoZIzj0DAQcDAgAFAA== => InvalidKey(Encoding)
-MBYwEAYHKoZIzj0CAQYFK4EEACIDAgAE => Unbuilt(Key)
-MCowBQYDK2VwAyEAAAAAAAAAAAAAAAAAAAAAAAAAAAAAAAAAAAAAAAAAAAA= => Unbuilt(Key)
+MBYwEAYHKoZIzj0CAQYFK4EEACIDAgAE => (1, Some(4), EcdsaP384Sha384, Ok(()), true)
+MCowBQYDK2VwAyEAAAAAAAAAAAAAAAAAAAAAAAAAAAAAAAAAAAAAAAAAAAA= => (32, Some(0), Ed25519, Ok(()), true)
  => InvalidKey(Encoding)
 AA== => InvalidKey(Encoding)";
 
@@ -276,7 +274,7 @@ EcdsaP256Sha256 \u{4} verify_prehashed => Ok(())
 EcdsaP256Sha256 \u{4} verify the digest => Err(Verification(Refused))
 EcdsaP384Sha384 raw validate => Err(InvalidKey(RawKey))
 MlDsa65 raw validate => Ok(())
-RsaPssSha256 raw validate => Err(Unbuilt(Key))
+RsaPssSha256 raw validate => Err(InvalidKey(RawKey))
 EcdsaP256Sha256 raw verify => Err(Verification(RawKey))
 EcdsaP256Sha256 raw verify_prehashed a byte => Err(Verification(DigestLength))
 Ed25519 raw verify_prehashed a byte => Err(UnsupportedAlgorithm)";

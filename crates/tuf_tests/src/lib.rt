@@ -12,6 +12,8 @@ mod client;
 #[cfg(test)]
 mod documents;
 #[cfg(test)]
+mod key_forms;
+#[cfg(test)]
 mod keys;
 #[cfg(test)]
 mod places;

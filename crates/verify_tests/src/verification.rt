@@ -143,7 +143,7 @@ fn plain(number: u8) -> Error {
         29 => Error::TrustedCertificate,
         30 => Error::ArtifactRead(ReadError::Failed),
         31 => Error::NoMemory,
-        _ => Error::Unbuilt(Form::Key),
+        _ => Error::Unbuilt(Form::Trust),
     }
 }
 
@@ -317,7 +317,7 @@ const JUDGED: &str = "nothing |  | accepted
 log | wanted | Bundle
 key | MA== | Crypto
 key | MFkwEwYHKoZIzj0CAQYIKoZIzj0DAQcDQgEEAAAAAAAAAAAAAAAAAAAAAAAAAAAAAAAAAAAAAAAAAAAAAAAAAAAAAAAAAAAAAAAAAAAAAAAAAAAAAAAAAAAAAA== | Crypto
-key | MCowBQYDK2VwAyEAAAAAAAAAAAAAAAAAAAAAAAAAAAAAAAAAAAAAAAAAAAA= | Unbuilt(Key)
+key | MCowBQYDK2VwAyEAAAAAAAAAAAAAAAAAAAAAAAAAAAAAAAAAAAAAAAAAAAA= | UnsupportedArtifact
 greatest length | 4 | ArtifactRead(TooLong { max: 4 })
 failing read | 2 | ArtifactRead(Failed)
 algorithm | none | accepted
