@@ -223,6 +223,9 @@ const REFUSALS: &str = "1 | 1 IdentityMismatch IdentityMismatch
 31 | 31 NoMemory NoMemory
 90 | 90 Unbuilt Unbuilt";
 
+// An Ed25519 key of 32 zero bytes (RFC 8410).
+const ED25519: &str = "MCowBQYDK2VwAyEAAAAAAAAAAAAAAAAAAAAAAAAAAAAAAAAAAAAAAAAAAAA=";
+
 // The parts of a verification that a change names; nothing is unchanged.
 const PARTS: &str = "nothing
 key
@@ -251,10 +254,12 @@ fn policy<X: AllocGlobal + Abort>(rt: &X, change: Change) -> PublicKeyVerificati
     }
 }
 
-// The digest of a text by the algorithm of a change, and by SHA-256 where it names none.
+// The digest of a text by the algorithm of a change, and by SHA-256 where it names none; the text itself
+// where a message is signed.
 fn digested<X: AllocGlobal + Abort>(rt: &X, change: Change, text: &str) -> Bytes {
     let bytes = text.as_bytes();
     let copy = match change.of("by", "SHA2_256") {
+        "message" => Bytes::new(rt.alloc(), bytes),
         "SHA2_384" => Bytes::new(rt.alloc(), sha384(bytes).as_bytes()),
         _ => Bytes::new(rt.alloc(), sha256(bytes).as_bytes()),
     };
@@ -408,10 +413,29 @@ fn artifact<'a, X: AllocGlobal + Abort>(rt: &X, how: &str, text: &'a str) -> Art
     Artifact::Digest(good(rt, ArtifactDigest::new(algorithm, good(rt, digest))))
 }
 
+// The changes of policy and bundle for a key: an Ed25519 key signs the message, and no digest is told.
+fn changes_for(key: &str) -> (Change<'static>, Change<'static>) {
+    match key {
+        "Ed25519" => (
+            Change {
+                part: "key",
+                text: ED25519,
+            },
+            Change {
+                part: "by",
+                text: "message",
+            },
+        ),
+        _ => (UNCHANGED, UNCHANGED),
+    }
+}
+
 // The answer over an artifact that is handed in, which is that of the call which makes the verifier.
 fn handed<X: AllocGlobal + Abort>(rt: &X, row: &str) -> String {
-    let (how, text) = halves(rt, row, " ");
-    let (policy, bundle) = (policy(rt, UNCHANGED), bundle(rt, UNCHANGED));
+    let (key, given) = halves(rt, row, " ");
+    let (how, text) = halves(rt, given, " ");
+    let (of_key, of_bundle) = changes_for(key);
+    let (policy, bundle) = (policy(rt, of_key), bundle(rt, of_bundle));
     let verifier = good(rt, Verifier::new(rt.alloc(), &Echo, &Bare, &TrustedRoot {}));
     let (first, second) = (artifact(rt, how, text), artifact(rt, how, text));
     let (alloc, now) = (rt.alloc(), Timestamp::UNIX_EPOCH);
@@ -439,11 +463,15 @@ fn handed<X: AllocGlobal + Abort>(rt: &X, row: &str) -> String {
     by_it
 }
 
-const HANDED: &str = "blob hello | accepted
-blob jello | ArtifactMismatch
-SHA2_256 hello | accepted
-SHA2_256 jello | ArtifactMismatch
-SHA2_512 hello | UnsupportedArtifact";
+// A row: the key, how the artifact is handed in, its text, and the answer.
+const HANDED: &str = "P-256 blob hello | accepted
+P-256 blob jello | ArtifactMismatch
+P-256 SHA2_256 hello | accepted
+P-256 SHA2_256 jello | ArtifactMismatch
+P-256 SHA2_512 hello | UnsupportedArtifact
+Ed25519 blob hello | accepted
+Ed25519 blob jello | SignatureInvalid
+Ed25519 SHA2_256 hello | UnsupportedArtifact";
 
 #[test]
 fn verifications(rt: HostRuntime) {
