@@ -8,8 +8,7 @@ use Rattle.sigstore_crypto.specs.declared.error.Error.{Error}
 use Rattle.sigstore_crypto.specs.declared.error.Error.TheVariants.{Signing, InvalidKeyFormat}
 use Rattle.sigstore_crypto.specs.declared.scheme.KeyAlgorithm.{KeyAlgorithm}
 use Rattle.sigstore_crypto.specs.declared.scheme.KeyAlgorithm.TheVariants.{EcdsaP256, EcdsaP384, Ed25519, Rsa, MlDsa44, MlDsa65, MlDsa87}
-use Rattle.sigstore_crypto.specs.Key.{p256_curve}
-use Rattle.sigstore_crypto.specs.KeyAlgorithm.{p384_curve, ed25519_oid, ml_dsa_oid}
+use Rattle.sigstore_crypto.specs.KeyAlgorithm.{p256_curve, p384_curve, ed25519_oid, ml_dsa_oid}
 use Rattle.sigstore_crypto.specs.Pairs.{oid, ec_id, rsa_id}
 
 -- the signature, or that there is none
