@@ -3,3 +3,4 @@ pub mod SoFar
 pub mod Subjects
 pub mod Feeding
 pub mod Rings
+pub mod Names
