@@ -1,9 +1,13 @@
 // What a certificate says of its owner.
 ghost use Rattle.std.specs.Prelude.{◌≡◌, ◌≢◌, true, IfOk, IfErr, Ok, Err, option_copied};
 ghost use Rattle.sigstore_crypto.specs.declared.error.Error.TheVariants.{NoMemory};
+ghost use Rattle.std.specs.List.{list_all};
+ghost use Rattle.der_core_parts.specs.Many.{many_of};
+ghost use Rattle.der_core.specs.Strings.{is_ia5_string};
+ghost use Rattle.x509_core.specs.Types.{general_name_type};
 ghost use Rattle.x509_core_parts.specs.Views.{certificate_parts};
 ghost use Rattle.x509_core_parts.specs.Walk.{coming};
-ghost use Rattle.sigstore_crypto.specs.Info.{text_of, names_of, first_name, identity_in, identity_of, moment_of, info_of_parts, info_of};
+ghost use Rattle.sigstore_crypto.specs.Info.{text_of, is_ascii_name, names_of, first_name, identity_in, identity_of, moment_of, info_of_parts, info_of};
 
 use crate::claims::{FulcioCiClaims, read_claims, read_issuer, value_of};
 use crate::error::{CertificateFault, Error};
@@ -50,37 +54,45 @@ pub struct CertificateInfo {
     pub ci_claims: FulcioCiClaims,
 }
 
+#[tactic(auto, using(crate::proofs::Names::many_ascii))]
+fn each_name(alloc: Global, contents: &[u8]) -> Result<Vec<GeneralName>, DerError>
+    ensures ok { IfOk result (λ names. many_of general_name_type.grammar contents.now ≡ Ok names.items) }
+    ensures err { IfErr result (λ e. e ≢ DerError.NoMemory → many_of general_name_type.grammar contents.now ≡ Err e) }
+    ensures ascii { IfOk result (λ names. list_all is_ascii_name names.items ≡ true) }
+{
+    let mut reader = Reader::new(contents);
+    let names = read_each::<GeneralName>(alloc, &mut reader)?;
+    Ok(names)
+}
+
 #[tactic(auto, unfolding(der_core_parts::specs::Grammar::read, der_core_parts::specs::Grammar::read_all))]
 fn names(alloc: Global, value: &[u8]) -> Result<Vec<GeneralName>, DerError>
     ensures ok { IfOk result (λ names. names_of value.now ≡ Ok names.items) }
     ensures err { IfErr result (λ e. e ≢ DerError.NoMemory → names_of value.now ≡ Err e) }
+    ensures ascii { IfOk result (λ names. list_all is_ascii_name names.items ≡ true) }
 {
     let mut reader = Reader::new(value);
     let tlv = reader.read_tlv()?;
     if tlv.tag.0 != tag::SEQUENCE {
         return Err(DerError::Tag);
     }
-    let mut inner = Reader::new(tlv.value);
-    let names = read_each::<GeneralName>(alloc, &mut inner)?;
-    match reader.end(names) {
-        Ok(names) => Ok(names),
-        Err(refusal) => Err(refusal),
-    }
+    let names = each_name(alloc, tlv.value)?;
+    reader.finish()?;
+    Ok(names)
 }
 
-// An IA5String as a text. Its octets are below 128, which is UTF-8 (RFC 3629, section 3), so the last line is
-// never reached.
+// An IA5String as a text: octets below 128 are UTF-8 (RFC 3629, section 3).
 fn text_of_ia5(alloc: Global, ia5: &Ia5) -> Result<Text, Error>
+    requires { is_ia5_string ia5.now ≡ true }
     ensures ok { IfOk result (λ text. text ≡ ia5.now) }
     ensures err { IfErr result (λ e. e ≡ NoMemory) }
 {
-    match str::from_utf8(ia5.as_bytes()) {
-        Ok(text) => Ok(Text::new(alloc, text)?),
-        Err(_) => Err(Error::NoMemory),
-    }
+    let text = str::from_utf8(ia5.as_bytes()).unwrap();
+    Ok(Text::new(alloc, text)?)
 }
 
 fn first_name(alloc: Global, names: &[GeneralName]) -> Result<Option<SubjectAltName>, Error>
+    requires { list_all is_ascii_name names.now ≡ true }
     ensures ok { IfOk result (λ name. name ≡ first_name names.now) }
     ensures err { IfErr result (λ e. e ≡ NoMemory) }
 {
