@@ -11,7 +11,7 @@ use Rattle.sigstore_crypto.specs.declared.error.KeyRule.TheVariants as rule
 use Rattle.sigstore_crypto.specs.declared.key.VerificationKey.{VerificationKey}
 use Rattle.sigstore_crypto.specs.declared.scheme.SigningScheme.{SigningScheme}
 use Rattle.sigstore_crypto.specs.declared.scheme.KeyAlgorithm.TheVariants.{Rsa}
-use Rattle.sigstore_crypto.specs.Key.{key_with, is_same, of_scheme, key_under, key_in_either, der_key_of}
+use Rattle.sigstore_crypto.specs.Key.{key_with, same_sort, of_scheme, key_under, key_in_either, der_key_of}
 use Rattle.sigstore_crypto.specs.KeyAlgorithm.{algorithm_of_parts}
 use Rattle.sigstore_crypto.specs.Scheme.{key_algorithm_of}
 use Rattle.std.specs.Prelude.{◌&&◌, is_ok}
@@ -34,7 +34,7 @@ by_test scheme raw false key h = cc
 
 either : (scheme : SigningScheme) (der : List ℕ) (r : Result Spki X509Error) (key : VerificationKey) → key_in_either scheme der r ≡ Ok key → key.scheme ≡ scheme
 either scheme der (Ok spki) key h = under scheme spki key h
-either scheme der (Err e) key h = by_test scheme der (is_same Rsa (key_algorithm_of scheme) && is_ok (rsa_key_of der)) key h
+either scheme der (Err e) key h = by_test scheme der (same_sort Rsa (key_algorithm_of scheme) && is_ok (rsa_key_of der)) key h
 
 pub der_scheme : (scheme : SigningScheme) (der : List ℕ) (key : VerificationKey) → der_key_of scheme der ≡ Ok key → key.scheme ≡ scheme
 unfolding der_key_of

@@ -31,19 +31,19 @@ spki_key_of der = or_invalid (spki_view_of der) >>= key_of_parts
 
 -- ---- under a scheme that is named
 
-abbrev pub is_same : KeyAlgorithm → KeyAlgorithm → Bool
-is_same EcdsaP256 EcdsaP256 = true
-is_same EcdsaP384 EcdsaP384 = true
-is_same Ed25519 Ed25519 = true
-is_same Rsa Rsa = true
-is_same MlDsa44 MlDsa44 = true
-is_same MlDsa65 MlDsa65 = true
-is_same MlDsa87 MlDsa87 = true
-is_same a b = false
+abbrev pub same_sort : KeyAlgorithm → KeyAlgorithm → Bool
+same_sort EcdsaP256 EcdsaP256 = true
+same_sort EcdsaP384 EcdsaP384 = true
+same_sort Ed25519 Ed25519 = true
+same_sort Rsa Rsa = true
+same_sort MlDsa44 MlDsa44 = true
+same_sort MlDsa65 MlDsa65 = true
+same_sort MlDsa87 MlDsa87 = true
+same_sort a b = false
 
 -- the key is of the sort that signs under the scheme
 abbrev pub of_scheme : SigningScheme → KeyAlgorithm → Result ⊤ Error
-of_scheme scheme algorithm = if is_same algorithm (key_algorithm_of scheme) then Ok tt else Err (InvalidKey rule.Scheme)
+of_scheme scheme algorithm = if same_sort algorithm (key_algorithm_of scheme) then Ok tt else Err (InvalidKey rule.Scheme)
 
 unfoldable pub key_under : SigningScheme → Spki → Result VerificationKey Error
 key_under scheme spki = do
@@ -60,7 +60,7 @@ spki_key_under scheme der = or_invalid (spki_view_of der) >>= key_under scheme
 -- for the schemes of RSA the bytes are a bare key, and themselves the raw key
 abbrev pub bare_key_under : SigningScheme → List ℕ → Result VerificationKey Error
 bare_key_under scheme der =
-    if is_same Rsa (key_algorithm_of scheme) && is_ok (rsa_key_of der) then Ok (key_with scheme der)
+    if same_sort Rsa (key_algorithm_of scheme) && is_ok (rsa_key_of der) then Ok (key_with scheme der)
     else Err (InvalidKey rule.Encoding)
 
 abbrev pub key_in_either : SigningScheme → List ℕ → Result Spki X509Error → Result VerificationKey Error

@@ -48,9 +48,9 @@ abbrev pub or_spki_fault : Result VerificationKey crypto_error.Error → Result 
 or_spki_fault (Ok key) = Ok key
 or_spki_fault (Err e) = Err (spki_fault e)
 
--- the key of a SubjectPublicKeyInfo under a scheme
-abbrev pub der_key_of : SigningScheme → List ℕ → Result VerificationKey KeyFault
-der_key_of scheme der = or_spki_fault (spki_key_under scheme der)
+-- what the armour reads is a SubjectPublicKeyInfo, and gives its key under the scheme
+abbrev pub armored_key_of : SigningScheme → List ℕ → Result VerificationKey KeyFault
+armored_key_of scheme der = or_spki_fault (spki_key_under scheme der)
 
 abbrev pub is_ed25519 : SigningScheme → Bool
 is_ed25519 Ed25519 = true
@@ -68,7 +68,7 @@ bare_key_of scheme text =
 -- the key that a public text holds, under a scheme
 abbrev pub text_key_of : (List ℕ → Bool) → (List ℕ → Option (List ℕ)) → SigningScheme → List ℕ → Result VerificationKey KeyFault
 text_key_of armored key_in scheme text =
-    if armored text then (ok_or (key_in text) Unusable >>= der_key_of scheme) else bare_key_of scheme text
+    if armored text then (ok_or (key_in text) Unusable >>= armored_key_of scheme) else bare_key_of scheme text
 
 -- What a declared key gives: its scheme is one of the nine, and its trimmed public text holds a key.
 unfoldable pub key_of : (List ℕ → Bool) → (List ℕ → Option (List ℕ)) → Key → Result VerificationKey KeyFault

@@ -2,7 +2,7 @@
 ghost use Rattle.std.specs.Prelude.{◌≡◌, ◌≢◌, Ok, Err, IfOk, IfErr};
 ghost use Rattle.std.specs.Str.{trim};
 ghost use Rattle.hex.specs.Hex.{decode_of};
-ghost use Rattle.sigstore_tuf_parts.specs.Crypto.{text_key_of, declared_scheme, spki_fault, der_key_of, raw_ed25519_of, bare_key_of};
+ghost use Rattle.sigstore_tuf_parts.specs.Crypto.{text_key_of, declared_scheme, spki_fault, armored_key_of, raw_ed25519_of, bare_key_of};
 ghost use Rattle.sigstore_tuf_parts.specs.By.{key_by};
 ghost use Rattle.sigstore_tuf_parts.specs.declared.verification.KeyFault.TheVariants.{NoMemory};
 
@@ -107,7 +107,7 @@ fn text_key<M: Armor>(
         return bare_key(alloc, scheme, text);
     }
     match armor.read_key(alloc, text)? {
-        Some(der) => der_key(alloc, scheme, der),
+        Some(der) => armored_key(alloc, scheme, der),
         None => Err(KeyFault::Unusable),
     }
 }
@@ -140,9 +140,13 @@ fn raw_ed25519(alloc: Global, text: &[u8]) -> Result<VerificationKey, KeyFault>
 }
 
 // The key of a SubjectPublicKeyInfo, under a scheme.
-fn der_key(alloc: Global, scheme: SigningScheme, der: Bytes) -> Result<VerificationKey, KeyFault>
-    ensures ok { IfOk result (λ v. der_key_of scheme der ≡ Ok v) }
-    ensures err { IfErr result (λ e. e ≢ KeyFault.NoMemory → der_key_of scheme der ≡ Err e) }
+fn armored_key(
+    alloc: Global,
+    scheme: SigningScheme,
+    der: Bytes,
+) -> Result<VerificationKey, KeyFault>
+    ensures ok { IfOk result (λ v. armored_key_of scheme der ≡ Ok v) }
+    ensures err { IfErr result (λ e. e ≢ KeyFault.NoMemory → armored_key_of scheme der ≡ Err e) }
 {
     match VerificationKey::from_spki_with_scheme(alloc, &DerPublicKey::new(der), scheme) {
         Ok(key) => Ok(key),

@@ -317,12 +317,16 @@ fn judged<X: AllocGlobal + Abort>(rt: &X, row: &str) -> String {
 }
 
 // A row: the part, the text in its place, and the refusal. The keys are no key, the P-256 key with one
-// unused bit, and an Ed25519 key of 32 zero bytes (RFC 8410).
+// unused bit, an Ed25519 key of 32 zero bytes (RFC 8410), and keys that openssl made: of P-384, and of RSA
+// with 2048 and with 1024 bits.
 const JUDGED: &str = "nothing |  | accepted
 log | wanted | Bundle
 key | MA== | Crypto
 key | MFkwEwYHKoZIzj0CAQYIKoZIzj0DAQcDQgEEAAAAAAAAAAAAAAAAAAAAAAAAAAAAAAAAAAAAAAAAAAAAAAAAAAAAAAAAAAAAAAAAAAAAAAAAAAAAAAAAAAAAAA== | Crypto
 key | MCowBQYDK2VwAyEAAAAAAAAAAAAAAAAAAAAAAAAAAAAAAAAAAAAAAAAAAAA= | UnsupportedArtifact
+key | MHYwEAYHKoZIzj0CAQYFK4EEACIDYgAEgNI+RIBtU7hzM6AzfrHvfVYi7pyUA+KQ6m7Jk+EXgqzV+GzHEO6SQxmPj8VjgZ7StebwCfeC4sk1FBSSGsPVVY2PpdkRxpaluV7H+zvGaYbZPhwI9SqkYiOwt/3I1f9I | accepted
+key | MIIBIjANBgkqhkiG9w0BAQEFAAOCAQ8AMIIBCgKCAQEAiQneHiRk47GJZwBGL6tpttbqnoQpOVNxjInR4jTG3ZHrBwkoK0LO0m3yaopVViz9ncCW513phVYMlR4GVuLmj39S+A3TTnjPodrmqgfCsvTGA/4MU5HjCI+KpW/wD8YnAuCyLP+XlLoUdr+Afzz9qIdakM7Br8K3MPD2EuZECbqBS1IAVNqS3G9Ty6aeExbSi/20SJJg9DEv0nnvL8ChiYeGowJnkbDWr/u+cX1aC301lSZJ2vttr+DteZRplymO/JyIOMoCT+eMEmYhCFpvrPgsUJeUepbnxW8n6Jh0CVGar8zRFNeyb8qEgUpfZ7xZqboN777R+jWMD5tPLE5y8wIDAQAB | accepted
+key | MIGfMA0GCSqGSIb3DQEBAQUAA4GNADCBiQKBgQDdpDa1CAKZuZlmyKjdR+Bzvck5oLQItvKQKMKPpdxWXNZvWd0LYV0D44tEcSwsTmL2kyAgvGGzGj4BUTy6N6Eo68jfWNI7ZVvklOQzsXNeluORRa+AfzV/hC+dlfa0iY9FEH4eDMfTcMHt4vLwLgXa2WxJHfywZ5cpBeZo2hv2VwIDAQAB | SignatureInvalid
 greatest length | 4 | ArtifactRead(TooLong { max: 4 })
 failing read | 2 | ArtifactRead(Failed)
 algorithm | none | accepted
