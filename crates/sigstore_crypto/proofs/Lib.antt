@@ -4,3 +4,4 @@ pub mod Subjects
 pub mod Feeding
 pub mod Rings
 pub mod Names
+pub mod PublicKeys
