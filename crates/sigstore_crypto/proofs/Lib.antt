@@ -3,5 +3,5 @@ pub mod SoFar
 pub mod Subjects
 pub mod Feeding
 pub mod Rings
-pub mod Names
+pub mod NameFacts
 pub mod PublicKeys

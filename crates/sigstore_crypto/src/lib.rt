@@ -12,6 +12,7 @@ mod key_algorithm;
 mod key_pair;
 mod keyring;
 mod memory_source;
+mod names;
 mod pairs;
 mod provider;
 mod reader;
