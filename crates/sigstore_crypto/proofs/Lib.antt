@@ -4,4 +4,5 @@ pub mod Subjects
 pub mod Feeding
 pub mod Rings
 pub mod Schemes
-pub mod Names
+pub mod NameFacts
+pub mod PublicKeys

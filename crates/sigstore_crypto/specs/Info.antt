@@ -1,12 +1,11 @@
 -- What a certificate says of its owner: the identity of RFC 5280, 4.2.1.6, and Fulcio's extensions.
-use Rattle.std.specs.Prelude.{ℕ, List, [], ◌∷◌, Bool, true, Option, Some, None, Result, Ok, Err}
+use Rattle.std.specs.Prelude.{ℕ, List, [], ◌∷◌, Option, Some, None, Result, Ok, Err}
 use Rattle.foundation.specs.Steps.{◌>>=◌}
 use Rattle.jiff_core.specs.declared.timestamp.Timestamp.{Timestamp}
 use Rattle.der_core_parts.specs.Outcome.{Outcome}
 use Rattle.der_core_parts.specs.Grammar.{read_all}
 use Rattle.der_core_parts.specs.Many.{sequence_of}
 use Rattle.der_core.specs.declared.civil.Civil.{Civil}
-use Rattle.der_core.specs.Strings.{is_ia5_string}
 use Rattle.der_core.specs.Times.{instant_of_civil}
 use Rattle.x509_core.specs.declared.general_name.GeneralName.{GeneralName}
 use Rattle.x509_core.specs.declared.general_name.GeneralName.TheVariants.{Rfc822Name, Other}
@@ -40,12 +39,6 @@ first_name [] = None
 first_name (Rfc822Name text ∷ names) = Some (Email text)
 first_name (name.Uri text ∷ names) = Some (Uri text)
 first_name (Other other ∷ names) = first_name names
-
--- the text of an address or an identifier is an IA5String (X.690, 8.23.5)
-abbrev pub is_ascii_name : GeneralName → Bool
-is_ascii_name (Rfc822Name text) = is_ia5_string text
-is_ascii_name (name.Uri text) = is_ia5_string text
-is_ascii_name (Other other) = true
 
 -- GeneralNames ::= SEQUENCE OF GeneralName
 abbrev pub names_of : List ℕ → Outcome (List GeneralName)

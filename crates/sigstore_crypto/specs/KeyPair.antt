@@ -1,14 +1,15 @@
 -- What a pair of keys signs, and its public key in DER (RFC 5280, section 4.1).
-use Rattle.std.specs.Prelude.{ℕ, List, ◌∷◌, ◌++◌, Option, Some, None, Result, Ok, Err}
+use Rattle.std.specs.Prelude.{◌≡◌, ℕ, List, ◌∷◌, ◌++◌, Option, Some, None, Result, Ok, Err}
 use Rattle.foundation.specs.Steps.{◌>>=◌}
 use Rattle.der_core_parts.specs.Outcome.{Outcome}
 use Rattle.der_core_parts.specs.Grammar.{framed}
 use Rattle.der_core_parts.specs.Tags.{bit_string_tag, sequence_tag}
+use Rattle.x509_core_parts.specs.Spki.{Spki, spki_view_of}
 use Rattle.sigstore_crypto.specs.declared.error.Error.{Error}
 use Rattle.sigstore_crypto.specs.declared.error.Error.TheVariants.{Signing, InvalidKeyFormat}
 use Rattle.sigstore_crypto.specs.declared.scheme.KeyAlgorithm.{KeyAlgorithm}
 use Rattle.sigstore_crypto.specs.declared.scheme.KeyAlgorithm.TheVariants.{EcdsaP256, EcdsaP384, Ed25519, Rsa, MlDsa44, MlDsa65, MlDsa87}
-use Rattle.sigstore_crypto.specs.KeyAlgorithm.{p256_curve, p384_curve, ed25519_oid, ml_dsa_oid}
+use Rattle.sigstore_crypto.specs.KeyAlgorithm.{p256_curve, p384_curve, ed25519_oid, ml_dsa_oid, named_of}
 use Rattle.sigstore_crypto.specs.Pairs.{oid, ec_id, rsa_id}
 
 -- the signature, or that there is none
@@ -41,3 +42,11 @@ or_too_long (Err e) = Err InvalidKeyFormat
 -- the public key of a sort in DER, or that it is too long
 abbrev pub public_key_of : KeyAlgorithm → List ℕ → Result (List ℕ) Error
 public_key_of algorithm key = or_too_long (spki_with (key_id_of algorithm) key)
+
+-- these bytes are read as a key of that sort with whole octets, and that raw key
+pub record IsPublicKey (sort : KeyAlgorithm) (key der : List ℕ) : Type 0 where
+  pub spki : Spki
+  pub read : spki_view_of der ≡ Ok spki
+  pub sort_is : named_of spki.algorithm ≡ Ok sort
+  pub whole : spki.unused_bits ≡ 0
+  pub key_is : spki.key ≡ key

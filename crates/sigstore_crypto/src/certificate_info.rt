@@ -1,22 +1,19 @@
 // What a certificate says of its owner.
-ghost use Rattle.std.specs.Prelude.{◌≡◌, ◌≢◌, true, IfOk, IfErr, Ok, Err, option_copied};
+ghost use Rattle.std.specs.Prelude.{◌≡◌, ◌≢◌, IfOk, IfErr, Ok, Err, option_copied};
 ghost use Rattle.sigstore_crypto.specs.declared.error.Error.TheVariants.{NoMemory};
-ghost use Rattle.std.specs.List.{list_all};
-ghost use Rattle.der_core_parts.specs.Many.{many_of};
-ghost use Rattle.der_core.specs.Strings.{is_ia5_string};
-ghost use Rattle.x509_core.specs.Types.{general_name_type};
 ghost use Rattle.x509_core_parts.specs.Views.{certificate_parts};
 ghost use Rattle.x509_core_parts.specs.Walk.{coming};
-ghost use Rattle.sigstore_crypto.specs.Info.{text_of, is_ascii_name, names_of, first_name, identity_in, identity_of, moment_of, info_of_parts, info_of};
+ghost use Rattle.sigstore_crypto.specs.Info.{text_of, identity_in, identity_of, moment_of, info_of_parts, info_of};
+ghost use Rattle.sigstore_crypto.specs.Names.{said};
 
 use crate::claims::{FulcioCiClaims, read_claims, read_issuer, value_of};
 use crate::error::{CertificateFault, Error};
+use crate::names::{FoundName, read_names};
 use crate::scheme::KeyAlgorithm;
-use der_core::{Civil, DerError, Ia5, Reader, read_each, tag};
+use der_core::Civil;
 use jiff::Timestamp;
 use sigstore_types_parts::{DerCertificate, DerPublicKey, Text};
 use std::alloc::Global;
-use x509_core::GeneralName;
 use x509_core_parts::{CertView, Extensions, X509Error};
 
 /// Who a certificate was issued to, by its subject alternative name (RFC 5280, 4.2.1.6).
@@ -54,60 +51,15 @@ pub struct CertificateInfo {
     pub ci_claims: FulcioCiClaims,
 }
 
-#[tactic(auto, using(crate::proofs::Names::many_ascii))]
-fn each_name(alloc: Global, contents: &[u8]) -> Result<Vec<GeneralName>, DerError>
-    ensures ok { IfOk result (λ names. many_of general_name_type.grammar contents.now ≡ Ok names.items) }
-    ensures err { IfErr result (λ e. e ≢ DerError.NoMemory → many_of general_name_type.grammar contents.now ≡ Err e) }
-    ensures ascii { IfOk result (λ names. list_all is_ascii_name names.items ≡ true) }
-{
-    let mut reader = Reader::new(contents);
-    let names = read_each::<GeneralName>(alloc, &mut reader)?;
-    Ok(names)
-}
-
-#[tactic(auto, unfolding(der_core_parts::specs::Grammar::read, der_core_parts::specs::Grammar::read_all))]
-fn names(alloc: Global, value: &[u8]) -> Result<Vec<GeneralName>, DerError>
-    ensures ok { IfOk result (λ names. names_of value.now ≡ Ok names.items) }
-    ensures err { IfErr result (λ e. e ≢ DerError.NoMemory → names_of value.now ≡ Err e) }
-    ensures ascii { IfOk result (λ names. list_all is_ascii_name names.items ≡ true) }
-{
-    let mut reader = Reader::new(value);
-    let tlv = reader.read_tlv()?;
-    if tlv.tag.0 != tag::SEQUENCE {
-        return Err(DerError::Tag);
-    }
-    let names = each_name(alloc, tlv.value)?;
-    reader.finish()?;
-    Ok(names)
-}
-
-// An IA5String as a text: octets below 128 are UTF-8 (RFC 3629, section 3).
-fn text_of_ia5(alloc: Global, ia5: &Ia5) -> Result<Text, Error>
-    requires { is_ia5_string ia5.now ≡ true }
-    ensures ok { IfOk result (λ text. text ≡ ia5.now) }
+fn owned(alloc: Global, name: Option<FoundName>) -> Result<Option<SubjectAltName>, Error>
+    ensures ok { IfOk result (λ identity. identity ≡ said name.entry) }
     ensures err { IfErr result (λ e. e ≡ NoMemory) }
 {
-    let text = str::from_utf8(ia5.as_bytes()).unwrap();
-    Ok(Text::new(alloc, text)?)
-}
-
-fn first_name(alloc: Global, names: &[GeneralName]) -> Result<Option<SubjectAltName>, Error>
-    requires { list_all is_ascii_name names.now ≡ true }
-    ensures ok { IfOk result (λ name. name ≡ first_name names.now) }
-    ensures err { IfErr result (λ e. e ≡ NoMemory) }
-{
-    'names: for name in names {
-        match name {
-            GeneralName::Rfc822Name(text) => {
-                return Ok(Some(SubjectAltName::Email(text_of_ia5(alloc, text)?)));
-            }
-            GeneralName::Uri(text) => {
-                return Ok(Some(SubjectAltName::Uri(text_of_ia5(alloc, text)?)));
-            }
-            GeneralName::Other(_) => {}
-        }
+    match name {
+        Some(FoundName::Email(text)) => Ok(Some(SubjectAltName::Email(Text::new(alloc, text)?))),
+        Some(FoundName::Uri(text)) => Ok(Some(SubjectAltName::Uri(Text::new(alloc, text)?))),
+        None => Ok(None),
     }
-    Ok(None)
 }
 
 fn identity_in(alloc: Global, value: Option<&[u8]>) -> Result<Option<SubjectAltName>, Error>
@@ -117,9 +69,8 @@ fn identity_in(alloc: Global, value: Option<&[u8]>) -> Result<Option<SubjectAltN
     let Some(value) = value else {
         return Ok(None);
     };
-    match names(alloc, value) {
-        Ok(names) => Ok(first_name(alloc, names.as_slice())?),
-        Err(DerError::NoMemory) => Err(Error::NoMemory),
+    match read_names(value) {
+        Ok(name) => Ok(owned(alloc, name)?),
         Err(_) => Err(Error::InvalidCertificate(CertificateFault::San)),
     }
 }

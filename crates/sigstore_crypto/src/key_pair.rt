@@ -5,7 +5,7 @@ ghost use Rattle.sha2.specs.Sha256.{sha256};
 ghost use Rattle.der_core_parts.specs.Grammar.{framed};
 ghost use Rattle.sigstore_crypto.specs.declared.scheme.KeyAlgorithm.{KeyAlgorithm as SortOfKey};
 ghost use Rattle.sigstore_crypto.specs.Scheme.{default_scheme_of};
-ghost use Rattle.sigstore_crypto.specs.KeyPair.{signed_or, key_id_of, spki_with, public_key_of};
+ghost use Rattle.sigstore_crypto.specs.KeyPair.{signed_or, key_id_of, spki_with, public_key_of, IsPublicKey};
 
 use crate::error::Error;
 use crate::hasher::Sha256Hasher;
@@ -181,3 +181,8 @@ impl KeyPair {
         }
     }
 }
+
+/// What is written as a public key is read as a key of its sort, with the raw key.
+pub fn public_key_is_read()
+    ensures { (sort : SortOfKey) (key der : List ℕ) → public_key_of sort key ≡ Ok der → IsPublicKey sort key der }
+{}

@@ -12,6 +12,7 @@ mod key_algorithm;
 mod key_pair;
 mod keyring;
 mod memory_source;
+mod names;
 mod pairs;
 mod provider;
 mod raw_key;
@@ -27,7 +28,7 @@ pub use error::{CertificateFault, CheckpointFault, Error, KeyRule, VerificationF
 pub use file_source::FileSource;
 pub use hasher::{ArtifactHasher, HashUpdate, Sha256Hasher};
 pub use key::VerificationKey;
-pub use key_pair::{KeyPair, SigningKeyPair};
+pub use key_pair::{KeyPair, SigningKeyPair, public_key_is_read};
 pub use keyring::{Keyring, KeysByHint};
 pub use memory_source::MemorySource;
 pub use pairs::{SignatureAlgorithm, webpki_verification_algs};

@@ -1,6 +1,6 @@
 // What certificates with Fulcio's extensions say; the values are those that were put in.
 use crate::claim_data::{
-    BARE, BOTH, DNS, ISSUER_1, ISSUER_8, NONE, OLDER, SAN, SAN_BEHIND, SAN_SECOND, SORT,
+    BARE, BOTH, CUT, DNS, ISSUER_1, ISSUER_8, NONE, OLDER, SAN, SAN_BEHIND, SAN_SECOND, SORT,
 };
 use crate::words::{check, displayed, good, halves, printed, string, there};
 use sigstore_crypto::{CertificateInfo, FulcioCiClaims, SubjectAltName, parse_certificate_info};
@@ -64,9 +64,9 @@ pub fn octets<X: AllocGlobal + Abort>(rt: &X, text: &str) -> Bytes {
     Bytes::from_vec(good(rt, hex::decode(rt.alloc(), text)))
 }
 
-// The certificate of a name; `cut` is one without its last octet.
-fn named<X: AllocGlobal + Abort>(rt: &X, name: &str) -> DerCertificate {
-    let text = match name {
+// The certificate of a name in hexadecimal.
+fn hexadecimal<X: Abort>(rt: &X, name: &str) -> &'static str {
+    match name {
         "both" => BOTH,
         "older" => OLDER,
         "bare" => BARE,
@@ -78,10 +78,9 @@ fn named<X: AllocGlobal + Abort>(rt: &X, name: &str) -> DerCertificate {
         "san_second" => SAN_SECOND,
         "san_behind" => SAN_BEHIND,
         "sort" => SORT,
-        "cut" => there(rt, BARE.get(..BARE.len() - 2)),
+        "cut" => CUT,
         _ => panic!(rt; "no certificate {name}"),
-    };
-    DerCertificate::new(octets(rt, text))
+    }
 }
 
 fn or_none<X: AllocGlobal + Abort>(rt: &X, text: &Option<Text>) -> String {
@@ -152,7 +151,7 @@ fn part<X: AllocGlobal + Abort>(rt: &X, info: &CertificateInfo, name: &str) -> S
 // A part of what a certificate says, or the refusal.
 fn said<X: AllocGlobal + Abort>(rt: &X, given: &str) -> String {
     let (name, wanted) = halves(rt, given, " ");
-    let certificate = named(rt, name);
+    let certificate = DerCertificate::new(octets(rt, hexadecimal(rt, name)));
     let info = parse_certificate_info(rt.alloc(), &certificate);
     drop(certificate);
     match info {

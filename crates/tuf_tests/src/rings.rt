@@ -202,13 +202,12 @@ impl SigningKeyPair for Mirror {
     }
 }
 
-fn pair<X: AllocGlobal + Abort>(rt: &X, sort: KeyAlgorithm, key: &str) -> KeyPair {
+fn boxed_mirror<X: AllocGlobal + Abort>(rt: &X, sort: KeyAlgorithm, key: &str) -> Box<Mirror> {
     let mirror = Mirror {
         sort,
         key: octets(rt, key),
     };
-    let boxed = good(rt, Box::new(rt.alloc(), mirror));
-    KeyPair::new(boxed)
+    good(rt, Box::new(rt.alloc(), mirror))
 }
 
 // Sorts and raw public keys with their DER: by OpenSSL, and for ML-DSA by hand (RFC 9881, section 4).
@@ -237,7 +236,7 @@ fn sort<X: Abort>(rt: &X, name: &str) -> KeyAlgorithm {
 fn public_key<X: AllocGlobal + Abort>(rt: &X, given: &str) -> String {
     let (name, raw) = halves(rt, given, " ");
     let sort = sort(rt, name);
-    let pair = pair(rt, sort, raw);
+    let pair = KeyPair::new(boxed_mirror(rt, sort, raw));
     let der = good(rt, pair.public_key_der(rt.alloc()));
     assert!(rt;
         pair.algorithm() == sort && KeyAlgorithm::from_spki(&der) == Ok(sort),
@@ -263,7 +262,7 @@ fn public_keys_are_written_as_openssl_writes_them(rt: HostRuntime) {
 
 #[test]
 fn pairs_sign(rt: HostRuntime) {
-    let pair = pair(&rt, KeyAlgorithm::Ed25519, "010203");
+    let pair = KeyPair::new(boxed_mirror(&rt, KeyAlgorithm::Ed25519, "010203"));
     assert!(rt;
         pair.public_key_bytes() == [1, 2, 3].as_slice(),
         "the raw key"
