@@ -1,8 +1,7 @@
 -- What each status of a run means.
-use Rattle.std.proofs.Common.{◌≡◌, inl, inr, ℕ, List, Some, None, Result, Ok, Err, refl, sym, ◌∙◌, subst}
+use Rattle.std.proofs.Common.{◌≡◌, inl, inr, ℕ, List, Some, None, Ok, Err, refl, sym, ◌∙◌, subst}
 use Rattle.std.specs.Result.{result_ok}
 use Rattle.foundation.specs.Watched.{Watched}
-use Rattle.foundation.specs.declared.no_memory.NoMemory.{NoMemory}
 use Rattle.foundation.specs.Results.{ok_same, some_same}
 use Rattle.sigstore_verify.specs.declared.from_root.RootFault.{RootFault}
 use Rattle.sigstore_verify.specs.declared.from_root.RootFault.TheVariants as root
