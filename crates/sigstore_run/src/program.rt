@@ -72,10 +72,9 @@ fn judge<R: Repository, S: MetadataStore, A: ArtifactSource>(
     store: &mut S,
     artifact: &mut A,
 ) -> Result<Answer, NoMemory>
-    ensures judges { let before : Outside = record { repo = R.seen repo.old; store = S.seen store.old; source = A.seen artifact.old } in
+    ensures { let before : Outside = record { repo = R.seen repo.old; store = S.seen store.old; source = A.seen artifact.old } in
         let after : Outside = record { repo = R.seen repo.new; store = S.seen store.new; source = A.seen artifact.new } in
         Judges gathered now before after result }
-    ensures store { S.seen store.new ≡ S.seen store.old }
 {
     let Gathered {
         policy,
@@ -112,12 +111,11 @@ fn proceed<I: Inputs, R: Repository, S: MetadataStore, A: ArtifactSource>(
     store: &mut S,
     artifact: &mut A,
 ) -> Result<Answer, NoMemory>
-    ensures proceeds { let outside : Outside = record { repo = R.seen repo.old; store = S.seen store.old; source = A.seen artifact.old } in
+    ensures { let outside : Outside = record { repo = R.seen repo.old; store = S.seen store.old; source = A.seen artifact.old } in
         let outside' : Outside = record { repo = R.seen repo.new; store = S.seen store.new; source = A.seen artifact.new } in
         let before : Environment = record { inputs = I.seen inputs.old; outside = outside } in
         let after : Environment = record { inputs = I.seen inputs.new; outside = outside' } in
         Proceeds now before after result }
-    ensures store { S.seen store.new ≡ S.seen store.old }
 {
     match gather_inputs(alloc, inputs) {
         Ok(gathered) => judge(alloc, gathered, now, repo, store, artifact),
@@ -135,12 +133,11 @@ fn decide<I: Inputs, R: Repository, S: MetadataStore, A: ArtifactSource>(
     store: &mut S,
     artifact: &mut A,
 ) -> Result<Answer, NoMemory>
-    ensures decides { let outside : Outside = record { repo = R.seen repo.old; store = S.seen store.old; source = A.seen artifact.old } in
+    ensures { let outside : Outside = record { repo = R.seen repo.old; store = S.seen store.old; source = A.seen artifact.old } in
         let outside' : Outside = record { repo = R.seen repo.new; store = S.seen store.new; source = A.seen artifact.new } in
         let before : Environment = record { inputs = I.seen inputs.old; outside = outside } in
         let after : Environment = record { inputs = I.seen inputs.new; outside = outside' } in
         Decides (record { words = words.now; clock = clock }) before after result }
-    ensures store { S.seen store.new ≡ S.seen store.old }
 {
     let found = match read_layout(alloc, words) {
         Ok(found) => found,
@@ -179,7 +176,6 @@ pub fn run<I: Inputs, R: Repository, S: MetadataStore, A: ArtifactSource, K: Sin
         let before : Environment = record { inputs = I.seen inputs.old; outside = outside } in
         let after : Environment = record { inputs = I.seen inputs.new; outside = outside' } in
         RunsTo (record { words = words.now; clock = clock }) before after (K.seen out.old) (K.seen out.new) result }
-    ensures store { S.seen store.new ≡ S.seen store.old }
 {
     let said = match decide(alloc, words, clock, inputs, repo, store, artifact) {
         Ok(said) => said,

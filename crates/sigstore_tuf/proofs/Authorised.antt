@@ -1,59 +1,28 @@
--- The documents in force are authorised whatever was fetched, those of a refresh that is Ok serve, and a chain of documents
--- that serve is trusted.
-use Rattle.std.proofs.Common.{◌≡◌, ◌⊎◌, inl, inr, ℕ, List, [], ◌∷◌, Bool, true, false, ◌==◌, if◌then◌else◌, Option, Some, None, Result, Ok, Err, codes, refl, sym, subst, arith}
-use Rattle.std.specs.Prelude.{⊤, ok_or, IfSome}
-use Rattle.std.proofs.lemmas.Bool.Decides.{nat_tests}
+-- The documents in force are authorised whatever was fetched and kept.
+use Rattle.std.proofs.Common.{◌≡◌, ℕ, ◌+◌, List, [], ◌∷◌, ◌++◌, length, Bool, Option, Some, None, Result, Ok, Err, codes, refl, sym, ap, ◌∙◌, subst, arith, length-append}
+use Rattle.std.specs.Prelude.{⊤, IfSome}
+use Rattle.std.specs.List.{AllZip, last_or}
 use Rattle.jiff_core.specs.declared.timestamp.Timestamp as jiff
-use Rattle.foundation.specs.Watched.{Watched}
 use Rattle.foundation.specs.Results.{step_ok, ok_same}
-use Rattle.sigstore_types_parts.specs.Entries.{at_name}
 use Rattle.sigstore_tuf_parts.specs.declared.error.Error.{Error}
-use Rattle.sigstore_tuf_parts.specs.declared.error.Error.TheVariants.{Malformed, IntegrityMismatch, UnknownRole}
-use Rattle.sigstore_tuf_parts.specs.declared.error.Mismatch.TheVariants.{Version}
-use Rattle.sigstore_tuf_parts.specs.declared.error.Rule.TheVariants as rule
-use Rattle.sigstore_tuf_parts.specs.declared.root.Root.{Root}
-use Rattle.sigstore_tuf_parts.specs.declared.timestamp.MetaFile.{MetaFile}
-use Rattle.sigstore_tuf_parts.specs.declared.timestamp.Timestamp.{Timestamp}
-use Rattle.sigstore_tuf_parts.specs.declared.snapshot.Snapshot.{Snapshot}
-use Rattle.sigstore_tuf_parts.specs.declared.targets.Targets.{Targets}
+use Rattle.sigstore_tuf_parts.specs.declared.root.Root as declared
 use Rattle.sigstore_tuf_parts.specs.Document.{Document, content_in}
 use Rattle.sigstore_tuf_parts.specs.Crypto.{Crypto}
-use Rattle.sigstore_tuf_parts.specs.Threshold.{meets_of}
-use Rattle.sigstore_tuf_parts.specs.Integrity.{integrity_of, version_of, fresh_of}
-use Rattle.sigstore_tuf_parts.specs.Pinned.{Fresh}
-use Rattle.sigstore_tuf_parts.specs.RootRoles.{root_document, meets_role_of, MeetsRole}
-use Rattle.sigstore_tuf_parts.proofs.MeetsLaw.{meets_exactly}
-use Rattle.sigstore_tuf_parts.proofs.IntegrityLaws.{integrity_exactly, fresh_exactly}
-use Rattle.sigstore_tuf.specs.Repository.{Folders}
-use Rattle.sigstore_tuf.specs.declared.config.UpdaterConfig.{UpdaterConfig}
-use Rattle.sigstore_tuf.specs.declared.documents.Held.{Held}
+use Rattle.sigstore_tuf_parts.specs.RootRoles.{root_document, meets_role_of, IsNextRoot, AreNextRoots, Roots}
 use Rattle.sigstore_tuf.specs.declared.documents.InForce.{InForce}
-use Rattle.sigstore_tuf.specs.Documents.{timestamp_document, snapshot_document, targets_document, content_of, targets_pin}
-use Rattle.sigstore_tuf.specs.Update.{first_root_of, timestamp_checks_of, new_timestamp_of, snapshot_pin_of, kept_pins_of, snapshot_checks_of, new_snapshot_of, targets_pin_of, targets_checks_of, new_targets_of, with_snapshot, with_targets}
-use Rattle.sigstore_tuf.specs.Client.{after_timestamp, top_targets}
-use Rattle.sigstore_tuf.specs.Refresh.{TookTimestamp, RefreshesTimestamp, IsUnfetched, TookSnapshot, TakesTargets, TookTargets, RefreshesSnapshot, IsUnpinned, RefreshesPinned, RefreshesTargets, Refreshes, walk_refuses, root_refuses, timestamp_refuses, snapshot_refuses, targets_refuses, all_serve}
-use Rattle.sigstore_tuf.specs.Authorised.{IsSigned, IsPinnedBy, AreAuthorised}
-use Rattle.sigstore_tuf.proofs.Files.{at_insert}
-
--- ---- steps that were Ok
-
-pub ok_some : {A E : Type 0} (o : Option A) (e : E) (x : A) → ok_or o e ≡ Ok x → o ≡ Some x
-ok_some None e x h = cc
-ok_some (Some a) e x h = cc
-
-pub where_some : {A : Type 0} (o : Option A) (P : A → Type 0) (x : A) → o ≡ Some x → IfSome o P → P x
-where_some o P x e h = subst (λ o. IfSome o P) e h
-
--- ---- a role of a root
-
-pub role_met : {T : Type 0} (crypto : Crypto) (root : Root) (name : List ℕ) (doc : Document T) → meets_role_of crypto root name doc ≡ Ok tt → MeetsRole crypto root name doc
-unfolding meets_role_of
-role_met crypto root name doc h =
-    let a = step_ok (ok_or (at_name name root.roles) (UnknownRole name)) (λ role. meets_of crypto root.keys role name doc) tt h in
-    (a.0, ok_some (at_name name root.roles) (UnknownRole name) a.0 a.1, (meets_exactly crypto root.keys a.0 name doc).0 a.2)
-
-pub fresh_from : (role : List ℕ) (expires now : jiff.Timestamp) → fresh_of role expires now ≡ Ok tt → Fresh expires now
-fresh_from role expires now h = (fresh_exactly role expires now).0 h
+use Rattle.sigstore_tuf.specs.declared.kind.Kind.{Kind}
+use Rattle.sigstore_tuf.specs.declared.kind.Kind.TheVariants.{Root, Timestamp, Snapshot, Targets}
+use Rattle.sigstore_tuf.specs.Documents.{targets_document}
+use Rattle.sigstore_tuf.specs.Update.{first_root_of, Updates}
+use Rattle.sigstore_tuf.specs.State.{Session, State}
+use Rattle.sigstore_tuf.specs.Adopt.{update_of, judged_of, Adopts, unfetched, absent, refused, kept, adopted, Seeds, unloaded, unkept, unseeded, equal, seeded}
+use Rattle.sigstore_tuf.specs.Client.{version_in}
+use Rattle.sigstore_tuf.specs.Run.{said, SavesRoot, Attaches, Does, refresh_steps, RunsSteps}
+use Rattle.sigstore_tuf.specs.declared.step.Step.{Step}
+use Rattle.sigstore_tuf.specs.Trusted.{BeginsWith}
+use Rattle.sigstore_tuf.specs.Authorised.{IsSigned, IsPinnedBy, AreAuthorised, first_in, given_in, StaysAuthorised, UpdatesSet}
+use Rattle.sigstore_tuf.proofs.Updates.{role_met, Puts, update_puts, judged_puts, top_inserted}
+use Rattle.sigstore_tuf.proofs.Lift.{IsAsked, AsksNoRoot, attach_lift, does_lift, runs_lift}
 
 -- ---- a first root
 
@@ -69,185 +38,166 @@ first_root_authorised crypto bytes set h =
       targets = tt;
     })
 
--- ---- each adoption
+pub first_root_given : (crypto : Crypto) (bytes : List ℕ) (set : InForce) → first_root_of crypto bytes ≡ Ok set → given_in set ≡ bytes
+unfolding first_root_of
+first_root_given crypto bytes set h =
+    let a = step_ok (root_document bytes) _ set h in
+    let b = step_ok (meets_role_of crypto (content_in a.0) (codes "root") a.0) _ set a.2 in
+    sym (ap given_in (ok_same _ set b.2))
 
-module _ (crypto : Crypto) (set : InForce) (bytes : List ℕ) (now : jiff.Timestamp) where
-  abbrev Signed : {T : Type 0} → (List ℕ → Result (Document T) Error) → List ℕ → Held T → Type 0
-  Signed reads role held = IsSigned reads crypto (content_in set.root) role held
+pub first_root_is_authorised : (crypto : Crypto) (bytes : List ℕ) (set : InForce) → first_root_of crypto bytes ≡ Ok set → AreAuthorised crypto (given_in set) set
+first_root_is_authorised crypto bytes set h =
+    subst (λ g. AreAuthorised crypto g set) (sym (first_root_given crypto bytes set h)) (first_root_authorised crypto bytes set h)
 
-  timestamp_met : (new : Document Timestamp) → timestamp_checks_of crypto set new now ≡ Ok tt → meets_role_of crypto (content_in set.root) (codes "timestamp") new ≡ Ok tt
-  unfolding timestamp_checks_of
-  timestamp_met new h = (step_ok (meets_role_of crypto (content_in set.root) (codes "timestamp") new) _ tt h).1
+-- ---- one root more
 
-  timestamp_signed : (held : Held Timestamp) → new_timestamp_of crypto set bytes now ≡ Ok held → Signed timestamp_document (codes "timestamp") held
-  unfolding new_timestamp_of
-  timestamp_signed held h =
-      let a = step_ok (timestamp_document bytes) _ held h in
-      let b = step_ok (timestamp_checks_of crypto set a.0 now) _ held a.2 in
-      subst (Signed timestamp_document (codes "timestamp")) (ok_same _ held b.2)
-      (record { read = a.1; met = role_met crypto (content_in set.root) (codes "timestamp") a.0 (timestamp_met a.0 b.1) })
+zip_more : {A B : Type 0} (R : A → B → Type 0) (xs : List A) (ys : List B) (x : A) (y : B) → AllZip R xs ys → R x y → AllZip R (xs ++ x ∷ []) (ys ++ y ∷ [])
+zip_more R [] [] x y a r = (r, tt)
+zip_more R [] (b ∷ bs) x y a r = absurd a
+zip_more R (a ∷ rest) [] x y h r = absurd h
+zip_more R (a ∷ rest) (b ∷ bs) x y h r = (h.0, zip_more R rest bs x y h.1 r)
 
-  -- the pin of a snapshot that is adopted, and what was checked of it
-  pub record Snapshots (held : Held Snapshot) : Type 0 where
-    pub pin : MetaFile
-    pub pin_is : snapshot_pin_of set now ≡ Ok pin
-    pub signed : Signed snapshot_document (codes "snapshot") held
-    pub version_is : (content_of held).version ≡ pin.version
-    pub fresh : Fresh (content_of held).expires now
+last_more : {A : Type 0} (seed : Option A) (xs : List A) (x : A) → last_or seed (xs ++ x ∷ []) ≡ Some x
+last_more seed [] x = refl
+last_more seed (y ∷ ys) x = last_more (Some y) ys x
 
-  same_version : (pin : MetaFile) (version : ℕ) → version_of pin version ≡ Ok tt → version ≡ pin.version
-  same_version pin version h = by_test (version == pin.version) refl h
-    where
-      by_test : (b : Bool) → (version == pin.version) ≡ b → ◌≡◌ {A = Result ⊤ Error} (if b then Ok tt else Err (IntegrityMismatch Version)) (Ok tt) → version ≡ pin.version
-      by_test true e h = grind (arith, nat_tests)
-      by_test false e h = cc
+begins_more : (given bytes : List ℕ) (roots : List (List ℕ)) → BeginsWith given roots → BeginsWith given (roots ++ bytes ∷ [])
+begins_more given bytes [] h = absurd h
+begins_more given bytes (root ∷ roots) h = h
 
-  checked : (pin : MetaFile) (new : Document Snapshot) → snapshot_checks_of crypto set pin new now ≡ Ok tt
-      → (meets_role_of crypto (content_in set.root) (codes "snapshot") new ≡ Ok tt) × (version_of pin (content_in new).version ≡ Ok tt) × (fresh_of (codes "snapshot") (content_in new).expires now ≡ Ok tt)
-  unfolding snapshot_checks_of
-  checked pin new h =
-      let a = step_ok (meets_role_of crypto (content_in set.root) (codes "snapshot") new) _ tt h in
-      let b = step_ok (version_of pin (content_in new).version) _ tt a.2 in
-      let c = step_ok (kept_pins_of set.snapshot (content_in new)) _ tt b.2 in
-      (a.1, b.1, c.2)
+next_more : (crypto : Crypto) (root : Document declared.Root) (docs : List (Document declared.Root)) (last doc : Document declared.Root) → AreNextRoots crypto root docs → last_or (Some root) docs ≡ Some last → IsNextRoot crypto last doc
+    → AreNextRoots crypto root (docs ++ doc ∷ [])
+next_more crypto root [] last doc h is n = let same : root ≡ last = cc in (subst (λ r. IsNextRoot crypto r doc) (sym same) n, tt)
+next_more crypto root (d ∷ ds) last doc h is n = (h.0, next_more crypto d ds last doc h.1 is n)
 
-  pub snapshot_adopted : (held : Held Snapshot) → new_snapshot_of crypto set bytes now ≡ Ok held → Snapshots held
-  unfolding new_snapshot_of
-  snapshot_adopted held h =
-      let a = step_ok (snapshot_pin_of set now) _ held h in
-      let b = step_ok (integrity_of a.0.length a.0.hashes bytes) _ held a.2 in
-      let c = step_ok (snapshot_document bytes) _ held b.2 in
-      let d = step_ok (snapshot_checks_of crypto set a.0 c.0 now) _ held c.2 in
-      let is = checked a.0 c.0 d.1 in
-      subst Snapshots (ok_same _ held d.2) (record {
-        pin = a.0;
-        pin_is = a.1;
-        signed = record { read = c.1; met = role_met crypto (content_in set.root) (codes "snapshot") c.0 is.0 };
-        version_is = same_version a.0 (content_in c.0).version is.1;
-        fresh = fresh_from (codes "snapshot") (content_in c.0).expires now is.2;
-      })
+roots_more : (crypto : Crypto) (first : Document declared.Root) (docs : List (Document declared.Root)) (last doc : Document declared.Root) → Roots crypto first docs → last_or None docs ≡ Some last → IsNextRoot crypto last doc
+    → Roots crypto first (docs ++ doc ∷ [])
+roots_more crypto first [] last doc h is n = absurd h
+roots_more crypto first (d ∷ ds) last doc h is n = (h.0, h.1, next_more crypto first ds last doc h.2 (ap (λ r. last_or (Some r) ds) (sym h.0) ∙ is) n)
 
-  pub record Adopts (held : Held Targets) : Type 0 where
-    pub signed : Signed targets_document (codes "targets") held
-    pub pinned : IsPinnedBy set.snapshot held
-    pub fresh : Fresh (content_of held).expires now
+first_more : (bytes : List ℕ) (roots : List (List ℕ)) (given : List ℕ) → BeginsWith given roots → first_in (roots ++ bytes ∷ []) ≡ first_in roots
+first_more bytes [] given h = absurd h
+first_more bytes (root ∷ roots) given h = refl
 
-  targets_checked : (pin : MetaFile) (new : Document Targets) → targets_checks_of crypto set pin new now ≡ Ok tt
-      → (version_of pin (content_in new).version ≡ Ok tt) × (meets_role_of crypto (content_in set.root) (codes "targets") new ≡ Ok tt) × (fresh_of (codes "targets") (content_in new).expires now ≡ Ok tt)
-  unfolding targets_checks_of
-  targets_checked pin new h =
-      let a = step_ok (version_of pin (content_in new).version) _ tt h in
-      let b = step_ok (meets_role_of crypto (content_in set.root) (codes "targets") new) _ tt a.2 in
-      (a.1, b.1, b.2)
+-- ---- each document that is put in force
 
-  pub targets_adopted : (held : Held Targets) → new_targets_of crypto set bytes now ≡ Ok held → Adopts held
-  unfolding new_targets_of targets_pin_of
-  targets_adopted held h =
-      let p = step_ok (targets_pin_of set now) _ held h in
-      let s = step_ok (ok_or set.snapshot (Malformed rule.NoSnapshot)) _ p.0 p.1 in
-      let f = step_ok (fresh_of (codes "snapshot") (content_of s.0).expires now) _ p.0 s.2 in
-      let b = step_ok (integrity_of p.0.length p.0.hashes bytes) _ held p.2 in
-      let c = step_ok (targets_document bytes) _ held b.2 in
-      let d = step_ok (targets_checks_of crypto set p.0 c.0 now) _ held c.2 in
-      let is = targets_checked p.0 c.0 d.1 in
-      subst Adopts (ok_same _ held d.2) (record {
-        signed = record { read = c.1; met = role_met crypto (content_in set.root) (codes "targets") c.0 is.1 };
-        pinned = record {
-          held = s.0;
-          there = ok_some set.snapshot (Malformed rule.NoSnapshot) s.0 s.1;
-          pin = p.0;
-          pin_is = ok_some (targets_pin (content_of s.0)) (Malformed rule.Unpinned) p.0 f.2;
-          pinned = record { intact = (integrity_exactly p.0.length p.0.hashes bytes).0 b.1; version_is = same_version p.0 (content_in c.0).version is.0 };
+module _ (crypto : Crypto) where
+  -- what is authorised stays so
+  pub record Stays (old new : InForce) : Type 0 where
+    pub authorised : AreAuthorised crypto (given_in old) old → AreAuthorised crypto (given_in old) new × (given_in new ≡ given_in old)
+    pub rises : version_in new + length old.roots ≡ version_in old + length new.roots
+
+  stays_same : (a : InForce) → Stays a a
+  stays_same a = record { authorised = λ k. (k, refl); rises = refl }
+
+  stays_joins : (a b c : InForce) → Stays a b → Stays b c → Stays a c
+  stays_joins a b c p q = record {
+    authorised = λ k.
+        let at_b = p.authorised k in
+        let at_c = q.authorised (subst (λ g. AreAuthorised crypto g b) (sym at_b.1) at_b.0) in
+        (subst (λ g. AreAuthorised crypto g c) at_b.1 at_c.0, at_c.1 ∙ at_b.1);
+    rises = omega (arith, p.rises, q.rises);
+  }
+
+  puts_stay : (k : Kind) (now : Option jiff.Timestamp) (old new : InForce) (bytes : List ℕ) → Puts crypto old bytes k now new → Stays old new
+  puts_stay (Root number) now old new bytes p = subst (Stays old) (sym p.new_is) (record {
+    authorised = λ k. (
+      record {
+        roots = record {
+          begins = begins_more (given_in old) bytes old.roots k.roots.begins;
+          first = k.roots.first;
+          documents = k.roots.documents ++ p.doc ∷ [];
+          read = zip_more (λ b d. root_document b ≡ Ok d) old.roots k.roots.documents bytes p.doc k.roots.read p.read;
+          next = roots_more crypto k.roots.first k.roots.documents old.root p.doc k.roots.next k.roots.last p.next;
+          last = last_more None k.roots.documents p.doc;
         };
-        fresh = fresh_from (codes "targets") (content_in c.0).expires now is.2;
-      })
-
--- ---- what each step keeps
-
-module _ (crypto : Crypto) (given : List ℕ) (config : UpdaterConfig) (now : jiff.Timestamp) where
-  abbrev Kept : InForce → InForce → Type 0
-  Kept old new = AreAuthorised crypto given old → AreAuthorised crypto given new
-
-  unchanged : (old new : InForce) → new ≡ old → Kept old new
-  unchanged old new e k = subst (AreAuthorised crypto given) (sym e) k
-
-  unfetched : (name : List ℕ) (max : ℕ) (old new : InForce) (repo repo' : Watched Folders) (result : Result ⊤ Error) → IsUnfetched name max old new repo repo' result → new ≡ old
-  unfetched name max old new repo repo' (Ok x) u = absurd u
-  unfetched name max old new repo repo' (Err e) u = u.0
-
-  timestamp_put : (old : InForce) (bytes : List ℕ) (r : Result (Held Timestamp) Error) → new_timestamp_of crypto old bytes now ≡ r → Kept old (after_timestamp old r)
-  timestamp_put old bytes (Err e) h k = k
-  timestamp_put old bytes (Ok held) h k = record { roots = k.roots; timestamp = timestamp_signed crypto old bytes now held h; snapshot = k.snapshot; targets = k.targets }
-
-  timestamp_kept : (old new : InForce) (repo repo' : Watched Folders) (result : Result ⊤ Error) → RefreshesTimestamp crypto config now old new repo repo' result → Kept old new
-  timestamp_kept old new repo repo' result r k = by_answer r.answer
-    where
-      by_state : (bytes : List ℕ) → (new ≡ old) ⊎ (new ≡ after_timestamp old (new_timestamp_of crypto old bytes now)) → AreAuthorised crypto given new
-      by_state bytes (inl e) = unchanged old new e k
-      by_state bytes (inr e) = subst (AreAuthorised crypto given) (sym e) (timestamp_put old bytes (new_timestamp_of crypto old bytes now) refl k)
-
-      by_answer : IsUnfetched (codes "timestamp.json") config.timestamp_max_length old new repo repo' result ⊎ TookTimestamp crypto config now old new repo result → AreAuthorised crypto given new
-      by_answer (inl u) = unchanged old new (unfetched (codes "timestamp.json") config.timestamp_max_length old new repo repo' result u) k
-      by_answer (inr t) = by_state t.bytes t.takes.state
-
-  snapshot_put : (old new : InForce) (bytes : List ℕ) (held : Held Snapshot) → new_snapshot_of crypto old bytes now ≡ Ok held → new ≡ with_snapshot old held → Kept old new
-  snapshot_put old new bytes held h e k =
-      subst (AreAuthorised crypto given) (sym e) (record { roots = k.roots; timestamp = k.timestamp; snapshot = (snapshot_adopted crypto old bytes now held h).signed; targets = tt })
-
-  snapshot_taken : (old new : InForce) (repo : Watched Folders) (result : Result ⊤ Error) → TookSnapshot crypto config now old new repo result → Kept old new
-  snapshot_taken old new repo (Ok x) t k = snapshot_put old new t.bytes t.adopted.0 t.adopted.1 t.adopted.2 k
-  snapshot_taken old new repo (Err e) t k = unchanged old new t.refused.0 k
-
-  snapshot_kept : (old new : InForce) (repo repo' : Watched Folders) (result : Result ⊤ Error) → RefreshesSnapshot crypto config now old new repo repo' result → Kept old new
-  snapshot_kept old new repo repo' result (inl same) k = unchanged old new same.1 k
-  snapshot_kept old new repo repo' result (inr fetches) k = by_answer fetches.1.answer
-    where
-      by_answer : IsUnfetched (codes "snapshot.json") config.snapshot_max_length old new repo repo' result ⊎ TookSnapshot crypto config now old new repo result → AreAuthorised crypto given new
-      by_answer (inl u) = unchanged old new (unfetched (codes "snapshot.json") config.snapshot_max_length old new repo repo' result u) k
-      by_answer (inr t) = snapshot_taken old new repo result t k
-
-  pub top_inserted : (old : InForce) (held : Held Targets) → top_targets (with_targets old held) ≡ Some held
-  top_inserted old held = at_insert (codes "targets") (codes "targets") held old.targets
-
-  targets_put : (old new : InForce) (bytes : List ℕ) (held : Held Targets) → new_targets_of crypto old bytes now ≡ Ok held → new ≡ with_targets old held → Kept old new
-  targets_put old new bytes held h e k =
-      let a = targets_adopted crypto old bytes now held h in
-      subst (AreAuthorised crypto given) (sym e) (record {
+        timestamp = tt;
+        snapshot = tt;
+        targets = tt;
+      },
+      first_more bytes old.roots (given_in old) k.roots.begins,
+    );
+    rises = omega (arith, p.next.number, length-append old.roots (bytes ∷ []));
+  })
+  puts_stay Timestamp now old new bytes p = subst (Stays old) (sym p.new_is) (record {
+    authorised = λ k. (record { roots = k.roots; timestamp = p.signed; snapshot = k.snapshot; targets = k.targets }, refl);
+    rises = refl;
+  })
+  puts_stay Snapshot now old new bytes p = subst (Stays old) (sym p.new_is) (record {
+    authorised = λ k. (record { roots = k.roots; timestamp = k.timestamp; snapshot = p.signed; targets = tt }, refl);
+    rises = refl;
+  })
+  puts_stay Targets now old new bytes p = subst (Stays old) (sym p.new_is) (record {
+    authorised = λ k. (
+      record {
         roots = k.roots;
         timestamp = k.timestamp;
         snapshot = k.snapshot;
-        targets = subst (λ o. IfSome o (λ t. IsSigned targets_document crypto (content_in old.root) (codes "targets") t × IsPinnedBy old.snapshot t)) (sym (top_inserted old held)) (a.signed, a.pinned);
-      })
+        targets = subst (λ o. IfSome o (λ t. IsSigned targets_document crypto (content_in old.root) (codes "targets") t × IsPinnedBy old.snapshot t)) (sym (top_inserted old p.held)) (p.signed, p.pinned);
+      },
+      refl,
+    );
+    rises = refl;
+  })
 
-  targets_taken : (old new : InForce) (bytes : List ℕ) (result : Result ⊤ Error) → TakesTargets crypto now old new bytes result → Kept old new
-  targets_taken old new bytes (Ok x) t k = targets_put old new bytes t.adopted.0 t.adopted.1 t.adopted.2 k
-  targets_taken old new bytes (Err e) t k = unchanged old new t.refused.0 k
+  pub update_stays : (k : Kind) (now : Option jiff.Timestamp) (old new : InForce) (bytes : List ℕ) → update_of crypto k old bytes now ≡ Ok new → Stays old new
+  update_stays k now old new bytes h = puts_stay k now old new bytes (update_puts crypto old bytes k now new h)
 
-  unpinned : (old new : InForce) (repo repo' : Watched Folders) (result : Result ⊤ Error) → IsUnpinned now old new repo repo' result → new ≡ old
-  unpinned old new repo repo' (Ok x) u = absurd u
-  unpinned old new repo repo' (Err e) u = u.0
+  pub judged_stays : (k : Kind) (now : Option jiff.Timestamp) (old new : InForce) (bytes : List ℕ) → judged_of crypto k old bytes now ≡ Ok (Some new) → Stays old new
+  judged_stays k now old new bytes h = puts_stay k now old new bytes (judged_puts crypto old bytes k now new h)
 
-  pinned_kept : (old new : InForce) (repo repo' : Watched Folders) (result : Result ⊤ Error) → RefreshesPinned crypto config now old new repo repo' result → Kept old new
-  pinned_kept old new repo repo' result (inl same) k = unchanged old new same.1 k
-  pinned_kept old new repo repo' result (inr (fetched, inl u)) k = unchanged old new (unpinned old new repo repo' result u) k
-  pinned_kept old new repo repo' result (inr (fetched, inr fetches)) k = by_answer fetches.1.answer
-    where
-      by_answer : IsUnfetched (codes "targets.json") config.targets_max_length old new repo repo' result ⊎ TookTargets crypto config now old new repo result → AreAuthorised crypto given new
-      by_answer (inl u) = unchanged old new (unfetched (codes "targets.json") config.targets_max_length old new repo repo' result u) k
-      by_answer (inr t) = targets_taken old new t.bytes result t.takes k
+  same : (old new : InForce) → new ≡ old → Stays old new
+  same old new e = subst (Stays old) (sym e) (stays_same old)
 
-  targets_kept : (old new : InForce) (repo repo' : Watched Folders) (result : Result ⊤ Error) → RefreshesTargets crypto config now old new repo repo' result → Kept old new
-  targets_kept old new repo repo' (Ok x) (inl u) k = absurd u
-  targets_kept old new repo repo' (Err e) (inl u) k = pinned_kept old new repo repo' (Err e) u k
-  targets_kept old new repo repo' result (inr r) k = pinned_kept old new repo repo' (Ok tt) r.pinned k
+  abbrev P : State → State → Result ⊤ Error → Type 0
+  P old new result = Stays old.documents new.documents
 
-  -- whatever is answered, the documents in force are authorised as before
-  pub refresh_authorised : (old new : InForce) (repo repo' : Watched Folders) (result : Result ⊤ Error) → Refreshes crypto config now old new repo repo' result → Kept old new
-  refresh_authorised old new repo repo' result (walk_refuses e w n r) k = unchanged old new n k
-  refresh_authorised old new repo repo' result (root_refuses e w c n r) k = unchanged old new n k
-  refresh_authorised old new repo repo' result (timestamp_refuses r1 e w c t r) k = timestamp_kept old new r1 repo' (Err e) t k
-  refresh_authorised old new repo repo' result (snapshot_refuses r1 r2 s1 e w c t s r) k = snapshot_kept s1 new r2 repo' (Err e) s (timestamp_kept old s1 r1 r2 (Ok tt) t k)
-  refresh_authorised old new repo repo' result (targets_refuses r1 r2 r3 s1 s2 e w c t s g r) k =
-      targets_kept s2 new r3 repo' (Err e) g (snapshot_kept s1 s2 r2 r3 (Ok tt) s (timestamp_kept old s1 r1 r2 (Ok tt) t k))
-  refresh_authorised old new repo repo' result (all_serve r1 r2 r3 s1 s2 w c t s g r) k =
-      targets_kept s2 new r3 repo' (Ok tt) g (snapshot_kept s1 s2 r2 r3 (Ok tt) s (timestamp_kept old s1 r1 r2 (Ok tt) t k))
+  joins : (a b c : State) (result : Result ⊤ Error) → P a b (Ok tt) → P b c result → P a c result
+  joins a b c result p q = stays_joins a.documents b.documents c.documents p q
+
+  seeds : (k : Kind) (now : Option jiff.Timestamp) (old new : State) (answer : Result Bool Error) → IsAsked k old → Seeds crypto k now old new answer → P old new (said answer)
+  seeds k now old new answer asked (unloaded e l u r) = same _ _ u.documents
+  seeds k now old new answer asked (unkept l u r) = same _ _ u.documents
+  seeds k now old new answer asked (unseeded bytes e l j u r) = same _ _ u.documents
+  seeds k now old new answer asked (equal bytes l j u r) = same _ _ u.documents
+  seeds k now old new answer asked (seeded bytes l j s r) = judged_stays k now _ _ bytes j
+
+  saves : (old new : State) (result : Result ⊤ Error) → SavesRoot old new result → P old new result
+  saves old new result s = same _ _ s.documents
+
+  stays : (a : State) → P a a (Ok tt)
+  stays a = stays_same a.documents
+
+  pub attach_stays : (old new : State) (result : Result ⊤ Error) → Attaches crypto old new result → Stays old.documents new.documents
+  attach_stays old new result a = attach_lift P joins stays crypto (λ k old new answer asked s. seeds k None old new answer asked s) saves old new result a
+
+module _ (session : Session) where
+  adopts : (k : Kind) (old new : State) (answer : Result Bool Error) → IsAsked k old → Adopts session k old new answer → Stays session.crypto old.documents new.documents
+  adopts k old new answer asked (unfetched e f u r) = same session.crypto _ _ u.documents
+  adopts k old new answer asked (absent f u r) = same session.crypto _ _ u.documents
+  adopts k old new answer asked (refused bytes e f j u r) = same session.crypto _ _ u.documents
+  adopts k old new answer asked (kept bytes f j u r) = same session.crypto _ _ u.documents
+  adopts k old new answer asked (adopted bytes written f j w r) = judged_stays session.crypto k (Some session.now) _ _ bytes j
+
+  pub does_stays : (step : Step) (old new : State) (result : Result ⊤ Error) → AsksNoRoot step → Does session step old new result → Stays session.crypto old.documents new.documents
+  does_stays step old new result asks d =
+      does_lift (P session.crypto) (joins session.crypto) (stays session.crypto) session adopts (seeds session.crypto) (λ a e. stays_same session.crypto a.documents) step old new result asks d
+
+  pub refresh_stays : (old new : State) (result : Result ⊤ Error) → RunsSteps session refresh_steps old new result → Stays session.crypto old.documents new.documents
+  refresh_stays old new result r =
+      runs_lift (P session.crypto) (joins session.crypto) (stays session.crypto) session adopts (seeds session.crypto) (λ a e. stays_same session.crypto a.documents) refresh_steps old new result
+      (tt, (tt, (tt, (tt, (tt, (tt, (tt, (tt, (tt, (tt, (tt, tt))))))))))) r.runs
+
+-- as it is promised
+pub is_stay : {crypto : Crypto} {old new : InForce} → Stays crypto old new → AreAuthorised crypto (given_in old) old → StaysAuthorised crypto old new
+is_stay s k = let a = s.authorised k in record { given = a.1; authorised = λ k. a.0; rises = s.rises }
+
+-- an update of a set
+pub updates_set : (crypto : Crypto) (k : Kind) (now : Option jiff.Timestamp) (bytes : List ℕ) (old new : InForce) (result : Result ⊤ Error)
+    → Updates (update_of crypto k old bytes now) old new result → AreAuthorised crypto (given_in old) old → UpdatesSet (update_of crypto k old bytes now) crypto old new result
+updates_set crypto k now bytes old new (Ok x) u auth =
+    let s = update_stays crypto k now old new bytes u in
+    let at = s.authorised auth in
+    record { updates = u; given = at.1; authorised = subst (λ g. AreAuthorised crypto g new) (sym at.1) at.0 }
+updates_set crypto k now bytes old new (Err e) u auth =
+    record { updates = u; given = ap given_in u.0; authorised = subst (λ s. AreAuthorised crypto (given_in s) s) (sym u.0) auth }

@@ -1,8 +1,14 @@
 pub mod Files
 pub mod Components
-pub mod StepFacts
+pub mod Updates
+pub mod Lift
+pub mod Steps
 pub mod Authorised
+pub mod Holding
 pub mod Serving
-pub mod CauseNumbers
+pub mod Searching
+pub mod Refusals
+pub mod StoreNames
+pub mod Carrying
 pub mod Causes
-mod Examples
+pub mod TargetCauses

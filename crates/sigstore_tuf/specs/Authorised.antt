@@ -1,6 +1,6 @@
--- What holds of the documents in force whatever a repository answers, and what holds besides of those that serve a search
--- (TUF specification, section 5).
-use Rattle.std.specs.Prelude.{◌≡◌, ℕ, List, Option, Some, Result, Ok, IfOk, IfSome, codes}
+-- What holds of the documents in force whatever a repository or a store answers, and what holds besides of those that serve a
+-- search (TUF specification, section 5).
+use Rattle.std.specs.Prelude.{◌≡◌, ℕ, ◌+◌, List, [], ◌∷◌, length, Option, Some, Result, Ok, IfSome, codes, ⊤}
 use Rattle.jiff_core.specs.declared.timestamp.Timestamp as jiff
 use Rattle.sigstore_tuf_parts.specs.declared.error.Error.{Error}
 use Rattle.sigstore_tuf_parts.specs.declared.root.Root.{Root}
@@ -9,16 +9,19 @@ use Rattle.sigstore_tuf_parts.specs.declared.timestamp.Timestamp.{Timestamp}
 use Rattle.sigstore_tuf_parts.specs.declared.snapshot.Snapshot.{Snapshot}
 use Rattle.sigstore_tuf_parts.specs.declared.targets.Targets.{Targets}
 use Rattle.sigstore_tuf_parts.specs.Document.{Document, content_in}
+use Rattle.sigstore_types_parts.specs.declared.armor.Armor as armor
+use Rattle.sigstore_crypto.specs.declared.provider.CryptoProvider as provider
 use Rattle.sigstore_tuf_parts.specs.Crypto.{Crypto}
+use Rattle.sigstore_tuf_parts.specs.By.{crypto_by}
 use Rattle.sigstore_tuf_parts.specs.RootRoles.{MeetsRole}
 use Rattle.sigstore_tuf_parts.specs.Pinned.{Pinned, Fresh}
 use Rattle.sigstore_tuf.specs.declared.documents.Held.{Held}
 use Rattle.sigstore_tuf.specs.declared.documents.InForce.{InForce}
 use Rattle.sigstore_tuf.specs.Documents.{timestamp_document, snapshot_document, targets_document, content_of, snapshot_pin, targets_pin}
-use Rattle.sigstore_tuf.specs.Client.{top_targets}
-use Rattle.sigstore_tuf.specs.declared.config.UpdaterConfig.{UpdaterConfig}
-use Rattle.sigstore_tuf.specs.declared.chain.TrustChain.{TrustChain}
-use Rattle.sigstore_tuf.specs.Trusted.{AreRoots, Trusted}
+use Rattle.sigstore_tuf.specs.Update.{Updates}
+use Rattle.sigstore_tuf.specs.Adopt.{top_targets}
+use Rattle.sigstore_tuf.specs.Client.{version_in}
+use Rattle.sigstore_tuf.specs.Trusted.{AreRoots}
 
 -- the bytes read as the document that is held, and that meets the root's role of this name
 pub record IsSigned {T : Type 0} (reads : List ℕ → Result (Document T) Error) (crypto : Crypto) (root : Root)
@@ -43,6 +46,31 @@ pub record AreAuthorised (crypto : Crypto) (given : List ℕ) (set : InForce) : 
   pub targets : IfSome (top_targets set)
       (λ held. IsSigned targets_document crypto (content_in set.root) (codes "targets") held × IsPinnedBy set.snapshot held)
 
+-- the given root, which is the first
+abbrev pub first_in : List (List ℕ) → List ℕ
+first_in [] = []
+first_in (root ∷ roots) = root
+
+abbrev pub given_in : InForce → List ℕ
+given_in set = first_in set.roots
+
+-- the documents are authorised from the first root
+abbrev pub IsAuthorised : Crypto → InForce → Type 0
+IsAuthorised crypto set = AreAuthorised crypto (given_in set) set
+
+-- What contracts see of a trusted set: who decides signatures, and the documents in force, which are authorised in every state.
+pub record TrustedSet (C M : Type 0) : Type 0 where
+  pub provider : C
+  pub armor : M
+  pub documents : InForce
+
+abbrev pub crypto_in : {C M : Type 0} → provider.Ghosts C → armor.Ghosts M → TrustedSet C M → Crypto
+crypto_in p a set = crypto_by p a set.provider set.armor
+
+-- another set under the same judges
+abbrev pub SameJudges : {C M : Type 0} → TrustedSet C M → TrustedSet C M → Type 0
+SameJudges old new = (new.provider ≡ old.provider) × (new.armor ≡ old.armor)
+
 -- All four are there and fresh at this moment, and the snapshot has the version by which the timestamp pins it.
 pub record Serve (now : jiff.Timestamp) (set : InForce) : Type 0 where
   pub root_fresh : Fresh (content_in set.root).expires now
@@ -61,17 +89,16 @@ pub record Serve (now : jiff.Timestamp) (set : InForce) : Type 0 where
 
 -- ---- what the calls promise
 
--- documents that were authorised from a given root stay so
-abbrev pub StaysAuthorised : Crypto → InForce → InForce → Type 0
-StaysAuthorised crypto old new = (given : List ℕ) → AreAuthorised crypto given old → AreAuthorised crypto given new
+-- what holds of a change of the documents in force, whatever was fetched and kept: they stay authorised from the same root, and
+-- the root's number rises by one with each root that is adopted
+pub record StaysAuthorised (crypto : Crypto) (old new : InForce) : Type 0 where
+  pub given : given_in new ≡ given_in old
+  pub authorised : AreAuthorised crypto (given_in old) old → AreAuthorised crypto (given_in old) new
+  pub rises : version_in new + length old.roots ≡ version_in old + length new.roots
 
--- a chain that is given over documents which are authorised from a given root is trusted from that root
-abbrev pub TrustsFrom : InForce → UpdaterConfig → List ℕ → jiff.Timestamp → Result TrustChain Error → Type 0
-TrustsFrom set config path now result =
-    (crypto : Crypto) (given : List ℕ) → AreAuthorised crypto given set → IfOk result (Trusted crypto given now config.max_delegations path)
-
--- so is the chain that is kept
-abbrev pub KeepsTrusted : InForce → UpdaterConfig → List ℕ → jiff.Timestamp → Option TrustChain → Type 0
-KeepsTrusted set config path now kept =
-    (chain : TrustChain) × (kept ≡ Some chain)
-    × ((crypto : Crypto) (given : List ℕ) → AreAuthorised crypto given set → Trusted crypto given now config.max_delegations path chain)
+-- the answer of an update is the definition's, want of memory aside; a refused one changes nothing, and the documents stay
+-- authorised
+pub record UpdatesSet (judged : Result InForce Error) (crypto : Crypto) (old new : InForce) (result : Result ⊤ Error) : Type 0 where
+  pub updates : Updates judged old new result
+  pub given : given_in new ≡ given_in old
+  pub authorised : IsAuthorised crypto new

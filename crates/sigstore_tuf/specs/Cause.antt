@@ -1,9 +1,8 @@
--- What each refusal tells of a client that begins with a root, refreshes and asks for one target: of the root that it was given
--- and of what the repository answered (TUF specification, section 5).
-use Rattle.std.specs.Prelude.{◌≡◌, ◌≢◌, ℕ, ◌+◌, ◌-◌, ◌^◌, ◌<◌, List, true, false, Some, None, Result, Ok, codes, ⊤}
-use Rattle.serde_json.specs.Data.{Data}
+-- What each refusal of the client tells: of the documents that were had, and of those in force at the call's end
+-- (TUF specification, section 5).
+use Rattle.std.specs.Prelude.{◌≡◌, ◌≢◌, ℕ, ◌+◌, ◌-◌, ◌^◌, ◌<◌, ◌≤◌, List, length, true, false, Some, None, Ok, Contains, codes, ⊤}
 use Rattle.jiff_core.specs.declared.timestamp.Timestamp as jiff
-use Rattle.foundation.specs.Watched.{Watched}
+use Rattle.foundation.specs.Watched.{Watched, Rose, IfTold}
 use Rattle.sigstore_types_parts.specs.Entries.{at_name}
 use Rattle.sigstore_types_parts.specs.declared.form.Form.TheVariants as form
 use Rattle.sigstore_tuf_parts.specs.declared.error.Error.{Error}
@@ -12,198 +11,269 @@ use Rattle.sigstore_tuf_parts.specs.declared.error.Mismatch.TheVariants as misma
 use Rattle.sigstore_tuf_parts.specs.declared.error.Rule.TheVariants as rule
 use Rattle.sigstore_tuf_parts.specs.declared.error.TransportFault.{TransportFault}
 use Rattle.sigstore_tuf_parts.specs.declared.error.TransportFault.TheVariants as transport
-use Rattle.sigstore_tuf_parts.specs.declared.root.Root.{Root}
-use Rattle.sigstore_tuf_parts.specs.declared.snapshot.Snapshot.{Snapshot}
+use Rattle.sigstore_tuf_parts.specs.declared.root.Root as declared_root
+use Rattle.sigstore_tuf_parts.specs.declared.snapshot.Snapshot as declared_snapshot
 use Rattle.sigstore_tuf_parts.specs.declared.targets.TargetFile.{TargetFile}
-use Rattle.sigstore_tuf_parts.specs.declared.targets.Targets.{Targets}
+use Rattle.sigstore_tuf_parts.specs.declared.targets.Targets as declared_targets
 use Rattle.sigstore_tuf_parts.specs.declared.timestamp.MetaFile.{MetaFile}
-use Rattle.sigstore_tuf_parts.specs.declared.timestamp.Timestamp.{Timestamp}
+use Rattle.sigstore_tuf_parts.specs.declared.timestamp.Timestamp as declared_timestamp
 use Rattle.sigstore_tuf_parts.specs.Cause.{ReadCause, RoleCause, IntegrityCause, ExpiryCause}
 use Rattle.sigstore_tuf_parts.specs.Crypto.{Crypto}
 use Rattle.sigstore_tuf_parts.specs.Document.{Document, content_in}
-use Rattle.sigstore_tuf_parts.specs.Names.{root_name, timestamp_name, snapshot_name, targets_name}
+use Rattle.sigstore_tuf_parts.specs.Names.{root_name}
+use Rattle.sigstore_tuf_parts.specs.Pinned.{Fresh}
 use Rattle.sigstore_tuf_parts.specs.Root.{root_of}
 use Rattle.sigstore_tuf_parts.specs.RootRoles.{root_document}
 use Rattle.sigstore_tuf_parts.specs.Snapshot.{snapshot_of}
 use Rattle.sigstore_tuf_parts.specs.Targets.{targets_of}
 use Rattle.sigstore_tuf_parts.specs.Timestamp.{timestamp_of}
 use Rattle.sigstore_tuf.specs.declared.config.UpdaterConfig.{UpdaterConfig}
-use Rattle.sigstore_tuf.specs.Client.{Has, TransportCause, delegates_none}
-use Rattle.sigstore_tuf.specs.Documents.{timestamp_document, snapshot_document, targets_document, snapshot_pin, targets_pin}
-use Rattle.sigstore_tuf.specs.Repository.{Folders, metadata_files, target_files}
+use Rattle.sigstore_tuf.specs.declared.documents.Held.{Held}
+use Rattle.sigstore_tuf.specs.declared.documents.InForce.{InForce}
+use Rattle.sigstore_tuf.specs.declared.kind.Kind.{Kind}
+use Rattle.sigstore_tuf.specs.declared.kind.Kind.TheVariants.{Root, Timestamp, Snapshot, Targets}
+use Rattle.sigstore_tuf.specs.Documents.{timestamp_document, snapshot_document, targets_document, content_of, snapshot_pin, targets_pin}
+use Rattle.sigstore_tuf.specs.Repository.{Folders, Files, metadata_files, target_files}
+use Rattle.sigstore_tuf.specs.Names.{file_name, max_length, kept_name}
+use Rattle.sigstore_tuf.specs.State.{Session, State}
+use Rattle.sigstore_tuf.specs.Adopt.{top_targets, bytes_in}
+use Rattle.sigstore_tuf.specs.Client.{version_in, delegates_none}
 
 -- ---- the documents that were had
 
--- a document that was fetched and is read
-pub record IsFetched {T : Type 0} (reads : List ℕ → Result (Document T) Error) (repo : Watched Folders) (name : List ℕ)
-    (doc : Document T) : Type 0 where
-  pub bytes : List ℕ
-  pub there : Has metadata_files repo name bytes
-  pub read : reads bytes ≡ Ok doc
+-- the told files have these bytes under the name
+abbrev pub Has : (Folders → Files) → Watched Folders → List ℕ → List ℕ → Type 0
+Has part seen name bytes = IfTold seen.told (λ folders. part folders name ≡ Some bytes)
 
-abbrev pub IsGiven : List ℕ → Document Root → Type 0
-IsGiven given root = root_document given ≡ Ok root
+abbrev pub HasKept : Watched Files → List ℕ → List ℕ → Type 0
+HasKept seen name bytes = IfTold seen.told (λ files. files name ≡ Some bytes)
 
-abbrev pub IsTimestamp : Watched Folders → Document Timestamp → Type 0
-IsTimestamp repo doc = IsFetched timestamp_document repo timestamp_name doc
+-- they are those of the document in force; a root's number is that of its name
+abbrev pub IsInForce : InForce → Kind → List ℕ → Type 0
+IsInForce set (Root number) bytes = (bytes_in (Root number) set ≡ Some bytes) × (root_name number ≡ root_name (version_in set))
+IsInForce set Timestamp bytes = bytes_in Timestamp set ≡ Some bytes
+IsInForce set Snapshot bytes = bytes_in Snapshot set ≡ Some bytes
+IsInForce set Targets bytes = bytes_in Targets set ≡ Some bytes
 
-abbrev pub IsSnapshot : Watched Folders → Document Snapshot → Type 0
-IsSnapshot repo doc = IsFetched snapshot_document repo snapshot_name doc
+-- A document was had: a told repository has it under its name there, or a told store under its name there, or it was in force.
+pub data Had (state : State) (k : Kind) (bytes : List ℕ) : Type 0 where
+  in_repository : Has metadata_files state.repo (file_name k) bytes → Had state k bytes
+  in_store : HasKept state.store (kept_name k) bytes → Had state k bytes
+  in_force : IsInForce state.documents k bytes → Had state k bytes
 
-abbrev pub IsTargets : Watched Folders → Document Targets → Type 0
-IsTargets repo doc = IsFetched targets_document repo targets_name doc
+-- what is in force at the end was had at the beginning
+abbrev pub WasHad : State → State → Kind → Type 0
+WasHad old new k = (bytes : List ℕ) × IsInForce new.documents k bytes × Had old k bytes
 
--- the fetched targets document lists the path with this entry
-pub record IsListed (repo : Watched Folders) (path : List ℕ) (entry : TargetFile) : Type 0 where
-  pub doc : Document Targets
-  pub fetched : IsTargets repo doc
-  pub entry_is : at_name path (content_in doc).targets ≡ Some entry
+-- ---- the documents before a document
 
--- ---- what is wrong with them
+-- a timestamp is in force, isn't expired, and pins the snapshot
+pub record HasTimestamp (now : jiff.Timestamp) (set : InForce) : Type 0 where
+  pub held : Held declared_timestamp.Timestamp
+  pub there : set.timestamp ≡ Some held
+  pub fresh : Fresh (content_of held).expires now
+  pub pin : MetaFile
+  pub pin_is : snapshot_pin (content_of held) ≡ Some pin
 
--- bytes that were fetched aren't read as a document of the kind
-pub record IsUnread {T : Type 0} (kind : List ℕ) (reads : Data → Result T Error) (repo : Watched Folders)
-    (name : List ℕ) (e : Error) : Type 0 where
-  pub bytes : List ℕ
-  pub there : Has metadata_files repo name bytes
-  pub cause : ReadCause kind reads bytes e
+-- and the snapshot of its version is in force, and isn't expired
+pub record HasSnapshot (now : jiff.Timestamp) (set : InForce) : Type 0 where
+  pub timestamp : HasTimestamp now set
+  pub held : Held declared_snapshot.Snapshot
+  pub there : set.snapshot ≡ Some held
+  pub fresh : Fresh (content_of held).expires now
+  pub version_is : (content_of held).version ≡ timestamp.pin.version
 
--- the given root or a fetched document isn't read
-pub data ReadRefusal (given : List ℕ) (repo : Watched Folders) (e : Error) : Type 0 where
-  root_unread : ReadCause (codes "root") root_of given e → ReadRefusal given repo e
-  timestamp_unread : IsUnread (codes "timestamp") timestamp_of repo timestamp_name e → ReadRefusal given repo e
-  snapshot_unread : IsUnread (codes "snapshot") snapshot_of repo snapshot_name e → ReadRefusal given repo e
-  targets_unread : IsUnread (codes "targets") targets_of repo targets_name e → ReadRefusal given repo e
+-- The documents before one of this kind are in force, and aren't expired. A next root follows the root in force, expired or not.
+abbrev pub IsBefore : Kind → jiff.Timestamp → InForce → Type 0
+IsBefore (Root number) now set = (number ≡ version_in set + 1) × (version_in set ≢ 2 ^ 64 - 1)
+IsBefore Timestamp now set = Fresh (content_in set.root).expires now
+IsBefore Snapshot now set = Fresh (content_in set.root).expires now × HasTimestamp now set
+IsBefore Targets now set = Fresh (content_in set.root).expires now × HasSnapshot now set
 
--- one of them doesn't meet its role in the root
-pub data RoleRefusal (crypto : Crypto) (given : List ℕ) (repo : Watched Folders) (e : Error) : Type 0 where
-  root_unmet : (root : Document Root) → IsGiven given root → RoleCause crypto (content_in root) (codes "root") root e
-      → RoleRefusal crypto given repo e
-  timestamp_unmet : (root : Document Root) (doc : Document Timestamp) → IsGiven given root → IsTimestamp repo doc
-      → RoleCause crypto (content_in root) (codes "timestamp") doc e
-      → RoleRefusal crypto given repo e
-  snapshot_unmet : (root : Document Root) (doc : Document Snapshot) → IsGiven given root → IsSnapshot repo doc
-      → RoleCause crypto (content_in root) (codes "snapshot") doc e
-      → RoleRefusal crypto given repo e
-  targets_unmet : (root : Document Root) (doc : Document Targets) → IsGiven given root → IsTargets repo doc
-      → RoleCause crypto (content_in root) (codes "targets") doc e
-      → RoleRefusal crypto given repo e
+-- ---- what is wrong with a document, under those in force
 
--- one of them is expired
-pub data ExpiryRefusal (given : List ℕ) (now : jiff.Timestamp) (repo : Watched Folders) (e : Error) : Type 0 where
-  root_expired : (doc : Document Root) → IsGiven given doc → ExpiryCause (codes "root") (content_in doc).expires now e
-      → ExpiryRefusal given now repo e
-  timestamp_expired : (doc : Document Timestamp) → IsTimestamp repo doc
-      → ExpiryCause (codes "timestamp") (content_in doc).expires now e → ExpiryRefusal given now repo e
-  snapshot_expired : (doc : Document Snapshot) → IsSnapshot repo doc
-      → ExpiryCause (codes "snapshot") (content_in doc).expires now e → ExpiryRefusal given now repo e
-  targets_expired : (doc : Document Targets) → IsTargets repo doc
-      → ExpiryCause (codes "targets") (content_in doc).expires now e → ExpiryRefusal given now repo e
+-- bytes that aren't a next root
+pub data RootRefusal (crypto : Crypto) (set : InForce) (bytes : List ℕ) (e : Error) : Type 0 where
+  root_unread : ReadCause (codes "root") root_of bytes e → RootRefusal crypto set bytes e
+  root_misnumbered : (doc : Document declared_root.Root) → root_document bytes ≡ Ok doc
+      → e ≡ tuf.BadRootVersion (version_in set) (content_in doc).version → (content_in doc).version ≢ version_in set + 1
+      → RootRefusal crypto set bytes e
+  root_not_handed_on : (doc : Document declared_root.Root) → root_document bytes ≡ Ok doc
+      → RoleCause crypto (content_in set.root) (codes "root") doc e → RootRefusal crypto set bytes e
+  root_unmet : (doc : Document declared_root.Root) → root_document bytes ≡ Ok doc
+      → RoleCause crypto (content_in doc) (codes "root") doc e → RootRefusal crypto set bytes e
 
--- ---- what is wrong between them
+-- the refusal tells both numbers, of which the new one is lower
+abbrev pub IsLower : List ℕ → ℕ → ℕ → Error → Type 0
+IsLower role trusted new e = (e ≡ tuf.Rollback role trusted new) × (new < trusted)
 
--- the pin of the snapshot, and that of the targets document
-pub record PinsSnapshot (repo : Watched Folders) (pin : MetaFile) : Type 0 where
-  pub doc : Document Timestamp
-  pub fetched : IsTimestamp repo doc
-  pub pin_is : snapshot_pin (content_in doc) ≡ Some pin
+-- bytes that aren't a newer timestamp
+pub data TimestampRefusal (crypto : Crypto) (set : InForce) (now : jiff.Timestamp) (bytes : List ℕ) (e : Error) : Type 0 where
+  timestamp_unread : ReadCause (codes "timestamp") timestamp_of bytes e → TimestampRefusal crypto set now bytes e
+  timestamp_unmet : (doc : Document declared_timestamp.Timestamp) → timestamp_document bytes ≡ Ok doc
+      → RoleCause crypto (content_in set.root) (codes "timestamp") doc e → TimestampRefusal crypto set now bytes e
+  timestamp_lower : (doc : Document declared_timestamp.Timestamp) (held : Held declared_timestamp.Timestamp)
+      → timestamp_document bytes ≡ Ok doc → set.timestamp ≡ Some held
+      → IsLower (codes "timestamp") (content_of held).version (content_in doc).version e → TimestampRefusal crypto set now bytes e
+  snapshot_pin_lower : (doc : Document declared_timestamp.Timestamp) (held : Held declared_timestamp.Timestamp) (old new : MetaFile)
+      → timestamp_document bytes ≡ Ok doc → set.timestamp ≡ Some held
+      → snapshot_pin (content_of held) ≡ Some old → snapshot_pin (content_in doc) ≡ Some new
+      → IsLower (codes "snapshot") old.version new.version e → TimestampRefusal crypto set now bytes e
+  timestamp_expired : (doc : Document declared_timestamp.Timestamp) → timestamp_document bytes ≡ Ok doc
+      → ExpiryCause (codes "timestamp") (content_in doc).expires now e → TimestampRefusal crypto set now bytes e
 
-pub record PinsTargets (repo : Watched Folders) (pin : MetaFile) : Type 0 where
-  pub doc : Document Snapshot
-  pub fetched : IsSnapshot repo doc
-  pub pin_is : targets_pin (content_in doc) ≡ Some pin
+-- the timestamp in force pins the snapshot so, and the snapshot the targets document
+abbrev pub PinsSnapshot : InForce → MetaFile → Type 0
+PinsSnapshot set pin =
+    (held : Held declared_timestamp.Timestamp) × (set.timestamp ≡ Some held) × (snapshot_pin (content_of held) ≡ Some pin)
+
+abbrev pub PinsTargets : InForce → MetaFile → Type 0
+PinsTargets set pin = (held : Held declared_snapshot.Snapshot) × (set.snapshot ≡ Some held) × (targets_pin (content_of held) ≡ Some pin)
 
 -- the refusal tells of the version, which isn't the pin's
 abbrev pub IsOfAnotherVersion : MetaFile → ℕ → Error → Type 0
 IsOfAnotherVersion pin version e = (e ≡ tuf.IntegrityMismatch mismatch.Version) × (version ≢ pin.version)
 
--- a fetched file isn't the pinned one
-pub data PinRefusal (config : UpdaterConfig) (path : List ℕ) (repo : Watched Folders) (e : Error) : Type 0 where
-  snapshot_differs : (pin : MetaFile) (bytes : List ℕ) → PinsSnapshot repo pin
-      → Has metadata_files repo snapshot_name bytes → IntegrityCause pin.length pin.hashes bytes e
-      → PinRefusal config path repo e
-  snapshot_version : (pin : MetaFile) (doc : Document Snapshot) → PinsSnapshot repo pin → IsSnapshot repo doc
-      → IsOfAnotherVersion pin (content_in doc).version e → PinRefusal config path repo e
-  targets_differ : (pin : MetaFile) (bytes : List ℕ) → PinsTargets repo pin
-      → Has metadata_files repo targets_name bytes → IntegrityCause pin.length pin.hashes bytes e
-      → PinRefusal config path repo e
-  targets_version : (pin : MetaFile) (doc : Document Targets) → PinsTargets repo pin → IsTargets repo doc
-      → IsOfAnotherVersion pin (content_in doc).version e → PinRefusal config path repo e
-  listed_too_long : (entry : TargetFile) → IsListed repo path entry → e ≡ tuf.IntegrityMismatch mismatch.TooLong
-      → config.target_max_length < entry.length → PinRefusal config path repo e
-  file_differs : (entry : TargetFile) (bytes : List ℕ) → IsListed repo path entry → Has target_files repo path bytes
-      → IntegrityCause (Some entry.length) (Some entry.hashes) bytes e
-      → PinRefusal config path repo e
+-- bytes that aren't the pinned snapshot, or a lower one
+pub data SnapshotRefusal (crypto : Crypto) (set : InForce) (now : jiff.Timestamp) (bytes : List ℕ) (e : Error) : Type 0 where
+  snapshot_differs : (pin : MetaFile) → PinsSnapshot set pin → IntegrityCause pin.length pin.hashes bytes e
+      → SnapshotRefusal crypto set now bytes e
+  snapshot_unread : ReadCause (codes "snapshot") snapshot_of bytes e → SnapshotRefusal crypto set now bytes e
+  snapshot_unmet : (doc : Document declared_snapshot.Snapshot) → snapshot_document bytes ≡ Ok doc
+      → RoleCause crypto (content_in set.root) (codes "snapshot") doc e → SnapshotRefusal crypto set now bytes e
+  snapshot_version : (pin : MetaFile) (doc : Document declared_snapshot.Snapshot) → PinsSnapshot set pin
+      → snapshot_document bytes ≡ Ok doc → IsOfAnotherVersion pin (content_in doc).version e → SnapshotRefusal crypto set now bytes e
+  pin_vanished : (doc : Document declared_snapshot.Snapshot) (held : Held declared_snapshot.Snapshot) (name : List ℕ) (pin : MetaFile)
+      → snapshot_document bytes ≡ Ok doc → set.snapshot ≡ Some held → Contains (content_of held).meta (name, pin)
+      → at_name name (content_in doc).meta ≡ None → e ≡ tuf.IntegrityMismatch mismatch.Vanished → SnapshotRefusal crypto set now bytes e
+  pin_lower : (doc : Document declared_snapshot.Snapshot) (held : Held declared_snapshot.Snapshot) (name : List ℕ) (old new : MetaFile)
+      → snapshot_document bytes ≡ Ok doc → set.snapshot ≡ Some held → Contains (content_of held).meta (name, old)
+      → at_name name (content_in doc).meta ≡ Some new → IsLower name old.version new.version e → SnapshotRefusal crypto set now bytes e
+  snapshot_expired : (doc : Document declared_snapshot.Snapshot) → snapshot_document bytes ≡ Ok doc
+      → ExpiryCause (codes "snapshot") (content_in doc).expires now e → SnapshotRefusal crypto set now bytes e
 
--- the timestamp pins no snapshot, or the snapshot no targets document
-pub data PinsNone (repo : Watched Folders) : Type 0 where
-  snapshot_unpinned : (doc : Document Timestamp) → IsTimestamp repo doc → snapshot_pin (content_in doc) ≡ None → PinsNone repo
-  targets_unpinned : (doc : Document Snapshot) → IsSnapshot repo doc → targets_pin (content_in doc) ≡ None → PinsNone repo
+-- bytes that aren't the pinned targets document
+pub data TargetsRefusal (crypto : Crypto) (set : InForce) (now : jiff.Timestamp) (bytes : List ℕ) (e : Error) : Type 0 where
+  targets_differ : (pin : MetaFile) → PinsTargets set pin → IntegrityCause pin.length pin.hashes bytes e
+      → TargetsRefusal crypto set now bytes e
+  targets_unread : ReadCause (codes "targets") targets_of bytes e → TargetsRefusal crypto set now bytes e
+  targets_version : (pin : MetaFile) (doc : Document declared_targets.Targets) → PinsTargets set pin
+      → targets_document bytes ≡ Ok doc → IsOfAnotherVersion pin (content_in doc).version e → TargetsRefusal crypto set now bytes e
+  targets_unmet : (doc : Document declared_targets.Targets) → targets_document bytes ≡ Ok doc
+      → RoleCause crypto (content_in set.root) (codes "targets") doc e → TargetsRefusal crypto set now bytes e
+  targets_expired : (doc : Document declared_targets.Targets) → targets_document bytes ≡ Ok doc
+      → ExpiryCause (codes "targets") (content_in doc).expires now e → TargetsRefusal crypto set now bytes e
 
--- no document may be visited, or the targets document doesn't list the path and delegates to no role
-pub data IsUnlisted (config : UpdaterConfig) (path : List ℕ) (repo : Watched Folders) : Type 0 where
-  none_visited : config.max_delegations ≡ 0 → IsUnlisted config path repo
-  not_listed : (doc : Document Targets) → IsTargets repo doc → at_name path (content_in doc).targets ≡ None
-      → delegates_none (content_in doc).delegations ≡ true → IsUnlisted config path repo
+abbrev pub Refusal : Crypto → jiff.Timestamp → InForce → Kind → List ℕ → Error → Type 0
+Refusal crypto now set (Root number) bytes e = RootRefusal crypto set bytes e
+Refusal crypto now set Timestamp bytes e = TimestampRefusal crypto set now bytes e
+Refusal crypto now set Snapshot bytes e = SnapshotRefusal crypto set now bytes e
+Refusal crypto now set Targets bytes e = TargetsRefusal crypto set now bytes e
 
 -- ---- what the repository didn't give
 
--- the given root has a next version
-abbrev pub HasNextVersion : Document Root → Type 0
-HasNextVersion root = (content_in root).version < 2 ^ 64 - 1
+-- why a file wasn't had
+abbrev pub TransportCause : (Folders → Files) → List ℕ → ℕ → Watched Folders → Watched Folders → TransportFault → Type 0
+TransportCause part name max old new transport.Failed = Rose old.faults new.faults
+TransportCause part name max old new transport.Absent = IfTold old.told (λ folders. part folders name ≡ None)
+TransportCause part name max old new (transport.TooLong limit seen) =
+    (limit ≡ max) × (max < seen) × IfTold old.told (λ folders. (bytes : List ℕ) × (part folders name ≡ Some bytes) × (seen ≡ length bytes))
+TransportCause part name max old new (transport.Rotations limit) = ⊥
 
--- The file that is fetched next isn't had: the next root, which may be absent, while fewer are taken than the limit; then the
--- timestamp; then the snapshot that it pins; then the targets document that this one pins; then the file that it lists.
-pub data TransportRefusal (given : List ℕ) (config : UpdaterConfig) (path : List ℕ) (old new : Watched Folders)
-    (fault : TransportFault) : Type 0 where
-  no_rotations : (root : Document Root) → IsGiven given root → HasNextVersion root → config.max_root_rotations ≡ 0
-      → fault ≡ transport.Rotations 0 → TransportRefusal given config path old new fault
-  root_unfetched : (root : Document Root) → IsGiven given root → HasNextVersion root → fault ≢ transport.Absent
-      → TransportCause metadata_files (root_name ((content_in root).version + 1)) config.root_max_length old new fault
-      → TransportRefusal given config path old new fault
-  timestamp_unfetched : TransportCause metadata_files timestamp_name config.timestamp_max_length old new fault
-      → TransportRefusal given config path old new fault
-  snapshot_unfetched : (pin : MetaFile) → PinsSnapshot old pin
-      → TransportCause metadata_files snapshot_name config.snapshot_max_length old new fault
-      → TransportRefusal given config path old new fault
-  targets_unfetched : (pin : MetaFile) → PinsTargets old pin
-      → TransportCause metadata_files targets_name config.targets_max_length old new fault
-      → TransportRefusal given config path old new fault
-  file_unfetched : (entry : TargetFile) → IsListed old path entry
-      → TransportCause target_files path entry.length old new fault → TransportRefusal given config path old new fault
+-- a next root may be absent
+abbrev pub MayNotLack : Kind → TransportFault → Type 0
+MayNotLack (Root number) fault = fault ≢ transport.Absent
+MayNotLack Timestamp fault = ⊤
+MayNotLack Snapshot fault = ⊤
+MayNotLack Targets fault = ⊤
 
--- ---- forms that aren't built
+-- ---- why a refresh refuses
 
-pub data FormRefusal (given : List ℕ) (repo : Watched Folders) (e : Error) : Type 0 where
-  next_root : (root : Document Root) (bytes : List ℕ) → IsGiven given root → HasNextVersion root
-      → Has metadata_files repo (root_name ((content_in root).version + 1)) bytes
-      → e ≡ tuf.Unbuilt form.Rotation → FormRefusal given repo e
-  consistent : (root : Document Root) → IsGiven given root → (content_in root).consistent_snapshot ≡ true
-      → e ≡ tuf.Unbuilt form.Consistent → FormRefusal given repo e
-  delegations : (doc : Document Targets) → IsTargets repo doc → delegates_none (content_in doc).delegations ≡ false
-      → e ≡ tuf.Unbuilt form.Delegations → FormRefusal given repo e
+-- A document that was had, or that the repository didn't give, is refused by those in force at the end; so many next roots were
+-- adopted as the limit allows, and there is another number; or a document in force at the end, which was had, doesn't serve. What
+-- comes before a document is in force, and fresh.
+pub data RefreshCause (session : Session) (old new : State) (e : Error) : Type 0 where
+  refused : (k : Kind) (bytes : List ℕ) → Had old k bytes → IsBefore k session.now new.documents
+      → Refusal session.crypto session.now new.documents k bytes e → RefreshCause session old new e
+  unfetched : (k : Kind) (fault : TransportFault) → IsBefore k session.now new.documents
+      → TransportCause metadata_files (file_name k) (max_length session.config k) old.repo new.repo fault
+      → MayNotLack k fault → e ≡ tuf.Transport fault → RefreshCause session old new e
+  rotated : e ≡ tuf.Transport (transport.Rotations session.config.max_root_rotations)
+      → version_in old.documents + session.config.max_root_rotations ≤ version_in new.documents
+      → version_in new.documents ≢ 2 ^ 64 - 1 → RefreshCause session old new e
+  root_expired : WasHad old new (Root (version_in new.documents))
+      → ExpiryCause (codes "root") (content_in new.documents.root).expires session.now e → RefreshCause session old new e
+  consistent : WasHad old new (Root (version_in new.documents)) → (content_in new.documents.root).consistent_snapshot ≡ true
+      → e ≡ tuf.Unbuilt form.Consistent → RefreshCause session old new e
+  snapshot_unpinned : (held : Held declared_timestamp.Timestamp) → WasHad old new Timestamp → IsBefore Timestamp session.now new.documents
+      → new.documents.timestamp ≡ Some held → snapshot_pin (content_of held) ≡ None → e ≡ tuf.Malformed rule.Unpinned
+      → RefreshCause session old new e
+  kept_expired : (held : Held declared_timestamp.Timestamp) → WasHad old new Timestamp → IsBefore Timestamp session.now new.documents
+      → new.documents.timestamp ≡ Some held → ExpiryCause (codes "timestamp") (content_of held).expires session.now e
+      → RefreshCause session old new e
+  targets_unpinned : (held : Held declared_snapshot.Snapshot) → WasHad old new Snapshot → IsBefore Snapshot session.now new.documents
+      → new.documents.snapshot ≡ Some held → targets_pin (content_of held) ≡ None → e ≡ tuf.Malformed rule.Unpinned
+      → RefreshCause session old new e
+  delegating : (held : Held declared_targets.Targets) → WasHad old new Targets → IsBefore Targets session.now new.documents
+      → top_targets new.documents ≡ Some held → delegates_none (content_of held).delegations ≡ false
+      → e ≡ tuf.Unbuilt form.Delegations → RefreshCause session old new e
+  wanting : e ≡ tuf.NoMemory → RefreshCause session old new e
 
--- ---- each refusal, by its number and name
+-- ---- why a search refuses
 
-abbrev pub ClientCause : Crypto → List ℕ → UpdaterConfig → List ℕ → jiff.Timestamp → Watched Folders → Watched Folders → Error → Type 0
-ClientCause crypto given config path now old new tuf.Json = ReadRefusal given old tuf.Json
-ClientCause crypto given config path now old new (tuf.Malformed rule.Frame) = ReadRefusal given old (tuf.Malformed rule.Frame)
-ClientCause crypto given config path now old new (tuf.Malformed rule.Kind) = ReadRefusal given old (tuf.Malformed rule.Kind)
-ClientCause crypto given config path now old new (tuf.Malformed rule.SpecVersion) = ReadRefusal given old (tuf.Malformed rule.SpecVersion)
-ClientCause crypto given config path now old new (tuf.Malformed rule.Threshold) =
-    RoleRefusal crypto given old (tuf.Malformed rule.Threshold)
-ClientCause crypto given config path now old new (tuf.Malformed rule.Unpinned) = PinsNone old
-ClientCause crypto given config path now old new tuf.NonIntegerNumber = ReadRefusal given old tuf.NonIntegerNumber
-ClientCause crypto given config path now old new (tuf.UnknownRole name) = RoleRefusal crypto given old (tuf.UnknownRole name)
-ClientCause crypto given config path now old new (tuf.DuplicateSignature role id) =
-    RoleRefusal crypto given old (tuf.DuplicateSignature role id)
-ClientCause crypto given config path now old new (tuf.ThresholdNotMet role found threshold) =
-    RoleRefusal crypto given old (tuf.ThresholdNotMet role found threshold)
-ClientCause crypto given config path now old new (tuf.Expired role expires) = ExpiryRefusal given now old (tuf.Expired role expires)
-ClientCause crypto given config path now old new (tuf.IntegrityMismatch difference) =
-    PinRefusal config path old (tuf.IntegrityMismatch difference)
-ClientCause crypto given config path now old new (tuf.TargetNotFound name) = (name ≡ path) × IsUnlisted config path old
-ClientCause crypto given config path now old new (tuf.Transport fault) = TransportRefusal given config path old new fault
-ClientCause crypto given config path now old new (tuf.Unbuilt unbuilt) = FormRefusal given old (tuf.Unbuilt unbuilt)
-ClientCause crypto given config path now old new tuf.NoMemory = ⊤
-ClientCause crypto given config path now old new _ = ⊥
+-- the entry of a target is longer than the limit, or the repository's file of it isn't had or is another
+pub data FileCause (config : UpdaterConfig) (entry : TargetFile) (path : List ℕ) (old new : Watched Folders) (e : Error) : Type 0 where
+  listed_too_long : e ≡ tuf.IntegrityMismatch mismatch.TooLong → config.target_max_length < entry.length
+      → FileCause config entry path old new e
+  file_unfetched : (fault : TransportFault) → TransportCause target_files path entry.length old new fault → e ≡ tuf.Transport fault
+      → FileCause config entry path old new e
+  file_differs : (bytes : List ℕ) → Has target_files old path bytes → IntegrityCause (Some entry.length) (Some entry.hashes) bytes e
+      → FileCause config entry path old new e
+  file_wanting : e ≡ tuf.NoMemory → FileCause config entry path old new e
+
+-- why there is no such entry: no document may be visited, or the targets document doesn't list the path and delegates to no role
+pub data IsUnlisted (config : UpdaterConfig) (path : List ℕ) (set : InForce) : Type 0 where
+  none_visited : config.max_delegations ≡ 0 → IsUnlisted config path set
+  not_listed : (held : Held declared_targets.Targets) → top_targets set ≡ Some held → at_name path (content_of held).targets ≡ None
+      → delegates_none (content_of held).delegations ≡ true → IsUnlisted config path set
+
+-- the targets document in force lists the path with this entry
+abbrev pub IsListed : InForce → List ℕ → TargetFile → Type 0
+IsListed set path entry =
+    (held : Held declared_targets.Targets) × (top_targets set ≡ Some held) × (at_name path (content_of held).targets ≡ Some entry)
+
+-- a top-level document is missing
+pub data Lacks (set : InForce) : Type 0 where
+  no_timestamp : set.timestamp ≡ None → Lacks set
+  no_snapshot : set.snapshot ≡ None → Lacks set
+  no_targets : top_targets set ≡ None → Lacks set
+
+-- Documents in force that don't serve, an entry that isn't there, or a file that isn't had.
+pub data TargetCause (session : Session) (path : List ℕ) (set : InForce) (old new : Watched Folders) (e : Error) : Type 0 where
+  root_past : ExpiryCause (codes "root") (content_in set.root).expires session.now e → TargetCause session path set old new e
+  timestamp_past : (held : Held declared_timestamp.Timestamp) → set.timestamp ≡ Some held
+      → ExpiryCause (codes "timestamp") (content_of held).expires session.now e → TargetCause session path set old new e
+  snapshot_past : (held : Held declared_snapshot.Snapshot) → set.snapshot ≡ Some held
+      → ExpiryCause (codes "snapshot") (content_of held).expires session.now e → TargetCause session path set old new e
+  not_refreshed : Lacks set → e ≡ tuf.NotRefreshed → TargetCause session path set old new e
+  targets_past : (held : Held declared_targets.Targets) → top_targets set ≡ Some held
+      → ExpiryCause (codes "targets") (content_of held).expires session.now e → TargetCause session path set old new e
+  snapshot_unlike : (held : Held declared_snapshot.Snapshot) → set.snapshot ≡ Some held
+      → ((pin : MetaFile) → PinsSnapshot set pin → (content_of held).version ≢ pin.version)
+      → e ≡ tuf.IntegrityMismatch mismatch.Version → TargetCause session path set old new e
+  targets_unlike : (held : Held declared_targets.Targets) → top_targets set ≡ Some held
+      → ((pin : MetaFile) → PinsTargets set pin → (content_of held).version ≢ pin.version)
+      → e ≡ tuf.IntegrityMismatch mismatch.Version → TargetCause session path set old new e
+  search_delegating : (held : Held declared_targets.Targets) → top_targets set ≡ Some held
+      → delegates_none (content_of held).delegations ≡ false → e ≡ tuf.Unbuilt form.Delegations → TargetCause session path set old new e
+  unlisted : IsUnlisted session.config path set → e ≡ tuf.TargetNotFound path → TargetCause session path set old new e
+  of_file : (entry : TargetFile) → IsListed set path entry → FileCause session.config entry path old new e
+      → TargetCause session path set old new e
+  target_wanting : e ≡ tuf.NoMemory → TargetCause session path set old new e
+
+-- ---- why a first root is refused
+
+pub data FirstCause (crypto : Crypto) (given : List ℕ) (e : Error) : Type 0 where
+  first_unread : ReadCause (codes "root") root_of given e → FirstCause crypto given e
+  first_unmet : (doc : Document declared_root.Root) → root_document given ≡ Ok doc
+      → RoleCause crypto (content_in doc) (codes "root") doc e → FirstCause crypto given e

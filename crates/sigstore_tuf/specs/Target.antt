@@ -1,13 +1,14 @@
 -- The search for a target and its file (TUF specification, sections 5.6.7 and 5.7).
-use Rattle.std.specs.Prelude.{◌≡◌, ◌≢◌, ◌⊎◌, ℕ, ◌≤◌, ◌==◌, nat_lt, List, [], ◌∷◌, length, if◌then◌else◌, Option, Some}
-use Rattle.std.specs.Prelude.{None, Result, Ok, Err, IfOk, IfErr, codes, ⊤}
+use Rattle.std.specs.Prelude.{◌≡◌, ◌≢◌, ℕ, ◌==◌, nat_lt, List, [], ◌∷◌, if◌then◌else◌, Option, Some}
+use Rattle.std.specs.Prelude.{None, Result, Ok, Err, codes, ⊤}
 use Rattle.jiff_core.specs.declared.timestamp.Timestamp as jiff
 use Rattle.foundation.specs.Steps.{◌>>=◌}
-use Rattle.foundation.specs.Watched.{Watched, Since}
+use Rattle.foundation.specs.Watched.{Watched}
 use Rattle.sigstore_types_parts.specs.Entries.{at_name}
 use Rattle.sigstore_tuf_parts.specs.declared.error.Error.{Error}
-use Rattle.sigstore_tuf_parts.specs.declared.error.Error.TheVariants.{IntegrityMismatch, NotRefreshed, TargetNotFound, NoMemory}
+use Rattle.sigstore_tuf_parts.specs.declared.error.Error.TheVariants.{IntegrityMismatch, NotRefreshed, TargetNotFound, Transport, NoMemory}
 use Rattle.sigstore_tuf_parts.specs.declared.error.Mismatch.TheVariants.{Version, TooLong}
+use Rattle.sigstore_tuf_parts.specs.declared.error.TransportFault.TheVariants.{Absent}
 use Rattle.sigstore_tuf_parts.specs.declared.timestamp.MetaFile.{MetaFile}
 use Rattle.sigstore_tuf_parts.specs.declared.timestamp.Timestamp.{Timestamp}
 use Rattle.sigstore_tuf_parts.specs.declared.snapshot.Snapshot.{Snapshot}
@@ -15,14 +16,17 @@ use Rattle.sigstore_tuf_parts.specs.declared.targets.Targets.{Targets}
 use Rattle.sigstore_tuf_parts.specs.declared.targets.TargetFile.{TargetFile}
 use Rattle.sigstore_tuf_parts.specs.Document.{content_in}
 use Rattle.sigstore_tuf_parts.specs.Integrity.{integrity_of, fresh_of}
-use Rattle.sigstore_tuf.specs.Repository.{Folders, target_files}
+use Rattle.sigstore_tuf.specs.Repository.{Folders, Files, target_files}
 use Rattle.sigstore_tuf.specs.declared.config.UpdaterConfig.{UpdaterConfig}
 use Rattle.sigstore_tuf.specs.declared.documents.Held.{Held}
 use Rattle.sigstore_tuf.specs.declared.documents.InForce.{InForce}
 use Rattle.sigstore_tuf.specs.declared.chain.RoleDoc.{RoleDoc}
 use Rattle.sigstore_tuf.specs.declared.chain.TrustChain.{TrustChain}
 use Rattle.sigstore_tuf.specs.Documents.{content_of, snapshot_pin, targets_pin}
-use Rattle.sigstore_tuf.specs.Client.{Has, FetchCause, has_version, top_targets, undelegated_of}
+use Rattle.sigstore_tuf.specs.Names.{kept_target}
+use Rattle.sigstore_tuf.specs.State.{Session}
+use Rattle.sigstore_tuf.specs.Adopt.{top_targets, FetchesNamed, LoadsNamed, Saves}
+use Rattle.sigstore_tuf.specs.Client.{has_version, undelegated_of}
 
 -- ---- the top-level documents
 
@@ -68,53 +72,95 @@ search_serves_of set now = do
 -- ---- the entry
 
 -- the entry of a path in a targets document; a document that doesn't list it ends the search, as delegations aren't followed yet
-abbrev pub entry_in : List ℕ → Option (Held Targets) → Option TargetFile → Result TargetFile Error
-entry_in path targets (Some entry) = Ok entry
-entry_in path targets None = undelegated_of targets >>= λ _. Err (TargetNotFound path)
+abbrev pub entry_in : Option (Held Targets) → Option TargetFile → Result (Option TargetFile) Error
+entry_in targets (Some entry) = Ok (Some entry)
+entry_in targets None = undelegated_of targets >>= λ _. Ok None
 
 abbrev pub listed_in : List ℕ → Option (Held Targets) → Option TargetFile
 listed_in path None = None
 listed_in path (Some targets) = at_name path (content_of targets).targets
 
 -- the entry that the first visit of the search lists; with no visit allowed there is none
-abbrev pub entry_of : InForce → UpdaterConfig → List ℕ → Result TargetFile Error
+abbrev pub entry_of : InForce → UpdaterConfig → List ℕ → Result (Option TargetFile) Error
 entry_of set config path =
-    if config.max_delegations == 0 then Err (TargetNotFound path) else entry_in path (top_targets set) (listed_in path (top_targets set))
+    if config.max_delegations == 0 then Ok None else entry_in (top_targets set) (listed_in path (top_targets set))
+
+-- the entry of a path, in documents that serve the search
+unfoldable pub info_of : InForce → UpdaterConfig → List ℕ → jiff.Timestamp → Result (Option TargetFile) Error
+info_of set config path now = do
+  _ ← search_serves_of set now
+  entry_of set config path
+
+abbrev pub found_of : List ℕ → Option TargetFile → Result TargetFile Error
+found_of path None = Err (TargetNotFound path)
+found_of path (Some entry) = Ok entry
+
+-- it has to be there
+unfoldable pub target_of : InForce → UpdaterConfig → List ℕ → jiff.Timestamp → Result TargetFile Error
+target_of set config path now = do
+  found ← info_of set config path now
+  found_of path found
+
+-- ---- the file
 
 -- The listed length is within the limit: else a listed length of 2^60 lets a repository send bytes without end (5.7).
 abbrev pub within_of : UpdaterConfig → TargetFile → Result ⊤ Error
 within_of config entry = if nat_lt config.target_max_length entry.length then Err (IntegrityMismatch TooLong) else Ok tt
 
--- the entry of a path, in documents that serve the search
-unfoldable pub target_of : InForce → UpdaterConfig → List ℕ → jiff.Timestamp → Result TargetFile Error
-target_of set config path now = do
-  _ ← search_serves_of set now
-  entry ← entry_of set config path
-  _ ← within_of config entry
-  Ok entry
-
--- ---- the file
-
--- The file is the entry's, by its length and digests (5.7): without it a mirror hands out whatever it likes under a listed name.
+-- The file is the entry's, by its length and digests (5.7): without it a mirror hands out whatever it likes under a listed name,
+-- and so does whoever writes to the cache.
 abbrev pub file_of : TargetFile → List ℕ → Result ⊤ Error
 file_of entry bytes = integrity_of (Some entry.length) (Some entry.hashes) bytes
 
--- these bytes were fetched and are the entry's, or differ from it
-pub record TookFile (entry : TargetFile) (path : List ℕ) (repo : Watched Folders) (result : Result (List ℕ) Error) : Type 0 where
-  pub bytes : List ℕ
-  pub there : Has target_files repo path bytes
-  pub within : length bytes ≤ entry.length
-  pub given : IfOk result (λ file. (file ≡ bytes) × (file_of entry bytes ≡ Ok tt))
-  pub refused : IfErr result (λ e. file_of entry bytes ≡ Err e)
+-- ---- the file in the store
 
-abbrev pub IsUnfetchedFile : TargetFile → List ℕ → Watched Folders → Watched Folders → Result (List ℕ) Error → Type 0
-IsUnfetchedFile entry path repo repo' (Ok file) = ⊥
-IsUnfetchedFile entry path repo repo' (Err e) = FetchCause target_files path entry.length repo repo' e
+abbrev pub if_pinned : List ℕ → Result ⊤ Error → Option (List ℕ)
+if_pinned bytes (Ok x) = Some bytes
+if_pinned bytes (Err e) = None
 
--- the promise of fetching an entry's file
-pub record FetchesTarget (entry : TargetFile) (path : List ℕ) (repo repo' : Watched Folders) (result : Result (List ℕ) Error) : Type 0 where
-  pub since : Since repo repo'
-  pub answer : IsUnfetchedFile entry path repo repo' result ⊎ TookFile entry path repo result
+-- the stored bytes are given where they are the entry's
+abbrev pub recalled_of : TargetFile → Result (Option (List ℕ)) Error → Result (Option (List ℕ)) Error
+recalled_of entry (Ok None) = Ok None
+recalled_of entry (Ok (Some bytes)) = Ok (if_pinned bytes (file_of entry bytes))
+recalled_of entry (Err e) = Err e
+
+-- the file of an entry in the store; nothing refuses but want of memory
+pub record Recalls (entry : TargetFile) (path : List ℕ) (old new : Watched Files) (result : Result (Option (List ℕ)) Error) : Type 0 where
+  pub loaded : Result (Option (List ℕ)) Error
+  pub loads : LoadsNamed (kept_target path) old new loaded
+  pub result_is : result ≡ recalled_of entry loaded
+
+-- ---- the file in the repository
+
+-- A fetched file is held against the entry, and written.
+pub data TakesFile (entry : TargetFile) (path bytes : List ℕ) (store store' : Watched Files) (result : Result (List ℕ) Error) : Type 0 where
+  differs : (e : Error) → file_of entry bytes ≡ Err e → store' ≡ store → result ≡ Err e → TakesFile entry path bytes store store' result
+  unsaved : (e : Error) → file_of entry bytes ≡ Ok tt → Saves bytes (kept_target path) store store' (Err e) → result ≡ Err e
+      → TakesFile entry path bytes store store' result
+  given : file_of entry bytes ≡ Ok tt → Saves bytes (kept_target path) store store' (Ok tt) → result ≡ Ok bytes
+      → TakesFile entry path bytes store store' result
+
+-- The file of an entry is fetched, within its listed length, and taken so.
+pub data Downloads (config : UpdaterConfig) (entry : TargetFile) (path : List ℕ) (repo repo' : Watched Folders)
+    (store store' : Watched Files) (result : Result (List ℕ) Error) : Type 0 where
+  too_long : (e : Error) → within_of config entry ≡ Err e → repo' ≡ repo → store' ≡ store → result ≡ Err e
+      → Downloads config entry path repo repo' store store' result
+  unfetched : (e : Error) → within_of config entry ≡ Ok tt → FetchesNamed target_files path entry.length repo repo' (Err e)
+      → store' ≡ store → result ≡ Err e → Downloads config entry path repo repo' store store' result
+  absent : within_of config entry ≡ Ok tt → FetchesNamed target_files path entry.length repo repo' (Ok None)
+      → store' ≡ store → result ≡ Err (Transport Absent) → Downloads config entry path repo repo' store store' result
+  fetched : (bytes : List ℕ) → within_of config entry ≡ Ok tt → FetchesNamed target_files path entry.length repo repo' (Ok (Some bytes))
+      → TakesFile entry path bytes store store' result → Downloads config entry path repo repo' store store' result
+
+-- The store's file is taken where it is the entry's; else the repository's.
+pub data Obtains (config : UpdaterConfig) (entry : TargetFile) (path : List ℕ) (repo repo' : Watched Folders) (store store' : Watched Files)
+    (result : Result (List ℕ) Error) : Type 0 where
+  unrecalled : (e : Error) → Recalls entry path store store' (Err e) → repo' ≡ repo → result ≡ Err e
+      → Obtains config entry path repo repo' store store' result
+  recalled : (bytes : List ℕ) → Recalls entry path store store' (Ok (Some bytes)) → repo' ≡ repo → result ≡ Ok bytes
+      → Obtains config entry path repo repo' store store' result
+  downloaded : (mid : Watched Files) → Recalls entry path store mid (Ok None) → Downloads config entry path repo repo' mid store' result
+      → Obtains config entry path repo repo' store store' result
 
 -- ---- the chain
 
@@ -142,16 +188,18 @@ chain_of set entry file = chain_in set set.timestamp set.snapshot (top_targets s
 
 -- ---- the whole
 
--- a search for a target and its file is the run of its steps, by the step that refuses
-pub data GetsTarget (set : InForce) (config : UpdaterConfig) (path : List ℕ) (now : jiff.Timestamp)
-    (repo repo' : Watched Folders) (result : Result TrustChain Error) : Type 0 where
-  unlisted : (e : Error) → (e ≢ NoMemory → target_of set config path now ≡ Err e) → repo' ≡ repo → result ≡ Err e
-      → GetsTarget set config path now repo repo' result
-  unfetched : (entry : TargetFile) (e : Error) → target_of set config path now ≡ Ok entry
-      → FetchesTarget entry path repo repo' (Err e) → result ≡ Err e → GetsTarget set config path now repo repo' result
-  unchained : (entry : TargetFile) (file : List ℕ) (e : Error) → target_of set config path now ≡ Ok entry
-      → FetchesTarget entry path repo repo' (Ok file)
-      → (e ≢ NoMemory → chain_of set entry file ≡ Err e) → result ≡ Err e → GetsTarget set config path now repo repo' result
-  found : (entry : TargetFile) (file : List ℕ) (chain : TrustChain) → target_of set config path now ≡ Ok entry
-      → FetchesTarget entry path repo repo' (Ok file)
-      → chain_of set entry file ≡ Ok chain → result ≡ Ok chain → GetsTarget set config path now repo repo' result
+-- A search for a target and its file: the entry is found, the file is had, and the chain is put together; the first that refuses
+-- answers. The documents in force stay as they were.
+pub data GetsTarget (session : Session) (path : List ℕ) (set : InForce) (repo repo' : Watched Folders) (store store' : Watched Files)
+    (result : Result TrustChain Error) : Type 0 where
+  unlisted : (e : Error) → (e ≢ NoMemory → target_of set session.config path session.now ≡ Err e) → repo' ≡ repo → store' ≡ store
+      → result ≡ Err e → GetsTarget session path set repo repo' store store' result
+  unobtained : (entry : TargetFile) (e : Error) → target_of set session.config path session.now ≡ Ok entry
+      → Obtains session.config entry path repo repo' store store' (Err e) → result ≡ Err e
+      → GetsTarget session path set repo repo' store store' result
+  unchained : (entry : TargetFile) (file : List ℕ) (e : Error) → target_of set session.config path session.now ≡ Ok entry
+      → Obtains session.config entry path repo repo' store store' (Ok file)
+      → (e ≢ NoMemory → chain_of set entry file ≡ Err e) → result ≡ Err e → GetsTarget session path set repo repo' store store' result
+  found : (entry : TargetFile) (file : List ℕ) (chain : TrustChain) → target_of set session.config path session.now ≡ Ok entry
+      → Obtains session.config entry path repo repo' store store' (Ok file)
+      → chain_of set entry file ≡ Ok chain → result ≡ Ok chain → GetsTarget session path set repo repo' store store' result

@@ -1,15 +1,13 @@
--- What an updater keeps of a target that it gave.
-use Rattle.std.specs.Prelude.{◌≡◌, ◌⊎◌, ℕ, List, Option, Some, None, Result, Ok, Err, ⊤}
+-- What an updater's calls promise besides: of its store, which may be none, and of the chain that it keeps.
+use Rattle.std.specs.Prelude.{◌≡◌, ℕ, List, Option, Some, None, Result, Ok, Err, ⊤}
 use Rattle.std.specs.Borrow.{MutBor}
-use Rattle.jiff_core.specs.declared.timestamp.Timestamp as jiff
-use Rattle.foundation.specs.Watched.{Watched, Since, untold}
+use Rattle.foundation.specs.Watched.{Watched, untold}
 use Rattle.sigstore_tuf_parts.specs.declared.error.Error.{Error}
 use Rattle.sigstore_tuf_parts.specs.declared.error.Error.TheVariants as tuf
-use Rattle.sigstore_tuf.specs.Repository.{Files, Folders}
-use Rattle.sigstore_tuf.specs.declared.config.UpdaterConfig.{UpdaterConfig}
-use Rattle.sigstore_tuf.specs.declared.documents.InForce.{InForce}
+use Rattle.sigstore_tuf.specs.Repository.{Files}
 use Rattle.sigstore_tuf.specs.declared.chain.TrustChain.{TrustChain}
-use Rattle.sigstore_tuf.specs.Target.{GetsTarget}
+use Rattle.sigstore_tuf.specs.State.{Session, State}
+use Rattle.sigstore_tuf.specs.Promises.{Got}
 
 -- the same lent store, or none
 abbrev pub SameOption : {S : Type 0} → Option (MutBor S) → Option (MutBor S) → Type 0
@@ -23,13 +21,11 @@ abbrev pub option_seen : {S : Type 0} → (S → Watched Files) → Option (MutB
 option_seen seen None = untold 0
 option_seen seen (Some store) = seen store.now
 
--- a refusal of the search, or want of memory for the copy of the file
-abbrev pub IsRefused : InForce → UpdaterConfig → List ℕ → jiff.Timestamp → Watched Folders → Watched Folders → Error → Type 0
-IsRefused set config path now repo repo' e = ((e ≡ tuf.NoMemory) × Since repo repo') ⊎ GetsTarget set config path now repo repo' (Err e)
-
--- the file is that of the chain that is kept
-abbrev pub GivesFile : InForce → UpdaterConfig → List ℕ → jiff.Timestamp → Watched Folders → Watched Folders
-    → Option TrustChain → Result (List ℕ) Error → Type 0
-GivesFile set config path now repo repo' kept (Ok file) =
-    (chain : TrustChain) × (kept ≡ Some chain) × (file ≡ chain.file) × GetsTarget set config path now repo repo' (Ok chain)
-GivesFile set config path now repo repo' kept (Err e) = IsRefused set config path now repo repo' e
+-- the file is that of the chain that is kept; want of memory for the copy of the file leaves the chain that was kept before
+pub data GivesFile (session : Session) (path : List ℕ) (old new : State) (kept : Option TrustChain)
+    (result : Result (List ℕ) Error) : Type 0 where
+  refused : (e : Error) → Got session path old new (Err e) → result ≡ Err e → GivesFile session path old new kept result
+  uncopied : (chain : TrustChain) → Got session path old new (Ok chain) → result ≡ Err tuf.NoMemory
+      → GivesFile session path old new kept result
+  given : (chain : TrustChain) → Got session path old new (Ok chain) → kept ≡ Some chain → result ≡ Ok chain.file
+      → GivesFile session path old new kept result

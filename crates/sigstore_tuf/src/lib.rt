@@ -3,6 +3,7 @@
 //! `sigstore_tuf_parts`.
 #![tactic(auto)]
 
+mod adopt;
 mod chain;
 mod client;
 mod config;
@@ -10,12 +11,16 @@ mod documents;
 mod file_repository;
 mod file_store;
 mod folder;
-mod laws;
+mod kind;
 mod memory_repository;
 mod memory_store;
 mod name;
+mod names;
 mod no_store;
+mod parts;
 mod repository;
+mod session;
+mod step;
 mod store;
 mod target;
 mod trusted;
@@ -23,15 +28,15 @@ mod update;
 mod updater;
 
 pub use chain::{RoleDoc, TrustChain};
-pub use client::refresh_parts;
 pub use config::UpdaterConfig;
 pub use documents::{Held, InForce};
 pub use file_repository::FileRepository;
 pub use file_store::FileStore;
-pub use laws::refusals_have_causes;
+pub use kind::Kind;
 pub use memory_repository::MemoryRepository;
 pub use memory_store::MemoryStore;
 pub use no_store::NoStore;
+pub use parts::{attach_parts, get_target_parts, refresh_parts};
 pub use repository::{FetchFault, Repository};
 pub use sigstore_tuf_parts::{
     DelegatedRole, Delegations, DocumentMember, Error, Key, KeyFault, KeyVal, MetaFile, Metadata,
@@ -41,7 +46,7 @@ pub use sigstore_tuf_parts::{
     pins_have_causes, readings_have_causes, relations_exactly, roles_have_causes, root_name,
     to_canonical_bytes,
 };
+pub use step::Step;
 pub use store::{MetadataStore, StoreFault};
-pub use target::get_target_parts;
 pub use trusted::TrustedMetadataSet;
 pub use updater::Updater;

@@ -1,25 +1,30 @@
 // The search for a target, its file, and the chain of documents by which it is trusted.
 ghost use Rattle.std.specs.Prelude.{◌≡◌, ◌≢◌, [], ◌∷◌, Some, Ok, Err, IfOk, IfErr, OnOk, option_copied};
 ghost use Rattle.sigstore_tuf.specs.Repository.{target_files};
-ghost use Rattle.sigstore_tuf.specs.Client.{FetchesFile};
-ghost use Rattle.sigstore_tuf.specs.Authorised.{TrustsFrom};
-ghost use Rattle.sigstore_tuf.specs.Target.{fresh_timestamp_of, fresh_snapshot_of, unexpired_of, pinned_version_of, pinned_by_of, all_pinned_of, search_serves_of, entry_of, entry_in, listed_in, within_of, target_of, file_of, FetchesTarget, visit_of, chain_in, chain_of, GetsTarget};
+ghost use Rattle.sigstore_tuf.specs.Names.{kept_target};
+ghost use Rattle.sigstore_tuf.specs.Adopt.{FetchesNamed, LoadsNamed, Saves};
+ghost use Rattle.sigstore_tuf.specs.State.{session_by};
+ghost use Rattle.sigstore_tuf.specs.Target.{fresh_timestamp_of, fresh_snapshot_of, unexpired_of, pinned_version_of, pinned_by_of, all_pinned_of, search_serves_of, entry_of, entry_in, listed_in, info_of, found_of, within_of, target_of, file_of, Recalls, TakesFile, Downloads, Obtains, visit_of, chain_in, chain_of, GetsTarget};
 
+use crate::adopt::{load_named, save, transport};
 use crate::chain::{RoleDoc, TrustChain};
-use crate::client::{check_undelegated, transport};
+use crate::client::check_undelegated;
 use crate::config::UpdaterConfig;
 use crate::documents::{Held, InForce};
+use crate::names::kept_target;
 use crate::repository::Repository;
+use crate::session::Session;
 use crate::store::MetadataStore;
 use foundation::{Duplicate, Sequence};
+use sigstore_crypto::CryptoProvider;
 use sigstore_tuf_parts::{
     Error, MetaFile, Mismatch, Role, Snapshot, TargetFile, Targets, Timestamp, TransportFault,
     check_integrity,
 };
-use sigstore_types_parts::{Bytes, Text};
+use sigstore_types_parts::{Armor, Bytes, Text};
 use std::alloc::Global;
 
-fn check_fresh_timestamp(
+pub(crate) fn check_fresh_timestamp(
     alloc: Global,
     timestamp: &Option<Held<Timestamp>>,
     now: jiff::Timestamp,
@@ -36,7 +41,7 @@ fn check_fresh_timestamp(
     }
 }
 
-fn check_fresh_snapshot(
+pub(crate) fn check_fresh_snapshot(
     alloc: Global,
     snapshot: &Option<Held<Snapshot>>,
     now: jiff::Timestamp,
@@ -151,21 +156,18 @@ fn listed<'d>(path: &str, targets: Option<&'d Held<Targets>>) -> Option<&'d Targ
 }
 
 fn entry<'d>(
-    alloc: Global,
     path: &str,
     targets: Option<&'d Held<Targets>>,
-) -> Result<&'d TargetFile, Error>
-    ensures ok { IfOk result (λ entry. let targets = option_copied targets.entry in
-        entry_in path.now targets (listed_in path.now targets) ≡ Ok entry.now) }
+) -> Result<Option<&'d TargetFile>, Error>
+    ensures ok { IfOk result (λ found. let targets = option_copied targets.entry in
+        entry_in targets (listed_in path.now targets) ≡ Ok (option_copied found)) }
     ensures err { IfErr result (λ e. let targets = option_copied targets.entry in
-        e ≢ Error.NoMemory → entry_in path.now targets (listed_in path.now targets) ≡ Err e) }
+        entry_in targets (listed_in path.now targets) ≡ Err e) }
 {
     match listed(path, targets) {
-        Some(entry) => Ok(entry),
+        Some(entry) => Ok(Some(entry)),
         None => match check_undelegated(targets) {
-            Ok(()) => Err(Error::TargetNotFound {
-                path: Text::new(alloc, path)?,
-            }),
+            Ok(()) => Ok(None),
             Err(e) => Err(e),
         },
     }
@@ -173,22 +175,62 @@ fn entry<'d>(
 
 // The entry that the first visit of the search lists.
 fn find_entry<'d>(
+    documents: &'d InForce,
+    config: &UpdaterConfig,
+    path: &str,
+) -> Result<Option<&'d TargetFile>, Error>
+    ensures ok { IfOk result (λ found. entry_of documents.now config.now path.now ≡ Ok (option_copied found)) }
+    ensures err { IfErr result (λ e. entry_of documents.now config.now path.now ≡ Err e) }
+{
+    if config.max_delegations == 0 {
+        return Ok(None);
+    }
+    match entry(path, documents.targets.get("targets")) {
+        Ok(found) => Ok(found),
+        Err(e) => Err(e),
+    }
+}
+
+// The entry of a path, in documents that serve the search.
+#[tactic(auto, unfolding(crate::specs::Target::info_of))]
+pub(crate) fn find_info<'d>(
     alloc: Global,
     documents: &'d InForce,
     config: &UpdaterConfig,
     path: &str,
-) -> Result<&'d TargetFile, Error>
-    ensures ok { IfOk result (λ entry. entry_of documents.now config.now path.now ≡ Ok entry.now) }
+    now: jiff::Timestamp,
+) -> Result<Option<&'d TargetFile>, Error>
+    ensures ok { IfOk result (λ found. info_of documents.now config.now path.now now ≡ Ok (option_copied found)) }
     ensures err { IfErr result
-        (λ e. e ≢ Error.NoMemory → entry_of documents.now config.now path.now ≡ Err e) }
+        (λ e. e ≢ Error.NoMemory → info_of documents.now config.now path.now now ≡ Err e) }
 {
-    if config.max_delegations == 0 {
-        return Err(Error::TargetNotFound {
-            path: Text::new(alloc, path)?,
-        });
+    if let Err(e) = check_search(alloc, documents, now) {
+        return Err(e);
     }
-    match entry(alloc, path, documents.targets.get("targets")) {
-        Ok(entry) => Ok(entry),
+    match find_entry(documents, config, path) {
+        Ok(found) => Ok(found),
+        Err(e) => Err(e),
+    }
+}
+
+// It has to be there.
+#[tactic(auto, unfolding(crate::specs::Target::target_of))]
+fn find_target<'d>(
+    alloc: Global,
+    documents: &'d InForce,
+    config: &UpdaterConfig,
+    path: &str,
+    now: jiff::Timestamp,
+) -> Result<&'d TargetFile, Error>
+    ensures ok { IfOk result (λ entry. target_of documents.now config.now path.now now ≡ Ok entry.now) }
+    ensures err { IfErr result
+        (λ e. e ≢ Error.NoMemory → target_of documents.now config.now path.now now ≡ Err e) }
+{
+    match find_info(alloc, documents, config, path, now) {
+        Ok(Some(entry)) => Ok(entry),
+        Ok(None) => Err(Error::TargetNotFound {
+            path: Text::new(alloc, path)?,
+        }),
         Err(e) => Err(e),
     }
 }
@@ -202,47 +244,6 @@ fn check_within(config: &UpdaterConfig, entry: &TargetFile) -> Result<(), Error>
     Ok(())
 }
 
-// The entry of a path, in documents that serve the search.
-#[tactic(auto, unfolding(crate::specs::Target::target_of))]
-fn find_target<'d>(
-    alloc: Global,
-    documents: &'d InForce,
-    config: &UpdaterConfig,
-    path: &str,
-    now: jiff::Timestamp,
-) -> Result<&'d TargetFile, Error>
-    ensures ok { IfOk result (λ entry. target_of documents.now config.now path.now now ≡ Ok entry.now) }
-    ensures err { IfErr result
-        (λ e. e ≢ Error.NoMemory → target_of documents.now config.now path.now now ≡ Err e) }
-{
-    if let Err(e) = check_search(alloc, documents, now) {
-        return Err(e);
-    }
-    match find_entry(alloc, documents, config, path) {
-        Ok(entry) => match check_within(config, entry) {
-            Ok(()) => Ok(entry),
-            Err(e) => Err(e),
-        },
-        Err(e) => Err(e),
-    }
-}
-
-// A target's file that has to be there.
-fn fetch_file<R: Repository>(
-    alloc: Global,
-    repo: &mut R,
-    path: &str,
-    max: u64,
-) -> Result<Bytes, Error>
-    ensures { FetchesFile target_files (R.seen repo.old) (R.seen repo.new) path.now max result }
-{
-    match repo.fetch_target(alloc, path, max) {
-        Ok(Some(bytes)) => Ok(bytes),
-        Ok(None) => Err(Error::Transport(TransportFault::Absent)),
-        Err(fault) => Err(transport(fault, max)),
-    }
-}
-
 // The file is the entry's, by its length and digests.
 fn check_file(entry: &TargetFile, bytes: &Bytes) -> Result<(), Error>
     ensures { result ≡ file_of entry.now bytes.now }
@@ -250,23 +251,127 @@ fn check_file(entry: &TargetFile, bytes: &Bytes) -> Result<(), Error>
     check_integrity(Some(entry.length), Some(&entry.hashes), bytes.as_bytes())
 }
 
-// Fetches the file of an entry.
-fn fetch_target<R: Repository>(
+// ---- the file
+
+fn load_target<S: MetadataStore>(
+    alloc: Global,
+    store: &mut S,
+    path: &str,
+) -> Result<Option<Bytes>, Error>
+    ensures { LoadsNamed (kept_target path.now) (S.seen store.old) (S.seen store.new) result }
+{
+    match kept_target(alloc, path) {
+        Ok(name) => load_named(alloc, store, name.as_str()),
+        Err(e) => Err(Error::from(e)),
+    }
+}
+
+// The store's file of an entry, where it is the entry's.
+pub(crate) fn recall_target<S: MetadataStore>(
+    alloc: Global,
+    store: &mut S,
+    entry: &TargetFile,
+    path: &str,
+) -> Result<Option<Bytes>, Error>
+    ensures { Recalls entry.now path.now (S.seen store.old) (S.seen store.new) result }
+{
+    match load_target(alloc, store, path) {
+        Ok(Some(bytes)) => match check_file(entry, &bytes) {
+            Ok(()) => Ok(Some(bytes)),
+            Err(_) => Ok(None),
+        },
+        Ok(None) => Ok(None),
+        Err(e) => Err(e),
+    }
+}
+
+fn fetch_file<R: Repository>(
     alloc: Global,
     repo: &mut R,
     path: &str,
-    entry: &TargetFile,
-) -> Result<Bytes, Error>
-    ensures { FetchesTarget entry.now path.now (R.seen repo.old) (R.seen repo.new) result }
+    max: u64,
+) -> Result<Option<Bytes>, Error>
+    ensures { FetchesNamed target_files path.now max (R.seen repo.old) (R.seen repo.new) result }
 {
-    match fetch_file(alloc, repo, path, entry.length) {
-        Ok(bytes) => match check_file(entry, &bytes) {
+    match repo.fetch_target(alloc, path, max) {
+        Ok(file) => Ok(file),
+        Err(fault) => Err(transport(fault, max)),
+    }
+}
+
+fn save_target<S: MetadataStore>(
+    alloc: Global,
+    store: &mut S,
+    path: &str,
+    bytes: &Bytes,
+) -> Result<(), Error>
+    ensures { Saves bytes.now (kept_target path.now) (S.seen store.old) (S.seen store.new) result }
+{
+    match kept_target(alloc, path) {
+        Ok(name) => save(alloc, store, name.as_str(), bytes.as_bytes()),
+        Err(e) => Err(Error::from(e)),
+    }
+}
+
+// A fetched file is held against its entry, and written.
+fn take_file<S: MetadataStore>(
+    alloc: Global,
+    store: &mut S,
+    entry: &TargetFile,
+    path: &str,
+    bytes: Bytes,
+) -> Result<Bytes, Error>
+    ensures { TakesFile entry.now path.now bytes (S.seen store.old) (S.seen store.new) result }
+{
+    match check_file(entry, &bytes) {
+        Ok(()) => match save_target(alloc, store, path, &bytes) {
             Ok(()) => Ok(bytes),
             Err(e) => Err(e),
         },
         Err(e) => Err(e),
     }
 }
+
+// The repository's file of an entry.
+pub(crate) fn download<R: Repository, S: MetadataStore>(
+    alloc: Global,
+    config: &UpdaterConfig,
+    repo: &mut R,
+    store: &mut S,
+    entry: &TargetFile,
+    path: &str,
+) -> Result<Bytes, Error>
+    ensures { Downloads config.now entry.now path.now (R.seen repo.old) (R.seen repo.new) (S.seen store.old) (S.seen store.new) result }
+{
+    if let Err(e) = check_within(config, entry) {
+        return Err(e);
+    }
+    match fetch_file(alloc, repo, path, entry.length) {
+        Ok(Some(bytes)) => take_file(alloc, store, entry, path, bytes),
+        Ok(None) => Err(Error::Transport(TransportFault::Absent)),
+        Err(e) => Err(e),
+    }
+}
+
+// The file of an entry, from the store or else from the repository.
+fn obtain<R: Repository, S: MetadataStore>(
+    alloc: Global,
+    config: &UpdaterConfig,
+    repo: &mut R,
+    store: &mut S,
+    entry: &TargetFile,
+    path: &str,
+) -> Result<Bytes, Error>
+    ensures { Obtains config.now entry.now path.now (R.seen repo.old) (R.seen repo.new) (S.seen store.old) (S.seen store.new) result }
+{
+    match recall_target(alloc, store, entry, path) {
+        Ok(Some(bytes)) => Ok(bytes),
+        Ok(None) => download(alloc, config, repo, store, entry, path),
+        Err(e) => Err(e),
+    }
+}
+
+// ---- the chain
 
 // The one visit of the search.
 fn visits(alloc: Global, targets: &Held<Targets>) -> Result<Sequence<RoleDoc>, Error>
@@ -327,19 +432,19 @@ fn chain(
     }
 }
 
-// The steps of a search, by the first that refuses.
-fn run_search<R: Repository>(
+// A search for a target and its file.
+pub(crate) fn find_chain<C: CryptoProvider, M: Armor, R: Repository, S: MetadataStore>(
     alloc: Global,
+    session: &Session<'_, C, M>,
     documents: &InForce,
     repo: &mut R,
-    config: &UpdaterConfig,
+    store: &mut S,
     path: &str,
-    now: jiff::Timestamp,
 ) -> Result<TrustChain, Error>
-    ensures { GetsTarget documents.now config.now path.now now (R.seen repo.old) (R.seen repo.new) result }
+    ensures { GetsTarget (session_by C.CryptoProvider M.Armor session.now) path.now documents.now (R.seen repo.old) (R.seen repo.new) (S.seen store.old) (S.seen store.new) result }
 {
-    match find_target(alloc, documents, config, path, now) {
-        Ok(entry) => match fetch_target(alloc, repo, path, entry) {
+    match find_target(alloc, documents, session.config, path, session.moment) {
+        Ok(entry) => match obtain(alloc, session.config, repo, store, entry, path) {
             Ok(file) => match chain(alloc, documents, entry, file) {
                 Ok(chain) => Ok(chain),
                 Err(e) => Err(e),
@@ -348,25 +453,4 @@ fn run_search<R: Repository>(
         },
         Err(e) => Err(e),
     }
-}
-
-/// Finds a target over parts, fetches its file, and gives the chain by which it is trusted. Errors, in
-/// this order: `Expired` of root, timestamp and snapshot, `NotRefreshed`, `Expired` of the targets
-/// document, `IntegrityMismatch(Version)`, `TargetNotFound` or `Unbuilt(Delegations)`,
-/// `IntegrityMismatch(TooLong)`, then those of the fetch and of the file's length and digests. Over documents that are authorised from a given root the chain
-/// is trusted from it. The store is handed through and not called yet.
-pub fn get_target_parts<R: Repository, S: MetadataStore>(
-    alloc: Global,
-    documents: &InForce,
-    repo: &mut R,
-    _store: &mut S,
-    config: &UpdaterConfig,
-    path: &str,
-    now: jiff::Timestamp,
-) -> Result<TrustChain, Error>
-    ensures gets { GetsTarget documents.now config.now path.now now (R.seen repo.old) (R.seen repo.new) result }
-    ensures trusted { TrustsFrom documents.now config.now path.now now result }
-    ensures store { S.seen _store.new ≡ S.seen _store.old }
-{
-    run_search(alloc, documents, repo, config, path, now)
 }

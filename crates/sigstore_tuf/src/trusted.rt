@@ -1,25 +1,48 @@
 // The documents in force, with who judges their signatures.
-ghost use Rattle.std.specs.Prelude.{◌≡◌, ◌≢◌, Ok, Err, IfOk, IfErr, option_copied, option_map};
+ghost use Rattle.std.specs.Prelude.{◌≡◌, ◌≢◌, Ok, Err, IfOk, IfErr, OnOk, None, Some, codes, option_copied, option_map};
+ghost use Rattle.std.specs.List.{last_or};
 ghost use Rattle.sigstore_tuf_parts.specs.By.{crypto_by};
 ghost use Rattle.sigstore_tuf_parts.specs.Document.{content_in};
 ghost use Rattle.sigstore_types_parts.specs.Entries.{at_name};
 ghost use Rattle.sigstore_tuf.specs.Documents.{content_of};
-ghost use Rattle.sigstore_tuf.specs.Update.{first_root_of};
-ghost use Rattle.sigstore_tuf.specs.Authorised.{AreAuthorised};
+ghost use Rattle.sigstore_tuf.specs.Update.{first_root_of, update_root_of, update_timestamp_of, update_snapshot_of, update_targets_of};
+ghost use Rattle.sigstore_tuf.specs.Target.{fresh_timestamp_of, fresh_snapshot_of};
+ghost use Rattle.sigstore_tuf_parts.specs.Integrity.{fresh_of};
+ghost use Rattle.sigstore_tuf.specs.Authorised.{IsAuthorised, crypto_in, SameJudges, UpdatesSet};
 
+use crate::adopt::update_copied;
 use crate::documents::InForce;
+use crate::kind::Kind;
+use crate::target::{check_fresh_snapshot, check_fresh_timestamp};
 use crate::update::first_root;
 use sigstore_crypto::CryptoProvider;
-use sigstore_tuf_parts::{Error, Root, Snapshot, Targets, Timestamp};
+use sigstore_tuf_parts::{Error, Role, Root, Snapshot, Targets, Timestamp};
 use sigstore_types_parts::Armor;
 use std::alloc::Global;
+use std::marker::Model;
 
-/// The documents in force, and the provider and the armour by which their signatures are judged.
+/// The documents in force, and the provider and the armour by which their signatures are judged. Contracts
+/// see both judges as one, and the documents; these are authorised from the first root in every state.
 #[derive(Drop)]
 pub struct TrustedMetadataSet<'p, C: CryptoProvider, M: Armor> {
-    pub provider: &'p C,
-    pub armor: &'p M,
-    pub documents: InForce,
+    pub(crate) provider: &'p C,
+    pub(crate) armor: &'p M,
+    pub(crate) documents: InForce,
+}
+
+impl<'p, C: CryptoProvider, M: Armor> Model for TrustedMetadataSet<'p, C, M> {
+    ghost use Rattle.sigstore_tuf_parts.specs.By.{crypto_by};
+    ghost use Rattle.sigstore_tuf.specs.Authorised.{IsAuthorised, TrustedSet};
+    ghost use Rattle.sigstore_types_parts.specs.contracts.json_value.Json as json;
+    ghost use Rattle.std.specs.Coded.{codes as coded_types};
+
+    ghost Value = { TrustedSet C M };
+
+    ghost coded = { Prim.hlevel (coded_types, json.the_row.coded) };
+
+    ghost view = { λ s. record { provider = s.provider.now; armor = s.armor.now; documents = s.documents } };
+
+    ghost invariant = { λ s. IsAuthorised (crypto_by C.CryptoProvider M.Armor s.provider.now s.armor.now) s.documents };
 }
 
 impl<'p, C: CryptoProvider, M: Armor> TrustedMetadataSet<'p, C, M> {
@@ -33,9 +56,9 @@ impl<'p, C: CryptoProvider, M: Armor> TrustedMetadataSet<'p, C, M> {
     ) -> Result<TrustedMetadataSet<'p, C, M>, Error>
         ensures ok { IfOk result (λ set.
             first_root_of (crypto_by C.CryptoProvider M.Armor provider.now armor.now) bytes.now ≡ Ok set.documents) }
+        ensures judges { IfOk result (λ set. (set.provider ≡ provider.now) × (set.armor ≡ armor.now)) }
         ensures authorised { IfOk result (λ set.
-            AreAuthorised (crypto_by C.CryptoProvider M.Armor provider.now armor.now) bytes.now set.documents) }
-        ensures same { IfOk result (λ set. (set.provider.now ≡ provider.now) × (set.armor.now ≡ armor.now)) }
+            IsAuthorised (crypto_by C.CryptoProvider M.Armor provider.now armor.now) set.documents) }
         ensures err { IfErr result (λ e. e ≢ Error.NoMemory →
             first_root_of (crypto_by C.CryptoProvider M.Armor provider.now armor.now) bytes.now ≡ Err e) }
     {
@@ -54,6 +77,16 @@ impl<'p, C: CryptoProvider, M: Armor> TrustedMetadataSet<'p, C, M> {
         ensures { result.now ≡ content_in self.now.documents.root }
     {
         self.documents.root.signed()
+    }
+
+    /// The bytes of the root in force.
+    pub fn root_bytes(&self) -> &[u8]
+        ensures { Some result.now ≡ last_or None self.now.documents.roots }
+    {
+        match self.documents.roots.as_slice().last() {
+            Some(bytes) => bytes.as_bytes(),
+            None => &[],
+        }
     }
 
     /// The timestamp in force.
@@ -84,5 +117,126 @@ impl<'p, C: CryptoProvider, M: Armor> TrustedMetadataSet<'p, C, M> {
             Some(held) => Some(held.document.signed()),
             None => None,
         }
+    }
+
+    /// Whether the root in force isn't expired at a moment. Errors: `Expired`.
+    pub fn check_root_expired(&self, alloc: Global, now: jiff::Timestamp) -> Result<(), Error>
+        ensures ok { OnOk result (fresh_of (codes "root") (content_in self.now.documents.root).expires now ≡ Ok tt) }
+        ensures err { IfErr result (λ e. e ≢ Error.NoMemory →
+            fresh_of (codes "root") (content_in self.now.documents.root).expires now ≡ Err e) }
+    {
+        match self.documents.root.signed().check_fresh(alloc, now) {
+            Ok(()) => Ok(()),
+            Err(e) => Err(e),
+        }
+    }
+
+    /// Whether the timestamp in force, where there is one, isn't expired at a moment. Errors: `Expired`.
+    pub fn check_timestamp_expired(&self, alloc: Global, now: jiff::Timestamp) -> Result<(), Error>
+        ensures ok { OnOk result (fresh_timestamp_of self.now.documents.timestamp now ≡ Ok tt) }
+        ensures err { IfErr result (λ e. e ≢ Error.NoMemory → fresh_timestamp_of self.now.documents.timestamp now ≡ Err e) }
+    {
+        check_fresh_timestamp(alloc, &self.documents.timestamp, now)
+    }
+
+    /// Whether the snapshot in force, where there is one, isn't expired at a moment. Errors: `Expired`.
+    pub fn check_snapshot_expired(&self, alloc: Global, now: jiff::Timestamp) -> Result<(), Error>
+        ensures ok { OnOk result (fresh_snapshot_of self.now.documents.snapshot now ≡ Ok tt) }
+        ensures err { IfErr result (λ e. e ≢ Error.NoMemory → fresh_snapshot_of self.now.documents.snapshot now ≡ Err e) }
+    {
+        check_fresh_snapshot(alloc, &self.documents.snapshot, now)
+    }
+
+    /// Puts the next root of these bytes in force, and drops the other documents. Errors: those of a document,
+    /// `BadRootVersion`, `UnknownRole` and those of a threshold for the root in force, then for its own; all
+    /// stays as it was.
+    pub fn update_root(&mut self, alloc: Global, bytes: &[u8]) -> Result<(), Error>
+        ensures updates { let crypto = crypto_in C.CryptoProvider M.Armor self.old in
+            UpdatesSet (update_root_of crypto self.old.documents bytes.now) crypto self.old.documents self.new.documents result }
+        ensures judges { SameJudges self.old self.new }
+    {
+        update_copied(
+            alloc,
+            self.provider,
+            self.armor,
+            &mut self.documents,
+            Kind::Root(0),
+            bytes,
+            None,
+        )
+    }
+
+    /// Puts the timestamp of these bytes in force. Errors: those of a document, `UnknownRole`, those of a
+    /// threshold, `Rollback`, `EqualVersion`, `Rollback` of the snapshot's pin, then `Expired`; all stays as it
+    /// was.
+    pub fn update_timestamp(
+        &mut self,
+        alloc: Global,
+        bytes: &[u8],
+        now: jiff::Timestamp,
+    ) -> Result<(), Error>
+        ensures updates { let crypto = crypto_in C.CryptoProvider M.Armor self.old in
+            UpdatesSet (update_timestamp_of crypto self.old.documents bytes.now (Some now)) crypto self.old.documents self.new.documents result }
+        ensures judges { SameJudges self.old self.new }
+    {
+        update_copied(
+            alloc,
+            self.provider,
+            self.armor,
+            &mut self.documents,
+            Kind::Timestamp,
+            bytes,
+            Some(now),
+        )
+    }
+
+    /// Puts the snapshot of these bytes in force, and drops the targets documents. Errors: `Malformed` without a
+    /// timestamp, `Expired` of it, `Malformed` where it pins no snapshot, `IntegrityMismatch`, those of a
+    /// document, `UnknownRole`, those of a threshold, `IntegrityMismatch` for the version, then pin by pin for
+    /// one that vanished or `Rollback`, then `Expired`; all stays as it was.
+    pub fn update_snapshot(
+        &mut self,
+        alloc: Global,
+        bytes: &[u8],
+        now: jiff::Timestamp,
+    ) -> Result<(), Error>
+        ensures updates { let crypto = crypto_in C.CryptoProvider M.Armor self.old in
+            UpdatesSet (update_snapshot_of crypto self.old.documents bytes.now (Some now)) crypto self.old.documents self.new.documents result }
+        ensures judges { SameJudges self.old self.new }
+    {
+        update_copied(
+            alloc,
+            self.provider,
+            self.armor,
+            &mut self.documents,
+            Kind::Snapshot,
+            bytes,
+            Some(now),
+        )
+    }
+
+    /// Puts the top-level targets document of these bytes in force. Errors: `Malformed` without a snapshot,
+    /// `Expired` of it, `Malformed` where it pins no targets document, `IntegrityMismatch`, those of a document,
+    /// `IntegrityMismatch` for the version, `UnknownRole`, those of a threshold, then `Expired`; all stays as it
+    /// was.
+    pub fn update_targets(
+        &mut self,
+        alloc: Global,
+        bytes: &[u8],
+        now: jiff::Timestamp,
+    ) -> Result<(), Error>
+        ensures updates { let crypto = crypto_in C.CryptoProvider M.Armor self.old in
+            UpdatesSet (update_targets_of crypto self.old.documents bytes.now (Some now)) crypto self.old.documents self.new.documents result }
+        ensures judges { SameJudges self.old self.new }
+    {
+        update_copied(
+            alloc,
+            self.provider,
+            self.armor,
+            &mut self.documents,
+            Kind::Targets,
+            bytes,
+            Some(now),
+        )
     }
 }

@@ -1,9 +1,9 @@
-// Each update of the documents in force: the document that is adopted, or the first check that fails.
-ghost use Rattle.std.specs.Prelude.{◌≡◌, ◌≢◌, [], ◌∷◌, Ok, Err, IfOk, IfErr, OnOk, codes, option_copied};
+// The rules of the documents in force: each update, or the first check that fails. Nothing is fetched or kept here.
+ghost use Rattle.std.specs.Prelude.{◌≡◌, ◌≢◌, [], ◌∷◌, ◌++◌, Ok, Err, IfOk, IfErr, OnOk, OnErr, codes, option_copied};
 ghost use Rattle.sigstore_tuf_parts.specs.By.{crypto_by};
 ghost use Rattle.sigstore_tuf_parts.specs.Document.{content_in};
 ghost use Rattle.sigstore_tuf_parts.specs.RootRoles.{root_document, meets_role_of};
-ghost use Rattle.sigstore_tuf.specs.Update.{first_root_of, not_below_of, other_of, newer_than_of, newer_of, pins_not_below_of, timestamp_checks_of, new_timestamp_of, snapshot_pin_of, kept_pin_of, kept_pins_in, kept_pins_of, snapshot_checks_of, new_snapshot_of, targets_pin_of, targets_checks_of, new_targets_of};
+ghost use Rattle.sigstore_tuf.specs.Update.{first_root_of, next_number_of, root_checks_of, update_root_of, fresh_at_of, not_below_of, other_of, newer_than_of, newer_of, pins_not_below_of, timestamp_checks_of, update_timestamp_of, snapshot_pin_of, kept_pin_of, kept_pins_in, kept_pins_of, snapshot_checks_of, update_snapshot_of, targets_pin_of, targets_checks_of, update_targets_of, with_root, with_timestamp, with_snapshot, with_targets, Updates};
 
 use crate::documents::{Held, InForce};
 use foundation::Sequence;
@@ -14,6 +14,7 @@ use sigstore_tuf_parts::{
 };
 use sigstore_types_parts::{Armor, Bytes, Text, TextMap};
 use std::alloc::Global;
+use std::mem;
 
 // A list of these bytes alone.
 fn alone(alloc: Global, bytes: &[u8]) -> Result<Sequence<Bytes>, Error>
@@ -72,6 +73,133 @@ pub(crate) fn first_root<C: CryptoProvider, M: Armor>(
         snapshot: None,
         targets: TextMap::new(alloc),
     })
+}
+
+fn check_next_number(trusted: u64, new: u64) -> Result<(), Error>
+    ensures { result ≡ next_number_of trusted new }
+{
+    if trusted < u64::MAX && new == trusted + 1 {
+        Ok(())
+    } else {
+        Err(Error::BadRootVersion { trusted, new })
+    }
+}
+
+// The checks of a next root that was read.
+#[tactic(auto, unfolding(crate::specs::Update::root_checks_of))]
+fn check_root<C: CryptoProvider, M: Armor>(
+    alloc: Global,
+    provider: &C,
+    armor: &M,
+    old: &Metadata<Root>,
+    new: &Metadata<Root>,
+) -> Result<(), Error>
+    ensures ok { OnOk result
+        (root_checks_of (crypto_by C.CryptoProvider M.Armor provider.now armor.now) old.now new.now ≡ Ok tt) }
+    ensures err { IfErr result (λ e. e ≢ Error.NoMemory →
+        root_checks_of (crypto_by C.CryptoProvider M.Armor provider.now armor.now) old.now new.now ≡ Err e) }
+{
+    check_next_number(old.signed().version, new.signed().version)?;
+    new.verify_role(alloc, provider, armor, old.signed(), "root")?;
+    new.verify_role(alloc, provider, armor, new.signed(), "root")?;
+    Ok(())
+}
+
+// The document of these bytes, which follows the root in force.
+#[tactic(auto, unfolding(crate::specs::Update::update_root_of))]
+fn next_root<C: CryptoProvider, M: Armor>(
+    alloc: Global,
+    provider: &C,
+    armor: &M,
+    documents: &InForce,
+    bytes: &Bytes,
+) -> Result<Metadata<Root>, Error>
+    ensures ok { IfOk result (λ new. update_root_of (crypto_by C.CryptoProvider M.Armor provider.now armor.now)
+        documents.now bytes.now ≡ Ok (with_root documents.now bytes.now new)) }
+    ensures err { IfErr result (λ e. e ≢ Error.NoMemory →
+        update_root_of (crypto_by C.CryptoProvider M.Armor provider.now armor.now) documents.now bytes.now ≡ Err e) }
+{
+    let new = Metadata::from_slice(alloc, bytes.as_bytes())?;
+    match check_root(alloc, provider, armor, &documents.root, &new) {
+        Ok(()) => Ok(new),
+        Err(e) => {
+            drop(new);
+            Err(e)
+        }
+    }
+}
+
+// The documents below a root are dropped.
+fn drop_below_root(alloc: Global, documents: &mut InForce)
+    ensures { documents.new ≡ record documents.old { timestamp = None; snapshot = None; targets = [] } }
+{
+    drop(mem::replace(&mut documents.timestamp, None));
+    drop(mem::replace(&mut documents.snapshot, None));
+    drop(mem::replace(&mut documents.targets, TextMap::new(alloc)));
+}
+
+// Puts a next root in force.
+fn put_root(
+    alloc: Global,
+    documents: &mut InForce,
+    bytes: Bytes,
+    root: Metadata<Root>,
+) -> Result<(), Error>
+    ensures ok { OnOk result (documents.new ≡ with_root documents.old bytes root) }
+    ensures err { IfErr result (λ e. e ≡ Error.NoMemory) }
+    ensures kept { OnErr result (documents.new ≡ documents.old) }
+{
+    match documents.roots.push(bytes) {
+        Ok(()) => {
+            drop(mem::replace(&mut documents.root, root));
+            drop_below_root(alloc, documents);
+            Ok(())
+        }
+        Err(e) => {
+            drop(root);
+            Err(Error::from(e))
+        }
+    }
+}
+
+/// Puts the next root of these bytes in force. Errors: those of a document, `BadRootVersion`, `UnknownRole`
+/// and those of a threshold for the root in force, then for its own.
+pub(crate) fn update_root<C: CryptoProvider, M: Armor>(
+    alloc: Global,
+    provider: &C,
+    armor: &M,
+    documents: &mut InForce,
+    bytes: Bytes,
+) -> Result<(), Error>
+    ensures { Updates (update_root_of (crypto_by C.CryptoProvider M.Armor provider.now armor.now) documents.old bytes)
+        documents.old documents.new result }
+{
+    match next_root(alloc, provider, armor, documents, &bytes) {
+        Ok(root) => match put_root(alloc, documents, bytes, root) {
+            Ok(()) => Ok(()),
+            Err(e) => Err(e),
+        },
+        Err(e) => Err(e),
+    }
+}
+
+// The document isn't expired at the moment that is given.
+fn check_fresh_at<T: Role>(
+    alloc: Global,
+    content: &T,
+    now: &Option<jiff::Timestamp>,
+) -> Result<(), Error>
+    ensures ok { OnOk result (fresh_at_of T.kind (T.expires_in content.now) now.now ≡ Ok tt) }
+    ensures err { IfErr result
+        (λ e. e ≢ Error.NoMemory → fresh_at_of T.kind (T.expires_in content.now) now.now ≡ Err e) }
+{
+    match now {
+        Some(now) => match content.check_fresh(alloc, *now) {
+            Ok(()) => Ok(()),
+            Err(e) => Err(e),
+        },
+        None => Ok(()),
+    }
 }
 
 fn check_not_below(alloc: Global, role: &str, trusted: u64, new: u64) -> Result<(), Error>
@@ -148,34 +276,35 @@ fn check_timestamp<C: CryptoProvider, M: Armor>(
     armor: &M,
     documents: &InForce,
     document: &Metadata<Timestamp>,
-    now: jiff::Timestamp,
+    now: &Option<jiff::Timestamp>,
 ) -> Result<(), Error>
     ensures ok { OnOk result
-        (timestamp_checks_of (crypto_by C.CryptoProvider M.Armor provider.now armor.now) documents.now document.now now ≡ Ok tt) }
+        (timestamp_checks_of (crypto_by C.CryptoProvider M.Armor provider.now armor.now) documents.now document.now now.now ≡ Ok tt) }
     ensures err { IfErr result (λ e. e ≢ Error.NoMemory →
-        timestamp_checks_of (crypto_by C.CryptoProvider M.Armor provider.now armor.now) documents.now document.now now ≡ Err e) }
+        timestamp_checks_of (crypto_by C.CryptoProvider M.Armor provider.now armor.now) documents.now document.now now.now ≡ Err e) }
 {
     let content = document.signed();
     document.verify_role(alloc, provider, armor, documents.root.signed(), "timestamp")?;
     check_newer_in(alloc, &documents.timestamp, content)?;
-    content.check_fresh(alloc, now)?;
+    check_fresh_at(alloc, content, now)?;
     Ok(())
 }
 
-/// The timestamp of these bytes, where it may be adopted.
-#[tactic(auto, unfolding(crate::specs::Update::new_timestamp_of))]
-pub(crate) fn new_timestamp<C: CryptoProvider, M: Armor>(
+// The timestamp of these bytes, where it may be adopted.
+#[tactic(auto, unfolding(crate::specs::Update::update_timestamp_of))]
+fn new_timestamp<C: CryptoProvider, M: Armor>(
     alloc: Global,
     provider: &C,
     armor: &M,
     documents: &InForce,
     bytes: Bytes,
-    now: jiff::Timestamp,
+    now: &Option<jiff::Timestamp>,
 ) -> Result<Held<Timestamp>, Error>
     ensures ok { IfOk result (λ held.
-        new_timestamp_of (crypto_by C.CryptoProvider M.Armor provider.now armor.now) documents.now bytes now ≡ Ok held) }
+        update_timestamp_of (crypto_by C.CryptoProvider M.Armor provider.now armor.now) documents.now bytes now.now
+        ≡ Ok (with_timestamp documents.now held)) }
     ensures err { IfErr result (λ e. e ≢ Error.NoMemory →
-        new_timestamp_of (crypto_by C.CryptoProvider M.Armor provider.now armor.now) documents.now bytes now ≡ Err e) }
+        update_timestamp_of (crypto_by C.CryptoProvider M.Armor provider.now armor.now) documents.now bytes now.now ≡ Err e) }
 {
     let document = Metadata::<Timestamp>::from_slice(alloc, bytes.as_bytes())?;
     match check_timestamp(alloc, provider, armor, documents, &document, now) {
@@ -187,21 +316,43 @@ pub(crate) fn new_timestamp<C: CryptoProvider, M: Armor>(
     }
 }
 
+/// Puts the timestamp of these bytes in force. Errors: those of a document, `UnknownRole`, those of a threshold, `Rollback`,
+/// `EqualVersion`, `Rollback` of the snapshot's pin, then `Expired` where a moment is given.
+pub(crate) fn update_timestamp<C: CryptoProvider, M: Armor>(
+    alloc: Global,
+    provider: &C,
+    armor: &M,
+    documents: &mut InForce,
+    bytes: Bytes,
+    now: Option<jiff::Timestamp>,
+) -> Result<(), Error>
+    ensures { Updates (update_timestamp_of (crypto_by C.CryptoProvider M.Armor provider.now armor.now) documents.old bytes now)
+        documents.old documents.new result }
+{
+    match new_timestamp(alloc, provider, armor, documents, bytes, &now) {
+        Ok(held) => {
+            drop(mem::replace(&mut documents.timestamp, Some(held)));
+            Ok(())
+        }
+        Err(e) => Err(e),
+    }
+}
+
 // The snapshot's pin in the timestamp in force, which isn't expired.
 #[tactic(auto, unfolding(crate::specs::Update::snapshot_pin_of))]
-pub(crate) fn snapshot_pin<'d>(
+fn snapshot_pin<'d>(
     alloc: Global,
     documents: &'d InForce,
-    now: jiff::Timestamp,
+    now: &Option<jiff::Timestamp>,
 ) -> Result<&'d MetaFile, Error>
-    ensures ok { IfOk result (λ pin. snapshot_pin_of documents.now now ≡ Ok pin.now) }
-    ensures err { IfErr result (λ e. e ≢ Error.NoMemory → snapshot_pin_of documents.now now ≡ Err e) }
+    ensures ok { IfOk result (λ pin. snapshot_pin_of documents.now now.now ≡ Ok pin.now) }
+    ensures err { IfErr result (λ e. e ≢ Error.NoMemory → snapshot_pin_of documents.now now.now ≡ Err e) }
 {
     let Some(timestamp) = &documents.timestamp else {
         return Err(Error::Malformed(Rule::NoTimestamp));
     };
     let content = timestamp.document.signed();
-    if let Err(e) = content.check_fresh(alloc, now) {
+    if let Err(e) = check_fresh_at(alloc, content, now) {
         return Err(e);
     }
     match content.snapshot_meta() {
@@ -261,35 +412,36 @@ fn check_snapshot<C: CryptoProvider, M: Armor>(
     documents: &InForce,
     pin: &MetaFile,
     document: &Metadata<Snapshot>,
-    now: jiff::Timestamp,
+    now: &Option<jiff::Timestamp>,
 ) -> Result<(), Error>
     ensures ok { OnOk result
-        (snapshot_checks_of (crypto_by C.CryptoProvider M.Armor provider.now armor.now) documents.now pin.now document.now now ≡ Ok tt) }
+        (snapshot_checks_of (crypto_by C.CryptoProvider M.Armor provider.now armor.now) documents.now pin.now document.now now.now ≡ Ok tt) }
     ensures err { IfErr result (λ e. e ≢ Error.NoMemory →
-        snapshot_checks_of (crypto_by C.CryptoProvider M.Armor provider.now armor.now) documents.now pin.now document.now now ≡ Err e) }
+        snapshot_checks_of (crypto_by C.CryptoProvider M.Armor provider.now armor.now) documents.now pin.now document.now now.now ≡ Err e) }
 {
     let content = document.signed();
     document.verify_role(alloc, provider, armor, documents.root.signed(), "snapshot")?;
     check_version(pin, content.version)?;
     check_kept(alloc, &documents.snapshot, content)?;
-    content.check_fresh(alloc, now)?;
+    check_fresh_at(alloc, content, now)?;
     Ok(())
 }
 
-/// The snapshot of these bytes, where it may be adopted.
-#[tactic(auto, unfolding(crate::specs::Update::new_snapshot_of))]
-pub(crate) fn new_snapshot<C: CryptoProvider, M: Armor>(
+// The snapshot of these bytes, where it may be adopted.
+#[tactic(auto, unfolding(crate::specs::Update::update_snapshot_of))]
+fn new_snapshot<C: CryptoProvider, M: Armor>(
     alloc: Global,
     provider: &C,
     armor: &M,
     documents: &InForce,
     bytes: Bytes,
-    now: jiff::Timestamp,
+    now: &Option<jiff::Timestamp>,
 ) -> Result<Held<Snapshot>, Error>
     ensures ok { IfOk result (λ held.
-        new_snapshot_of (crypto_by C.CryptoProvider M.Armor provider.now armor.now) documents.now bytes now ≡ Ok held) }
+        update_snapshot_of (crypto_by C.CryptoProvider M.Armor provider.now armor.now) documents.now bytes now.now
+        ≡ Ok (with_snapshot documents.now held)) }
     ensures err { IfErr result (λ e. e ≢ Error.NoMemory →
-        new_snapshot_of (crypto_by C.CryptoProvider M.Armor provider.now armor.now) documents.now bytes now ≡ Err e) }
+        update_snapshot_of (crypto_by C.CryptoProvider M.Armor provider.now armor.now) documents.now bytes now.now ≡ Err e) }
 {
     let pin = snapshot_pin(alloc, documents, now)?;
     check_integrity(pin.length, pin.hashes.as_ref(), bytes.as_bytes())?;
@@ -303,20 +455,51 @@ pub(crate) fn new_snapshot<C: CryptoProvider, M: Armor>(
     }
 }
 
+// Puts a snapshot in force; the targets documents are dropped.
+fn put_snapshot(alloc: Global, documents: &mut InForce, held: Held<Snapshot>)
+    ensures { documents.new ≡ with_snapshot documents.old held }
+{
+    drop(mem::replace(&mut documents.snapshot, Some(held)));
+    drop(mem::replace(&mut documents.targets, TextMap::new(alloc)));
+}
+
+/// Puts the snapshot of these bytes in force. Errors: `Malformed` without a timestamp, `Expired` of it, `Malformed` where it
+/// pins no snapshot, `IntegrityMismatch`, those of a document, `UnknownRole`, those of a threshold, `IntegrityMismatch` for the
+/// version and for a pin that vanished, `Rollback` of a pin, then `Expired`; each expiry where a moment is given.
+pub(crate) fn update_snapshot<C: CryptoProvider, M: Armor>(
+    alloc: Global,
+    provider: &C,
+    armor: &M,
+    documents: &mut InForce,
+    bytes: Bytes,
+    now: Option<jiff::Timestamp>,
+) -> Result<(), Error>
+    ensures { Updates (update_snapshot_of (crypto_by C.CryptoProvider M.Armor provider.now armor.now) documents.old bytes now)
+        documents.old documents.new result }
+{
+    match new_snapshot(alloc, provider, armor, documents, bytes, &now) {
+        Ok(held) => {
+            put_snapshot(alloc, documents, held);
+            Ok(())
+        }
+        Err(e) => Err(e),
+    }
+}
+
 // The pin of the top-level targets document in the snapshot in force, which isn't expired.
 #[tactic(auto, unfolding(crate::specs::Update::targets_pin_of))]
 pub(crate) fn targets_pin<'d>(
     alloc: Global,
     documents: &'d InForce,
-    now: jiff::Timestamp,
+    now: &Option<jiff::Timestamp>,
 ) -> Result<&'d MetaFile, Error>
-    ensures ok { IfOk result (λ pin. targets_pin_of documents.now now ≡ Ok pin.now) }
-    ensures err { IfErr result (λ e. e ≢ Error.NoMemory → targets_pin_of documents.now now ≡ Err e) }
+    ensures ok { IfOk result (λ pin. targets_pin_of documents.now now.now ≡ Ok pin.now) }
+    ensures err { IfErr result (λ e. e ≢ Error.NoMemory → targets_pin_of documents.now now.now ≡ Err e) }
 {
     let Some(snapshot) = &documents.snapshot else {
         return Err(Error::Malformed(Rule::NoSnapshot));
     };
-    snapshot.document.signed().check_fresh(alloc, now)?;
+    check_fresh_at(alloc, snapshot.document.signed(), now)?;
     match snapshot.document.signed().targets_meta() {
         Some(pin) => Ok(pin),
         None => Err(Error::Malformed(Rule::Unpinned)),
@@ -332,33 +515,34 @@ fn check_targets<C: CryptoProvider, M: Armor>(
     documents: &InForce,
     pin: &MetaFile,
     document: &Metadata<Targets>,
-    now: jiff::Timestamp,
+    now: &Option<jiff::Timestamp>,
 ) -> Result<(), Error>
     ensures ok { OnOk result
-        (targets_checks_of (crypto_by C.CryptoProvider M.Armor provider.now armor.now) documents.now pin.now document.now now ≡ Ok tt) }
+        (targets_checks_of (crypto_by C.CryptoProvider M.Armor provider.now armor.now) documents.now pin.now document.now now.now ≡ Ok tt) }
     ensures err { IfErr result (λ e. e ≢ Error.NoMemory →
-        targets_checks_of (crypto_by C.CryptoProvider M.Armor provider.now armor.now) documents.now pin.now document.now now ≡ Err e) }
+        targets_checks_of (crypto_by C.CryptoProvider M.Armor provider.now armor.now) documents.now pin.now document.now now.now ≡ Err e) }
 {
     check_version(pin, document.signed().version)?;
     document.verify_role(alloc, provider, armor, documents.root.signed(), "targets")?;
-    document.signed().check_fresh(alloc, now)?;
+    check_fresh_at(alloc, document.signed(), now)?;
     Ok(())
 }
 
-/// The top-level targets document of these bytes, where it may be adopted.
-#[tactic(auto, unfolding(crate::specs::Update::new_targets_of))]
-pub(crate) fn new_targets<C: CryptoProvider, M: Armor>(
+// The top-level targets document of these bytes, where it may be adopted.
+#[tactic(auto, unfolding(crate::specs::Update::update_targets_of))]
+fn new_targets<C: CryptoProvider, M: Armor>(
     alloc: Global,
     provider: &C,
     armor: &M,
     documents: &InForce,
     bytes: Bytes,
-    now: jiff::Timestamp,
+    now: &Option<jiff::Timestamp>,
 ) -> Result<Held<Targets>, Error>
     ensures ok { IfOk result (λ held.
-        new_targets_of (crypto_by C.CryptoProvider M.Armor provider.now armor.now) documents.now bytes now ≡ Ok held) }
+        update_targets_of (crypto_by C.CryptoProvider M.Armor provider.now armor.now) documents.now bytes now.now
+        ≡ Ok (with_targets documents.now held)) }
     ensures err { IfErr result (λ e. e ≢ Error.NoMemory →
-        new_targets_of (crypto_by C.CryptoProvider M.Armor provider.now armor.now) documents.now bytes now ≡ Err e) }
+        update_targets_of (crypto_by C.CryptoProvider M.Armor provider.now armor.now) documents.now bytes now.now ≡ Err e) }
 {
     let pin = targets_pin(alloc, documents, now)?;
     check_integrity(pin.length, pin.hashes.as_ref(), bytes.as_bytes())?;
@@ -369,5 +553,46 @@ pub(crate) fn new_targets<C: CryptoProvider, M: Armor>(
             drop(document);
             Err(e)
         }
+    }
+}
+
+// Puts a targets document in force.
+fn put_targets(alloc: Global, documents: &mut InForce, held: Held<Targets>) -> Result<(), Error>
+    ensures ok { OnOk result (documents.new ≡ with_targets documents.old held) }
+    ensures err { IfErr result (λ e. e ≡ Error.NoMemory) }
+    ensures kept { OnErr result (documents.new ≡ documents.old) }
+{
+    match Text::new(alloc, "targets") {
+        Ok(name) => {
+            documents.targets.insert(name, held)?;
+            Ok(())
+        }
+        Err(e) => {
+            drop(held);
+            Err(Error::from(e))
+        }
+    }
+}
+
+/// Puts the top-level targets document of these bytes in force. Errors: `Malformed` without a snapshot, `Expired` of it,
+/// `Malformed` where it pins no targets document, `IntegrityMismatch`, those of a document, `IntegrityMismatch` for the version,
+/// `UnknownRole`, those of a threshold, then `Expired`; each expiry where a moment is given.
+pub(crate) fn update_targets<C: CryptoProvider, M: Armor>(
+    alloc: Global,
+    provider: &C,
+    armor: &M,
+    documents: &mut InForce,
+    bytes: Bytes,
+    now: Option<jiff::Timestamp>,
+) -> Result<(), Error>
+    ensures { Updates (update_targets_of (crypto_by C.CryptoProvider M.Armor provider.now armor.now) documents.old bytes now)
+        documents.old documents.new result }
+{
+    match new_targets(alloc, provider, armor, documents, bytes, &now) {
+        Ok(held) => match put_targets(alloc, documents, held) {
+            Ok(()) => Ok(()),
+            Err(e) => Err(e),
+        },
+        Err(e) => Err(e),
     }
 }

@@ -1,25 +1,27 @@
 // The client over a lent repository.
-ghost use Rattle.std.specs.Prelude.{◌≡◌, ◌≢◌, Some, None, Ok, Err, IfOk, IfErr, OnOk, OnErr, option_map};
+ghost use Rattle.std.specs.Prelude.{◌≡◌, ◌≢◌, Some, None, Ok, Err, IfOk, IfErr, OnOk, OnErr, option_map, option_copied};
+ghost use Rattle.foundation.specs.Watched.{Watched};
 ghost use Rattle.sigstore_tuf_parts.specs.By.{crypto_by};
 ghost use Rattle.sigstore_tuf.specs.Config.{default_config};
+ghost use Rattle.sigstore_tuf.specs.Repository.{Folders};
 ghost use Rattle.sigstore_tuf.specs.Update.{first_root_of};
-ghost use Rattle.sigstore_tuf.specs.Authorised.{AreAuthorised, StaysAuthorised, Serve, TrustsFrom, KeepsTrusted};
-ghost use Rattle.sigstore_tuf.specs.Refresh.{Refreshes};
-ghost use Rattle.sigstore_tuf.specs.Target.{GetsTarget};
+ghost use Rattle.sigstore_tuf.specs.State.{state_of, session_of};
+ghost use Rattle.sigstore_tuf.specs.Authorised.{IsAuthorised, crypto_in, SameJudges};
+ghost use Rattle.sigstore_tuf.specs.Promises.{Attached, Refreshed, Got};
+ghost use Rattle.sigstore_tuf.specs.Target.{info_of, Recalls, Downloads};
 ghost use Rattle.sigstore_tuf.specs.Updater.{SameOption, option_seen, GivesFile};
 
 use crate::chain::TrustChain;
-use crate::client::refresh_parts;
 use crate::config::UpdaterConfig;
-use crate::documents::InForce;
 use crate::no_store::NoStore;
+use crate::parts::{attach_parts, get_target_parts, refresh_parts, target_info};
 use crate::repository::Repository;
 use crate::store::MetadataStore;
-use crate::target::get_target_parts;
+use crate::target::{download, recall_target};
 use crate::trusted::TrustedMetadataSet;
 use foundation::{Duplicate, NoMemory};
 use sigstore_crypto::CryptoProvider;
-use sigstore_tuf_parts::Error;
+use sigstore_tuf_parts::{Error, TargetFile};
 use sigstore_types_parts::{Armor, Bytes};
 use std::alloc::Global;
 use std::mem;
@@ -27,42 +29,29 @@ use std::mem;
 // A refresh over the store that is there, or over none.
 fn refresh_held<C: CryptoProvider, M: Armor, R: Repository, S: MetadataStore>(
     alloc: Global,
-    provider: &C,
-    armor: &M,
-    documents: &mut InForce,
+    set: &mut TrustedMetadataSet<'_, C, M>,
     repo: &mut R,
     store: &mut Option<&mut S>,
     config: &UpdaterConfig,
     now: jiff::Timestamp,
 ) -> Result<(), Error>
     ensures same_store { SameOption store.old store.new }
-    ensures store { option_seen S.seen store.new ≡ option_seen S.seen store.old }
-    ensures refreshes { Refreshes (crypto_by C.CryptoProvider M.Armor provider.now armor.now)
-        config.now now documents.old documents.new (R.seen repo.old) (R.seen repo.new) result }
-    ensures authorised { StaysAuthorised (crypto_by C.CryptoProvider M.Armor provider.now armor.now) documents.old documents.new }
-    ensures serves { OnOk result (Serve now documents.new) }
+    ensures refreshed { Refreshed (session_of (crypto_in C.CryptoProvider M.Armor set.old) config.now now)
+        (state_of set.old.documents (R.seen repo.old) (option_seen S.seen store.old))
+        (state_of set.new.documents (R.seen repo.new) (option_seen S.seen store.new)) result }
+    ensures judges { SameJudges set.old set.new }
+    ensures authorised { IsAuthorised (crypto_in C.CryptoProvider M.Armor set.new) set.new.documents }
 {
     match store {
-        Some(store) => {
-            refresh_parts(alloc, provider, armor, documents, repo, *store, config, now)
-        }
-        None => refresh_parts(
-            alloc,
-            provider,
-            armor,
-            documents,
-            repo,
-            &mut NoStore,
-            config,
-            now,
-        ),
+        Some(store) => refresh_parts(alloc, set, repo, *store, config, now),
+        None => refresh_parts(alloc, set, repo, &mut NoStore, config, now),
     }
 }
 
 // A search over the store that is there, or over none.
-fn get_target_held<R: Repository, S: MetadataStore>(
+fn get_target_held<C: CryptoProvider, M: Armor, R: Repository, S: MetadataStore>(
     alloc: Global,
-    documents: &InForce,
+    set: &TrustedMetadataSet<'_, C, M>,
     repo: &mut R,
     store: &mut Option<&mut S>,
     config: &UpdaterConfig,
@@ -70,29 +59,64 @@ fn get_target_held<R: Repository, S: MetadataStore>(
     now: jiff::Timestamp,
 ) -> Result<TrustChain, Error>
     ensures same_store { SameOption store.old store.new }
-    ensures store { option_seen S.seen store.new ≡ option_seen S.seen store.old }
-    ensures gets { GetsTarget documents.now config.now path.now now (R.seen repo.old) (R.seen repo.new) result }
-    ensures trusted { TrustsFrom documents.now config.now path.now now result }
+    ensures got { Got (session_of (crypto_in C.CryptoProvider M.Armor set.now) config.now now) path.now
+        (state_of set.now.documents (R.seen repo.old) (option_seen S.seen store.old))
+        (state_of set.now.documents (R.seen repo.new) (option_seen S.seen store.new)) result }
 {
     match store {
-        Some(store) => get_target_parts(alloc, documents, repo, *store, config, path, now),
-        None => get_target_parts(alloc, documents, repo, &mut NoStore, config, path, now),
+        Some(store) => get_target_parts(alloc, set, repo, *store, config, path, now),
+        None => get_target_parts(alloc, set, repo, &mut NoStore, config, path, now),
+    }
+}
+
+// A target's file in the store that is there.
+fn recall_held<S: MetadataStore>(
+    alloc: Global,
+    store: &mut Option<&mut S>,
+    target: &TargetFile,
+    path: &str,
+) -> Result<Option<Bytes>, Error>
+    ensures same_store { SameOption store.old store.new }
+    ensures recalls { Recalls target.now path.now (option_seen S.seen store.old) (option_seen S.seen store.new) result }
+{
+    match store {
+        Some(store) => recall_target(alloc, *store, target, path),
+        None => recall_target(alloc, &mut NoStore, target, path),
+    }
+}
+
+// A target's file of the repository, written to the store that is there.
+fn download_held<R: Repository, S: MetadataStore>(
+    alloc: Global,
+    repo: &mut R,
+    store: &mut Option<&mut S>,
+    config: &UpdaterConfig,
+    target: &TargetFile,
+    path: &str,
+) -> Result<Bytes, Error>
+    ensures same_store { SameOption store.old store.new }
+    ensures downloads { Downloads config.now target.now path.now (R.seen repo.old) (R.seen repo.new)
+        (option_seen S.seen store.old) (option_seen S.seen store.new) result }
+{
+    match store {
+        Some(store) => download(alloc, config, repo, *store, target, path),
+        None => download(alloc, config, repo, &mut NoStore, target, path),
     }
 }
 
 /// A client of one repository, from a root that is trusted as it is given (TUF specification,
-/// section 5); it has no store yet, whose type its caller names.
+/// section 5); its caller names the type of the store that it may be given.
 #[derive(Drop)]
 pub struct Updater<'a, C: CryptoProvider, M: Armor, R: Repository, S: MetadataStore> {
-    pub set: TrustedMetadataSet<'a, C, M>,
-    pub repo: &'a mut R,
-    pub store: Option<&'a mut S>,
-    pub config: UpdaterConfig,
-    pub chain: Option<TrustChain>,
+    set: TrustedMetadataSet<'a, C, M>,
+    repo: &'a mut R,
+    store: Option<&'a mut S>,
+    config: UpdaterConfig,
+    chain: Option<TrustChain>,
 }
 
 impl<'a, C: CryptoProvider, M: Armor, R: Repository, S: MetadataStore> Updater<'a, C, M, R, S> {
-    /// A client under the default limits. Errors are those of `TrustedMetadataSet::from_root`.
+    /// A client under the default limits, without a store. Errors are those of `TrustedMetadataSet::from_root`.
     pub fn new(
         alloc: Global,
         provider: &'a C,
@@ -102,9 +126,9 @@ impl<'a, C: CryptoProvider, M: Armor, R: Repository, S: MetadataStore> Updater<'
     ) -> Result<Updater<'a, C, M, R, S>, Error>
         ensures set { IfOk result (λ u.
             first_root_of (crypto_by C.CryptoProvider M.Armor provider.now armor.now) root_bytes.now ≡ Ok u.set.documents) }
+        ensures judges { IfOk result (λ u. (u.set.provider ≡ provider.now) × (u.set.armor ≡ armor.now)) }
         ensures authorised { IfOk result (λ u.
-            AreAuthorised (crypto_by C.CryptoProvider M.Armor provider.now armor.now) root_bytes.now u.set.documents) }
-        ensures same { IfOk result (λ u. (u.set.provider.now ≡ provider.now) × (u.set.armor.now ≡ armor.now)) }
+            IsAuthorised (crypto_by C.CryptoProvider M.Armor provider.now armor.now) u.set.documents) }
         ensures repo { IfOk result (λ u. u.repo.now ≡ repo.old) }
         ensures same_repo { IfOk result (λ u. u.repo.ghost_name ≡ repo.entry.ghost_name) }
         ensures store { IfOk result (λ u. u.store ≡ None) }
@@ -149,6 +173,47 @@ impl<'a, C: CryptoProvider, M: Armor, R: Repository, S: MetadataStore> Updater<'
         }
     }
 
+    /// The same client with a store: its next roots are adopted, as long as each is accepted, and the root then
+    /// in force is written. Errors: `NoMemory`; then the client is dropped, and the store is its owner's again.
+    pub fn with_store(
+        self,
+        alloc: Global,
+        store: &'a mut S,
+    ) -> Result<Updater<'a, C, M, R, S>, Error>
+        ensures attached { IfOk result (λ u. (repo : Watched Folders) → Attached (crypto_in C.CryptoProvider M.Armor self.entry.set)
+            (state_of self.entry.set.documents repo (S.seen store.old))
+            (state_of u.set.documents repo (option_seen S.seen u.store)) (Ok tt)) }
+        ensures judges { IfOk result (λ u. SameJudges self.entry.set u.set) }
+        ensures authorised { IfOk result (λ u. IsAuthorised (crypto_in C.CryptoProvider M.Armor u.set) u.set.documents) }
+        ensures repo { IfOk result (λ u. u.repo ≡ self.entry.repo) }
+        ensures same_store { IfOk result (λ u. option_map (λ b. b.ghost_name) u.store ≡ Some store.entry.ghost_name) }
+        ensures config { IfOk result (λ u. u.config ≡ self.entry.config) }
+        ensures chain { IfOk result (λ u. u.chain ≡ self.entry.chain) }
+        ensures err { IfErr result (λ e. e ≡ Error.NoMemory) }
+    {
+        let Updater {
+            mut set,
+            repo,
+            store: _,
+            config,
+            chain,
+        } = self;
+        match attach_parts(alloc, &mut set, store) {
+            Ok(()) => Ok(Updater {
+                set,
+                repo,
+                store: Some(store),
+                config,
+                chain,
+            }),
+            Err(e) => {
+                drop(set);
+                drop(chain);
+                Err(e)
+            }
+        }
+    }
+
     /// The documents in force.
     pub fn trusted(&self) -> &TrustedMetadataSet<'a, C, M>
         ensures { result.now ≡ self.now.set }
@@ -156,28 +221,21 @@ impl<'a, C: CryptoProvider, M: Armor, R: Repository, S: MetadataStore> Updater<'
         &self.set
     }
 
-    /// Brings the documents in force up to date at a moment. Errors are those of the first step that
-    /// refuses; the documents that were adopted before it stay in force. Where they were authorised from a
-    /// given root they stay so, and after Ok they serve at that moment.
+    /// Brings the documents in force up to date at a moment, as `refresh_parts` does. Errors are those of the
+    /// first step that refuses; the documents that were adopted before it stay in force.
     pub fn refresh(&mut self, alloc: Global, now: jiff::Timestamp) -> Result<(), Error>
         ensures same_repo { self.new.repo.ghost_name ≡ self.old.repo.ghost_name }
         ensures same_store { SameOption self.old.store self.new.store }
-        ensures store { option_seen S.seen self.new.store ≡ option_seen S.seen self.old.store }
-        ensures refreshes { Refreshes
-            (crypto_by C.CryptoProvider M.Armor self.old.set.provider.now self.old.set.armor.now)
-            self.old.config now self.old.set.documents self.new.set.documents (R.seen self.old.repo.now) (R.seen self.new.repo.now) result }
-        ensures authorised { StaysAuthorised
-            (crypto_by C.CryptoProvider M.Armor self.old.set.provider.now self.old.set.armor.now)
-            self.old.set.documents self.new.set.documents }
-        ensures serves { OnOk result (Serve now self.new.set.documents) }
-        ensures same { (self.new.set.provider.now ≡ self.old.set.provider.now) × (self.new.set.armor.now ≡ self.old.set.armor.now)
-            × (self.new.config ≡ self.old.config) × (self.new.chain ≡ self.old.chain) }
+        ensures refreshed { Refreshed (session_of (crypto_in C.CryptoProvider M.Armor self.old.set) self.old.config now)
+            (state_of self.old.set.documents (R.seen self.old.repo.now) (option_seen S.seen self.old.store))
+            (state_of self.new.set.documents (R.seen self.new.repo.now) (option_seen S.seen self.new.store)) result }
+        ensures authorised { IsAuthorised (crypto_in C.CryptoProvider M.Armor self.new.set) self.new.set.documents }
+        ensures judges { SameJudges self.old.set self.new.set }
+        ensures same { (self.new.config ≡ self.old.config) × (self.new.chain ≡ self.old.chain) }
     {
         refresh_held(
             alloc,
-            self.set.provider,
-            self.set.armor,
-            &mut self.set.documents,
+            &mut self.set,
             self.repo,
             &mut self.store,
             &self.config,
@@ -185,10 +243,69 @@ impl<'a, C: CryptoProvider, M: Armor, R: Repository, S: MetadataStore> Updater<'
         )
     }
 
-    /// The file of a target, which `chain` then explains. Errors, in this order: `Expired` of root,
-    /// timestamp and snapshot, `NotRefreshed`, `Expired` of the targets document,
-    /// `IntegrityMismatch(Version)`, `TargetNotFound` or `Unbuilt(Delegations)`,
-    /// `IntegrityMismatch(TooLong)`, then those of the fetch and of the file's length and digests.
+    /// What the documents in force list of a target at a moment; None where they don't list it. Errors, in this
+    /// order: `Expired` of root, timestamp and snapshot, `NotRefreshed`, `Expired` of the targets document,
+    /// `IntegrityMismatch(Version)`, `Unbuilt(Delegations)`.
+    pub fn get_target_info(
+        &mut self,
+        alloc: Global,
+        path: &str,
+        now: jiff::Timestamp,
+    ) -> Result<Option<TargetFile>, Error>
+        ensures ok { IfOk result (λ found. info_of self.old.set.documents self.old.config path.now now ≡ Ok found) }
+        ensures err { IfErr result
+            (λ e. e ≢ Error.NoMemory → info_of self.old.set.documents self.old.config path.now now ≡ Err e) }
+        ensures same { self.new ≡ self.old }
+    {
+        target_info(alloc, &self.set, &self.config, path, now)
+    }
+
+    /// The store's file of a target, where it is the listed one by its length and digests; None too where there
+    /// is no store, or where its call fails. Errors: `NoMemory`.
+    pub fn find_cached_target(
+        &mut self,
+        alloc: Global,
+        target: &TargetFile,
+        path: &str,
+    ) -> Result<Option<Bytes>, Error>
+        ensures same_store { SameOption self.old.store self.new.store }
+        ensures recalls { Recalls target.now path.now (option_seen S.seen self.old.store) (option_seen S.seen self.new.store) result }
+        ensures err { IfErr result (λ e. e ≡ Error.NoMemory) }
+        ensures same { (self.new.set ≡ self.old.set) × (self.new.repo ≡ self.old.repo)
+            × (self.new.config ≡ self.old.config) × (self.new.chain ≡ self.old.chain) }
+    {
+        recall_held(alloc, &mut self.store, target, path)
+    }
+
+    /// The repository's file of a target, which is then written to the store. Errors, in this order:
+    /// `IntegrityMismatch(TooLong)` where the listed length is above the limit, those of the fetch, then
+    /// `IntegrityMismatch` of the file's length and digests.
+    pub fn download_target(
+        &mut self,
+        alloc: Global,
+        target: &TargetFile,
+        path: &str,
+    ) -> Result<Bytes, Error>
+        ensures same_repo { self.new.repo.ghost_name ≡ self.old.repo.ghost_name }
+        ensures same_store { SameOption self.old.store self.new.store }
+        ensures downloads { Downloads self.old.config target.now path.now (R.seen self.old.repo.now) (R.seen self.new.repo.now)
+            (option_seen S.seen self.old.store) (option_seen S.seen self.new.store) result }
+        ensures same { (self.new.set ≡ self.old.set)
+            × (self.new.config ≡ self.old.config) × (self.new.chain ≡ self.old.chain) }
+    {
+        download_held(
+            alloc,
+            self.repo,
+            &mut self.store,
+            &self.config,
+            target,
+            path,
+        )
+    }
+
+    /// The file of a target, which `chain` then explains: the store's where it is the listed one, else the
+    /// repository's. Errors, in this order: those of `get_target_info`, `TargetNotFound`, then those of
+    /// `download_target`.
     pub fn get_target(
         &mut self,
         alloc: Global,
@@ -197,15 +314,15 @@ impl<'a, C: CryptoProvider, M: Armor, R: Repository, S: MetadataStore> Updater<'
     ) -> Result<Bytes, Error>
         ensures same_repo { self.new.repo.ghost_name ≡ self.old.repo.ghost_name }
         ensures same_store { SameOption self.old.store self.new.store }
-        ensures store { option_seen S.seen self.new.store ≡ option_seen S.seen self.old.store }
-        ensures gives { GivesFile self.old.set.documents self.old.config path.now now (R.seen self.old.repo.now) (R.seen self.new.repo.now) self.new.chain result }
-        ensures trusted { OnOk result (KeepsTrusted self.old.set.documents self.old.config path.now now self.new.chain) }
+        ensures gives { GivesFile (session_of (crypto_in C.CryptoProvider M.Armor self.old.set) self.old.config now) path.now
+            (state_of self.old.set.documents (R.seen self.old.repo.now) (option_seen S.seen self.old.store))
+            (state_of self.new.set.documents (R.seen self.new.repo.now) (option_seen S.seen self.new.store)) self.new.chain result }
         ensures kept { OnErr result (self.new.chain ≡ self.old.chain) }
         ensures same { (self.new.set ≡ self.old.set) × (self.new.config ≡ self.old.config) }
     {
         match get_target_held(
             alloc,
-            &self.set.documents,
+            &self.set,
             self.repo,
             &mut self.store,
             &self.config,

@@ -1,43 +1,63 @@
 -- Each refusal of the top call has its cause.
-use Rattle.std.proofs.Common.{◌≡◌, Err, sym, subst}
+use Rattle.std.proofs.Common.{◌≡◌, ◌≢◌, ◌⊎◌, inl, inr, Ok, Err, sym, subst}
 use Rattle.foundation.specs.Watched.{Watched}
 use Rattle.foundation.specs.Results.{err_same}
 use Rattle.sigstore_tuf_parts.specs.declared.error.Error.{Error as TufError}
 use Rattle.sigstore_tuf_parts.specs.declared.error.Error.TheVariants as tuf
 use Rattle.sigstore_tuf.specs.declared.chain.TrustChain.{TrustChain}
-use Rattle.sigstore_tuf.specs.Cause.{ClientCause}
-use Rattle.sigstore_tuf.specs.Repository.{Folders}
-use Rattle.sigstore_tuf.proofs.CauseNumbers.{wanting}
-use Rattle.sigstore_tuf.proofs.Causes.{first_refused, refresh_refused, search_refused}
+use Rattle.sigstore_tuf.specs.declared.documents.InForce.{InForce}
+use Rattle.sigstore_tuf.specs.Repository.{Files}
+use Rattle.sigstore_tuf.specs.State.{state_of}
+use Rattle.sigstore_tuf.proofs.Refusals.{first_refusal}
+use Rattle.sigstore_tuf.proofs.Carrying.{Carried, attach_carried, refresh_carried}
+use Rattle.sigstore_tuf.proofs.Causes.{is_want, earlier}
+use Rattle.sigstore_tuf.proofs.TargetCauses.{target_earlier}
 use Rattle.sigstore_verify.specs.declared.error.Error.{Error}
 use Rattle.sigstore_verify.specs.declared.error.Error.TheVariants as verify
 use Rattle.sigstore_verify.specs.declared.from_root.RootFault.{RootFault}
-use Rattle.sigstore_verify.specs.Cause.{JudgeCause, RootCause}
+use Rattle.sigstore_verify.specs.Cause as cause
+use Rattle.sigstore_verify.specs.Cause.{JudgeCause, RootCause, ChainCause, state_in}
 use Rattle.sigstore_verify.specs.Given.{Anchor, Given, Outside, asked_by}
 use Rattle.sigstore_verify.specs.FromRoot as top
-use Rattle.sigstore_verify.specs.FromRoot.{trust_path, TrustsChain, GivesChain, root_of_tuf, root_of_verify, Runs}
+use Rattle.sigstore_verify.specs.FromRoot.{trust_path, session_in, TrustsChain, GivesChain, root_of_tuf, root_of_verify, Runs}
 use Rattle.sigstore_verify.proofs.JudgeCauses.{judge_refused}
-use Rattle.sigstore_verify.proofs.RootFacts.{chain_trusts}
+use Rattle.sigstore_verify.proofs.RootFacts.{refreshed_authorised, chain_trusts}
 
--- a chain that isn't given has its cause in the root and the repository
-module _ (anchor : Anchor) (repo repo' : Watched Folders) where
-  abbrev ChainCause : TufError → Type 0
-  ChainCause e = ClientCause anchor.crypto anchor.root anchor.config trust_path anchor.now repo repo' e
+-- a chain that isn't given has its cause in the root, the repository and the store
+module _ (anchor : Anchor) (before after : Outside) where
+  abbrev Chain : TufError → Type 0
+  Chain e = ChainCause anchor before after e
 
-  chain_cause : (e : TufError) → GivesChain anchor repo repo' (Err e) → ChainCause e
-  chain_cause e (top.root_refused d h s r) =
-      subst ChainCause (err_same d e (sym r)) (wanting anchor.crypto anchor.root anchor.config trust_path anchor.now repo repo' d (λ other. first_refused anchor.crypto anchor.root anchor.config trust_path anchor.now repo repo' d (h other)))
-  chain_cause e (top.refresh_refused set set' d f w r) =
-      subst ChainCause (err_same d e (sym r)) (refresh_refused anchor.crypto anchor.root anchor.config trust_path anchor.now repo repo' set set' f d w)
-  chain_cause e (top.target_refused set set' mid d f w g r) =
-      subst ChainCause (err_same d e (sym r)) (search_refused anchor.crypto anchor.root anchor.config trust_path anchor.now repo repo' set set' mid f w d g)
-  chain_cause e (top.chain_given set set' mid chain f w g r) = cc
+  by_want : (e : TufError) → (e ≢ tuf.NoMemory → Chain e) → Chain e
+  by_want e f = by_either (is_want e)
+    where
+      by_either : (e ≡ tuf.NoMemory) ⊎ (e ≢ tuf.NoMemory) → Chain e
+      by_either (inl is) = cause.chain_wanting is
+      by_either (inr other) = f other
+
+  -- what was had at the beginning of a refresh was had at the very beginning
+  begun_carried : (begun : Watched Files) (set : InForce) (b : top.Begins anchor before.repo before.store begun set) → Carried (state_in b.first before) (state_of set before.repo begun)
+  begun_carried begun set b = attach_carried anchor.crypto (state_in b.first before) (state_of set before.repo begun) (Ok tt) b.attached.attaches
+
+  chain_cause : (e : TufError) → GivesChain anchor before.repo after.repo before.store after.store (Err e) → Chain e
+  chain_cause e (top.root_refused d h s t r) = subst Chain (err_same d e (sym r)) (by_want d (λ other. cause.root_refused (first_refusal anchor.crypto anchor.root d (h other))))
+  chain_cause e (top.attach_refused first set d f a s r) = subst Chain (err_same d e (sym r)) (cause.chain_wanting a.refused)
+  chain_cause e (top.refresh_refused set last begun d b w r) =
+      subst Chain (err_same d e (sym r))
+      (cause.refresh_refused b.first last b.first_is (refreshed_authorised anchor before.repo after.repo before.store begun after.store set last (Err d) b w)
+      (earlier (session_in anchor) (state_in b.first before) (state_of set before.repo begun) (state_in last after) d (begun_carried begun set b) w.cause))
+  chain_cause e (top.target_refused set last mid begun kept d b w g r) =
+      let since = (refresh_carried (session_in anchor) (state_of set before.repo begun) (state_of last mid kept) (Ok tt) w.runs).since in
+      subst Chain (err_same d e (sym r))
+      (cause.search_refused last (refreshed_authorised anchor before.repo mid before.store begun kept set last (Ok tt) b w) w.serves
+      (target_earlier (session_in anchor) trust_path before.repo mid after.repo since last d g.cause))
+  chain_cause e (top.chain_given set last mid begun kept chain b w g r) = cc
 
 module _ (given : Given) (before after : Outside) where
   abbrev Cause : RootFault → Type 0
   Cause fault = RootCause given before after fault
 
-  by_tuf : (e : TufError) → ChainCause given.anchor before.repo after.repo e → after.source ≡ before.source → Cause (root_of_tuf e)
+  by_tuf : (e : TufError) → ChainCause given.anchor before after e → after.source ≡ before.source → Cause (root_of_tuf e)
   by_tuf tuf.Json h s = (h, s)
   by_tuf (tuf.Malformed a) h s = (h, s)
   by_tuf tuf.NonIntegerNumber h s = (h, s)
@@ -81,8 +101,8 @@ module _ (given : Given) (before after : Outside) where
   by_verify (verify.Unbuilt a) chain t h = (t, h)
 
   pub runs_cause : (fault : RootFault) → Runs given before after (Err fault) → Cause fault
-  runs_cause fault (top.chain_refused e c s r) = subst Cause (err_same (root_of_tuf e) fault (sym r)) (by_tuf e (chain_cause given.anchor before.repo after.repo e c) s)
+  runs_cause fault (top.chain_refused e c s r) = subst Cause (err_same (root_of_tuf e) fault (sym r)) (by_tuf e (chain_cause given.anchor before after e c) s)
   runs_cause fault (top.judgement_refused chain e c j r) =
       subst Cause (err_same (root_of_verify e chain) fault (sym r))
-      (by_verify e chain (chain_trusts given.anchor before.repo after.repo chain c) (judge_refused (asked_by given) chain.file before.source after.source e j))
+      (by_verify e chain (chain_trusts given.anchor before.repo after.repo before.store after.store chain c) (judge_refused (asked_by given) chain.file before.source after.source e j))
   runs_cause fault (top.accepted rooted c j r) = cc

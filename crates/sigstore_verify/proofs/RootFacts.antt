@@ -1,13 +1,18 @@
 -- What an acceptance of the top call means.
-use Rattle.std.proofs.Common.{◌≡◌, Result, Ok, Err, ap, sym, subst}
+use Rattle.std.proofs.Common.{◌≡◌, Result, Ok, Err, ap, sym, ◌∙◌, subst}
+use Rattle.std.specs.Prelude.{⊤}
 use Rattle.foundation.specs.Watched.{Watched}
-use Rattle.foundation.specs.Results.{no_both}
+use Rattle.foundation.specs.Results.{ok_same, no_both}
 use Rattle.sigstore_types_parts.specs.declared.error.TypesError.{TypesError}
-use Rattle.sigstore_tuf.specs.Repository.{Folders}
+use Rattle.sigstore_tuf_parts.specs.declared.error.Error.{Error as TufError}
+use Rattle.sigstore_tuf.specs.Repository.{Files, Folders}
 use Rattle.sigstore_tuf.specs.declared.chain.TrustChain.{TrustChain}
-use Rattle.sigstore_tuf.specs.Target.{GetsTarget}
-use Rattle.sigstore_tuf.proofs.Authorised.{first_root_authorised, refresh_authorised}
-use Rattle.sigstore_tuf.proofs.Serving.{on_search}
+use Rattle.sigstore_tuf.specs.declared.documents.InForce.{InForce}
+use Rattle.sigstore_tuf.specs.State.{state_of}
+use Rattle.sigstore_tuf.specs.Trusted.{Trusted}
+use Rattle.sigstore_tuf.specs.Authorised.{AreAuthorised, given_in}
+use Rattle.sigstore_tuf.specs.Promises.{Refreshed}
+use Rattle.sigstore_tuf.proofs.Authorised.{first_root_given, first_root_is_authorised}
 use Rattle.sigstore_verify.specs.declared.error.Error.{Error}
 use Rattle.sigstore_verify.specs.declared.from_root.Rooted.{Rooted}
 use Rattle.sigstore_types.specs.declared.bundle.Bundle.{Bundle}
@@ -18,7 +23,7 @@ use Rattle.sigstore_verify.specs.Accepts.{AcceptsBy}
 use Rattle.sigstore_verify.specs.Artifact.{Artifact, Read}
 use Rattle.sigstore_verify.specs.Judged.{Terms, judged_by}
 use Rattle.sigstore_verify.proofs.Accepts.{accepts_exactly}
-use Rattle.sigstore_verify.specs.FromRoot.{or_fault, trust_fault, bundle_fault, trust_path, TrustsChain, GivesChain, root_refused, refresh_refused, target_refused, chain_given, JudgesGiven, trust_refused, verifier_refused, bundle_refused, judged, IsAccepted}
+use Rattle.sigstore_verify.specs.FromRoot.{or_fault, trust_fault, bundle_fault, trust_path, TrustsChain, session_in, Begins, GivesChain, root_refused, attach_refused, refresh_refused, target_refused, chain_given, JudgesGiven, trust_refused, verifier_refused, bundle_refused, judged, IsAccepted}
 
 read_of : {T : Type 0} (fault : TypesError → Error) (r : Result T TypesError) (x : T) → or_fault fault r ≡ Ok x → r ≡ Ok x
 read_of fault (Ok y) x h = let same : y ≡ x = cc in ap Ok same
@@ -28,15 +33,36 @@ under : (terms : Terms) (policy : Meaning) (bundle : Bundle) (artifact : Artifac
     → AcceptsBy terms policy bundle artifact
 under terms (PublicKey policy) bundle artifact report h = ((accepts_exactly terms.crypto.accepts policy bundle artifact report).0 h).0
 
+-- what is in force in the beginning is authorised from the root
+pub begins_given : (anchor : Anchor) (repo : Watched Folders) (store store' : Watched Files) (set : InForce) → Begins anchor repo store store' set → given_in set ≡ anchor.root
+begins_given anchor repo store store' set b = b.attached.authorised.given ∙ first_root_given anchor.crypto anchor.root b.first b.first_is
+
+pub begins_authorised : (anchor : Anchor) (repo : Watched Folders) (store store' : Watched Files) (set : InForce) → Begins anchor repo store store' set → AreAuthorised anchor.crypto anchor.root set
+begins_authorised anchor repo store store' set b =
+    let first = first_root_given anchor.crypto anchor.root b.first b.first_is in
+    subst (λ g. AreAuthorised anchor.crypto g set) first (b.attached.authorised.authorised (first_root_is_authorised anchor.crypto anchor.root b.first b.first_is))
+
+-- and so is what is in force after a refresh
+module _ (anchor : Anchor) (repo mid : Watched Folders) (store begun kept : Watched Files) (set last : InForce) (result : Result ⊤ TufError) (b : Begins anchor repo store begun set)
+    (r : Refreshed (session_in anchor) (state_of set repo begun) (state_of last mid kept) result) where
+  pub refreshed_given : given_in last ≡ anchor.root
+  refreshed_given = r.authorised.given ∙ begins_given anchor repo store begun set b
+
+  pub refreshed_authorised : AreAuthorised anchor.crypto anchor.root last
+  refreshed_authorised =
+      let begins = begins_given anchor repo store begun set b in
+      subst (λ g. AreAuthorised anchor.crypto g last) begins (r.authorised.authorised (subst (λ g. AreAuthorised anchor.crypto g set) (sym begins) (begins_authorised anchor repo store begun set b)))
+
 -- a chain that is given is trusted from the root
-pub chain_trusts : (anchor : Anchor) (repo repo' : Watched Folders) (chain : TrustChain) → GivesChain anchor repo repo' (Ok chain) → TrustsChain anchor chain
-chain_trusts anchor repo repo' chain (root_refused e h s r) = no_both chain e r
-chain_trusts anchor repo repo' chain (refresh_refused set set' e f w r) = no_both chain e r
-chain_trusts anchor repo repo' chain (target_refused set set' mid e f w g r) = no_both chain e r
-chain_trusts anchor repo repo' chain (chain_given set set' mid given f w g r) =
-    let first = first_root_authorised anchor.crypto anchor.root set f in
-    let later = refresh_authorised anchor.crypto anchor.root anchor.config anchor.now set set' repo mid (Ok tt) w first in
-    on_search anchor.crypto anchor.root trust_path anchor.config anchor.now set' mid repo' (Ok chain) later (subst (GetsTarget set' anchor.config trust_path anchor.now mid repo') (sym r) g)
+pub chain_trusts : (anchor : Anchor) (repo repo' : Watched Folders) (store store' : Watched Files) (chain : TrustChain) → GivesChain anchor repo repo' store store' (Ok chain) → TrustsChain anchor chain
+chain_trusts anchor repo repo' store store' chain (root_refused e h s t r) = no_both chain e r
+chain_trusts anchor repo repo' store store' chain (attach_refused first set e f a s r) = no_both chain e r
+chain_trusts anchor repo repo' store store' chain (refresh_refused set last begun e b w r) = no_both chain e r
+chain_trusts anchor repo repo' store store' chain (target_refused set last mid begun kept e b w g r) = no_both chain e r
+chain_trusts anchor repo repo' store store' chain (chain_given set last mid begun kept given b w g r) =
+    let same : given ≡ chain = ok_same given chain (sym r) in
+    subst (TrustsChain anchor) same
+    (subst (λ root. Trusted anchor.crypto root anchor.now anchor.config.max_delegations trust_path given) (refreshed_given anchor repo mid store begun kept set last (Ok tt) b w) g.trusted)
 
 module _ (given : Given) (before after : Outside) (rooted : Rooted) where
   pub is_accepted : TrustsChain given.anchor rooted.chain

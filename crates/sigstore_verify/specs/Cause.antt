@@ -17,7 +17,12 @@ use Rattle.sigstore_crypto.specs.Digest.{is_hashed}
 use Rattle.sigstore_crypto.specs.Key.{spki_key_of}
 use Rattle.sigstore_crypto.specs.Scheme.{has_digest}
 use Rattle.sigstore_tuf_parts.specs.declared.error.Error.TheVariants as tuf
-use Rattle.sigstore_tuf.specs.Cause.{ClientCause}
+use Rattle.sigstore_tuf_parts.specs.declared.error.Error.{Error as TufError}
+use Rattle.sigstore_tuf.specs.Cause.{FirstCause, RefreshCause, TargetCause}
+use Rattle.sigstore_tuf.specs.Authorised.{AreAuthorised, Serve}
+use Rattle.sigstore_tuf.specs.declared.documents.InForce.{InForce}
+use Rattle.sigstore_tuf.specs.State.{State, state_of}
+use Rattle.sigstore_tuf.specs.Update.{first_root_of}
 use Rattle.sigstore_verify.specs.declared.error.Error.{Error}
 use Rattle.sigstore_verify.specs.declared.error.Error.TheVariants as verify
 use Rattle.sigstore_verify.specs.declared.policy.PublicKeyVerificationPolicy.{PublicKeyVerificationPolicy}
@@ -30,8 +35,8 @@ use Rattle.sigstore_verify.specs.Artifact.{Read, digest_of}
 use Rattle.sigstore_verify.specs.Trust.{usable_of}
 use Rattle.sigstore_verify.specs.Policy.{Meaning, PublicKey}
 use Rattle.sigstore_verify.specs.Promise.{ReadWhole, ReadCause}
-use Rattle.sigstore_verify.specs.Given.{Given, Outside, Asked, asked_by}
-use Rattle.sigstore_verify.specs.FromRoot.{trust_fault, bundle_fault, trust_path, TrustsChain}
+use Rattle.sigstore_verify.specs.Given.{Anchor, Given, Outside, Asked, asked_by}
+use Rattle.sigstore_verify.specs.FromRoot.{trust_fault, bundle_fault, trust_path, session_in, TrustsChain}
 
 -- a lower definition refuses, and its refusal is this one here
 abbrev pub IsRefusedAs : {T X : Type 0} → (X → Error) → Result T X → Error → Type 0
@@ -133,15 +138,30 @@ CauseUnder (PublicKey policy) asked file source source' e = KeyCause asked.crypt
 abbrev pub JudgeCause : Asked → List ℕ → Watched (List ℕ) → Watched (List ℕ) → Error → Type 0
 JudgeCause asked file source source' e = CauseUnder asked.policy asked file source source' e
 
+-- ---- why there is no chain
+
+abbrev pub state_in : InForce → Outside → State
+state_in set outside = state_of set outside.repo outside.store
+
+-- The given root is refused; or a refresh from it, of documents that repository and store had at the beginning; or the search in
+-- documents that are authorised from the root, and serve at this moment.
+pub data ChainCause (anchor : Anchor) (before after : Outside) (e : TufError) : Type 0 where
+  root_refused : FirstCause anchor.crypto anchor.root e → ChainCause anchor before after e
+  refresh_refused : (first last : InForce) → first_root_of anchor.crypto anchor.root ≡ Ok first
+      → AreAuthorised anchor.crypto anchor.root last
+      → RefreshCause (session_in anchor) (state_in first before) (state_in last after) e → ChainCause anchor before after e
+  search_refused : (last : InForce) → AreAuthorised anchor.crypto anchor.root last → Serve anchor.now last
+      → TargetCause (session_in anchor) trust_path last before.repo after.repo e → ChainCause anchor before after e
+  chain_wanting : e ≡ tuf.NoMemory → ChainCause anchor before after e
+
 -- ---- each refusal of the top call
 
--- Tuf: its cause is in the root and the repository. Verify: the chain that is handed back is trusted, and the cause is in its
+-- Tuf: its cause is in the root, the repository and the store. Verify: the chain that is handed back is trusted, and the cause is in its
 -- file, the bundle, the policy and the artifact. Want of memory is never told as one of these.
 abbrev pub RootCause : Given → Outside → Outside → RootFault → Type 0
 RootCause given before after (refusal.Tuf tuf.NoMemory) = ⊥
 RootCause given before after (refusal.Tuf e) =
-    ClientCause given.anchor.crypto given.anchor.root given.anchor.config trust_path given.anchor.now before.repo after.repo e
-    × (after.source ≡ before.source)
+    ChainCause given.anchor before after e × (after.source ≡ before.source)
 RootCause given before after (refusal.Verify verify.NoMemory chain) = ⊥
 RootCause given before after (refusal.Verify e chain) =
     TrustsChain given.anchor chain × JudgeCause (asked_by given) chain.file before.source after.source e

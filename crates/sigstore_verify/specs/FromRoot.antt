@@ -9,12 +9,12 @@ use Rattle.sigstore_types.specs.TrustedRoot.{trusted_root_of_bytes}
 use Rattle.sigstore_crypto.specs.Digest.{digests_by}
 use Rattle.sigstore_tuf_parts.specs.declared.error.Error.{Error as TufError}
 use Rattle.sigstore_tuf_parts.specs.declared.error.Error.TheVariants as tuf
-use Rattle.sigstore_tuf.specs.Repository.{Folders}
+use Rattle.sigstore_tuf.specs.Repository.{Files, Folders}
 use Rattle.sigstore_tuf.specs.declared.documents.InForce.{InForce}
 use Rattle.sigstore_tuf.specs.declared.chain.TrustChain.{TrustChain}
 use Rattle.sigstore_tuf.specs.Update.{first_root_of}
-use Rattle.sigstore_tuf.specs.Refresh.{Refreshes}
-use Rattle.sigstore_tuf.specs.Target.{GetsTarget}
+use Rattle.sigstore_tuf.specs.State.{Session, session_of, state_of}
+use Rattle.sigstore_tuf.specs.Promises.{Attached, Refreshed, Got}
 use Rattle.sigstore_tuf.specs.Trusted.{Trusted}
 use Rattle.sigstore_verify.specs.declared.error.Error.{Error}
 use Rattle.sigstore_verify.specs.declared.error.Error.TheVariants as verify
@@ -56,21 +56,36 @@ bundle_of bytes = or_fault bundle_fault (bundle_of_bytes bytes)
 
 -- ---- the chain of documents
 
--- The chain comes from a first root, a refresh and a search, in this order; the first that refuses answers.
-pub data GivesChain (anchor : Anchor) (repo repo' : Watched Folders) (result : Result TrustChain TufError) : Type 0 where
-  root_refused : (e : TufError) → (e ≢ tuf.NoMemory → first_root_of anchor.crypto anchor.root ≡ Err e) → repo' ≡ repo
-      → result ≡ Err e → GivesChain anchor repo repo' result
-  refresh_refused : (set set' : InForce) (e : TufError) → first_root_of anchor.crypto anchor.root ≡ Ok set
-      → Refreshes anchor.crypto anchor.config anchor.now set set' repo repo' (Err e)
-      → result ≡ Err e → GivesChain anchor repo repo' result
-  target_refused : (set set' : InForce) (mid : Watched Folders) (e : TufError) → first_root_of anchor.crypto anchor.root ≡ Ok set
-      → Refreshes anchor.crypto anchor.config anchor.now set set' repo mid (Ok tt)
-      → GetsTarget set' anchor.config trust_path anchor.now mid repo' (Err e) → result ≡ Err e
-      → GivesChain anchor repo repo' result
-  chain_given : (set set' : InForce) (mid : Watched Folders) (chain : TrustChain) → first_root_of anchor.crypto anchor.root ≡ Ok set
-      → Refreshes anchor.crypto anchor.config anchor.now set set' repo mid (Ok tt)
-      → GetsTarget set' anchor.config trust_path anchor.now mid repo' (Ok chain) → result ≡ Ok chain
-      → GivesChain anchor repo repo' result
+abbrev pub session_in : Anchor → Session
+session_in anchor = session_of anchor.crypto anchor.config anchor.now
+
+-- A client begins with a first root, and with what a store has of the next ones.
+pub record Begins (anchor : Anchor) (repo : Watched Folders) (store store' : Watched Files) (set : InForce) : Type 0 where
+  pub first : InForce
+  pub first_is : first_root_of anchor.crypto anchor.root ≡ Ok first
+  pub attached : Attached anchor.crypto (state_of first repo store) (state_of set repo store') (Ok tt)
+
+-- The chain comes from a first root, the store's next roots, a refresh and a search, in this order; the first that refuses answers.
+pub data GivesChain (anchor : Anchor) (repo repo' : Watched Folders) (store store' : Watched Files)
+    (result : Result TrustChain TufError) : Type 0 where
+  root_refused : (e : TufError) → (e ≢ tuf.NoMemory → first_root_of anchor.crypto anchor.root ≡ Err e) → repo' ≡ repo → store' ≡ store
+      → result ≡ Err e → GivesChain anchor repo repo' store store' result
+  attach_refused : (first set : InForce) (e : TufError) → first_root_of anchor.crypto anchor.root ≡ Ok first
+      → Attached anchor.crypto (state_of first repo store) (state_of set repo store') (Err e) → repo' ≡ repo
+      → result ≡ Err e → GivesChain anchor repo repo' store store' result
+  refresh_refused : (set last : InForce) (begun : Watched Files) (e : TufError) → Begins anchor repo store begun set
+      → Refreshed (session_in anchor) (state_of set repo begun) (state_of last repo' store') (Err e)
+      → result ≡ Err e → GivesChain anchor repo repo' store store' result
+  target_refused : (set last : InForce) (mid : Watched Folders) (begun kept : Watched Files) (e : TufError)
+      → Begins anchor repo store begun set
+      → Refreshed (session_in anchor) (state_of set repo begun) (state_of last mid kept) (Ok tt)
+      → Got (session_in anchor) trust_path (state_of last mid kept) (state_of last repo' store') (Err e) → result ≡ Err e
+      → GivesChain anchor repo repo' store store' result
+  chain_given : (set last : InForce) (mid : Watched Folders) (begun kept : Watched Files) (chain : TrustChain)
+      → Begins anchor repo store begun set
+      → Refreshed (session_in anchor) (state_of set repo begun) (state_of last mid kept) (Ok tt)
+      → Got (session_in anchor) trust_path (state_of last mid kept) (state_of last repo' store') (Ok chain) → result ≡ Ok chain
+      → GivesChain anchor repo repo' store store' result
 
 -- the chain is trusted from the given root at the moment, for the trust file
 abbrev pub TrustsChain : Anchor → TrustChain → Type 0
@@ -110,12 +125,13 @@ JudgesGiven given file before after result = JudgesBundle (asked_by given) file 
 -- The top call is the chain and then the judgement under the chain's file; the first that refuses answers. The artifact stays
 -- unread where there is no chain.
 pub data Runs (given : Given) (before after : Outside) (result : Result Rooted RootFault) : Type 0 where
-  chain_refused : (e : TufError) → GivesChain given.anchor before.repo after.repo (Err e) → after.source ≡ before.source
+  chain_refused : (e : TufError) → GivesChain given.anchor before.repo after.repo before.store after.store (Err e)
+      → after.source ≡ before.source
       → result ≡ Err (root_of_tuf e) → Runs given before after result
-  judgement_refused : (chain : TrustChain) (e : Error) → GivesChain given.anchor before.repo after.repo (Ok chain)
+  judgement_refused : (chain : TrustChain) (e : Error) → GivesChain given.anchor before.repo after.repo before.store after.store (Ok chain)
       → JudgesGiven given chain.file before after (Err e)
       → result ≡ Err (root_of_verify e chain) → Runs given before after result
-  accepted : (rooted : Rooted) → GivesChain given.anchor before.repo after.repo (Ok rooted.chain)
+  accepted : (rooted : Rooted) → GivesChain given.anchor before.repo after.repo before.store after.store (Ok rooted.chain)
       → JudgesGiven given rooted.chain.file before after
       (Ok (record { result = rooted.result; digests = rooted.digests })) → result ≡ Ok rooted → Runs given before after result
 

@@ -1,14 +1,13 @@
 -- What the top call promises, whole: the theorem that users rest on.
-use Rattle.std.specs.Prelude.{◌≡◌, Result, IfOk, IfErr}
+use Rattle.std.specs.Prelude.{Result, IfOk, IfErr}
 use Rattle.sigstore_verify.specs.declared.from_root.Rooted.{Rooted}
 use Rattle.sigstore_verify.specs.declared.from_root.RootFault.{RootFault}
 use Rattle.sigstore_verify.specs.Given.{Given, Outside}
 use Rattle.sigstore_verify.specs.FromRoot.{IsAccepted, Runs}
 use Rattle.sigstore_verify.specs.Cause.{RootCause}
 
--- what Ok means, what each refusal means, which call answers, and that the store stays as it was
+-- what Ok means, what each refusal means, and which call answers
 pub record Promises (given : Given) (before after : Outside) (result : Result Rooted RootFault) : Type 0 where
   pub accepted : IfOk result (IsAccepted given before after)
   pub refused : IfErr result (RootCause given before after)
   pub runs : Runs given before after result
-  pub store : after.store ≡ before.store

@@ -2,6 +2,7 @@
 ghost use Rattle.std.specs.Prelude.{◌≡◌, ◌≢◌, ℕ, List, Ok, Err, IfOk, IfErr};
 ghost use Rattle.sigstore_tuf_parts.specs.By.{crypto_by};
 ghost use Rattle.sigstore_tuf.specs.Update.{first_root_of};
+ghost use Rattle.sigstore_tuf.specs.Authorised.{crypto_in};
 ghost use Rattle.sigstore_verify.specs.FromRoot.{trust_of, bundle_of, GivesChain, JudgesBundle, root_of_tuf, root_of_verify};
 ghost use Rattle.sigstore_verify.specs.Given.{Anchor, Given, Outside, Asked};
 ghost use Rattle.sigstore_verify.specs.Promises.{Promises};
@@ -14,7 +15,7 @@ use foundation::{Duplicate, NoMemory, Sequence};
 use jiff::Timestamp;
 use sigstore_crypto::{ArtifactSource, CryptoProvider};
 use sigstore_tuf::{
-    InForce, MetadataStore, Repository, TrustChain, TrustedMetadataSet, UpdaterConfig,
+    MetadataStore, Repository, TrustChain, TrustedMetadataSet, UpdaterConfig, attach_parts,
     get_target_parts, refresh_parts,
 };
 use sigstore_types::{Bundle, TrustedRoot};
@@ -97,58 +98,50 @@ fn read_bundle(alloc: Global, bytes: &[u8]) -> Result<Bundle, Error>
     }
 }
 
-// The chain of documents that authorises the trust file, by a client that begins with these documents.
+// The chain of documents that authorises the trust file, by a client that begins with this first root.
 fn chain_by<C: CryptoProvider, M: Armor, R: Repository, S: MetadataStore>(
     alloc: Global,
-    provider: &C,
-    armor: &M,
-    documents: &mut InForce,
+    set: &mut TrustedMetadataSet<'_, C, M>,
     repo: &mut R,
     store: &mut S,
     config: &UpdaterConfig,
     now: Timestamp,
 ) -> Result<TrustChain, sigstore_tuf_parts::Error>
-    ensures gives { let crypto = crypto_by C.CryptoProvider M.Armor provider.now armor.now in
-        (root : List ℕ) → first_root_of crypto root ≡ Ok documents.old
-        → GivesChain (record { crypto = crypto; root = root; config = config.now; now = now }) (R.seen repo.old) (R.seen repo.new) result }
-    ensures store { S.seen store.new ≡ S.seen store.old }
+    ensures { let crypto = crypto_in C.CryptoProvider M.Armor set.old in
+        (root : List ℕ) → first_root_of crypto root ≡ Ok set.old.documents
+        → GivesChain (record { crypto = crypto; root = root; config = config.now; now = now })
+        (R.seen repo.old) (R.seen repo.new) (S.seen store.old) (S.seen store.new) result }
 {
-    if let Err(e) = refresh_parts(alloc, provider, armor, documents, repo, store, config, now) {
+    if let Err(e) = attach_parts(alloc, set, store) {
         return Err(e);
     }
-    match get_target_parts(alloc, documents, repo, store, config, TRUST_PATH, now) {
+    if let Err(e) = refresh_parts(alloc, set, repo, store, config, now) {
+        return Err(e);
+    }
+    match get_target_parts(alloc, set, repo, store, config, TRUST_PATH, now) {
         Ok(chain) => Ok(chain),
         Err(e) => Err(e),
     }
 }
 
 // The chain of documents that authorises the trust file.
-fn trust_chain<'p, C: CryptoProvider, M: Armor, R: Repository, S: MetadataStore>(
+fn trust_chain<C: CryptoProvider, M: Armor, R: Repository, S: MetadataStore>(
     alloc: Global,
-    provider: &'p C,
-    armor: &'p M,
+    provider: &C,
+    armor: &M,
     root_bytes: &[u8],
     repo: &mut R,
     store: &mut S,
     config: &UpdaterConfig,
     now: Timestamp,
 ) -> Result<TrustChain, sigstore_tuf_parts::Error>
-    ensures gives { let crypto = crypto_by C.CryptoProvider M.Armor provider.now armor.now in
-        GivesChain (record { crypto = crypto; root = root_bytes.now; config = config.now; now = now }) (R.seen repo.old) (R.seen repo.new) result }
-    ensures store { S.seen store.new ≡ S.seen store.old }
+    ensures { let crypto = crypto_by C.CryptoProvider M.Armor provider.now armor.now in
+        GivesChain (record { crypto = crypto; root = root_bytes.now; config = config.now; now = now })
+        (R.seen repo.old) (R.seen repo.new) (S.seen store.old) (S.seen store.new) result }
 {
     match TrustedMetadataSet::from_root(alloc, provider, armor, root_bytes) {
         Ok(mut set) => {
-            let given = chain_by(
-                alloc,
-                provider,
-                armor,
-                &mut set.documents,
-                repo,
-                store,
-                config,
-                now,
-            );
+            let given = chain_by(alloc, &mut set, repo, store, config, now);
             drop(set);
             given
         }
@@ -189,10 +182,11 @@ fn judge_bundle<C: CryptoProvider, M: Armor, A: ArtifactSource, P: Policy>(
     kept
 }
 
-/// Verifies a bundle over an artifact from a pinned TUF root: refreshes a client of the repository, gets
-/// the target `trusted_root.json`, reads it as the trust file, reads the bundle and verifies the
-/// artifact as it is read. Errors are those of the first of these that refuses: `Tuf`, or `Verify` with
-/// the chain whose file the bundle was judged under. The store is handed through and not called yet.
+/// Verifies a bundle over an artifact from a pinned TUF root: begins a client with that root and the
+/// store's next ones, refreshes it, gets the target `trusted_root.json`, reads it as the trust file, reads
+/// the bundle and verifies the artifact as it is read. Errors are those of the first of these that refuses:
+/// `Tuf`, or `Verify` with the chain whose file the bundle was judged under. The store is a cache: nothing
+/// that it has is believed unsigned, and a fault of it is none.
 pub fn verify_from_root<
     R: Repository,
     S: MetadataStore,

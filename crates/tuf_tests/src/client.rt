@@ -7,7 +7,7 @@ use foundation::{Duplicate, NoMemory};
 use jiff::Timestamp;
 use sigstore_crypto::CryptoProvider;
 use sigstore_tuf::*;
-use sigstore_tuf_parts::Role;
+use sigstore_tuf_parts::{Role, TargetFile};
 use sigstore_types_parts::{Armor, Bytes, FailList};
 use std::alloc::Global;
 use std::process::Abort;
@@ -16,7 +16,7 @@ use std::process::Abort;
 pub fn answer<X: AllocGlobal + Abort>(rt: &X, call: &str) -> String {
     match call {
         "limits by default" => printed(rt, UpdaterConfig::default()),
-        "set of the root" => versions_of_a_set(rt),
+        "set of documents" => versions_of_a_set(rt),
         _ => panic!(rt; "no call {call}"),
     }
 }
@@ -110,8 +110,31 @@ fn versions<X: AllocGlobal + Abort, C: CryptoProvider, M: Armor>(
 fn versions_of_a_set<X: AllocGlobal + Abort>(rt: &X) -> String {
     let armor = armor(rt);
     let made = TrustedMetadataSet::from_root(rt.alloc(), &One, &armor, ROOT.as_bytes());
-    let set = good(rt, made);
+    let mut set = good(rt, made);
+    let second = good(
+        rt,
+        ROOT.replace(rt.alloc(), "\"version\":1", "\"version\":2"),
+    );
+    let now = good(rt, "2025-01-01T00:00:00Z".parse());
+    good(rt, set.update_root(rt.alloc(), second.as_bytes()));
+    good(rt, set.check_root_expired(rt.alloc(), now));
+    good(
+        rt,
+        set.update_timestamp(rt.alloc(), TIMESTAMP.as_bytes(), now),
+    );
+    good(rt, set.check_timestamp_expired(rt.alloc(), now));
+    good(
+        rt,
+        set.update_snapshot(rt.alloc(), SNAPSHOT.as_bytes(), now),
+    );
+    good(rt, set.check_snapshot_expired(rt.alloc(), now));
+    good(rt, set.update_targets(rt.alloc(), TARGETS.as_bytes(), now));
+    assert!(rt;
+        set.root_bytes() == second.as_bytes(),
+        "the bytes of the root in force"
+    );
     let answer = versions(rt, &set);
+    drop(second);
     drop(set);
     drop(armor);
     answer
@@ -127,7 +150,7 @@ fn shown<X: AllocGlobal + Abort>(rt: &X, chain: &TrustChain) -> String {
     printed(rt, (roots, roles, timestamp, snapshot, length, file))
 }
 
-type Client<'a> = Updater<'a, One, OneKey, MemoryRepository, NoStore>;
+type Client<'a> = Updater<'a, One, OneKey, MemoryRepository, MemoryStore>;
 
 fn chain_shown<X: AllocGlobal + Abort>(rt: &X, client: &Client) -> String {
     match good(rt, client.chain(rt.alloc())) {
@@ -140,9 +163,32 @@ fn chain_shown<X: AllocGlobal + Abort>(rt: &X, client: &Client) -> String {
     }
 }
 
+// The listed length of the target `a`.
+fn info<X: AllocGlobal + Abort>(rt: &X, client: &mut Client, now: Timestamp) -> TargetFile {
+    there(rt, good(rt, client.get_target_info(rt.alloc(), "a", now)))
+}
+
 fn told<X: AllocGlobal + Abort>(rt: &X, client: &mut Client, call: &str, now: Timestamp) -> String {
     match call {
         "chain" => chain_shown(rt, client),
+        "length" => {
+            let target = info(rt, client, now);
+            let length = target.length;
+            drop(target);
+            printed(rt, length)
+        }
+        "kept" => {
+            let target = info(rt, client, now);
+            let file = client.find_cached_target(rt.alloc(), &target, "a");
+            drop(target);
+            printed(rt, file)
+        }
+        "file" => {
+            let target = info(rt, client, now);
+            let file = client.download_target(rt.alloc(), &target, "a");
+            drop(target);
+            printed(rt, file)
+        }
         "refresh" => word(rt, client.refresh(rt.alloc(), now)),
         "versions" => versions(rt, client.trusted()),
         path => printed(rt, client.get_target(rt.alloc(), path, now)),
@@ -157,7 +203,7 @@ fn told_all<X: AllocGlobal + Abort>(rt: &X, client: &mut Client, now: Timestamp,
 }
 
 // Tries calls of one client of the root, one after the other, at a moment, over a repository in which the
-// timestamp is there or absent, with so many next roots at most.
+// timestamp is there or absent, with so many next roots at most, and over an empty store.
 fn called<X: AllocGlobal + Abort>(rt: &X, timestamp: &str, now: &str, most: u32, rows: &str) {
     let config = UpdaterConfig {
         max_root_rotations: most,
@@ -165,9 +211,12 @@ fn called<X: AllocGlobal + Abort>(rt: &X, timestamp: &str, now: &str, most: u32,
     };
     let (armor, mut repo) = (armor(rt), repository(rt, timestamp));
     let made = Updater::new(rt.alloc(), &One, &armor, &mut repo, ROOT.as_bytes());
-    let mut client: Client = good(rt, made).with_config(config);
+    let mut store = MemoryStore::new(rt.alloc());
+    let client: Client = good(rt, made).with_config(config);
+    let mut client = good(rt, client.with_store(rt.alloc(), &mut store));
     told_all(rt, &mut client, good(rt, now.parse()), rows);
     drop(client);
+    drop(store);
     drop(repo);
     drop(armor);
 }
@@ -176,6 +225,10 @@ fn called<X: AllocGlobal + Abort>(rt: &X, timestamp: &str, now: &str, most: u32,
 const CALLS: &str = "chain => none
 refresh => Ok
 versions => (1, Some(2), Some(3), Some(4))
+length => 2
+kept => Ok(None)
+file => Ok([123, 125])
+kept => Ok(Some([123, 125]))
 a => Ok([123, 125])
 chain => (1, 1, true, true, 2, [123, 125])";
 
@@ -188,7 +241,11 @@ const ABSENT: &str = "refresh => Transport(Absent)";
 #[test]
 fn clients(rt: HostRuntime) {
     hold(&rt, "limits by default", LIMITS);
-    hold(&rt, "set of the root", " => (1, None, None, None)");
+    hold(
+        &rt,
+        "set of documents",
+        " => (2, Some(2), Some(3), Some(4))",
+    );
     called(&rt, "there", "2025-01-01T00:00:00Z", 32, CALLS);
     called(&rt, "there", "2030-01-01T00:00:00Z", 32, "refresh => Ok");
     called(&rt, "there", "2030-01-01T00:00:01Z", 32, EXPIRED);

@@ -42,6 +42,8 @@ consistent
 scheme
 declared key
 next root
+second root
+kept root
 timestamp
 unsigned
 trust
@@ -62,14 +64,19 @@ artifact fails
 sink fails
 room";
 
-fn root<X: AllocGlobal + Abort>(rt: &X, change: Change) -> String {
+fn root<X: AllocGlobal + Abort>(rt: &X, change: Change, version: &str) -> String {
     let consistent = change.of("consistent", "false");
     let scheme = change.of("scheme", "ecdsa-sha2-nistp256");
     let public = change.of("declared key", SPKI);
     let text = format!(in rt.alloc();
-        r#"{{"_type":"root","consistent_snapshot":{consistent},"expires":"2031-01-01T00:00:00Z","keys":{{"k":{{"keytype":"ecdsa","keyval":{{"public":"der:{public}"}},"scheme":"{scheme}"}}}},{ROLES},"spec_version":"1.0.0","version":1}}"#
+        r#"{{"_type":"root","consistent_snapshot":{consistent},"expires":"2031-01-01T00:00:00Z","keys":{{"k":{{"keytype":"ecdsa","keyval":{{"public":"der:{public}"}},"scheme":"{scheme}"}}}},{ROLES},"spec_version":"1.0.0","version":{version}}}"#
     );
     good(rt, text)
+}
+
+// The version of the second root, where there is one: in the repository, or in the store alone.
+fn second_version(change: Change) -> &str {
+    change.of("second root", change.of("kept root", ""))
 }
 
 // The entry of the trust file, with its length and digest.
@@ -114,6 +121,11 @@ fn repository<X: AllocGlobal + Abort>(rt: &X, change: Change, targets: &str) -> 
     let failures = failures(rt, change.of("repository fails", ""));
     let mut repo = MemoryRepository::new(rt.alloc(), failures);
     put(rt, &mut repo, "2.root.json", change.of("next root", ""));
+    if change.part == "second root" {
+        let second = root(rt, change, change.text);
+        put(rt, &mut repo, "2.root.json", second.as_str());
+        drop(second);
+    }
     put(
         rt,
         &mut repo,
@@ -157,9 +169,19 @@ fn sign<X: AllocGlobal + Abort>(
     }
 }
 
+fn sign_second<X: AllocGlobal + Abort>(rt: &X, change: Change, rows: &mut String) {
+    let version = second_version(change);
+    if !version.is_empty() {
+        let second = root(rt, change, version);
+        sign(rt, change, rows, "second root", second.as_str());
+        drop(second);
+    }
+}
+
 fn provider<X: AllocGlobal + Abort>(rt: &X, change: Change, root: &str, targets: &str) -> Bytes {
     let mut rows = String::new(rt.alloc());
     sign(rt, change, &mut rows, "root", root);
+    sign_second(rt, change, &mut rows);
     sign(rt, change, &mut rows, "timestamp", TIMESTAMP);
     sign(rt, change, &mut rows, "snapshot", SNAPSHOT);
     sign(rt, change, &mut rows, "targets", targets);
@@ -226,18 +248,18 @@ fn inputs<X: AllocGlobal + Abort>(
     inputs
 }
 
-// How a run over these inputs and this repository ends.
+// How a run over these inputs, this repository and this store ends.
 fn ended<X: AllocGlobal + Abort>(
     rt: &X,
     change: Change,
     inputs: &mut MemoryInputs,
     repo: &mut MemoryRepository,
+    store: &mut MemoryStore,
     sink: &mut MemorySink,
 ) -> Status {
     let words = words(rt, change.of("words", WORDS));
     let artifact = change.of("artifact", change.of("signed artifact", "hello"));
     let mut artifact = source(rt, artifact, change.of("artifact fails", ""));
-    let mut store = MemoryStore::new(rt.alloc());
     let clock = Timestamp::UNIX_EPOCH;
     let status = run(
         rt.alloc(),
@@ -245,26 +267,53 @@ fn ended<X: AllocGlobal + Abort>(
         clock,
         inputs,
         repo,
-        &mut store,
+        store,
         &mut artifact,
         sink,
     );
     drop(words);
-    drop(store);
     drop(artifact);
     status
 }
 
-// How a run over the changed fixture ends.
-fn run_with<X: AllocGlobal + Abort>(rt: &X, change: Change, sink: &mut MemorySink) -> Status {
-    let (root, targets) = (root(rt, change), targets(rt, change));
+// How a run over the changed fixture and a store ends.
+fn run_over<X: AllocGlobal + Abort>(
+    rt: &X,
+    change: Change,
+    store: &mut MemoryStore,
+    sink: &mut MemorySink,
+) -> Status {
+    let (root, targets) = (root(rt, change, "1"), targets(rt, change));
     let mut repo = repository(rt, change, targets.as_str());
     let mut inputs = inputs(rt, change, root.as_str(), targets.as_str());
-    let status = ended(rt, change, &mut inputs, &mut repo, sink);
+    let status = ended(rt, change, &mut inputs, &mut repo, store, sink);
     drop(inputs);
     drop(repo);
     drop(root);
     drop(targets);
+    status
+}
+
+// A run whose repository has a second root, after which the store has it.
+fn keep_second<X: AllocGlobal + Abort>(rt: &X, version: &str, store: &mut MemoryStore) {
+    let change = Change {
+        part: "second root",
+        text: version,
+    };
+    let mut sink = good(rt, MemorySink::new(rt.alloc(), 1024, failures(rt, "")));
+    let status = run_over(rt, change, store, &mut sink);
+    assert!(rt; status == Status::Accepted, "a second root");
+    drop(sink);
+}
+
+// How a run over the changed fixture ends.
+fn run_with<X: AllocGlobal + Abort>(rt: &X, change: Change, sink: &mut MemorySink) -> Status {
+    let mut store = MemoryStore::new(rt.alloc());
+    if change.part == "kept root" {
+        keep_second(rt, change.text, &mut store);
+    }
+    let status = run_over(rt, change, &mut store, sink);
+    drop(store);
     status
 }
 

@@ -2,7 +2,8 @@
 use crate::tables::hold;
 
 // A row: the part, the text in its place, and the status with what is written. The second of the
-// timestamp's expiry is in time; of each object, the call after the last one that is made fails.
+// timestamp's expiry is in time; of each object, the call after the last one that is made fails. A second root
+// is adopted from the repository, and in a later run from the store alone.
 const ACCEPTED: &str =
     r#"nothing |  | Accepted "accepted\nroot 1\ntimestamp 1\nsnapshot 1\nrole targets 1\ntarget 2\nartifact sha256 2cf24dba5fb0a30e26e83b2ac5b9e29e1b161e5c1fa7425e73043362938b9824\nidentity none\nissuer none\ncertificate no\nsct no\ntlog no\npolicy no\nintegrated none\ntimes 0\n"
 signed artifact |  | Accepted "accepted\nroot 1\ntimestamp 1\nsnapshot 1\nrole targets 1\ntarget 2\nartifact sha256 e3b0c44298fc1c149afbf4c8996fb92427ae41e4649b934ca495991b7852b855\nidentity none\nissuer none\ncertificate no\nsct no\ntlog no\npolicy no\nintegrated none\ntimes 0\n"
@@ -10,7 +11,9 @@ words | verify --root=a --repository=b --store=c --bundle=d --artifact=e --polic
 repository fails | 6 | Accepted "accepted\nroot 1\ntimestamp 1\nsnapshot 1\nrole targets 1\ntarget 2\nartifact sha256 2cf24dba5fb0a30e26e83b2ac5b9e29e1b161e5c1fa7425e73043362938b9824\nidentity none\nissuer none\ncertificate no\nsct no\ntlog no\npolicy no\nintegrated none\ntimes 0\n"
 inputs fail | 5 | Accepted "accepted\nroot 1\ntimestamp 1\nsnapshot 1\nrole targets 1\ntarget 2\nartifact sha256 2cf24dba5fb0a30e26e83b2ac5b9e29e1b161e5c1fa7425e73043362938b9824\nidentity none\nissuer none\ncertificate no\nsct no\ntlog no\npolicy no\nintegrated none\ntimes 0\n"
 artifact fails | 5 | Accepted "accepted\nroot 1\ntimestamp 1\nsnapshot 1\nrole targets 1\ntarget 2\nartifact sha256 2cf24dba5fb0a30e26e83b2ac5b9e29e1b161e5c1fa7425e73043362938b9824\nidentity none\nissuer none\ncertificate no\nsct no\ntlog no\npolicy no\nintegrated none\ntimes 0\n"
-sink fails | 2 | Accepted "accepted\nroot 1\ntimestamp 1\nsnapshot 1\nrole targets 1\ntarget 2\nartifact sha256 2cf24dba5fb0a30e26e83b2ac5b9e29e1b161e5c1fa7425e73043362938b9824\nidentity none\nissuer none\ncertificate no\nsct no\ntlog no\npolicy no\nintegrated none\ntimes 0\n""#;
+sink fails | 2 | Accepted "accepted\nroot 1\ntimestamp 1\nsnapshot 1\nrole targets 1\ntarget 2\nartifact sha256 2cf24dba5fb0a30e26e83b2ac5b9e29e1b161e5c1fa7425e73043362938b9824\nidentity none\nissuer none\ncertificate no\nsct no\ntlog no\npolicy no\nintegrated none\ntimes 0\n"
+second root | 2 | Accepted "accepted\nroot 2\ntimestamp 1\nsnapshot 1\nrole targets 1\ntarget 2\nartifact sha256 2cf24dba5fb0a30e26e83b2ac5b9e29e1b161e5c1fa7425e73043362938b9824\nidentity none\nissuer none\ncertificate no\nsct no\ntlog no\npolicy no\nintegrated none\ntimes 0\n"
+kept root | 2 | Accepted "accepted\nroot 2\ntimestamp 1\nsnapshot 1\nrole targets 1\ntarget 2\nartifact sha256 2cf24dba5fb0a30e26e83b2ac5b9e29e1b161e5c1fa7425e73043362938b9824\nidentity none\nissuer none\ncertificate no\nsct no\ntlog no\npolicy no\nintegrated none\ntimes 0\n""#;
 
 #[test]
 fn the_fixture_is_accepted(rt: HostRuntime) {
@@ -32,7 +35,8 @@ unsigned | targets | Refused "refused tuf 8 ThresholdNotMet\n"
 file | {] | Refused "refused tuf 13 IntegrityMismatch\n"
 listed |  | Refused "refused tuf 16 TargetNotFound\n"
 timestamp |  | Refused "refused tuf 18 Transport\n"
-next root | {} | Refused "refused tuf 90 Unbuilt\n"
+next root | {} | Refused "refused tuf 1 Json\n"
+second root | 3 | Refused "refused tuf 11 BadRootVersion\n"
 consistent | true | Refused "refused tuf 90 Unbuilt\n"
 delegations | "delegations":{"keys":{},"roles":[{"keyids":["k"],"name":"d","paths":["x"],"terminating":false,"threshold":1}]}, | Refused "refused tuf 90 Unbuilt\n"
 scheme | ed25519 | Refused "refused tuf 8 ThresholdNotMet\n"

@@ -3,11 +3,11 @@ use Rattle.sigstore_run.specs.Run.{want_words}
 use Rattle.sigstore_run.proofs.RunFacts.{decided_misworded, decided_worded}
 use Rattle.sigstore_run.proofs.program.decide.Goals as goal
 
-pub returns-in-Err-clause-decides : goal.returns-in-Err-clause-decides
-returns-in-Err-clause-decides g c = want_words c.in-Err.e refl refl
+pub returns-in-Err : goal.returns-in-Err
+returns-in-Err g c = want_words c.in-Err.e refl refl
 
-pub returns-in-Some-clause-decides : goal.returns-in-Some-clause-decides
-returns-in-Some-clause-decides g c = decided_worded _ _ _ c.in-Ok.found c.in-Some.layout c.unwrap_or-now.result _ c.in-Some.is c.in-Ok.ensures c.unwrap_or-now.ensures c.proceed.ensures.proceeds
+pub returns-in-Some : goal.returns-in-Some
+returns-in-Some g c = decided_worded _ _ _ c.in-Ok.found c.in-Some.layout c.unwrap_or-now.result _ c.in-Some.is c.in-Ok.ensures c.unwrap_or-now.ensures c.proceed.ensures
 
-pub returns-in-None-clause-decides : goal.returns-in-None-clause-decides
-returns-in-None-clause-decides g c = decided_misworded _ _ c.in-Ok.found c.stopped.result c.in-None.is c.in-Ok.ensures c.stopped.ensures
+pub returns-in-None : goal.returns-in-None
+returns-in-None g c = decided_misworded _ _ c.in-Ok.found c.stopped.result c.in-None.is c.in-Ok.ensures c.stopped.ensures

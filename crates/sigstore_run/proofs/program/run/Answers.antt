@@ -6,23 +6,23 @@ use Rattle.sigstore_run.proofs.Meaning.{run_means}
 use Rattle.sigstore_run.proofs.program.run.Goals as goal
 
 pub returns-in-Err-clause-runs : goal.returns-in-Err-clause-runs
-returns-in-Err-clause-runs g c = unwritten c.in-Err.field-0 c.in-Err.ensures.decides refl refl
+returns-in-Err-clause-runs g c = unwritten c.in-Err.field-0 c.in-Err.ensures refl refl
 
 pub returns-in-Err-clause-means : goal.returns-in-Err-clause-means
 returns-in-Err-clause-means g c = refl
 
 pub returns-in-Ok-write_all-clause-runs : goal.returns-in-Ok-write_all-clause-runs
 returns-in-Ok-write_all-clause-runs g c =
-    written c.in-Ok.said c.in-Ok.ensures.decides (subst (λ t. WritesText {E = SinkFault} (g.K.Sink.seen c.args.out.now) (g.K.Sink.seen c.write_all.new.out) t (Ok tt)) (c.as_bytes.ensures.value ∙ c.as_str.ensures) c.in-Ok-write_all.ensures) refl
+    written c.in-Ok.said c.in-Ok.ensures (subst (λ t. WritesText {E = SinkFault} (g.K.Sink.seen c.args.out.now) (g.K.Sink.seen c.write_all.new.out) t (Ok tt)) (c.as_bytes.ensures.value ∙ c.as_str.ensures) c.in-Ok-write_all.ensures) refl
 
 pub returns-in-Ok-write_all-clause-means : goal.returns-in-Ok-write_all-clause-means
 returns-in-Ok-write_all-clause-means g c =
     run_means _ _ _ _ _ _
-    (written c.in-Ok.said c.in-Ok.ensures.decides (subst (λ t. WritesText {E = SinkFault} (g.K.Sink.seen c.args.out.now) (g.K.Sink.seen c.write_all.new.out) t (Ok tt)) (c.as_bytes.ensures.value ∙ c.as_str.ensures) c.in-Ok-write_all.ensures) refl)
+    (written c.in-Ok.said c.in-Ok.ensures (subst (λ t. WritesText {E = SinkFault} (g.K.Sink.seen c.args.out.now) (g.K.Sink.seen c.write_all.new.out) t (Ok tt)) (c.as_bytes.ensures.value ∙ c.as_str.ensures) c.in-Ok-write_all.ensures) refl)
 
 pub returns-clause-runs : goal.returns-clause-runs
 returns-clause-runs g c =
-    cut c.in-Ok.said c.in-Err-write_all.field-0 c.in-Ok.ensures.decides
+    cut c.in-Ok.said c.in-Err-write_all.field-0 c.in-Ok.ensures
     (subst (λ t. WritesText {E = SinkFault} (g.K.Sink.seen c.args.out.now) (g.K.Sink.seen c.write_all.new.out) t (Err c.in-Err-write_all.field-0)) (c.as_bytes.ensures.value ∙ c.as_str.ensures) c.in-Err-write_all.ensures) refl
 
 pub returns-clause-means : goal.returns-clause-means

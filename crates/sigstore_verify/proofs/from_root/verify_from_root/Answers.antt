@@ -6,18 +6,17 @@ use Rattle.sigstore_verify.proofs.from_root.verify_from_root.Goals as goal
 
 pub returns-in-Err : goal.returns-in-Err
 returns-in-Err g c =
-    let runs = chain_refused _ c.in-Err.ensures.gives refl (ap Err c.tuf_fault.ensures) in
-    record { accepted = tt; refused = runs_cause _ _ _ _ runs; runs = runs; store = c.in-Err.ensures.store }
+    let runs = chain_refused _ c.in-Err.ensures refl (ap Err c.tuf_fault.ensures) in
+    record { accepted = tt; refused = runs_cause _ _ _ _ runs; runs = runs }
 
 pub returns-in-Err-judge_bundle : goal.returns-in-Err-judge_bundle
 returns-in-Err-judge_bundle g c =
-    let runs = judgement_refused _ _ c.in-Ok.ensures.gives (rw c.as_bytes.ensures at c.in-Err-judge_bundle.ensures) (ap Err c.verify_fault.ensures) in
-    record { accepted = tt; refused = runs_cause _ _ _ _ runs; runs = runs; store = c.in-Ok.ensures.store }
+    let runs = judgement_refused _ _ c.in-Ok.ensures (rw c.as_bytes.ensures at c.in-Err-judge_bundle.ensures) (ap Err c.verify_fault.ensures) in
+    record { accepted = tt; refused = runs_cause _ _ _ _ runs; runs = runs }
 
 pub returns-in-Ok-judge_bundle : goal.returns-in-Ok-judge_bundle
 returns-in-Ok-judge_bundle g c = record {
-  accepted = is_accepted _ _ _ _ (chain_trusts _ _ _ _ c.in-Ok.ensures.gives) (rw c.as_bytes.ensures at c.in-Ok-judge_bundle.ensures);
+  accepted = is_accepted _ _ _ _ (chain_trusts _ _ _ _ _ _ c.in-Ok.ensures) (rw c.as_bytes.ensures at c.in-Ok-judge_bundle.ensures);
   refused = tt;
-  runs = accepted _ c.in-Ok.ensures.gives (rw c.as_bytes.ensures at c.in-Ok-judge_bundle.ensures) refl;
-  store = c.in-Ok.ensures.store;
+  runs = accepted _ c.in-Ok.ensures (rw c.as_bytes.ensures at c.in-Ok-judge_bundle.ensures) refl;
 }

@@ -1,0 +1,17 @@
+use Rattle.std.proofs.Common.{sym}
+use Rattle.foundation.specs.Watched.{untold}
+use Rattle.sigstore_tuf.proofs.Authorised.{is_stay, attach_stays}
+use Rattle.sigstore_tuf.proofs.Holding.{attach_authorised}
+use Rattle.sigstore_tuf.proofs.Steps.{attach_wants}
+use Rattle.sigstore_tuf.proofs.parts.attach_parts.Goals as goal
+
+pub invariant_of-set : goal.invariant_of-set
+invariant_of-set g c = attach_authorised _ _ _ _ (c.attach.ensures (untold 0)) c.set.invariant
+
+pub returns-clause-attached : goal.returns-clause-attached
+returns-clause-attached g c = λ repo.
+    let a = c.attach.ensures repo in
+    rw (sym c.set.view_is) (record { attaches = a; authorised = is_stay (attach_stays _ _ _ _ a) c.set.invariant; refused = attach_wants _ _ _ _ a })
+
+pub returns-clause-authorised : goal.returns-clause-authorised
+returns-clause-authorised g c = attach_authorised _ _ _ _ (c.attach.ensures (untold 0)) c.set.invariant

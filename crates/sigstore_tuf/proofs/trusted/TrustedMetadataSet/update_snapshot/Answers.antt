@@ -1,0 +1,10 @@
+use Rattle.std.proofs.Common.{Some, sym}
+use Rattle.sigstore_tuf.specs.declared.kind.Kind.TheVariants.{Snapshot}
+use Rattle.sigstore_tuf.proofs.Authorised.{updates_set}
+use Rattle.sigstore_tuf.proofs.trusted.TrustedMetadataSet.update_snapshot.Goals as goal
+
+pub invariant_of-self : goal.invariant_of-self
+invariant_of-self g c = (updates_set _ Snapshot (Some c.args.now) _ _ _ _ c.update_copied.ensures c.self.invariant).authorised
+
+pub returns-clause-updates : goal.returns-clause-updates
+returns-clause-updates g c = rw (sym c.self.view_is) (updates_set _ Snapshot (Some c.args.now) _ _ _ _ c.update_copied.ensures c.self.invariant)

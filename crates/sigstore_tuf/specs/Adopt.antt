@@ -1,0 +1,200 @@
+-- The adoption of one document, from the repository or from the store (TUF specification, section 5).
+use Rattle.std.specs.Prelude.{◌≡◌, ◌≢◌, ◌⊎◌, ℕ, List, [], ◌∷◌, Bool, true, false, Option, Some, None, option_map}
+use Rattle.std.specs.Prelude.{Result, Ok, Err, codes, ⊤}
+use Rattle.std.specs.List.{last_or}
+use Rattle.jiff_core.specs.declared.timestamp.Timestamp as jiff
+use Rattle.foundation.specs.Watched.{Watched}
+use Rattle.sigstore_types_parts.specs.Entries.{at_name}
+use Rattle.sigstore_tuf_parts.specs.declared.error.Error.{Error}
+use Rattle.sigstore_tuf_parts.specs.declared.error.Error.TheVariants as tuf
+use Rattle.sigstore_tuf_parts.specs.declared.error.TransportFault.TheVariants as transport
+use Rattle.sigstore_tuf_parts.specs.declared.targets.Targets as declared
+use Rattle.sigstore_tuf_parts.specs.Crypto.{Crypto}
+use Rattle.sigstore_tuf.specs.declared.documents.Held.{Held}
+use Rattle.sigstore_tuf.specs.declared.documents.InForce.{InForce}
+use Rattle.sigstore_tuf.specs.declared.kind.Kind.{Kind}
+use Rattle.sigstore_tuf.specs.declared.kind.Kind.TheVariants.{Root, Timestamp, Snapshot, Targets}
+use Rattle.sigstore_tuf.specs.declared.repository.FetchFault.{FetchFault}
+use Rattle.sigstore_tuf.specs.declared.repository.FetchFault.TheVariants as fetch
+use Rattle.sigstore_tuf.specs.declared.store.StoreFault.{StoreFault}
+use Rattle.sigstore_tuf.specs.declared.store.StoreFault.TheVariants as store
+use Rattle.sigstore_tuf.specs.Repository.{Folders, Files, metadata_files, Fetches}
+use Rattle.sigstore_tuf.specs.Store.{Loads, Stores}
+use Rattle.sigstore_tuf.specs.Names.{file_name, max_length, kept_name, kept_names}
+use Rattle.sigstore_tuf.specs.State.{Session, State}
+use Rattle.sigstore_tuf.specs.Update.{update_root_of, update_timestamp_of, update_snapshot_of, update_targets_of}
+
+-- ---- a document of a kind
+
+abbrev pub update_of : Crypto → Kind → InForce → List ℕ → Option jiff.Timestamp → Result InForce Error
+update_of crypto (Root number) set bytes now = update_root_of crypto set bytes
+update_of crypto Timestamp set bytes now = update_timestamp_of crypto set bytes now
+update_of crypto Snapshot set bytes now = update_snapshot_of crypto set bytes now
+update_of crypto Targets set bytes now = update_targets_of crypto set bytes now
+
+abbrev pub taken_of : Result InForce Error → Result (Option InForce) Error
+taken_of (Ok set) = Ok (Some set)
+taken_of (Err e) = Err e
+
+-- a timestamp of the trusted version leaves the trusted one
+abbrev pub unless_equal : Result InForce Error → Result (Option InForce) Error
+unless_equal (Ok set) = Ok (Some set)
+unless_equal (Err (tuf.EqualVersion role version)) = Ok None
+unless_equal (Err e) = Err e
+
+-- The documents in force with these bytes taken in, none where they leave all as it is, or why they are refused.
+abbrev pub judged_of : Crypto → Kind → InForce → List ℕ → Option jiff.Timestamp → Result (Option InForce) Error
+judged_of crypto (Root number) set bytes now = taken_of (update_root_of crypto set bytes)
+judged_of crypto Timestamp set bytes now = unless_equal (update_timestamp_of crypto set bytes now)
+judged_of crypto Snapshot set bytes now = taken_of (update_snapshot_of crypto set bytes now)
+judged_of crypto Targets set bytes now = taken_of (update_targets_of crypto set bytes now)
+
+-- the answer is whether they were taken in; a refusal changes nothing
+abbrev pub Takes : Result (Option InForce) Error → InForce → InForce → Result Bool Error → Type 0
+Takes judged old new (Ok true) = judged ≡ Ok (Some new)
+Takes judged old new (Ok false) = (judged ≡ Ok None) × (new ≡ old)
+Takes judged old new (Err e) = (new ≡ old) × (e ≢ tuf.NoMemory → judged ≡ Err e)
+
+abbrev pub top_targets : InForce → Option (Held declared.Targets)
+top_targets set = at_name (codes "targets") set.targets
+
+-- the bytes of the document in force
+abbrev pub bytes_in : Kind → InForce → Option (List ℕ)
+bytes_in (Root number) set = last_or None set.roots
+bytes_in Timestamp set = option_map (λ held. held.bytes) set.timestamp
+bytes_in Snapshot set = option_map (λ held. held.bytes) set.snapshot
+bytes_in Targets set = option_map (λ held. held.bytes) (top_targets set)
+
+-- ---- a fetch
+
+abbrev pub transport_of : ℕ → FetchFault → Error
+transport_of max fetch.Failed = tuf.Transport transport.Failed
+transport_of max (fetch.TooLong seen) = tuf.Transport (transport.TooLong max seen)
+transport_of max fetch.NoMemory = tuf.NoMemory
+
+abbrev pub fetched_of : ℕ → Result (Option (List ℕ)) FetchFault → Result (Option (List ℕ)) Error
+fetched_of max (Ok file) = Ok file
+fetched_of max (Err fault) = Err (transport_of max fault)
+
+-- the file of that name, unless memory for the name was wanting
+pub data FetchesNamed (part : Folders → Files) (name : List ℕ) (max : ℕ) (old new : Watched Folders)
+    (result : Result (Option (List ℕ)) Error) : Type 0 where
+  fetch_unnamed : new ≡ old → result ≡ Err tuf.NoMemory → FetchesNamed part name max old new result
+  fetch_asked : (answer : Result (Option (List ℕ)) FetchFault) → Fetches part old new name max answer
+      → result ≡ fetched_of max answer → FetchesNamed part name max old new result
+
+abbrev pub FetchesDocument : Session → Kind → Watched Folders → Watched Folders → Result (Option (List ℕ)) Error → Type 0
+FetchesDocument session kind old new result =
+    FetchesNamed metadata_files (file_name kind) (max_length session.config kind) old new result
+
+-- ---- a load
+
+-- A fault of the store is passed over: a client without a store decides by the same rules, only without what it
+-- saw in earlier runs. Want of memory isn't: the program may not go on as if the store had nothing.
+abbrev pub loaded_of : Result (Option (List ℕ)) StoreFault → Result (Option (List ℕ)) Error
+loaded_of (Ok file) = Ok file
+loaded_of (Err store.Failed) = Ok None
+loaded_of (Err store.BadName) = Ok None
+loaded_of (Err store.NoMemory) = Err tuf.NoMemory
+
+pub data LoadsNamed (name : List ℕ) (old new : Watched Files) (result : Result (Option (List ℕ)) Error) : Type 0 where
+  load_unnamed : new ≡ old → result ≡ Err tuf.NoMemory → LoadsNamed name old new result
+  load_asked : (answer : Result (Option (List ℕ)) StoreFault) → Loads old new name answer
+      → result ≡ loaded_of answer → LoadsNamed name old new result
+
+-- ---- a write
+
+abbrev pub passed_of : {T : Type 0} → Result T StoreFault → Result ⊤ Error
+passed_of (Ok x) = Ok tt
+passed_of (Err store.Failed) = Ok tt
+passed_of (Err store.BadName) = Ok tt
+passed_of (Err store.NoMemory) = Err tuf.NoMemory
+
+pub data Saves (bytes name : List ℕ) (old new : Watched Files) (result : Result ⊤ Error) : Type 0 where
+  save_unnamed : new ≡ old → result ≡ Err tuf.NoMemory → Saves bytes name old new result
+  save_asked : (answer : Result ⊤ StoreFault) → Stores old new name bytes answer → result ≡ passed_of answer
+      → Saves bytes name old new result
+
+-- under each of these names in order, until memory is wanting
+abbrev pub SavesAll : List ℕ → List (List ℕ) → Watched Files → Watched Files → Result ⊤ Error → Type 0
+SavesAll bytes [] old new result = (new ≡ old) × (result ≡ Ok tt)
+SavesAll bytes (name ∷ names) old new result =
+    ((e : Error) × Saves bytes name old new (Err e) × (result ≡ Err e))
+    ⊎ ((mid : Watched Files) × Saves bytes name old mid (Ok tt) × SavesAll bytes names mid new result)
+
+-- under all the names of its kind
+pub record Keeps (kind : Kind) (bytes : List ℕ) (old new : Watched Files) (result : Result ⊤ Error) : Type 0 where
+  pub saves : SavesAll bytes (kept_names kind) old new result
+
+-- where the document is in force
+abbrev pub KeepsWhere : Kind → Option (List ℕ) → Watched Files → Watched Files → Result ⊤ Error → Type 0
+KeepsWhere kind None old new result = (new ≡ old) × (result ≡ Ok tt)
+KeepsWhere kind (Some bytes) old new result = Keeps kind bytes old new result
+
+-- ---- from the repository
+
+-- a next root may be absent
+abbrev pub absence_of : Kind → Result Bool Error
+absence_of (Root number) = Ok false
+absence_of Timestamp = Err (tuf.Transport transport.Absent)
+absence_of Snapshot = Err (tuf.Transport transport.Absent)
+absence_of Targets = Err (tuf.Transport transport.Absent)
+
+abbrev pub there_of : Result ⊤ Error → Result Bool Error
+there_of (Ok x) = Ok true
+there_of (Err e) = Err e
+
+abbrev pub there_unless_equal : Result ⊤ Error → Result Bool Error
+there_unless_equal (Ok x) = Ok true
+there_unless_equal (Err (tuf.EqualVersion role version)) = Ok false
+there_unless_equal (Err e) = Err e
+
+-- documents and store stay as they were
+pub record Unmoved (old new : State) : Type 0 where
+  pub documents : new.documents ≡ old.documents
+  pub store : new.store ≡ old.store
+
+-- The document is fetched, judged by what is in force, put in force and written. The answer is whether it was there.
+pub data Adopts (session : Session) (kind : Kind) (old new : State) (result : Result Bool Error) : Type 0 where
+  unfetched : (e : Error) → FetchesDocument session kind old.repo new.repo (Err e) → Unmoved old new → result ≡ Err e
+      → Adopts session kind old new result
+  absent : FetchesDocument session kind old.repo new.repo (Ok None) → Unmoved old new → result ≡ absence_of kind
+      → Adopts session kind old new result
+  refused : (bytes : List ℕ) (e : Error) → FetchesDocument session kind old.repo new.repo (Ok (Some bytes))
+      → (e ≢ tuf.NoMemory → judged_of session.crypto kind old.documents bytes (Some session.now) ≡ Err e)
+      → Unmoved old new → result ≡ Err e → Adopts session kind old new result
+  kept : (bytes : List ℕ) → FetchesDocument session kind old.repo new.repo (Ok (Some bytes))
+      → judged_of session.crypto kind old.documents bytes (Some session.now) ≡ Ok None
+      → Unmoved old new → result ≡ Ok true → Adopts session kind old new result
+  adopted : (bytes : List ℕ) (written : Result ⊤ Error) → FetchesDocument session kind old.repo new.repo (Ok (Some bytes))
+      → judged_of session.crypto kind old.documents bytes (Some session.now) ≡ Ok (Some new.documents)
+      → Keeps kind bytes old.store new.store written → result ≡ there_of written → Adopts session kind old new result
+
+-- ---- from the store
+
+-- a refusal is passed over, and want of memory isn't
+abbrev pub passed_over : Error → Result Bool Error
+passed_over tuf.NoMemory = Err tuf.NoMemory
+passed_over _ = Ok false
+
+-- documents and repository stay as they were
+pub record Unseeded (old new : State) : Type 0 where
+  pub documents : new.documents ≡ old.documents
+  pub repo : new.repo ≡ old.repo
+
+-- The store's document is loaded, judged by what is in force, and put in force. The answer is whether it was put there; nothing
+-- refuses but want of memory: what a store holds is nobody's word.
+pub data Seeds (crypto : Crypto) (kind : Kind) (now : Option jiff.Timestamp) (old new : State) (result : Result Bool Error) : Type 0 where
+  unloaded : (e : Error) → LoadsNamed (kept_name kind) old.store new.store (Err e) → Unseeded old new → result ≡ Err e
+      → Seeds crypto kind now old new result
+  unkept : LoadsNamed (kept_name kind) old.store new.store (Ok None) → Unseeded old new → result ≡ Ok false
+      → Seeds crypto kind now old new result
+  unseeded : (bytes : List ℕ) (e : Error) → LoadsNamed (kept_name kind) old.store new.store (Ok (Some bytes))
+      → (e ≢ tuf.NoMemory → judged_of crypto kind old.documents bytes now ≡ Err e)
+      → Unseeded old new → result ≡ passed_over e → Seeds crypto kind now old new result
+  equal : (bytes : List ℕ) → LoadsNamed (kept_name kind) old.store new.store (Ok (Some bytes))
+      → judged_of crypto kind old.documents bytes now ≡ Ok None
+      → Unseeded old new → result ≡ Ok false → Seeds crypto kind now old new result
+  seeded : (bytes : List ℕ) → LoadsNamed (kept_name kind) old.store new.store (Ok (Some bytes))
+      → judged_of crypto kind old.documents bytes now ≡ Ok (Some new.documents)
+      → new.repo ≡ old.repo → result ≡ Ok true → Seeds crypto kind now old new result

@@ -1,0 +1,393 @@
+// The adoption of one document, from the repository or from the store.
+ghost use Rattle.std.specs.Prelude.{◌≡◌, [], ◌∷◌, option_copied};
+ghost use Rattle.foundation.specs.Watched.{Watched};
+ghost use Rattle.sigstore_tuf_parts.specs.By.{crypto_by};
+ghost use Rattle.sigstore_tuf.specs.Repository.{Folders, metadata_files};
+ghost use Rattle.sigstore_tuf.specs.State.{state_of, session_by};
+ghost use Rattle.sigstore_tuf.specs.Names.{kept_name, history_name};
+ghost use Rattle.sigstore_tuf.specs.Update.{Updates};
+ghost use Rattle.sigstore_tuf.specs.declared.kind.Kind.TheVariants as kind;
+ghost use Rattle.sigstore_tuf.specs.Adopt.{update_of, judged_of, Takes, bytes_in, transport_of, FetchesNamed, FetchesDocument, LoadsNamed, Saves, SavesAll, Keeps, KeepsWhere, there_of, there_unless_equal, absence_of, Adopts, passed_over, Seeds};
+
+use crate::documents::InForce;
+use crate::kind::Kind;
+use crate::names::{ROOT_FILE, history_name, max_length};
+use crate::repository::{FetchFault, Repository};
+use crate::session::Session;
+use crate::store::{MetadataStore, StoreFault};
+use crate::update::{update_root, update_snapshot, update_targets, update_timestamp};
+use sigstore_crypto::CryptoProvider;
+use sigstore_tuf_parts::{
+    Error, SNAPSHOT_NAME, TARGETS_NAME, TIMESTAMP_NAME, TransportFault, root_name,
+};
+use sigstore_types_parts::{Armor, Bytes};
+use std::alloc::Global;
+
+// ---- documents
+
+fn update<C: CryptoProvider, M: Armor>(
+    alloc: Global,
+    provider: &C,
+    armor: &M,
+    documents: &mut InForce,
+    kind: Kind,
+    bytes: Bytes,
+    now: Option<jiff::Timestamp>,
+) -> Result<(), Error>
+    ensures { Updates (update_of (crypto_by C.CryptoProvider M.Armor provider.now armor.now) kind documents.old bytes now)
+        documents.old documents.new result }
+{
+    match kind {
+        Kind::Root(_) => update_root(alloc, provider, armor, documents, bytes),
+        Kind::Timestamp => update_timestamp(alloc, provider, armor, documents, bytes, now),
+        Kind::Snapshot => update_snapshot(alloc, provider, armor, documents, bytes, now),
+        Kind::Targets => update_targets(alloc, provider, armor, documents, bytes, now),
+    }
+}
+
+// An update by bytes that are copied; a root's number is what its file is asked for by, and the update reads it of the document.
+pub(crate) fn update_copied<C: CryptoProvider, M: Armor>(
+    alloc: Global,
+    provider: &C,
+    armor: &M,
+    documents: &mut InForce,
+    kind: Kind,
+    bytes: &[u8],
+    now: Option<jiff::Timestamp>,
+) -> Result<(), Error>
+    ensures { Updates (update_of (crypto_by C.CryptoProvider M.Armor provider.now armor.now) kind documents.old bytes.now now)
+        documents.old documents.new result }
+{
+    match Bytes::new(alloc, bytes) {
+        Ok(bytes) => update(alloc, provider, armor, documents, kind, bytes, now),
+        Err(e) => Err(Error::from(e)),
+    }
+}
+
+// What was taken in.
+fn taken(updated: Result<(), Error>) -> Result<bool, Error>
+    ensures { result ≡ there_of updated }
+{
+    match updated {
+        Ok(()) => Ok(true),
+        Err(e) => Err(e),
+    }
+}
+
+// A timestamp of the trusted version leaves the trusted one.
+fn unless_equal(updated: Result<(), Error>) -> Result<bool, Error>
+    ensures { result ≡ there_unless_equal updated }
+{
+    match updated {
+        Ok(()) => Ok(true),
+        Err(Error::EqualVersion { .. }) => Ok(false),
+        Err(e) => Err(e),
+    }
+}
+
+// Takes a document in; whether it was taken in.
+fn take<C: CryptoProvider, M: Armor>(
+    alloc: Global,
+    provider: &C,
+    armor: &M,
+    documents: &mut InForce,
+    kind: Kind,
+    bytes: Bytes,
+    now: Option<jiff::Timestamp>,
+) -> Result<bool, Error>
+    ensures { Takes (judged_of (crypto_by C.CryptoProvider M.Armor provider.now armor.now) kind documents.old bytes now)
+        documents.old documents.new result }
+{
+    let updated = update(alloc, provider, armor, documents, kind, bytes, now);
+    match kind {
+        Kind::Timestamp => unless_equal(updated),
+        _ => taken(updated),
+    }
+}
+
+// The bytes of the document in force.
+pub(crate) fn bytes_in(documents: &InForce, kind: Kind) -> Option<&[u8]>
+    ensures { option_copied result ≡ bytes_in kind documents.now }
+{
+    match kind {
+        Kind::Root(_) => match documents.roots.as_slice().last() {
+            Some(bytes) => Some(bytes.as_bytes()),
+            None => None,
+        },
+        Kind::Timestamp => match &documents.timestamp {
+            Some(held) => Some(held.bytes.as_bytes()),
+            None => None,
+        },
+        Kind::Snapshot => match &documents.snapshot {
+            Some(held) => Some(held.bytes.as_bytes()),
+            None => None,
+        },
+        Kind::Targets => match documents.targets.get("targets") {
+            Some(held) => Some(held.bytes.as_bytes()),
+            None => None,
+        },
+    }
+}
+
+// ---- the repository
+
+// A repository's fault as the client's refusal.
+pub(crate) fn transport(fault: FetchFault, max: u64) -> Error
+    ensures { result ≡ transport_of max fault }
+{
+    match fault {
+        FetchFault::Failed => Error::Transport(TransportFault::Failed),
+        FetchFault::TooLong { seen } => Error::Transport(TransportFault::TooLong { max, seen }),
+        FetchFault::NoMemory => Error::NoMemory,
+    }
+}
+
+// A metadata file, where it is there.
+fn fetch_named<R: Repository>(
+    alloc: Global,
+    repo: &mut R,
+    name: &str,
+    max: u64,
+) -> Result<Option<Bytes>, Error>
+    ensures { FetchesNamed metadata_files name.now max (R.seen repo.old) (R.seen repo.new) result }
+{
+    match repo.fetch_metadata(alloc, name, max) {
+        Ok(file) => Ok(file),
+        Err(fault) => Err(transport(fault, max)),
+    }
+}
+
+// A document's file, where it is there.
+fn fetch_document<C: CryptoProvider, M: Armor, R: Repository>(
+    alloc: Global,
+    session: &Session<'_, C, M>,
+    repo: &mut R,
+    kind: Kind,
+) -> Result<Option<Bytes>, Error>
+    ensures { FetchesDocument (session_by C.CryptoProvider M.Armor session.now) kind (R.seen repo.old) (R.seen repo.new) result }
+{
+    let max = max_length(session.config, kind);
+    match kind {
+        Kind::Root(number) => match root_name(alloc, number) {
+            Ok(name) => fetch_named(alloc, repo, name.as_str(), max),
+            Err(e) => Err(Error::from(e)),
+        },
+        Kind::Timestamp => fetch_named(alloc, repo, TIMESTAMP_NAME, max),
+        Kind::Snapshot => fetch_named(alloc, repo, SNAPSHOT_NAME, max),
+        Kind::Targets => fetch_named(alloc, repo, TARGETS_NAME, max),
+    }
+}
+
+// ---- the store
+
+// A file of the store, where it is there; a fault is passed over.
+pub(crate) fn load_named<S: MetadataStore>(
+    alloc: Global,
+    store: &mut S,
+    name: &str,
+) -> Result<Option<Bytes>, Error>
+    ensures { LoadsNamed name.now (S.seen store.old) (S.seen store.new) result }
+{
+    match store.load(alloc, name) {
+        Ok(file) => Ok(file),
+        Err(StoreFault::Failed) => Ok(None),
+        Err(StoreFault::BadName) => Ok(None),
+        Err(StoreFault::NoMemory) => Err(Error::NoMemory),
+    }
+}
+
+// A document's file in the store, where it is there.
+fn load_document<S: MetadataStore>(
+    alloc: Global,
+    store: &mut S,
+    kind: Kind,
+) -> Result<Option<Bytes>, Error>
+    ensures { LoadsNamed (kept_name kind) (S.seen store.old) (S.seen store.new) result }
+{
+    match kind {
+        Kind::Root(number) => match history_name(alloc, number) {
+            Ok(name) => load_named(alloc, store, name.as_str()),
+            Err(e) => Err(Error::from(e)),
+        },
+        Kind::Timestamp => load_named(alloc, store, TIMESTAMP_NAME),
+        Kind::Snapshot => load_named(alloc, store, SNAPSHOT_NAME),
+        Kind::Targets => load_named(alloc, store, TARGETS_NAME),
+    }
+}
+
+// Writes a file to the store; a fault is passed over.
+pub(crate) fn save<S: MetadataStore>(
+    alloc: Global,
+    store: &mut S,
+    name: &str,
+    bytes: &[u8],
+) -> Result<(), Error>
+    ensures { Saves bytes.now name.now (S.seen store.old) (S.seen store.new) result }
+{
+    match store.store(alloc, name, bytes) {
+        Ok(()) => Ok(()),
+        Err(StoreFault::Failed) => Ok(()),
+        Err(StoreFault::BadName) => Ok(()),
+        Err(StoreFault::NoMemory) => Err(Error::NoMemory),
+    }
+}
+
+fn save_history<S: MetadataStore>(
+    alloc: Global,
+    store: &mut S,
+    number: u64,
+    bytes: &[u8],
+) -> Result<(), Error>
+    ensures { Saves bytes.now (history_name number) (S.seen store.old) (S.seen store.new) result }
+{
+    match history_name(alloc, number) {
+        Ok(name) => save(alloc, store, name.as_str(), bytes),
+        Err(e) => Err(Error::from(e)),
+    }
+}
+
+// Writes a root as one of its number, then as the one in force.
+fn save_root<S: MetadataStore>(
+    alloc: Global,
+    store: &mut S,
+    number: u64,
+    bytes: &[u8],
+) -> Result<(), Error>
+    ensures { Keeps (kind.Root number) bytes.now (S.seen store.old) (S.seen store.new) result }
+{
+    match save_history(alloc, store, number, bytes) {
+        Ok(()) => match save(alloc, store, ROOT_FILE, bytes) {
+            Ok(()) => Ok(()),
+            Err(e) => Err(e),
+        },
+        Err(e) => Err(e),
+    }
+}
+
+fn save_alone<S: MetadataStore>(
+    alloc: Global,
+    store: &mut S,
+    name: &str,
+    bytes: &[u8],
+) -> Result<(), Error>
+    ensures { SavesAll bytes.now (name.now ∷ []) (S.seen store.old) (S.seen store.new) result }
+{
+    match save(alloc, store, name, bytes) {
+        Ok(()) => Ok(()),
+        Err(e) => Err(e),
+    }
+}
+
+// Writes a document under the names of its kind.
+pub(crate) fn save_document<S: MetadataStore>(
+    alloc: Global,
+    store: &mut S,
+    kind: Kind,
+    bytes: &[u8],
+) -> Result<(), Error>
+    ensures { Keeps kind bytes.now (S.seen store.old) (S.seen store.new) result }
+{
+    match kind {
+        Kind::Root(number) => save_root(alloc, store, number, bytes),
+        Kind::Timestamp => save_alone(alloc, store, TIMESTAMP_NAME, bytes),
+        Kind::Snapshot => save_alone(alloc, store, SNAPSHOT_NAME, bytes),
+        Kind::Targets => save_alone(alloc, store, TARGETS_NAME, bytes),
+    }
+}
+
+// Writes the document in force.
+pub(crate) fn save_in_force<S: MetadataStore>(
+    alloc: Global,
+    store: &mut S,
+    documents: &InForce,
+    kind: Kind,
+) -> Result<(), Error>
+    ensures { KeepsWhere kind (bytes_in kind documents.now) (S.seen store.old) (S.seen store.new) result }
+{
+    match bytes_in(documents, kind) {
+        Some(bytes) => save_document(alloc, store, kind, bytes),
+        None => Ok(()),
+    }
+}
+
+// ---- the adoption
+
+fn absence(kind: Kind) -> Result<bool, Error>
+    ensures { result ≡ absence_of kind }
+{
+    match kind {
+        Kind::Root(_) => Ok(false),
+        _ => Err(Error::Transport(TransportFault::Absent)),
+    }
+}
+
+// Fetches a document and adopts it; whether it was there.
+pub(crate) fn adopt<C: CryptoProvider, M: Armor, R: Repository, S: MetadataStore>(
+    alloc: Global,
+    session: &Session<'_, C, M>,
+    documents: &mut InForce,
+    repo: &mut R,
+    store: &mut S,
+    kind: Kind,
+) -> Result<bool, Error>
+    ensures { Adopts (session_by C.CryptoProvider M.Armor session.now) kind (state_of documents.old (R.seen repo.old) (S.seen store.old))
+        (state_of documents.new (R.seen repo.new) (S.seen store.new)) result }
+{
+    match fetch_document(alloc, session, repo, kind) {
+        Ok(Some(bytes)) => {
+            match take(
+                alloc,
+                session.provider,
+                session.armor,
+                documents,
+                kind,
+                bytes,
+                Some(session.moment),
+            ) {
+                Ok(true) => match save_in_force(alloc, store, documents, kind) {
+                    Ok(()) => Ok(true),
+                    Err(e) => Err(e),
+                },
+                Ok(false) => Ok(true),
+                Err(e) => Err(e),
+            }
+        }
+        Ok(None) => absence(kind),
+        Err(e) => Err(e),
+    }
+}
+
+// ---- the seed
+
+// A refusal is passed over, unless memory is wanting.
+fn pass_over(e: Error) -> Result<bool, Error>
+    ensures { result ≡ passed_over e }
+{
+    match e {
+        Error::NoMemory => Err(Error::NoMemory),
+        _ => Ok(false),
+    }
+}
+
+// Puts a document of the store in force, unless it is refused; whether it was put there.
+pub(crate) fn seed<C: CryptoProvider, M: Armor, S: MetadataStore>(
+    alloc: Global,
+    provider: &C,
+    armor: &M,
+    documents: &mut InForce,
+    store: &mut S,
+    kind: Kind,
+    now: Option<jiff::Timestamp>,
+) -> Result<bool, Error>
+    ensures { (repo : Watched Folders) → Seeds (crypto_by C.CryptoProvider M.Armor provider.now armor.now) kind now
+        (state_of documents.old repo (S.seen store.old)) (state_of documents.new repo (S.seen store.new)) result }
+{
+    match load_document(alloc, store, kind) {
+        Ok(Some(bytes)) => match take(alloc, provider, armor, documents, kind, bytes, now) {
+            Ok(was) => Ok(was),
+            Err(e) => pass_over(e),
+        },
+        Ok(None) => Ok(false),
+        Err(e) => Err(e),
+    }
+}

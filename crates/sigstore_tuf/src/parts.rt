@@ -1,0 +1,128 @@
+// The client's calls over an owned set of documents, and a lent repository and store.
+ghost use Rattle.std.specs.Prelude.{◌≡◌, ◌≢◌, Ok, Err, IfOk, IfErr};
+ghost use Rattle.sigstore_tuf.specs.Target.{info_of};
+ghost use Rattle.foundation.specs.Watched.{Watched};
+ghost use Rattle.sigstore_tuf.specs.Repository.{Folders};
+ghost use Rattle.sigstore_tuf.specs.State.{state_of, session_of};
+ghost use Rattle.sigstore_tuf.specs.Authorised.{IsAuthorised, crypto_in, SameJudges};
+ghost use Rattle.sigstore_tuf.specs.Promises.{Attached, Refreshed, Got};
+
+use crate::chain::TrustChain;
+use crate::client::{attach, run_steps};
+use crate::config::UpdaterConfig;
+use crate::kind::Kind;
+use crate::repository::Repository;
+use crate::session::Session;
+use crate::step::Step;
+use crate::store::MetadataStore;
+use crate::target::{find_chain, find_info};
+use crate::trusted::TrustedMetadataSet;
+use foundation::Duplicate;
+use sigstore_crypto::CryptoProvider;
+use sigstore_tuf_parts::{Error, TargetFile};
+use sigstore_types_parts::Armor;
+use std::alloc::Global;
+
+/// Begins with a store: adopts its next roots, as long as each is accepted, and writes the root then in force.
+/// Errors: `NoMemory`.
+pub fn attach_parts<C: CryptoProvider, M: Armor, S: MetadataStore>(
+    alloc: Global,
+    set: &mut TrustedMetadataSet<'_, C, M>,
+    store: &mut S,
+) -> Result<(), Error>
+    ensures attached { (repo : Watched Folders) → Attached (crypto_in C.CryptoProvider M.Armor set.old) (state_of set.old.documents repo (S.seen store.old))
+        (state_of set.new.documents repo (S.seen store.new)) result }
+    ensures judges { SameJudges set.old set.new }
+    ensures authorised { IsAuthorised (crypto_in C.CryptoProvider M.Armor set.new) set.new.documents }
+{
+    attach(alloc, set.provider, set.armor, &mut set.documents, store)
+}
+
+/// Brings the documents in force up to date at a moment: next roots of the repository; then what the store has
+/// of a timestamp, a snapshot and a targets document, each where none is in force; then those of the
+/// repository, each unless the one in force serves. What is adopted is written to the store. Errors are those
+/// of the first step that refuses; what was adopted before it stays in force, and a fault of the store is none.
+pub fn refresh_parts<C: CryptoProvider, M: Armor, R: Repository, S: MetadataStore>(
+    alloc: Global,
+    set: &mut TrustedMetadataSet<'_, C, M>,
+    repo: &mut R,
+    store: &mut S,
+    config: &UpdaterConfig,
+    now: jiff::Timestamp,
+) -> Result<(), Error>
+    ensures refreshed { Refreshed (session_of (crypto_in C.CryptoProvider M.Armor set.old) config.now now) (state_of set.old.documents (R.seen repo.old) (S.seen store.old))
+        (state_of set.new.documents (R.seen repo.new) (S.seen store.new)) result }
+    ensures judges { SameJudges set.old set.new }
+    ensures authorised { IsAuthorised (crypto_in C.CryptoProvider M.Armor set.new) set.new.documents }
+{
+    let session = Session {
+        provider: set.provider,
+        armor: set.armor,
+        config,
+        moment: now,
+    };
+    run_steps(
+        alloc,
+        &session,
+        &mut set.documents,
+        repo,
+        store,
+        &[
+            Step::WalkRoots,
+            Step::CheckRoot,
+            Step::Seed(Kind::Timestamp),
+            Step::Seed(Kind::Snapshot),
+            Step::Seed(Kind::Targets),
+            Step::Fetch(Kind::Timestamp),
+            Step::CheckTimestamp,
+            Step::Fetch(Kind::Snapshot),
+            Step::CheckSnapshot,
+            Step::Fetch(Kind::Targets),
+            Step::CheckDelegations,
+        ],
+    )
+}
+
+// What the documents in force list of a target at a moment; none where they don't list it.
+pub(crate) fn target_info<C: CryptoProvider, M: Armor>(
+    alloc: Global,
+    set: &TrustedMetadataSet<'_, C, M>,
+    config: &UpdaterConfig,
+    path: &str,
+    now: jiff::Timestamp,
+) -> Result<Option<TargetFile>, Error>
+    ensures ok { IfOk result (λ found. info_of set.now.documents config.now path.now now ≡ Ok found) }
+    ensures err { IfErr result (λ e. e ≢ Error.NoMemory → info_of set.now.documents config.now path.now now ≡ Err e) }
+{
+    match find_info(alloc, &set.documents, config, path, now) {
+        Ok(Some(entry)) => Ok(Some(entry.duplicate(alloc)?)),
+        Ok(None) => Ok(None),
+        Err(e) => Err(e),
+    }
+}
+
+/// Finds a target at a moment, and gives the chain of documents by which it is trusted, with its file: the
+/// store's where it is the listed one, else the repository's, which is then written to the store. Errors, in
+/// this order: `Expired` of root, timestamp and snapshot, `NotRefreshed`, `Expired` of the targets document,
+/// `IntegrityMismatch(Version)`, `Unbuilt(Delegations)` or `TargetNotFound`, `IntegrityMismatch(TooLong)`, then
+/// those of the fetch and of the file's length and digests.
+pub fn get_target_parts<C: CryptoProvider, M: Armor, R: Repository, S: MetadataStore>(
+    alloc: Global,
+    set: &TrustedMetadataSet<'_, C, M>,
+    repo: &mut R,
+    store: &mut S,
+    config: &UpdaterConfig,
+    path: &str,
+    now: jiff::Timestamp,
+) -> Result<TrustChain, Error>
+    ensures { Got (session_of (crypto_in C.CryptoProvider M.Armor set.now) config.now now) path.now (state_of set.now.documents (R.seen repo.old) (S.seen store.old))
+        (state_of set.now.documents (R.seen repo.new) (S.seen store.new)) result }
+{
+    let session = Session {
+        provider: set.provider,
+        armor: set.armor,
+        config,
+        moment: now,
+    };
+    find_chain(alloc, &session, &set.documents, repo, store, path)
+}
