@@ -1,12 +1,14 @@
 -- What each update of the documents in force answers: the documents after it, or the first check that fails (TUF specification,
 -- section 5).
-use Rattle.std.specs.Prelude.{◌≡◌, ◌≢◌, ℕ, ◌+◌, List, [], ◌∷◌, ◌++◌, ◌==◌, nat_lt, if◌then◌else◌, Option, Some, None, ok_or, Result, Ok, Err, codes, ⊤}
+use Rattle.std.specs.Prelude.{◌≡◌, ◌≢◌, ℕ, ◌+◌, List, [], ◌∷◌, ◌++◌, ◌==◌, nat_lt, if◌then◌else◌}
+use Rattle.std.specs.Prelude.{Option, Some, None, ok_or, Result, Ok, Err, codes, ⊤}
 use Rattle.std.specs.BTreeMap.{insert_entry}
 use Rattle.jiff_core.specs.declared.timestamp.Timestamp as jiff
 use Rattle.foundation.specs.Steps.{◌>>=◌}
 use Rattle.sigstore_types_parts.specs.Entries.{at_name, text_cmp}
 use Rattle.sigstore_tuf_parts.specs.declared.error.Error.{Error}
-use Rattle.sigstore_tuf_parts.specs.declared.error.Error.TheVariants.{Malformed, Rollback, EqualVersion, BadRootVersion, IntegrityMismatch, NoMemory}
+use Rattle.sigstore_tuf_parts.specs.declared.error.Error.TheVariants.{Malformed, Rollback, EqualVersion, BadRootVersion}
+use Rattle.sigstore_tuf_parts.specs.declared.error.Error.TheVariants.{IntegrityMismatch, NoMemory}
 use Rattle.sigstore_tuf_parts.specs.declared.error.Mismatch.TheVariants.{Vanished}
 use Rattle.sigstore_tuf_parts.specs.declared.error.Rule.TheVariants as rule
 use Rattle.sigstore_tuf_parts.specs.declared.root.Root.{Root}

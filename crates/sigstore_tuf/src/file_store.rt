@@ -7,13 +7,22 @@ use crate::name::{is_bad_name, path_of};
 use crate::store::{MetadataStore, StoreFault};
 use sigstore_types_parts::{Bytes, FileFault, Text, read_file};
 use std::alloc::Global;
-use std::fs::OpenFile;
+use std::fs::{File, OpenFile};
 use std::io::{ErrorKind, Write};
 use std::rt::Files;
 use std::{fs, io};
 
-/// A folder with the files of a store; it tells nothing. A file is written beside, under its name with
-/// `.new~` behind it, and renamed.
+// Names left by killed runs are passed by, so there are many; a bound ends the search.
+const NAMES_BESIDE: u32 = 1000;
+
+// 64 MiB, more than the limit of any file of an updater has by default. Without a limit whoever can
+// write to the folder leaves every run without memory.
+const MAX_LENGTH: u64 = 67_108_864;
+
+/// A folder with the files of a store; it tells nothing. A file is written beside and renamed: under its
+/// name with the first free one of `.new~0`, `.new~1`, .. `.new~999` behind it, so that two processes may
+/// share the folder. Where all of them are taken, `store` answers Failed. A file of more than 64 MiB
+/// isn't read: `load` answers Failed.
 #[derive(Drop)]
 pub struct FileStore<'r, X: Files + AllocGlobal> {
     rt: &'r X,
@@ -45,7 +54,7 @@ fn load<X: Files + AllocGlobal>(
     let Ok(path) = path_of(alloc, dir, "", name) else {
         return Err(StoreFault::NoMemory);
     };
-    match read_file(rt, alloc, path.as_str(), u64::MAX) {
+    match read_file(rt, alloc, path.as_str(), MAX_LENGTH) {
         Ok(bytes) => Ok(Some(bytes)),
         Err(FileFault::Absent) => Ok(None),
         Err(FileFault::NoMemory) => Err(StoreFault::NoMemory),
@@ -53,8 +62,7 @@ fn load<X: Files + AllocGlobal>(
     }
 }
 
-fn write_whole<X: Files + AllocGlobal>(rt: &X, path: &str, bytes: &[u8]) -> io::Result<()> {
-    let mut file = fs::create(rt, path)?;
+fn write_whole<F: Write + OpenFile + Drop>(mut file: F, bytes: &[u8]) -> io::Result<()> {
     file.write_all(bytes)?;
     file.sync_all()
 }
@@ -69,27 +77,58 @@ fn make_folders<X: Files + AllocGlobal>(rt: &X, path: &str) -> io::Result<()> {
 
 fn write_and_rename<X: Files + AllocGlobal>(
     rt: &X,
-    path: &str,
+    file: X::File,
     beside: &str,
+    path: &str,
     bytes: &[u8],
 ) -> io::Result<()> {
-    write_whole(rt, beside, bytes)?;
+    write_whole(file, bytes)?;
     fs::rename(rt, beside, path)
 }
 
-// Writes a file beside and renames it; what a failure leaves beside is removed where that can be done.
-fn write_beside<X: Files + AllocGlobal>(
+// What a failure leaves beside is removed where that can be done.
+fn write_or_remove<X: Files + AllocGlobal>(
     rt: &X,
-    path: &str,
+    file: X::File,
     beside: &str,
+    path: &str,
     bytes: &[u8],
 ) -> io::Result<()> {
-    make_folders(rt, path)?;
-    let written = write_and_rename(rt, path, beside, bytes);
+    let written = write_and_rename(rt, file, beside, path, bytes);
     if written.is_err() {
         let _removed = fs::remove_file(rt, beside);
     }
     written
+}
+
+// Writes a file under the first free name beside; one that is there may be another process's.
+fn write_beside<X: Files + AllocGlobal>(
+    rt: &X,
+    alloc: Global,
+    path: &str,
+    bytes: &[u8],
+) -> io::Result<()> {
+    for number in 0..NAMES_BESIDE {
+        let Ok(beside) = format!(in alloc; "{}.new~{}", path, number) else {
+            return Err(io::Error::from(ErrorKind::OutOfMemory));
+        };
+        match File::create_new(rt, beside.as_str()) {
+            Ok(file) => return write_or_remove(rt, file, beside.as_str(), path, bytes),
+            Err(e) if e.kind() == ErrorKind::AlreadyExists => {}
+            Err(e) => return Err(e),
+        }
+    }
+    Err(io::Error::from(ErrorKind::AlreadyExists))
+}
+
+fn make_and_write<X: Files + AllocGlobal>(
+    rt: &X,
+    alloc: Global,
+    path: &str,
+    bytes: &[u8],
+) -> io::Result<()> {
+    make_folders(rt, path)?;
+    write_beside(rt, alloc, path, bytes)
 }
 
 fn store<X: Files + AllocGlobal>(
@@ -107,10 +146,7 @@ fn store<X: Files + AllocGlobal>(
     let Ok(path) = path_of(alloc, dir, "", name) else {
         return Err(StoreFault::NoMemory);
     };
-    let Ok(beside) = format!(in alloc; "{}.new~", path.as_str()) else {
-        return Err(StoreFault::NoMemory);
-    };
-    match write_beside(rt, path.as_str(), beside.as_str(), bytes) {
+    match make_and_write(rt, alloc, path.as_str(), bytes) {
         Ok(()) => Ok(()),
         Err(e) if e.kind() == ErrorKind::OutOfMemory => Err(StoreFault::NoMemory),
         Err(_) => Err(StoreFault::Failed),

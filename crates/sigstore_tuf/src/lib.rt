@@ -32,7 +32,6 @@ pub use config::UpdaterConfig;
 pub use documents::{Held, InForce};
 pub use file_repository::FileRepository;
 pub use file_store::FileStore;
-pub use kind::Kind;
 pub use memory_repository::MemoryRepository;
 pub use memory_store::MemoryStore;
 pub use no_store::NoStore;
@@ -46,7 +45,6 @@ pub use sigstore_tuf_parts::{
     pins_have_causes, readings_have_causes, relations_exactly, roles_have_causes, root_name,
     to_canonical_bytes,
 };
-pub use step::Step;
 pub use store::{MetadataStore, StoreFault};
 pub use trusted::TrustedMetadataSet;
 pub use updater::Updater;

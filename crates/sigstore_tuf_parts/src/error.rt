@@ -53,7 +53,7 @@ pub enum Mismatch {
 }
 
 /// How a repository failed: the call failed, the file is absent, it is longer than the limit, or
-/// there are more roots than the limit.
+/// as many next roots were adopted as the limit allows.
 #[derive(Clone, Copy, Debug, PartialEq, Eq, Drop)]
 pub enum TransportFault {
     /// The call failed.
@@ -62,7 +62,7 @@ pub enum TransportFault {
     Absent,
     /// The file is longer than its limit.
     TooLong { max: u64, seen: u64 },
-    /// There are more next roots than the limit.
+    /// As many next roots were adopted as the limit allows, and no more is asked.
     Rotations { max: u32 },
 }
 

@@ -99,9 +99,15 @@ mutual
   members_trans (member j c ls) (member k d ms) (member l e ns) h g =
       let later-h = second_so (bytes_eq j k) (same_data c d && same_members ls ms) h in
       let later-g = second_so (bytes_eq k l) (same_data d e && same_members ms ns) g in
-      let name = text_trans j k l (first_so (bytes_eq j k) (same_data c d && same_members ls ms) h) (first_so (bytes_eq k l) (same_data d e && same_members ms ns) g) in
-      let first = data_trans c d e (first_so (same_data c d) (same_members ls ms) later-h) (first_so (same_data d e) (same_members ms ns) later-g) in
-      let rest = members_trans ls ms ns (second_so (same_data c d) (same_members ls ms) later-h) (second_so (same_data d e) (same_members ms ns) later-g) in
+      let same-jk = first_so (bytes_eq j k) (same_data c d && same_members ls ms) h in
+      let same-kl = first_so (bytes_eq k l) (same_data d e && same_members ms ns) g in
+      let name = text_trans j k l same-jk same-kl in
+      let same-cd = first_so (same_data c d) (same_members ls ms) later-h in
+      let same-de = first_so (same_data d e) (same_members ms ns) later-g in
+      let first = data_trans c d e same-cd same-de in
+      let rest-h = second_so (same_data c d) (same_members ls ms) later-h in
+      let rest-g = second_so (same_data d e) (same_members ms ns) later-g in
+      let rest = members_trans ls ms ns rest-h rest-g in
       λ i. name i && (first i && rest i)
   members_trans no_members no_members _ h k = absurd (true≢false (sym k))
   members_trans (member j c ls) (member k d ms) _ h g = absurd (true≢false (sym g))

@@ -101,7 +101,8 @@ pub record IsUnsigned (accepts : Judge) (policy : PublicKeyVerificationPolicy) (
   pub bytes : List ℕ
   pub whole : ReadWhole source source' max bytes
   pub unsigned :
-      is_signed accepts (record { scheme = is.scheme; key = is.key.key }) (digest_of (Read bytes)) None (signature_in is.reading.content) ≡ false
+      is_signed accepts (record { scheme = is.scheme; key = is.key.key }) (digest_of (Read bytes)) None
+      (signature_in is.reading.content) ≡ false
 
 -- the trust file is read, and no verifier can be made of it
 abbrev pub IsUnusable : List ℕ → Error → Type 0
@@ -115,7 +116,8 @@ pub data IsUnbuilt (file bundle : List ℕ) (unbuilt : Form) : Type 0 where
 
 -- ---- each refusal of the judgement, by its number and name
 
-abbrev pub KeyCause : Judge → PublicKeyVerificationPolicy → Asked → List ℕ → Watched (List ℕ) → Watched (List ℕ) → Error → Type 0
+abbrev pub KeyCause : Judge → PublicKeyVerificationPolicy → Asked → List ℕ → Watched (List ℕ) → Watched (List ℕ) → Error
+    → Type 0
 KeyCause accepts policy asked file source source' verify.SignatureInvalid = IsUnsigned accepts policy asked.bundle source source' asked.max
 KeyCause accepts policy asked file source source' verify.ArtifactMismatch = IsOfAnother asked.bundle source source' asked.max
 KeyCause accepts policy asked file source source' verify.UnsupportedArtifact = LacksDigest policy asked.bundle
@@ -123,7 +125,8 @@ KeyCause accepts policy asked file source source' verify.InvalidBundle =
     IsRefusedAs bundle_fault (bundle_of_bytes asked.bundle) verify.InvalidBundle
 KeyCause accepts policy asked file source source' verify.InvalidTrustRoot = IsUnusable file verify.InvalidTrustRoot
 KeyCause accepts policy asked file source source' verify.Types = IsUnusable file verify.Types
-KeyCause accepts policy asked file source source' verify.Crypto = LacksScheme policy asked.bundle verify.Crypto ⊎ IsUnusable file verify.Crypto
+KeyCause accepts policy asked file source source' verify.Crypto =
+    LacksScheme policy asked.bundle verify.Crypto ⊎ IsUnusable file verify.Crypto
 KeyCause accepts policy asked file source source' verify.Bundle = LacksEntry policy asked.bundle
 KeyCause accepts policy asked file source source' verify.TrustRoot = IsRefusedAs trust_fault (trusted_root_of_bytes file) verify.TrustRoot
 KeyCause accepts policy asked file source source' verify.TrustedCertificate = IsUnusable file verify.TrustedCertificate

@@ -139,8 +139,10 @@ key_report_of policy = record {
 }
 
 -- the judgement of what was prepared, over digests and bytes that are had
-abbrev pub judged_had : Judge → VerificationKey → Bundle → PublicKeyVerificationPolicy → Digests → Option (List ℕ) → Result VerificationResult Error
-judged_had accepts key bundle policy digest bytes = content_judged_by accepts key bundle.content digest bytes >>= λ _. Ok (key_report_of policy)
+abbrev pub judged_had : Judge → VerificationKey → Bundle → PublicKeyVerificationPolicy → Digests → Option (List ℕ)
+    → Result VerificationResult Error
+judged_had accepts key bundle policy digest bytes =
+    content_judged_by accepts key bundle.content digest bytes >>= λ _. Ok (key_report_of policy)
 
 -- ---- the whole judgement
 

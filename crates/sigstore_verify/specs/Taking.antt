@@ -9,7 +9,8 @@ use Rattle.sigstore_verify.specs.declared.error.Error.TheVariants.{ArtifactRead,
 use Rattle.sigstore_verify.specs.Promise.{ReadWhole, ReadCause}
 
 -- the digests are those of bytes that were read to the end; a refusal is the reading's, or want of memory
-pub record Takes (old new : Watched (List ℕ)) (max : ℕ) (algorithms : List HashAlgorithm) (result : Result (List (HashAlgorithm × List ℕ)) Error) : Type 0 where
+pub record Takes (old new : Watched (List ℕ)) (max : ℕ) (algorithms : List HashAlgorithm)
+    (result : Result (List (HashAlgorithm × List ℕ)) Error) : Type 0 where
   pub later : old.faults ≤ new.faults
   pub taken : IfOk result (λ digests. (bytes : List ℕ) × ReadWhole old new max bytes × (digests ≡ digests_by algorithms bytes))
   pub refused : IfErr result (λ e. (e ≡ NoMemory) ⊎ ((fault : ReadError) × (e ≡ ArtifactRead fault) × ReadCause old new max fault))

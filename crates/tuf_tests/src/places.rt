@@ -190,8 +190,24 @@ fn a_store_in_a_folder(rt: HostRuntime) {
     drop(store);
     let name = "store/root_history/1.root.json";
     let written = good(&rt, fs::read_to_string(&rt, name));
-    let is_there = good(&rt, fs::exists(&rt, "store/root_history/1.root.json.new~"));
-    let is_left = good(&rt, fs::exists(&rt, "store/root_history.new~"));
+    let is_there = good(&rt, fs::exists(&rt, "store/root_history/1.root.json.new~0"));
+    let is_left = good(&rt, fs::exists(&rt, "store/root_history.new~0"));
     let found = printed(&rt, (written, is_there, is_left));
     check(&rt, name, r#"("ab", false, false)"#, found);
+}
+
+// Another process has begun to write the first name beside.
+const STORED_BESIDE: &str = "load timestamp.json => none
+store timestamp.json ab => Ok(())
+load timestamp.json => ab
+load timestamp.json.new~0 => half
+load timestamp.json.new~1 => none";
+
+#[test]
+fn a_store_that_another_process_writes(rt: HostRuntime) {
+    good(&rt, fs::create_dir_all(&rt, "shared"));
+    good(&rt, fs::write(&rt, "shared/timestamp.json.new~0", "half"));
+    let mut store = FileStore::new(&rt, text(&rt, "shared"));
+    store_all(&rt, &mut store, STORED_BESIDE);
+    drop(store);
 }
