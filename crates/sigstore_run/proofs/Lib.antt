@@ -2,3 +2,4 @@ mod Meaning
 mod Digests
 mod ReportThere
 mod RunFacts
+mod RunCompleting

@@ -2,6 +2,7 @@
 ghost use Rattle.std.specs.Prelude.{◌≡◌, IfOk};
 ghost use Rattle.sigstore_app_parts.specs.Sink.{WritesText};
 ghost use Rattle.sigstore_verify.specs.Given.{Outside};
+ghost use Rattle.sigstore_run.specs.Complete.{Completes};
 ghost use Rattle.sigstore_run.specs.Run.{policy_meant, Environment, Reports, Answers, Judges, Proceeds, Decides, RunsTo, Means};
 
 use crate::answer::{Answer, Status, refused, refused_tuf, stopped};
@@ -176,6 +177,11 @@ pub fn run<I: Inputs, R: Repository, S: MetadataStore, A: ArtifactSource, K: Sin
         let before : Environment = record { inputs = I.seen inputs.old; outside = outside } in
         let after : Environment = record { inputs = I.seen inputs.new; outside = outside' } in
         RunsTo (record { words = words.now; clock = clock }) before after (K.seen out.old) (K.seen out.new) result }
+    ensures complete { let outside : Outside = record { repo = R.seen repo.old; store = S.seen store.old; source = A.seen artifact.old } in
+        let outside' : Outside = record { repo = R.seen repo.new; store = S.seen store.new; source = A.seen artifact.new } in
+        let before : Environment = record { inputs = I.seen inputs.old; outside = outside } in
+        let after : Environment = record { inputs = I.seen inputs.new; outside = outside' } in
+        Completes (record { words = words.now; clock = clock }) before after (K.seen out.old) (K.seen out.new) result }
 {
     let said = match decide(alloc, words, clock, inputs, repo, store, artifact) {
         Ok(said) => said,

@@ -34,7 +34,7 @@ pub record Carried (old new : State) : Type 0 where
 pub since_same : {A : Type 0} (a b : Watched A) → b ≡ a → Since a b
 since_same a b h = record { same = ap (λ (w : Watched _). w.told) h; later = subst (λ (w : Watched _). a.faults ≤ w.faults) (sym h) (le_refl a.faults) }
 
-since_joins : {A : Type 0} (a b c : Watched A) → Since a b → Since b c → Since a c
+pub since_joins : {A : Type 0} (a b c : Watched A) → Since a b → Since b c → Since a c
 since_joins a b c p q = record { same = q.same ∙ p.same; later = le_trans p.later q.later }
 
 pub carried_joins : (a b c : State) → Carried a b → Carried b c → Carried a c
@@ -49,7 +49,7 @@ pub fetched_since : (part : Folders → Files) (name : List ℕ) (max : ℕ) (ol
 fetched_since part name max old new result (fetch_unnamed s r) = since_same old new s
 fetched_since part name max old new result (fetch_asked answer f r) = record { same = f.same; later = f.later }
 
-loaded_same : (name : List ℕ) (old new : Watched Files) (result : Result (Option (List ℕ)) Error) → LoadsNamed name old new result → new.told ≡ old.told
+pub loaded_same : (name : List ℕ) (old new : Watched Files) (result : Result (Option (List ℕ)) Error) → LoadsNamed name old new result → new.told ≡ old.told
 loaded_same name old new result (load_unnamed s r) = ap (λ (w : Watched Files). w.told) s
 loaded_same name old new result (load_asked answer l r) = l.same
 

@@ -12,3 +12,9 @@ pub mod StoreNames
 pub mod Carrying
 pub mod Causes
 pub mod TargetCauses
+pub mod Completing
+pub mod Offered
+pub mod RootsCompleting
+pub mod RefreshCompleting
+pub mod TargetCompleting
+pub mod OverStore

@@ -1,5 +1,6 @@
 pub mod Repository
 pub mod Store
+pub mod StoreRepository
 pub mod Memory
 pub mod Config
 pub mod Documents
@@ -16,3 +17,4 @@ pub mod Authorised
 pub mod Cause
 pub mod Promises
 pub mod Updater
+pub mod Offer

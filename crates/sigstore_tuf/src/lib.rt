@@ -22,6 +22,7 @@ mod repository;
 mod session;
 mod step;
 mod store;
+mod store_repository;
 mod target;
 mod trusted;
 mod update;
@@ -46,5 +47,6 @@ pub use sigstore_tuf_parts::{
     to_canonical_bytes,
 };
 pub use store::{MetadataStore, StoreFault};
+pub use store_repository::StoreRepository;
 pub use trusted::TrustedMetadataSet;
 pub use updater::Updater;

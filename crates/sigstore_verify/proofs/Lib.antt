@@ -7,3 +7,4 @@ pub mod Had
 pub mod Signed
 pub mod Agree
 pub mod Taken
+pub mod RootCompleting

@@ -12,3 +12,4 @@ pub mod Promises
 pub mod Taken
 pub mod Taking
 pub mod Trust
+pub mod Complete

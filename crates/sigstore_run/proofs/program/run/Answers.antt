@@ -3,6 +3,7 @@ use Rattle.sigstore_app_parts.specs.Sink.{WritesText}
 use Rattle.sigstore_app_parts.specs.declared.sink.SinkFault.{SinkFault}
 use Rattle.sigstore_run.specs.Run.{unwritten, cut, written}
 use Rattle.sigstore_run.proofs.Meaning.{run_means}
+use Rattle.sigstore_run.proofs.RunCompleting.{run_completes}
 use Rattle.sigstore_run.proofs.program.run.Goals as goal
 
 pub returns-in-Err-clause-runs : goal.returns-in-Err-clause-runs
@@ -27,3 +28,12 @@ returns-clause-runs g c =
 
 pub returns-clause-means : goal.returns-clause-means
 returns-clause-means g c = c.in-Err-write_all.ensures.failed
+
+pub returns-in-Err-clause-complete : goal.returns-in-Err-clause-complete
+returns-in-Err-clause-complete g c = run_completes _ _ _ _ _ _ (unwritten c.in-Err.field-0 c.in-Err.ensures refl refl)
+
+pub returns-in-Ok-write_all-clause-complete : goal.returns-in-Ok-write_all-clause-complete
+returns-in-Ok-write_all-clause-complete g c = run_completes _ _ _ _ _ _ (written c.in-Ok.said c.in-Ok.ensures (subst (λ t. WritesText {E = SinkFault} (g.K.Sink.seen c.args.out.now) (g.K.Sink.seen c.write_all.new.out) t (Ok tt)) (c.as_bytes.ensures.value ∙ c.as_str.ensures) c.in-Ok-write_all.ensures) refl)
+
+pub returns-clause-complete : goal.returns-clause-complete
+returns-clause-complete g c = run_completes _ _ _ _ _ _ (cut c.in-Ok.said c.in-Err-write_all.field-0 c.in-Ok.ensures (subst (λ t. WritesText {E = SinkFault} (g.K.Sink.seen c.args.out.now) (g.K.Sink.seen c.write_all.new.out) t (Err c.in-Err-write_all.field-0)) (c.as_bytes.ensures.value ∙ c.as_str.ensures) c.in-Err-write_all.ensures) refl)

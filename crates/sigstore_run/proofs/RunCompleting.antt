@@ -1,0 +1,107 @@
+-- A run over an offered chain says the verdict, unless memory is wanting or the sink fails.
+use Rattle.std.proofs.Common.{◌≡◌, ◌≢◌, ◌⊎◌, inl, inr, ℕ, List, Option, Some, None, Result, Ok, Err, refl, sym, ap, ◌∙◌, subst}
+use Rattle.std.specs.Prelude.{⊤, IfOk, IfErr}
+use Rattle.std.specs.Result.{result_ok}
+use Rattle.jiff_core.specs.declared.timestamp.Timestamp as jiff
+use Rattle.foundation.specs.Watched.{Watched, Rose, IfTold}
+use Rattle.foundation.specs.Results.{ok_same, err_same, some_same, no_both}
+use Rattle.sigstore_tuf.specs.declared.chain.TrustChain.{TrustChain}
+use Rattle.sigstore_tuf.proofs.Completing.{not_both}
+use Rattle.sigstore_verify.specs.declared.error.Error.{Error}
+use Rattle.sigstore_verify.specs.declared.report.Kept.{Kept}
+use Rattle.sigstore_verify.specs.declared.from_root.Rooted.{Rooted}
+use Rattle.sigstore_verify.specs.declared.from_root.RootFault.{RootFault}
+use Rattle.sigstore_verify.specs.declared.from_root.RootFault.TheVariants as root
+use Rattle.sigstore_verify.specs.Given.{Given, Outside}
+use Rattle.sigstore_verify.specs.FromRoot.{Runs}
+use Rattle.sigstore_verify.specs.Complete.{verdict_of, rooted_of, Favours, Completes as CompletesCall}
+use Rattle.sigstore_verify.proofs.RootCompleting.{runs_complete}
+use Rattle.sigstore_app_parts.specs.Inputs.{Held}
+use Rattle.sigstore_app_parts.specs.Layout.{layout_of}
+use Rattle.sigstore_app_parts.specs.Gather.{gathered_of, ReadsAs}
+use Rattle.sigstore_app_parts.specs.declared.layout.Layout.{Layout}
+use Rattle.sigstore_app_parts.specs.declared.gather.Gathered.{Gathered}
+use Rattle.sigstore_app_parts.specs.declared.gather.Stop.{Stop}
+use Rattle.sigstore_app_parts.specs.declared.gather.Stop.TheVariants.{Words, Malformed, Input, Memory}
+use Rattle.sigstore_run.specs.declared.answer.Status.{Status}
+use Rattle.sigstore_run.specs.declared.answer.Status.TheVariants as status
+use Rattle.sigstore_run.specs.declared.answer.Answer.{Answer}
+use Rattle.sigstore_run.specs.Run.{stop_answer, refusal_answer, given_by, now_of, Command, Environment, SaysReport, Judges, want_judging, refused, reported, Proceeds, want_inputs, stopped, judged, Decides, want_words, misworded, worded, RunsTo, unwritten, cut, written}
+use Rattle.sigstore_run.specs.Complete.{Favoured, Says, given_in, SaysVerdict, Completes}
+
+no_answer : (said : Answer) → refusal_answer root.NoMemory ≡ Some said → ⊥
+unfolding refusal_answer
+no_answer said h = cc
+
+unsaid : (said : Answer) → stop_answer Memory ≡ Some said → ⊥
+unfolding stop_answer
+unsaid said h = cc
+
+-- told inputs that are read without a fault don't stop the run
+module _ (before after : Watched Held) (held : Held) (gathered : Gathered) (told : before.told ≡ Some held) (quiet : Rose before.faults after.faults → ⊥) (is : gathered_of held ≡ Ok gathered) where
+  never_stopped : (stop : Stop) (said : Answer) → ReadsAs gathered_of before after (Err stop) → stop_answer stop ≡ Some said → ⊥
+  never_stopped stop said r h = by_stop stop r h
+    where
+      by_either : (stop : Stop) → Rose before.faults after.faults ⊎ IfTold before.told (λ held. gathered_of held ≡ Err stop) → ⊥
+      by_either stop (inl rose) = quiet rose
+      by_either stop (inr refuses) = no_both gathered stop (sym is ∙ subst (λ t. IfTold t (λ held. gathered_of held ≡ Err stop)) told refuses)
+
+      by_stop : (stop : Stop) → ReadsAs gathered_of before after (Err stop) → stop_answer stop ≡ Some said → ⊥
+      by_stop Words r h = by_either Words (r.err (λ e. cc))
+      by_stop (Malformed which) r h = by_either (Malformed which) (r.err (λ e. cc))
+      by_stop (Input which) r h = by_either (Input which) (r.err (λ e. cc))
+      by_stop Memory r h = unsaid said h
+
+  gathered_same : (found : Gathered) → ReadsAs gathered_of before after (Ok found) → found ≡ gathered
+  gathered_same found r = ok_same found gathered (sym (subst (λ t. IfTold t (λ held. gathered_of held ≡ Ok found)) told r.ok) ∙ is)
+
+module _ (given : Given) (before after : Outside) (chain : TrustChain) (bytes : List ℕ) (f : Favours given before after chain bytes) where
+  abbrev V : Answer → Type 0
+  V said = Says (rooted_of chain (verdict_of given chain.file bytes)) said
+
+  refused_says : (fault : RootFault) (said : Answer) → Runs given before after (Err fault) → refusal_answer fault ≡ Some said → V said
+  refused_says fault said v h = by_complete (runs_complete given before after (Err fault) v chain bytes f)
+    where
+      by_complete : (◌≡◌ {A = Result Rooted RootFault} (Err fault) (Err root.NoMemory)) ⊎ (Err fault ≡ rooted_of chain (verdict_of given chain.file bytes)) → V said
+      by_complete (inl w) = absurd (no_answer said (ap refusal_answer (sym (err_same fault root.NoMemory w)) ∙ h))
+      by_complete (inr e) = subst (λ r. Says r said) e h
+
+  reported_says : (rooted : Rooted) (said : Answer) → Runs given before after (Ok rooted) → SaysReport rooted said → V said
+  reported_says rooted said v h = by_complete (runs_complete given before after (Ok rooted) v chain bytes f)
+    where
+      by_complete : (◌≡◌ {A = Result Rooted RootFault} (Ok rooted) (Err root.NoMemory)) ⊎ (Ok rooted ≡ rooted_of chain (verdict_of given chain.file bytes)) → V said
+      by_complete (inl w) = no_both rooted root.NoMemory w
+      by_complete (inr e) = subst (λ r. Says r said) e h
+
+module _ (command : Command) (before after : Environment) (chain : TrustChain) (bytes : List ℕ) (f : Favoured command before after chain bytes) where
+  abbrev T : Answer → Type 0
+  T said = Says (rooted_of chain (verdict_of (given_in f) chain.file bytes)) said
+
+  judged_says : (found : Gathered) (said : Answer) → found ≡ f.gathered → Judges found (now_of f.layout command.clock) before.outside after.outside (Ok said) → T said
+  judged_says found said same j = by_judges (subst (λ g. Judges g (now_of f.layout command.clock) before.outside after.outside (Ok said)) same j)
+    where
+      by_judges : Judges f.gathered (now_of f.layout command.clock) before.outside after.outside (Ok said) → T said
+      by_judges (want_judging r e v eq) = no_both said e eq
+      by_judges (refused fault other v h eq) = subst T (sym (ok_same said other eq)) (refused_says (given_in f) before.outside after.outside chain bytes f.outside fault other v h)
+      by_judges (reported rooted other v a h eq) = subst T (sym (ok_same said other eq)) (reported_says (given_in f) before.outside after.outside chain bytes f.outside rooted other v h)
+
+  proceeds_says : (layout : Layout) (said : Answer) → layout ≡ f.layout → Proceeds (now_of layout command.clock) before after (Ok said) → T said
+  proceeds_says layout said same p = by_proceeds (subst (λ (l : Layout). Proceeds (now_of l command.clock) before after (Ok said)) same p)
+    where
+      quiet : Rose before.inputs.faults after.inputs.faults → ⊥
+      quiet rose = not_both before.inputs.faults after.inputs.faults rose f.inputs.quiet
+
+      by_proceeds : Proceeds (now_of f.layout command.clock) before after (Ok said) → T said
+      by_proceeds (want_inputs stop e r s eq) = no_both said e eq
+      by_proceeds (stopped stop other r s h eq) = absurd (never_stopped before.inputs after.inputs f.held f.gathered f.inputs.told quiet f.gathered_is stop other r h)
+      by_proceeds (judged found r j) = judged_says found said (gathered_same before.inputs after.inputs f.held f.gathered f.inputs.told quiet f.gathered_is found r) j
+
+  decides_says : (said : Answer) → Decides command before after (Ok said) → T said
+  decides_says said (want_words e s eq) = no_both said e eq
+  decides_says said (misworded other n s h eq) = let never : None ≡ Some f.layout = sym n ∙ ap result_ok f.worded in cc
+  decides_says said (worded layout l p) = proceeds_says layout said (ok_same layout f.layout (sym l ∙ f.worded)) p
+
+pub run_completes : (command : Command) (before after : Environment) (out out' : Watched (List ℕ)) (ended : Status) → RunsTo command before after out out' ended → Completes command before after out out' ended
+run_completes command before after out out' ended (unwritten e d o s) chain bytes f = inl s
+run_completes command before after out out' ended (cut said fault d w s) chain bytes f = inr (inl (s, w.failed))
+run_completes command before after out out' ended (written said d w s) chain bytes f = inr (inr (record { said = said; says = decides_says command before after chain bytes f said d; written = w; ended_is = s }))

@@ -1,0 +1,64 @@
+-- When the top call has to accept, and what it answers where it hasn't to: over an offered chain, where nothing outside fails.
+use Rattle.std.specs.Prelude.{◌≡◌, ◌⊎◌, ℕ, ◌≤◌, List, length, Some, Result, Ok, Err}
+use Rattle.foundation.specs.Steps.{◌>>=◌}
+use Rattle.foundation.specs.Watched.{Watched}
+use Rattle.sigstore_crypto.specs.Digest.{digests_by}
+use Rattle.sigstore_tuf_parts.specs.Document.{content_in}
+use Rattle.sigstore_tuf.specs.Repository.{Files, Folders}
+use Rattle.sigstore_tuf.specs.declared.chain.TrustChain.{TrustChain}
+use Rattle.sigstore_tuf.specs.Offer.{Quiet, Offers, Warm}
+use Rattle.sigstore_verify.specs.declared.error.Error.{Error}
+use Rattle.sigstore_verify.specs.declared.report.Kept.{Kept}
+use Rattle.sigstore_verify.specs.declared.from_root.Rooted.{Rooted}
+use Rattle.sigstore_verify.specs.declared.from_root.RootFault.{RootFault}
+use Rattle.sigstore_verify.specs.declared.from_root.RootFault.TheVariants.{NoMemory}
+use Rattle.sigstore_verify.specs.Given.{Given, Outside, asked_by, terms_of}
+use Rattle.sigstore_verify.specs.Artifact.{Read}
+use Rattle.sigstore_verify.specs.Trust.{usable_of}
+use Rattle.sigstore_verify.specs.Judged.{judged_of, needed_by}
+use Rattle.sigstore_verify.specs.FromRoot.{trust_path, trust_of, bundle_of, root_of_verify}
+
+-- ---- the verdict
+
+-- What is made of a trust file and of an artifact's bytes: the trust file is read and can be used, the bundle is read, and it is
+-- judged over the bytes; the first that refuses answers.
+unfoldable pub verdict_of : Given → List ℕ → List ℕ → Result Kept Error
+verdict_of given file bytes = do
+  trust ← trust_of file
+  _ ← usable_of trust
+  bundle ← bundle_of given.bundle
+  report ← judged_of (terms_of (asked_by given) trust) bundle (Read bytes)
+  Ok (record { result = report; digests = digests_by (needed_by given.policy bundle) bytes })
+
+-- the top call's answer by a verdict, with the chain whose trust file it is over
+abbrev pub rooted_of : TrustChain → Result Kept Error → Result Rooted RootFault
+rooted_of chain (Ok kept) = Ok (record { result = kept.result; chain = chain; digests = kept.digests })
+rooted_of chain (Err e) = Err (root_of_verify e chain)
+
+-- ---- the outside
+
+-- an object tells this content, and raises no fault
+pub record TellsQuietly {A : Type 0} (before after : Watched A) (content : A) : Type 0 where
+  pub told : before.told ≡ Some content
+  pub quiet : Quiet before.faults after.faults
+
+-- Nothing outside fails: the repository tells folders that offer the chain; the store tells files, each of which is the chain's
+-- where the client reads it, as the files of an empty store are; and the artifact's source tells these bytes, within the limit.
+-- What a store can't read or write is passed over, so that its faults don't matter.
+pub record Favours (given : Given) (before after : Outside) (chain : TrustChain) (bytes : List ℕ) : Type 0 where
+  pub folders : Folders
+  pub repo : TellsQuietly before.repo after.repo folders
+  pub offers : Offers given.anchor.crypto folders given.anchor.root given.anchor.now given.anchor.config trust_path chain
+  pub files : Files
+  pub store : before.store.told ≡ Some files
+  pub warm : Warm files trust_path chain (content_in offers.offered.trusted.roots.first).version
+  pub source : TellsQuietly before.source after.source bytes
+  pub short : length bytes ≤ given.max
+
+-- Where a chain is offered and nothing outside fails, the answer is want of memory, or the verdict over the chain's trust file: an
+-- acceptance where there is nothing to refuse, and else the first refusal. A client that refuses what is in order, such as every
+-- rotated root, keeps its users from every update.
+abbrev pub Completes : Given → Outside → Outside → Result Rooted RootFault → Type 0
+Completes given before after result =
+    (chain : TrustChain) (bytes : List ℕ) → Favours given before after chain bytes
+    → (result ≡ Err NoMemory) ⊎ (result ≡ rooted_of chain (verdict_of given chain.file bytes))
