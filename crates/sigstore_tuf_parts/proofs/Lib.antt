@@ -6,6 +6,7 @@ pub mod MeetsLaw
 pub mod IntegrityLaws
 pub mod Fits
 pub mod Unique
+pub mod ReadExact
 pub mod Steps
 pub mod ReadingCauses
 pub mod PinCauses

@@ -5,7 +5,7 @@ use Rattle.jiff_core.specs.declared.timestamp.Timestamp.{Timestamp}
 use Rattle.sigstore_tuf_parts.specs.declared.keys.RoleKeys.{RoleKeys}
 use Rattle.sigstore_tuf_parts.specs.declared.error.Error.{Error}
 use Rattle.sigstore_tuf_parts.specs.declared.root.Root.{Root}
-use Rattle.sigstore_tuf_parts.specs.Document.{Document, document_of, HasExactText}
+use Rattle.sigstore_tuf_parts.specs.Document.{Document, content_in, text_in, document_of, HasExactText}
 use Rattle.sigstore_tuf_parts.specs.RootRoles.{meets_role_of}
 use Rattle.sigstore_tuf_parts.specs.Cause.{ReadCause, RoleCause, IntegrityCause, ExpiryCause}
 use Rattle.sigstore_tuf_parts.specs.Canon.{canon}
@@ -41,6 +41,11 @@ TellsValues = (a b : Data) → IsExact a → IsExact b → canon a ≡ canon b �
 -- documents that were read and have one canonical text have one `signed`: who signs a text signs one content
 abbrev pub TellsDocuments : Type 0
 TellsDocuments = (a b : Data) (text : List ℕ) (first : HasExactText a text) (second : HasExactText b text) → first.signed ≡ second.signed
+
+-- documents of one kind that have one canonical text have one content, whatever bytes they were read from
+abbrev pub TellsContents : {T : Type 0} → List ℕ → (Data → Result T Error) → Type 0
+TellsContents {T} kind reads = (one two : List ℕ) (first second : Document T) → document_of kind reads one ≡ Ok first
+    → document_of kind reads two ≡ Ok second → text_in first ≡ text_in second → content_in first ≡ content_in second
 
 -- ---- each refusal of a definition has its cause
 

@@ -1,6 +1,6 @@
 // Laws of the definitions. A call does nothing.
 ghost use Rattle.std.specs.Prelude.{codes};
-ghost use Rattle.sigstore_tuf_parts.specs.Laws.{MeetsExactly, IntactExactly, FreshExactly, FitsExactly, TellsValues, TellsDocuments, ReadsWithCause, MeetsWithCause, IntactWithCause, FreshWithCause};
+ghost use Rattle.sigstore_tuf_parts.specs.Laws.{MeetsExactly, IntactExactly, FreshExactly, FitsExactly, TellsValues, TellsDocuments, TellsContents, ReadsWithCause, MeetsWithCause, IntactWithCause, FreshWithCause};
 ghost use Rattle.sigstore_tuf_parts.specs.Root.{root_of};
 ghost use Rattle.sigstore_tuf_parts.specs.Timestamp.{timestamp_of};
 ghost use Rattle.sigstore_tuf_parts.specs.Snapshot.{snapshot_of};
@@ -19,12 +19,17 @@ pub fn relations_exactly()
     ensures fits { FitsExactly }
 {}
 
-/// Equal canonical texts are of equal values, and documents that were read and have one text have one
-/// `signed`; `to_canonical_bytes` takes no other values than those of the law, and each document that
-/// `Metadata::from_slice` gives is of such a one.
+/// Equal canonical texts are of equal values, documents that were read and have one text have one
+/// `signed`, and documents of one kind that have one text have one content; `to_canonical_bytes` takes no
+/// other values than those of the law, and each document that `Metadata::from_slice` gives is of such a
+/// one.
 pub fn canonical_text_tells()
     ensures values { TellsValues }
     ensures documents { TellsDocuments }
+    ensures root { TellsContents (codes "root") root_of }
+    ensures timestamp { TellsContents (codes "timestamp") timestamp_of }
+    ensures snapshot { TellsContents (codes "snapshot") snapshot_of }
+    ensures targets { TellsContents (codes "targets") targets_of }
 {}
 
 /// Bytes that aren't read as a root, timestamp, snapshot or targets document have the cause of their
