@@ -82,7 +82,7 @@ rose_earlier : (a b c : ℕ) → a ≤ b → Rose b c → Rose a c
 rose_earlier a b c p h = omega arith
 
 -- a timestamp of the trusted version has one beside it
-was_equal : (r : Result InForce Error) → unless_equal r ≡ Ok None → (role : List ℕ) × ((version : ℕ) × (r ≡ Err (tuf.EqualVersion role version)))
+pub was_equal : (r : Result InForce Error) → unless_equal r ≡ Ok None → (role : List ℕ) × ((version : ℕ) × (r ≡ Err (tuf.EqualVersion role version)))
 was_equal (Ok set) h = cc
 was_equal (Err (tuf.EqualVersion role version)) h = (role, (version, refl))
 was_equal (Err tuf.NoMemory) h = cc
@@ -104,10 +104,10 @@ was_equal (Err (tuf.TargetNotFound path)) h = cc
 was_equal (Err (tuf.Transport fault)) h = cc
 was_equal (Err (tuf.Unbuilt form)) h = cc
 
-timestamp_reads : ReadsWithCause (codes "timestamp") timestamp_of
+pub timestamp_reads : ReadsWithCause (codes "timestamp") timestamp_of
 timestamp_reads = read_cause (codes "timestamp") timestamp_of timestamp_only
 
-no_role_cause : {C : Type 0} {T : Type 0} (crypto : Crypto) (root : declared_root.Root) (doc : Document T) (role : List ℕ) (version : ℕ) → RoleCause crypto root (codes "timestamp") doc (tuf.EqualVersion role version) → C
+pub no_role_cause : {C : Type 0} {T : Type 0} (crypto : Crypto) (root : declared_root.Root) (doc : Document T) (role : List ℕ) (version : ℕ) → RoleCause crypto root (codes "timestamp") doc (tuf.EqualVersion role version) → C
 no_role_cause crypto root doc role version (inl u) = let never = u.0 in cc
 no_role_cause crypto root doc role version (inr u) = absurd u.cause
 

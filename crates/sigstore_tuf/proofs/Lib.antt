@@ -9,6 +9,7 @@ pub mod Serving
 pub mod Searching
 pub mod Refusals
 pub mod StoreNames
+pub mod RootNames
 pub mod Carrying
 pub mod Causes
 pub mod TargetCauses
@@ -18,3 +19,6 @@ pub mod RootsCompleting
 pub mod RefreshCompleting
 pub mod TargetCompleting
 pub mod OverStore
+pub mod Keeping
+pub mod TargetKept
+pub mod Newest

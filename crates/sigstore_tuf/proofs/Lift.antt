@@ -45,7 +45,7 @@ abbrev pub AskNoRoots : List Step → Type 0
 AskNoRoots [] = ⊤
 AskNoRoots (step ∷ steps) = AsksNoRoot step × AskNoRoots steps
 
-asked_later : (k : Kind) (old : State) → NotRoot k → IsAsked k old
+pub asked_later : (k : Kind) (old : State) → NotRoot k → IsAsked k old
 asked_later (Root number) old other = absurd other
 asked_later Timestamp old other = tt
 asked_later Snapshot old other = tt

@@ -167,7 +167,7 @@ module _ (session : Session) where
   pub timestamp_looked : (old new : State) → Checks (λ set. timestamp_serves_of set session.now) old new (Ok tt) → HasTimestamp session.now new.documents
   timestamp_looked old new c = timestamp_there session.now new.documents (looked (λ set. timestamp_serves_of set session.now) old new c)
 
-  not_refused : {C : Type 0} {T : Type 0} (answer : Result T Error) (e : Error) → Ok tt ≡ said answer → answer ≡ Err e → C
+  pub not_refused : {C : Type 0} {T : Type 0} (answer : Result T Error) (e : Error) → Ok tt ≡ said answer → answer ≡ Err e → C
   not_refused answer e h is = let never : ◌≡◌ {A = Result ⊤ Error} (Ok tt) (Err e) = h ∙ ap said is in cc
 
   -- the snapshot that is in force after its step

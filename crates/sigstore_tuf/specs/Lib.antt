@@ -15,6 +15,8 @@ pub mod Trusted
 pub mod Target
 pub mod Authorised
 pub mod Cause
+pub mod Kept
+pub mod Newest
 pub mod Promises
 pub mod Updater
 pub mod Offer

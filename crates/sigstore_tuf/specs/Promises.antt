@@ -1,5 +1,6 @@
 -- What the client's calls promise.
 use Rattle.std.specs.Prelude.{◌≡◌, ℕ, List, Result, IfOk, IfErr, OnOk, ⊤}
+use Rattle.foundation.specs.Watched.{IfTold}
 use Rattle.sigstore_tuf_parts.specs.declared.error.Error.{Error}
 use Rattle.sigstore_tuf_parts.specs.declared.error.Error.TheVariants as tuf
 use Rattle.sigstore_tuf_parts.specs.Crypto.{Crypto}
@@ -10,24 +11,32 @@ use Rattle.sigstore_tuf.specs.Target.{GetsTarget}
 use Rattle.sigstore_tuf.specs.Trusted.{Trusted}
 use Rattle.sigstore_tuf.specs.Authorised.{StaysAuthorised, given_in, Serve}
 use Rattle.sigstore_tuf.specs.Cause.{RefreshCause, TargetCause}
+use Rattle.sigstore_tuf.specs.Kept.{KeepsInForce, AttachesKept, StaysKept, KeepsChain}
+use Rattle.sigstore_tuf.specs.Newest.{AreNewest}
 
--- a store that is handed in: nothing refuses but want of memory
+-- a store that is handed in: nothing refuses but want of memory, and the store then has what is in force
 pub record Attached (crypto : Crypto) (old new : State) (result : Result ⊤ Error) : Type 0 where
   pub attaches : Attaches crypto old new result
   pub authorised : StaysAuthorised crypto old.documents new.documents
   pub refused : IfErr result (λ e. e ≡ tuf.NoMemory)
+  pub stored : AttachesKept old new result
 
--- a refresh: after Ok the documents in force serve at this moment, and a refusal has its cause
+-- a refresh: after Ok the documents in force serve at this moment and are the repository's newest, a refusal has its cause, and
+-- the store goes on to have what is in force
 pub record Refreshed (session : Session) (old new : State) (result : Result ⊤ Error) : Type 0 where
   pub runs : RunsSteps session refresh_steps old new result
   pub authorised : StaysAuthorised session.crypto old.documents new.documents
   pub serves : OnOk result (Serve session.now new.documents)
   pub cause : IfErr result (RefreshCause session old new)
+  pub newest : OnOk result (IfTold old.repo.told (λ folders. AreNewest folders new.documents))
+  pub stored : StaysKept old new result
 
--- a search for a target: the documents in force stay as they were, the chain that is given is trusted from the first root, and a
--- refusal has its cause
+-- a search for a target: the documents in force stay as they were and in the store, the chain that is given is trusted from the
+-- first root and in the store, and a refusal has its cause
 pub record Got (session : Session) (path : List ℕ) (old new : State) (result : Result TrustChain Error) : Type 0 where
   pub same : new.documents ≡ old.documents
   pub gets : GetsTarget session path old.documents old.repo new.repo old.store new.store result
   pub trusted : IfOk result (Trusted session.crypto (given_in old.documents) session.now session.config.max_delegations path)
   pub cause : IfErr result (TargetCause session path old.documents old.repo new.repo)
+  pub kept : KeepsInForce old → KeepsInForce new
+  pub stored : IfOk result (KeepsChain path old new)

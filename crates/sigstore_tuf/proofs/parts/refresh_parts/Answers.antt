@@ -1,6 +1,8 @@
 use Rattle.std.proofs.Common.{sym}
 use Rattle.sigstore_tuf.proofs.Authorised.{is_stay, refresh_stays}
 use Rattle.sigstore_tuf.proofs.Holding.{refresh_authorised}
+use Rattle.sigstore_tuf.proofs.Keeping.{refresh_kept}
+use Rattle.sigstore_tuf.proofs.Newest.{on_refresh_newest}
 use Rattle.sigstore_tuf.proofs.Serving.{on_refresh}
 use Rattle.sigstore_tuf.proofs.Causes.{refresh_cause}
 use Rattle.sigstore_tuf.proofs.parts.refresh_parts.Goals as goal
@@ -11,7 +13,14 @@ invariant_of-set g c = refresh_authorised _ _ _ _ c.run_steps.ensures c.set.inva
 pub returns-clause-refreshed : goal.returns-clause-refreshed
 returns-clause-refreshed g c =
     let r = c.run_steps.ensures in
-    rw (sym c.set.view_is) (record { runs = r; authorised = is_stay (refresh_stays _ _ _ _ r) c.set.invariant; serves = on_refresh _ _ _ _ r; cause = refresh_cause _ _ _ _ c.set.invariant r })
+    rw (sym c.set.view_is) (record {
+      runs = r;
+      authorised = is_stay (refresh_stays _ _ _ _ r) c.set.invariant;
+      serves = on_refresh _ _ _ _ r;
+      cause = refresh_cause _ _ _ _ c.set.invariant r;
+      newest = on_refresh_newest _ _ _ _ r;
+      stored = refresh_kept _ _ _ _ c.set.invariant r;
+    })
 
 pub returns-clause-authorised : goal.returns-clause-authorised
 returns-clause-authorised g c = refresh_authorised _ _ _ _ c.run_steps.ensures c.set.invariant
