@@ -1,7 +1,7 @@
 -- What an acceptance of the top call means.
-use Rattle.std.proofs.Common.{◌≡◌, Result, Ok, Err, ap, sym, ◌∙◌, subst}
+use Rattle.std.proofs.Common.{◌≡◌, Result, Ok, Err, refl, ap, sym, ◌∙◌, subst, le_trans}
 use Rattle.std.specs.Prelude.{⊤}
-use Rattle.foundation.specs.Watched.{Watched}
+use Rattle.foundation.specs.Watched.{Watched, IfTold}
 use Rattle.foundation.specs.Results.{ok_same, no_both}
 use Rattle.sigstore_types_parts.specs.declared.error.TypesError.{TypesError}
 use Rattle.sigstore_tuf_parts.specs.declared.error.Error.{Error as TufError}
@@ -12,7 +12,10 @@ use Rattle.sigstore_tuf.specs.State.{state_of}
 use Rattle.sigstore_tuf.specs.Trusted.{Trusted}
 use Rattle.sigstore_tuf.specs.Authorised.{AreAuthorised, given_in}
 use Rattle.sigstore_tuf.specs.Promises.{Refreshed}
+use Rattle.sigstore_tuf.specs.Kept.{Quiet, HoldsAdopted, HoldsChain}
 use Rattle.sigstore_tuf.proofs.Authorised.{first_root_given, first_root_is_authorised}
+use Rattle.sigstore_tuf.proofs.Keeping.{quiet_first, quiet_second, told_each, first_kept, attach_later, refresh_later}
+use Rattle.sigstore_tuf.proofs.TargetKept.{gets_later}
 use Rattle.sigstore_verify.specs.declared.error.Error.{Error}
 use Rattle.sigstore_verify.specs.declared.from_root.Rooted.{Rooted}
 use Rattle.sigstore_types.specs.declared.bundle.Bundle.{Bundle}
@@ -63,6 +66,24 @@ chain_trusts anchor repo repo' store store' chain (chain_given set last mid begu
     let same : given ≡ chain = ok_same given chain (sym r) in
     subst (TrustsChain anchor) same
     (subst (λ root. Trusted anchor.crypto root anchor.now anchor.config.max_delegations trust_path given) (refreshed_given anchor repo mid store begun kept set last (Ok tt) b w) g.trusted)
+
+-- and a store that counted no fault has it
+pub chain_kept : (anchor : Anchor) (repo repo' : Watched Folders) (store store' : Watched Files) (chain : TrustChain) → GivesChain anchor repo repo' store store' (Ok chain) → Quiet store.faults store'.faults
+    → IfTold store'.told (λ files. HoldsChain files trust_path chain)
+chain_kept anchor repo repo' store store' chain (root_refused e h s t r) quiet = no_both chain e r
+chain_kept anchor repo repo' store store' chain (attach_refused first set e f a s r) quiet = no_both chain e r
+chain_kept anchor repo repo' store store' chain (refresh_refused set last begun e b w r) quiet = no_both chain e r
+chain_kept anchor repo repo' store store' chain (target_refused set last mid begun kept e b w g r) quiet = no_both chain e r
+chain_kept anchor repo repo' store store' chain (chain_given set last mid begun kept given b w g r) quiet =
+    let same : given ≡ chain = ok_same given chain (sym r) in
+    let one = attach_later anchor.crypto (state_of b.first repo store) (state_of set repo begun) (Ok tt) b.attached.attaches in
+    let two = refresh_later (session_in anchor) (state_of set repo begun) (state_of last mid kept) (Ok tt) w.runs in
+    let three = gets_later trust_path (session_in anchor) last mid repo' kept store' (Ok given) g.gets in
+    let rest = quiet_second store.faults begun.faults store'.faults one (le_trans two three) quiet in
+    let adopted = told_each (λ files. HoldsAdopted files b.first) store.told (λ files. first_kept anchor.crypto anchor.root b.first files b.first_is) in
+    let begins = b.attached.stored (quiet_first store.faults begun.faults store'.faults one (le_trans two three) quiet) adopted in
+    let refreshed = w.stored (λ e. cc) (quiet_first begun.faults kept.faults store'.faults two three rest) begins in
+    subst (λ c. IfTold store'.told (λ files. HoldsChain files trust_path c)) same (g.stored refl (quiet_second begun.faults kept.faults store'.faults two three rest) refreshed)
 
 module _ (given : Given) (before after : Outside) (rooted : Rooted) where
   pub is_accepted : TrustsChain given.anchor rooted.chain

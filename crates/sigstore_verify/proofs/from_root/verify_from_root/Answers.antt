@@ -1,6 +1,6 @@
 use Rattle.std.proofs.Common.{refl, ap, Err}
 use Rattle.sigstore_verify.specs.FromRoot.{chain_refused, judgement_refused, accepted}
-use Rattle.sigstore_verify.proofs.RootFacts.{chain_trusts, is_accepted}
+use Rattle.sigstore_verify.proofs.RootFacts.{chain_trusts, chain_kept, is_accepted}
 use Rattle.sigstore_verify.proofs.RootCauses.{runs_cause}
 use Rattle.sigstore_verify.proofs.RootCompleting.{runs_complete}
 use Rattle.sigstore_verify.proofs.from_root.verify_from_root.Goals as goal
@@ -8,12 +8,12 @@ use Rattle.sigstore_verify.proofs.from_root.verify_from_root.Goals as goal
 pub returns-in-Err : goal.returns-in-Err
 returns-in-Err g c =
     let runs = chain_refused _ c.in-Err.ensures refl (ap Err c.tuf_fault.ensures) in
-    record { accepted = tt; refused = runs_cause _ _ _ _ runs; runs = runs; complete = runs_complete _ _ _ _ runs }
+    record { accepted = tt; refused = runs_cause _ _ _ _ runs; runs = runs; complete = runs_complete _ _ _ _ runs; stored = tt }
 
 pub returns-in-Err-judge_bundle : goal.returns-in-Err-judge_bundle
 returns-in-Err-judge_bundle g c =
     let runs = judgement_refused _ _ c.in-Ok.ensures (rw c.as_bytes.ensures at c.in-Err-judge_bundle.ensures) (ap Err c.verify_fault.ensures) in
-    record { accepted = tt; refused = runs_cause _ _ _ _ runs; runs = runs; complete = runs_complete _ _ _ _ runs }
+    record { accepted = tt; refused = runs_cause _ _ _ _ runs; runs = runs; complete = runs_complete _ _ _ _ runs; stored = tt }
 
 pub returns-in-Ok-judge_bundle : goal.returns-in-Ok-judge_bundle
 returns-in-Ok-judge_bundle g c =
@@ -23,4 +23,5 @@ returns-in-Ok-judge_bundle g c =
       refused = tt;
       runs = runs;
       complete = runs_complete _ _ _ _ runs;
+      stored = chain_kept _ _ _ _ _ _ c.in-Ok.ensures;
     }
