@@ -33,7 +33,7 @@ pub record HasRoot (files : Files) (bytes : List ℕ) : Type 0 where
   pub read : root_document bytes ≡ Ok doc
   pub there : IsFiled files (history_name (content_in doc).version) bytes
 
--- each root after the first has its own name, and the last is `root.json` too
+-- each root after the first stands so, and the last one under `root.json`
 abbrev pub HasLaterRoots : Files → List (List ℕ) → Type 0
 HasLaterRoots files roots = AllByRecursion (HasRoot files) (drop 1 roots)
 

@@ -40,8 +40,9 @@ pub fn attach_parts<C: CryptoProvider, M: Armor, S: MetadataStore>(
 
 /// Brings the documents in force up to date at a moment: next roots of the repository; then what the store has
 /// of a timestamp, a snapshot and a targets document, each where none is in force; then those of the
-/// repository, each unless the one in force serves. What is adopted is written to the store. Errors are those
-/// of the first step that refuses; what was adopted before it stays in force, and a fault of the store is none.
+/// repository, each unless the one in force serves. What is adopted is written to the store. After Ok the
+/// repository has no next root, and its timestamp is of the version in force. Errors are those of the first
+/// step that refuses; what was adopted before it stays in force, and a fault of the store is none.
 pub fn refresh_parts<C: CryptoProvider, M: Armor, R: Repository, S: MetadataStore>(
     alloc: Global,
     set: &mut TrustedMetadataSet<'_, C, M>,

@@ -186,7 +186,8 @@ fn judge_bundle<C: CryptoProvider, M: Armor, A: ArtifactSource, P: Policy>(
 /// store's next ones, refreshes it, gets the target `trusted_root.json`, reads it as the trust file, reads
 /// the bundle and verifies the artifact as it is read. Errors are those of the first of these that refuses:
 /// `Tuf`, or `Verify` with the chain whose file the bundle was judged under. The store is a cache: nothing
-/// that it has is believed unsigned, and a fault of it is none.
+/// that it has is believed unsigned, and a fault of it is none; after Ok, a store that had none has the
+/// documents of the chain and the trust file.
 pub fn verify_from_root<
     R: Repository,
     S: MetadataStore,
