@@ -2,7 +2,8 @@
 ghost use Rattle.std.specs.Prelude.{Some, true};
 
 use crate::provider::{One, p256};
-use crate::words::{check, good, halves, hold, key_bytes, printed, string, there, word};
+use crate::thresholds::signatures;
+use crate::words::{check, filled, good, halves, hold, key_bytes, printed, string, there, word};
 use foundation::{Duplicate, NoMemory};
 use jiff::Timestamp;
 use sigstore_crypto::CryptoProvider;
@@ -13,10 +14,11 @@ use std::alloc::Global;
 use std::process::Abort;
 
 /// The answer of a call by this name.
-pub fn answer<X: AllocGlobal + Abort>(rt: &X, call: &str) -> String {
+pub fn answer<X: AllocGlobal + Abort>(rt: &X, call: &str, given: &str) -> String {
     match call {
         "limits by default" => printed(rt, UpdaterConfig::default()),
         "set of documents" => versions_of_a_set(rt),
+        "next root of another key" => next_root(rt, given),
         _ => panic!(rt; "no call {call}"),
     }
 }
@@ -57,6 +59,13 @@ const ROOT: &str =
 const TIMESTAMP: &str =
     r#"{"signatures":[{"keyid":"k","sig":"01"}],"signed":{"_type":"timestamp","spec_version":"1.0.0","version":2,"expires":"2030-01-01T00:00:00Z","meta":{"snapshot.json":{"version":3}}}}"#;
 
+// Timestamps of a store: one that is signed, and one that isn't.
+const NEWER: &str =
+    r#"{"signatures":[{"keyid":"k","sig":"01"}],"signed":{"_type":"timestamp","spec_version":"1.0.0","version":3,"expires":"2030-01-01T00:00:00Z","meta":{"snapshot.json":{"version":3}}}}"#;
+
+const UNSIGNED: &str =
+    r#"{"signatures":[{"keyid":"k","sig":"02"}],"signed":{"_type":"timestamp","spec_version":"1.0.0","version":3,"expires":"2030-01-01T00:00:00Z","meta":{"snapshot.json":{"version":3}}}}"#;
+
 const SNAPSHOT: &str =
     r#"{"signatures":[{"keyid":"k","sig":"01"}],"signed":{"_type":"snapshot","spec_version":"1.0.0","version":3,"expires":"2031-01-01T00:00:00Z","meta":{"targets.json":{"version":4}}}}"#;
 
@@ -69,21 +78,80 @@ fn armor<X: AllocGlobal + Abort>(rt: &X) -> OneKey {
     }
 }
 
-fn put<X: AllocGlobal + Abort>(rt: &X, repo: &mut MemoryRepository, name: &str, text: &str) {
-    good(rt, repo.put_metadata(rt.alloc(), name, text.as_bytes()));
+// The root of this version.
+fn root<X: AllocGlobal + Abort>(rt: &X, version: &str) -> String {
+    let version = good(rt, format!(in rt.alloc(); "\"version\":{version}"));
+    let root = ROOT.replace(rt.alloc(), "\"version\":1", version.as_str());
+    drop(version);
+    good(rt, root)
 }
 
-// The documents, of which the timestamp may be absent.
-fn repository<X: AllocGlobal + Abort>(rt: &X, timestamp: &str) -> MemoryRepository {
+// What a client finds: the version of the given root, the least number of which the repository has no next
+// root, the timestamps of the repository and of the store (an empty text is none), the moment, and how many
+// next roots it takes at most.
+#[derive(Clone, Copy)]
+struct Setting<'a> {
+    version: &'a str,
+    absent_root: u32,
+    timestamp: &'a str,
+    kept: &'a str,
+    now: &'a str,
+    most: u32,
+}
+
+const USUAL: Setting = Setting {
+    version: "1",
+    absent_root: 2,
+    timestamp: TIMESTAMP,
+    kept: "",
+    now: "2025-01-01T00:00:00Z",
+    most: 32,
+};
+
+fn put<X: AllocGlobal + Abort>(rt: &X, repo: &mut MemoryRepository, name: &str, text: &str) {
+    if !text.is_empty() {
+        good(rt, repo.put_metadata(rt.alloc(), name, text.as_bytes()));
+    }
+}
+
+fn put_root<X: AllocGlobal + Abort>(rt: &X, repo: &mut MemoryRepository, number: u32) {
+    let version = printed(rt, number);
+    let name = good(rt, format!(in rt.alloc(); "{version}.root.json"));
+    let root = root(rt, version.as_str());
+    put(rt, repo, name.as_str(), root.as_str());
+    drop(version);
+    drop(name);
+    drop(root);
+}
+
+// Puts the next roots below this number.
+fn put_roots<X: AllocGlobal + Abort>(rt: &X, repo: &mut MemoryRepository, absent: u32) {
+    for number in 2..absent {
+        put_root(rt, repo, number);
+    }
+}
+
+fn repository<X: AllocGlobal + Abort>(rt: &X, setting: Setting) -> MemoryRepository {
     let failures = there(rt, FailList::new(Vec::new(rt.alloc())));
     let mut repo = MemoryRepository::new(rt.alloc(), failures);
-    if timestamp == "there" {
-        put(rt, &mut repo, "timestamp.json", TIMESTAMP);
-    }
+    put_roots(rt, &mut repo, setting.absent_root);
+    put(rt, &mut repo, "timestamp.json", setting.timestamp);
     put(rt, &mut repo, "snapshot.json", SNAPSHOT);
     put(rt, &mut repo, "targets.json", TARGETS);
     good(rt, repo.put_target(rt.alloc(), "a", b"{}"));
     repo
+}
+
+// A store that has this timestamp.
+fn store<X: AllocGlobal + Abort>(rt: &X, kept: &str) -> MemoryStore {
+    let mut store = MemoryStore::new(rt.alloc());
+    if !kept.is_empty() {
+        good(
+            rt,
+            store.store(rt.alloc(), "timestamp.json", kept.as_bytes()),
+        );
+    }
+    store
 }
 
 const LIMITS: &str =
@@ -111,10 +179,7 @@ fn versions_of_a_set<X: AllocGlobal + Abort>(rt: &X) -> String {
     let armor = armor(rt);
     let made = TrustedMetadataSet::from_root(rt.alloc(), &One, &armor, ROOT.as_bytes());
     let mut set = good(rt, made);
-    let second = good(
-        rt,
-        ROOT.replace(rt.alloc(), "\"version\":1", "\"version\":2"),
-    );
+    let second = root(rt, "2");
     let now = good(rt, "2025-01-01T00:00:00Z".parse());
     good(rt, set.update_root(rt.alloc(), second.as_bytes()));
     good(rt, set.check_root_expired(rt.alloc(), now));
@@ -139,6 +204,29 @@ fn versions_of_a_set<X: AllocGlobal + Abort>(rt: &X) -> String {
     drop(armor);
     answer
 }
+
+// A next root whose root role has another key; its star is its signatures.
+const OF_ANOTHER_KEY: &str =
+    r#"{"signatures":[{"keyid":"*"}],"signed":{"_type":"root","spec_version":"1.0.0","version":2,"expires":"2031-01-01T00:00:00Z","keys":{"l":{"keytype":"ecdsa","scheme":"ecdsa-sha2-nistp256","keyval":{"public":"p"}}},"roles":{"root":{"keyids":["l"],"threshold":1}}}}"#;
+
+// The word for that root behind the root of the key k, signed by words of an id, `=` and a signature.
+fn next_root<X: AllocGlobal + Abort>(rt: &X, words: &str) -> String {
+    let signatures = signatures(rt, words);
+    let next = filled(rt, OF_ANOTHER_KEY, signatures.as_str());
+    drop(signatures);
+    let armor = armor(rt);
+    let made = TrustedMetadataSet::from_root(rt.alloc(), &One, &armor, ROOT.as_bytes());
+    let mut set = good(rt, made);
+    let answer = set.update_root(rt.alloc(), next.as_bytes());
+    drop(set);
+    drop(armor);
+    drop(next);
+    word(rt, answer)
+}
+
+const OTHER_KEYS: &str = r#"k=01 l=01 => Ok
+k=01 => ThresholdNotMet { role: "root", found: 0, threshold: 1 }
+l=01 => ThresholdNotMet { role: "root", found: 0, threshold: 1 }"#;
 
 // How many roots and roles a chain has, whether its documents are those of the repository, the length of
 // its target, and its file.
@@ -202,22 +290,22 @@ fn told_all<X: AllocGlobal + Abort>(rt: &X, client: &mut Client, now: Timestamp,
     }
 }
 
-// Tries calls of one client of the root, one after the other, at a moment, over a repository in which the
-// timestamp is there or absent, with so many next roots at most, and over an empty store.
-fn called<X: AllocGlobal + Abort>(rt: &X, timestamp: &str, now: &str, most: u32, rows: &str) {
+// Tries calls of one client, one after the other.
+fn called<X: AllocGlobal + Abort>(rt: &X, setting: Setting, rows: &str) {
     let config = UpdaterConfig {
-        max_root_rotations: most,
+        max_root_rotations: setting.most,
         ..UpdaterConfig::default()
     };
-    let (armor, mut repo) = (armor(rt), repository(rt, timestamp));
-    let made = Updater::new(rt.alloc(), &One, &armor, &mut repo, ROOT.as_bytes());
-    let mut store = MemoryStore::new(rt.alloc());
+    let (armor, root) = (armor(rt), root(rt, setting.version));
+    let (mut repo, mut store) = (repository(rt, setting), store(rt, setting.kept));
+    let made = Updater::new(rt.alloc(), &One, &armor, &mut repo, root.as_bytes());
     let client: Client = good(rt, made).with_config(config);
     let mut client = good(rt, client.with_store(rt.alloc(), &mut store));
-    told_all(rt, &mut client, good(rt, now.parse()), rows);
+    told_all(rt, &mut client, good(rt, setting.now.parse()), rows);
     drop(client);
     drop(store);
     drop(repo);
+    drop(root);
     drop(armor);
 }
 
@@ -246,9 +334,76 @@ fn clients(rt: HostRuntime) {
         "set of documents",
         " => (2, Some(2), Some(3), Some(4))",
     );
-    called(&rt, "there", "2025-01-01T00:00:00Z", 32, CALLS);
-    called(&rt, "there", "2030-01-01T00:00:00Z", 32, "refresh => Ok");
-    called(&rt, "there", "2030-01-01T00:00:01Z", 32, EXPIRED);
-    called(&rt, "there", "2025-01-01T00:00:00Z", 0, LIMITED);
-    called(&rt, "absent", "2025-01-01T00:00:00Z", 32, ABSENT);
+    let late = Setting {
+        now: "2030-01-01T00:00:00Z",
+        ..USUAL
+    };
+    let too_late = Setting {
+        now: "2030-01-01T00:00:01Z",
+        ..USUAL
+    };
+    let absent = Setting {
+        timestamp: "",
+        ..USUAL
+    };
+    called(&rt, USUAL, CALLS);
+    called(&rt, late, "refresh => Ok");
+    called(&rt, too_late, EXPIRED);
+    called(&rt, absent, ABSENT);
+}
+
+#[test]
+fn a_next_root_meets_the_old_root_and_itself(rt: HostRuntime) {
+    hold(&rt, "next root of another key", OTHER_KEYS);
+}
+
+// The root of the greatest number has no next, so that none is fetched.
+const THIRTY_ONE_ROOTS: &str = "refresh => Ok
+versions => (32, Some(2), Some(3), Some(4))";
+
+const THIRTY_TWO_ROOTS: &str = "refresh => Transport(Rotations { max: 32 })
+versions => (33, None, None, None)";
+
+const GREATEST_ROOT: &str = "refresh => Ok
+versions => (18446744073709551615, Some(2), Some(3), Some(4))";
+
+#[test]
+fn next_roots_up_to_the_limit(rt: HostRuntime) {
+    let below = Setting {
+        absent_root: 33,
+        ..USUAL
+    };
+    let at_the_limit = Setting {
+        absent_root: 34,
+        ..USUAL
+    };
+    let none = Setting { most: 0, ..USUAL };
+    let greatest = Setting {
+        version: "18446744073709551615",
+        ..none
+    };
+    called(&rt, below, THIRTY_ONE_ROOTS);
+    called(&rt, at_the_limit, THIRTY_TWO_ROOTS);
+    called(&rt, none, LIMITED);
+    called(&rt, greatest, GREATEST_ROOT);
+}
+
+const ROLLED_BACK: &str = r#"refresh => Rollback { role: "timestamp", trusted: 3, new: 2 }
+versions => (1, Some(3), None, None)"#;
+
+const PASSED_OVER: &str = "refresh => Ok
+versions => (1, Some(2), Some(3), Some(4))";
+
+#[test]
+fn a_signed_timestamp_of_the_store_is_a_floor(rt: HostRuntime) {
+    let signed = Setting {
+        kept: NEWER,
+        ..USUAL
+    };
+    let unsigned = Setting {
+        kept: UNSIGNED,
+        ..USUAL
+    };
+    called(&rt, signed, ROLLED_BACK);
+    called(&rt, unsigned, PASSED_OVER);
 }

@@ -22,7 +22,7 @@ pub fn answer<X: AllocGlobal + Abort>(rt: &X, call: &str, given: &str) -> String
             "BadName" => displayed(rt, StoreFault::BadName),
             _ => displayed(rt, StoreFault::NoMemory),
         },
-        _ => client::answer(rt, call),
+        _ => client::answer(rt, call, given),
     }
 }
 

@@ -111,13 +111,18 @@ fn root<X: AllocGlobal + Abort>(rt: &X, cells: &str) -> Root {
     root.into_signed()
 }
 
-// A timestamp signed by words of an id, `=` and a signature.
-fn signed_by<X: AllocGlobal + Abort>(rt: &X, words: &str) -> Metadata<Timestamp> {
+// The signatures of a document, behind its first `"keyid":"`, of words of an id, `=` and a signature.
+pub fn signatures<X: AllocGlobal + Abort>(rt: &X, words: &str) -> String {
     let signatures = good(rt, words.replace(rt.alloc(), '=', "\",\"sig\":\""));
     let more = signatures
         .as_str()
         .replace(rt.alloc(), ' ', "\"},{\"keyid\":\"");
-    read(rt, TIMESTAMP, good(rt, more).as_str())
+    good(rt, more)
+}
+
+// A timestamp signed by words of an id, `=` and a signature.
+fn signed_by<X: AllocGlobal + Abort>(rt: &X, words: &str) -> Metadata<Timestamp> {
+    read(rt, TIMESTAMP, signatures(rt, words).as_str())
 }
 
 // Whether the document meets the role as it stands in the root.
