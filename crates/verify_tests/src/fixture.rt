@@ -1,10 +1,12 @@
 // A run of the program over objects in memory: the fixture, with one of its parts changed.
-use crate::tables::{Change, bytes, change_in, failures, good, source, text_of, words};
+use crate::tables::{
+    Change, bytes, change_in, failures, good, source, string, text_of, there, words,
+};
 use jiff::Timestamp;
 use sigstore_app_parts::{MemoryInputs, MemorySink, Which};
-use sigstore_crypto::sha256;
+use sigstore_crypto::{MemorySource, sha256};
 use sigstore_run::{Status, run};
-use sigstore_tuf::{MemoryRepository, MemoryStore};
+use sigstore_tuf::{MemoryRepository, MemoryStore, MetadataStore};
 use sigstore_types_parts::{Bytes, DigestBytes, Text};
 use std::process::Abort;
 
@@ -45,6 +47,7 @@ next root
 second root
 kept root
 timestamp
+kept timestamp
 unsigned
 trust
 listed
@@ -61,6 +64,7 @@ artifact
 repository fails
 inputs fail
 artifact fails
+byte fails
 sink fails
 room";
 
@@ -178,11 +182,19 @@ fn sign_second<X: AllocGlobal + Abort>(rt: &X, change: Change, rows: &mut String
     }
 }
 
+fn sign_kept<X: AllocGlobal + Abort>(rt: &X, change: Change, rows: &mut String) {
+    let kept = change.of("kept timestamp", "");
+    if !kept.is_empty() {
+        sign(rt, change, rows, "kept timestamp", kept);
+    }
+}
+
 fn provider<X: AllocGlobal + Abort>(rt: &X, change: Change, root: &str, targets: &str) -> Bytes {
     let mut rows = String::new(rt.alloc());
     sign(rt, change, &mut rows, "root", root);
     sign_second(rt, change, &mut rows);
     sign(rt, change, &mut rows, "timestamp", TIMESTAMP);
+    sign_kept(rt, change, &mut rows);
     sign(rt, change, &mut rows, "snapshot", SNAPSHOT);
     sign(rt, change, &mut rows, "targets", targets);
     sign(
@@ -248,6 +260,15 @@ fn inputs<X: AllocGlobal + Abort>(
     inputs
 }
 
+// The artifact, two bytes at a time, or one byte at a time where the read of a byte fails.
+fn artifact<X: AllocGlobal + Abort>(rt: &X, change: Change) -> MemorySource {
+    let artifact = change.of("artifact", change.of("signed artifact", "hello"));
+    if change.part == "byte fails" {
+        return source(rt, artifact, 1, change.text);
+    }
+    source(rt, artifact, 2, change.of("artifact fails", ""))
+}
+
 // How a run over these inputs, this repository and this store ends.
 fn ended<X: AllocGlobal + Abort>(
     rt: &X,
@@ -258,8 +279,7 @@ fn ended<X: AllocGlobal + Abort>(
     sink: &mut MemorySink,
 ) -> Status {
     let words = words(rt, change.of("words", WORDS));
-    let artifact = change.of("artifact", change.of("signed artifact", "hello"));
-    let mut artifact = source(rt, artifact, change.of("artifact fails", ""));
+    let mut artifact = artifact(rt, change);
     let clock = Timestamp::UNIX_EPOCH;
     let status = run(
         rt.alloc(),
@@ -306,12 +326,30 @@ fn keep_second<X: AllocGlobal + Abort>(rt: &X, version: &str, store: &mut Memory
     drop(sink);
 }
 
+// Puts a document in the store, as its timestamp.
+fn keep_timestamp<X: AllocGlobal + Abort>(rt: &X, signed: &str, store: &mut MemoryStore) {
+    let document = document(rt, signed);
+    good(
+        rt,
+        store.store(rt.alloc(), "timestamp.json", document.as_bytes()),
+    );
+    drop(document);
+}
+
+// The store before the run; without a change it is empty.
+fn store<X: AllocGlobal + Abort>(rt: &X, change: Change) -> MemoryStore {
+    let mut store = MemoryStore::new(rt.alloc());
+    match change.part {
+        "kept root" => keep_second(rt, change.text, &mut store),
+        "kept timestamp" => keep_timestamp(rt, change.text, &mut store),
+        _ => {}
+    }
+    store
+}
+
 // How a run over the changed fixture ends.
 fn run_with<X: AllocGlobal + Abort>(rt: &X, change: Change, sink: &mut MemorySink) -> Status {
-    let mut store = MemoryStore::new(rt.alloc());
-    if change.part == "kept root" {
-        keep_second(rt, change.text, &mut store);
-    }
+    let mut store = store(rt, change);
     let status = run_over(rt, change, &mut store, sink);
     drop(store);
     status
@@ -330,4 +368,33 @@ pub(crate) fn said<X: AllocGlobal + Abort>(rt: &X, row: &str) -> String {
     let said = format!(in rt.alloc(); "{status:?} {taken:?}");
     drop(taken);
     good(rt, said)
+}
+
+// The length and the SHA-256 value of a file.
+fn measured<X: AllocGlobal + Abort>(rt: &X, file: &[u8]) -> String {
+    let digest = good(rt, sha256(file).to_hex(rt.alloc()));
+    let (length, sha256) = (file.len(), digest.as_str());
+    let measured = good(rt, format!(in rt.alloc(); "{length} {sha256}"));
+    drop(digest);
+    measured
+}
+
+// What the store has under a name after a run over the changed fixture.
+pub(crate) fn kept<X: AllocGlobal + Abort>(rt: &X, row: &str) -> String {
+    let (row, name) = there(rt, row.rsplit_once(" | "));
+    let change = change_in(rt, row, PARTS);
+    let mut sink = good(rt, MemorySink::new(rt.alloc(), 1024, failures(rt, "")));
+    let mut store = store(rt, change);
+    let _status = run_over(rt, change, &mut store, &mut sink);
+    drop(sink);
+    let file = good(rt, store.load(rt.alloc(), name));
+    drop(store);
+    match file {
+        Some(file) => {
+            let measured = measured(rt, file.as_bytes());
+            drop(file);
+            measured
+        }
+        None => string(rt, "none"),
+    }
 }

@@ -37,6 +37,8 @@ listed |  | Refused "refused tuf 16 TargetNotFound\n"
 timestamp |  | Refused "refused tuf 18 Transport\n"
 next root | {} | Refused "refused tuf 1 Json\n"
 second root | 3 | Refused "refused tuf 11 BadRootVersion\n"
+# The store has a newer timestamp than the repository.
+kept timestamp | {"_type":"timestamp","expires":"2030-01-01T00:00:00Z","meta":{"snapshot.json":{"version":1}},"spec_version":"1.0.0","version":2} | Refused "refused tuf 9 Rollback\n"
 consistent | true | Refused "refused tuf 90 Unbuilt\n"
 delegations | "delegations":{"keys":{},"roles":[{"keyids":["k"],"name":"d","paths":["x"],"terminating":false,"threshold":1}]}, | Refused "refused tuf 90 Unbuilt\n"
 scheme | ed25519 | Refused "refused tuf 8 ThresholdNotMet\n"
@@ -73,6 +75,7 @@ artifact fails | 1 | Refused "refused verify 30 ArtifactRead\n"
 artifact fails | 2 | Refused "refused verify 30 ArtifactRead\n"
 artifact fails | 3 | Refused "refused verify 30 ArtifactRead\n"
 artifact fails | 4 | Refused "refused verify 30 ArtifactRead\n"
+byte fails | 3 | Refused "refused verify 30 ArtifactRead\n"
 # The sink takes the whole text in one call; one with little room takes a part of it.
 sink fails | 1 | Output ""
 room | 3 | Output "acc""#;
@@ -80,4 +83,22 @@ room | 3 | Output "acc""#;
 #[test]
 fn other_runs_say_why(rt: HostRuntime) {
     hold(&rt, "run", REFUSED);
+}
+
+// A row: the part, the text in its place, a name, and the length and the SHA-256 value of what the store has
+// under it after the run, by a script. The third byte of the artifact can't be read; the store's newer
+// timestamp stays.
+const KEPT: &str =
+    r#"byte fails | 3 | root_history/1.root.json | 552 a1b0b38161b6aa30a2ef61beb007a482f7347219c135c61c0346683e4d315331
+byte fails | 3 | root.json | 552 a1b0b38161b6aa30a2ef61beb007a482f7347219c135c61c0346683e4d315331
+byte fails | 3 | timestamp.json | 179 c4a172a0fced4b10c5e58836f3ac47560617673c694af6693ea4e84528416e04
+byte fails | 3 | snapshot.json | 177 c66812bd310d9ffec79d3f410f617ae12852355d19c533d4cc8d7ca000552352
+byte fails | 3 | targets.json | 270 2a8b7ee8f7369b05d495ac5f27f1ff03967db37f0a856db2d8bd89c2be6ec16c
+byte fails | 3 | targets/trusted_root.json | 2 44136fa355b3678a1146ad16f7e8649e94fb4fc21fe77e8310c060f61caaff8a
+kept timestamp | {"_type":"timestamp","expires":"2030-01-01T00:00:00Z","meta":{"snapshot.json":{"version":1}},"spec_version":"1.0.0","version":2} | timestamp.json | 179 dd0fefb62366e41bde4d34f3ce92ed38a32338136fd72364dfcfce9db3058ba9
+words |  | root.json | none"#;
+
+#[test]
+fn what_a_refused_run_leaves_in_the_store(rt: HostRuntime) {
+    hold(&rt, "kept", KEPT);
 }

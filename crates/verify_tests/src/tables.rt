@@ -129,8 +129,13 @@ pub(crate) fn bytes<X: AllocGlobal + Abort>(rt: &X, bytes: &[u8]) -> Bytes {
     good(rt, Bytes::new(rt.alloc(), bytes))
 }
 
-// An artifact, two bytes at a time; the read of that number fails.
-pub(crate) fn source<X: AllocGlobal + Abort>(rt: &X, artifact: &str, read: &str) -> MemorySource {
-    let step = there(rt, NonZeroU32::new(2));
+// An artifact, so many bytes at a time; the read of that number fails.
+pub(crate) fn source<X: AllocGlobal + Abort>(
+    rt: &X,
+    artifact: &str,
+    step: u32,
+    read: &str,
+) -> MemorySource {
+    let step = there(rt, NonZeroU32::new(step));
     MemorySource::new(bytes(rt, artifact.as_bytes()), step, failures(rt, read))
 }

@@ -26,6 +26,7 @@ pub(crate) fn answer<X: AllocGlobal + Abort>(rt: &X, call: &str, given: &str) ->
         "policy" => policy_shown(rt),
         "acceptance" => accepted(rt, given),
         "handed" => handed(rt, given),
+        "kept" => fixture::kept(rt, given),
         _ => fixture::said(rt, given),
     }
 }
@@ -300,7 +301,7 @@ fn bundle<X: AllocGlobal + Abort>(rt: &X, change: Change) -> Bundle {
 // What the verifier keeps of the changed bundle over the artifact `hello`, or its refusal.
 fn verified<X: AllocGlobal + Abort>(rt: &X, change: Change) -> Result<VerificationResult, Error> {
     let max = number(rt, change.of("greatest length", "5"));
-    let mut source = source(rt, "hello", change.of("failing read", ""));
+    let mut source = source(rt, "hello", 2, change.of("failing read", ""));
     let (policy, bundle) = (policy(rt, change), bundle(rt, change));
     let verifier = good(rt, Verifier::new(rt.alloc(), &Echo, &Bare, &TrustedRoot {}));
     let now = Timestamp::UNIX_EPOCH;
@@ -344,7 +345,7 @@ const UNCHANGED: Change = Change {
 };
 
 fn kept<X: AllocGlobal + Abort>(rt: &X) -> Kept {
-    let mut source = source(rt, "hello", "");
+    let mut source = source(rt, "hello", 2, "");
     let (policy, bundle) = (policy(rt, UNCHANGED), bundle(rt, UNCHANGED));
     let verifier = good(rt, Verifier::new(rt.alloc(), &Echo, &Bare, &TrustedRoot {}));
     let now = Timestamp::UNIX_EPOCH;
