@@ -21,12 +21,12 @@ use Rattle.sigstore_tuf.specs.declared.repository.FetchFault.{FetchFault}
 use Rattle.sigstore_tuf.specs.declared.repository.FetchFault.TheVariants as fetch
 use Rattle.sigstore_tuf.specs.declared.store.StoreFault.{StoreFault}
 use Rattle.sigstore_tuf.specs.declared.store.StoreFault.TheVariants as store
-use Rattle.sigstore_tuf.specs.Repository.{Folders, Files, metadata_files, IsFile, Fetches}
+use Rattle.sigstore_tuf.specs.Repository.{Quiet, Folders, Files, metadata_files, IsFile, Fetches}
 use Rattle.sigstore_tuf.specs.Store.{with_file, Keeps as KeepsTold}
 use Rattle.sigstore_tuf.specs.Names.{file_name, max_length, kept_names}
 use Rattle.sigstore_tuf.specs.State.{Session, State}
 use Rattle.sigstore_tuf.specs.Adopt.{judged_of, FetchesNamed, fetch_unnamed, fetch_asked, FetchesDocument, LoadsNamed, Saves, save_unnamed, save_asked, SavesAll, absence_of, there_of, Keeps, KeepsWhere, Adopts, unfetched, absent, refused, kept, adopted}
-use Rattle.sigstore_tuf.specs.Offer.{Quiet, IsNoneOr}
+use Rattle.sigstore_tuf.specs.Offer.{IsNoneOr}
 use Rattle.sigstore_tuf.proofs.Carrying.{fetched_since, loaded_had}
 use Rattle.sigstore_tuf.proofs.Causes.{is_want}
 use Rattle.sigstore_tuf.proofs.Steps.{keeps_want}

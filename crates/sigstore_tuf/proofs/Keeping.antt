@@ -22,7 +22,7 @@ use Rattle.sigstore_tuf.specs.declared.step.Step.{Step}
 use Rattle.sigstore_tuf.specs.declared.step.Step.TheVariants.{WalkRoots, CheckRoot, Seed, Fetch, CheckTimestamp, CheckSnapshot, CheckDelegations}
 use Rattle.sigstore_tuf.specs.declared.store.StoreFault.{StoreFault}
 use Rattle.sigstore_tuf.specs.declared.store.StoreFault.TheVariants as store
-use Rattle.sigstore_tuf.specs.Repository.{Files}
+use Rattle.sigstore_tuf.specs.Repository.{Quiet, Files}
 use Rattle.sigstore_tuf.specs.Store.{is_bad_name, with_file, HasStoreCause, Keeps as KeepsTold}
 use Rattle.sigstore_tuf.specs.Names.{history_name, root_file, kept_name, kept_names}
 use Rattle.sigstore_tuf.specs.Update.{first_root_of}
@@ -32,26 +32,16 @@ use Rattle.sigstore_tuf.specs.Client.{version_in}
 use Rattle.sigstore_tuf.specs.Run.{Repeats, root_loop, said, Checks, Refetches, Reseeds, moment_of, SavesRoot, Attaches, roots_unrecalled, roots_recalled, roots_left, Does, Runs, refresh_steps, RunsSteps}
 use Rattle.sigstore_tuf.specs.Trusted.{BeginsWith}
 use Rattle.sigstore_tuf.specs.Authorised.{given_in, IsAuthorised}
-use Rattle.sigstore_tuf.specs.Kept.{Quiet, IsFiled, HasRoot, HasLastRoot, HoldsAdopted, HoldsInForce, KeepsAdopted, KeepsInForce, AttachesKept, StaysKept}
+use Rattle.sigstore_tuf.specs.Kept.{IsFiled, HasRoot, HasLastRoot, HoldsAdopted, HoldsInForce, KeepsAdopted, KeepsInForce, AttachesKept, StaysKept}
 use Rattle.sigstore_tuf.proofs.Updates.{Puts, judged_puts, bytes_put, top_inserted}
 use Rattle.sigstore_tuf.proofs.Lift.{IsAsked, NotRoot, AsksNoRoot, AskNoRoots, asked_later, roots_lift}
 use Rattle.sigstore_tuf.proofs.Authorised.{judged_stays}
 use Rattle.sigstore_tuf.proofs.Holding.{stays_whole}
 use Rattle.sigstore_tuf.proofs.Steps.{save_wants}
 use Rattle.sigstore_tuf.proofs.Carrying.{loaded_had}
+use Rattle.sigstore_tuf.proofs.Completing.{quiet_first, quiet_second, not_both}
 use Rattle.sigstore_tuf.proofs.StoreNames.{never_root_file}
 use Rattle.sigstore_tuf.proofs.RootNames.{same_number, history_good}
-
--- ---- no fault was counted
-
-pub quiet_first : (a b c : ℕ) → a ≤ b → b ≤ c → Quiet a c → Quiet a b
-quiet_first a b c p q h = omega arith
-
-pub quiet_second : (a b c : ℕ) → a ≤ b → b ≤ c → Quiet a c → Quiet b c
-quiet_second a b c p q h = omega arith
-
-quiet_never : {C : Type 0} (a b : ℕ) → Quiet a b → Rose a b → C
-quiet_never a b h r = absurd (omega arith)
 
 -- ---- told files
 
@@ -90,7 +80,7 @@ saved_put bytes name old new result good most quiet (save_asked answer s r) = by
     by_answer : (answer : Result ⊤ StoreFault) → HasStoreCause {T = ⊤} (Rose old.faults new.faults) name answer → KeepsTold {T = ⊤} old.told new.told name bytes answer → result ≡ passed_of answer
         → new.told ≡ option_map (with_file name bytes) old.told
     by_answer (Ok x) c k r = k
-    by_answer (Err store.Failed) c k r = quiet_never old.faults new.faults quiet c.1
+    by_answer (Err store.Failed) c k r = absurd (not_both old.faults new.faults c.1 quiet)
     by_answer (Err store.BadName) c k r = let no : false ≡ true = sym good ∙ c in cc
     by_answer (Err store.NoMemory) c k r = absurd (most r)
 

@@ -226,7 +226,7 @@ module _ (crypto : Crypto) (folders : Folders) (given : List ℕ) (now : jiff.Ti
       let t : TrustedAs crypto given now config.max_delegations path chain is = o.trusted in
       let p : IsPlain chain is = offer.plain in
       let one : OneRole crypto (content_in is.root) (content_in is.snapshot) now chain.roles config.max_delegations =
-              role_is crypto (content_in is.root) (content_in is.snapshot) now chain.roles path config.max_delegations p.top p.top_is p.undelegated t.order_is t.roles in
+      role_is crypto (content_in is.root) (content_in is.snapshot) now chain.roles path config.max_delegations p.top p.top_is p.undelegated t.order_is t.roles in
       let role = one.trusted in
       let doc : documents_in chain.roles (codes "targets") ≡ Some (content_in role.doc) = ap (λ rs. documents_in rs (codes "targets")) one.roles_are ∙ role_document one.bytes role.doc role.read in
       let same : p.top ≡ content_in role.doc = some_same p.top (content_in role.doc) (sym p.top_is ∙ doc) in

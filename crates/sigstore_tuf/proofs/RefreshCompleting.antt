@@ -31,14 +31,14 @@ use Rattle.sigstore_tuf.specs.declared.kind.Kind.TheVariants.{Root, Timestamp, S
 use Rattle.sigstore_tuf.specs.declared.step.Step.{Step}
 use Rattle.sigstore_tuf.specs.declared.step.Step.TheVariants.{WalkRoots, CheckRoot, Seed, Fetch, CheckTimestamp, CheckSnapshot, CheckDelegations}
 use Rattle.sigstore_tuf.specs.Documents.{timestamp_document, snapshot_document, targets_document, content_of, snapshot_pin, targets_pin}
-use Rattle.sigstore_tuf.specs.Repository.{Folders, Files}
+use Rattle.sigstore_tuf.specs.Repository.{Quiet, Folders, Files}
 use Rattle.sigstore_tuf.specs.Names.{kept_name, kept_names, kept_target}
 use Rattle.sigstore_tuf.specs.State.{Session, State}
 use Rattle.sigstore_tuf.specs.Update.{with_timestamp, with_snapshot, with_targets, not_below_of, other_of, newer_than_of, newer_of, fresh_at_of, timestamp_checks_of, update_timestamp_of, snapshot_pin_of, kept_pins_of, snapshot_checks_of, update_snapshot_of, targets_pin_of, targets_checks_of, update_targets_of}
 use Rattle.sigstore_tuf.specs.Adopt.{top_targets, unless_equal, taken_of, judged_of, LoadsNamed, Adopts, Seeds}
 use Rattle.sigstore_tuf.specs.Client.{consistent_of, root_serves_of, timestamp_serves_of, snapshot_serves_of, has_version, serves, snapshot_kept_in, targets_kept_in, is_current, undelegated_of}
 use Rattle.sigstore_tuf.specs.Run.{Checks, said, Refetches, moment_of, Reseeds, Does, Runs, refresh_steps, RunsSteps}
-use Rattle.sigstore_tuf.specs.Offer.{Quiet, RootsEnd, IsNoneOr}
+use Rattle.sigstore_tuf.specs.Offer.{RootsEnd, IsNoneOr}
 use Rattle.sigstore_tuf.proofs.Carrying.{since_same, since_joins, fetched_since, loaded_same, adopt_carried, seed_carried}
 use Rattle.sigstore_tuf.proofs.Causes.{is_want}
 use Rattle.sigstore_tuf.proofs.Lift.{NotRoot, AskNoRoots, does_lift, runs_lift}

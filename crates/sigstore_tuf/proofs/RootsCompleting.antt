@@ -12,12 +12,13 @@ use Rattle.sigstore_tuf_parts.specs.declared.root.Root as declared
 use Rattle.sigstore_tuf_parts.specs.Document.{Document, content_in}
 use Rattle.sigstore_tuf_parts.specs.Crypto.{Crypto}
 use Rattle.sigstore_tuf_parts.specs.Names.{root_name, timestamp_name, snapshot_name, targets_name}
+use Rattle.sigstore_tuf_parts.proofs.ReadExact.{version_bound}
 use Rattle.sigstore_tuf_parts.specs.RootRoles.{root_document, meets_role_of, IsNextRoot, AreNextRoots}
 use Rattle.sigstore_tuf.specs.declared.chain.TrustChain.{TrustChain}
 use Rattle.sigstore_tuf.specs.declared.documents.InForce.{InForce}
 use Rattle.sigstore_tuf.specs.declared.kind.Kind.{Kind}
 use Rattle.sigstore_tuf.specs.declared.kind.Kind.TheVariants.{Root, Timestamp, Snapshot, Targets}
-use Rattle.sigstore_tuf.specs.Repository.{Folders, Files}
+use Rattle.sigstore_tuf.specs.Repository.{Quiet, Folders, Files}
 use Rattle.sigstore_tuf.specs.Store.{with_file}
 use Rattle.sigstore_tuf.specs.Names.{history_name, root_file, kept_name, kept_names, kept_target}
 use Rattle.sigstore_tuf.specs.State.{Session, State}
@@ -25,7 +26,7 @@ use Rattle.sigstore_tuf.specs.Update.{with_root, next_number_of, root_checks_of,
 use Rattle.sigstore_tuf.specs.Adopt.{bytes_in, judged_of, LoadsNamed, Keeps, KeepsWhere, Adopts, passed_over, Seeds, unloaded, unkept, unseeded, equal as seed_equal, seeded}
 use Rattle.sigstore_tuf.specs.Client.{version_in}
 use Rattle.sigstore_tuf.specs.Run.{Turn, IsIdle, Stops, Repeats, next_root, alone, root_loop, roots_left, said, SavesRoot, Attaches, roots_unrecalled, roots_recalled}
-use Rattle.sigstore_tuf.specs.Offer.{Quiet, IsServed, AreServedAfter, RootsEnd, IsNoneOr, AreKeptAfter}
+use Rattle.sigstore_tuf.specs.Offer.{IsServed, AreServedAfter, RootsEnd, IsNoneOr, AreKeptAfter}
 use Rattle.sigstore_tuf.proofs.Carrying.{since_same, since_joins, loaded_same, adopt_carried}
 use Rattle.sigstore_tuf.proofs.Causes.{is_want}
 use Rattle.sigstore_tuf.proofs.Steps.{passes, load_wants, keeps_want}
@@ -56,10 +57,6 @@ root_judged crypto number set bytes now doc read n = rw (root_updated crypto set
 abbrev pub number_of : Document declared.Root → ℕ
 number_of doc = (content_in {T = declared.Root} doc).version
 
-ascends : (crypto : Crypto) (doc : Document declared.Root) (docs : List (Document declared.Root)) (last : Document declared.Root) → AreNextRoots crypto doc docs → last_or (Some doc) docs ≡ Some last → number_of doc ≤ number_of last
-ascends crypto doc [] last n l = let e = ap number_of (some_same doc last l) in omega (arith, e)
-ascends crypto doc (d ∷ ds) last n l = let later = ascends crypto d ds last n.1 l in let e = n.0.number in omega (arith, later, e)
-
 no_next : (set : InForce) → alone (next_root set) ≡ None → version_in set ≡ 2 ^ 64 - 1
 no_next set h = by_test (version_in set == 2 ^ 64 - 1) refl h
   where
@@ -67,18 +64,13 @@ no_next set h = by_test (version_in set == 2 ^ 64 - 1) refl h
     by_test true e h = grind (arith, nat_tests)
     by_test false e h = cc
 
--- no root comes after one of the greatest number
-end_is_last : (files : Files) (newer max first next last : ℕ) → RootsEnd files newer max last → first ≡ 2 ^ 64 - 1 → next ≡ first + 1 → next ≤ last → ⊥
-end_is_last files newer max first next last (inl (few, below, none)) g n l = omega (arith, below, g, n, l)
-end_is_last files newer max first next last (inr (few, greatest)) g n l = omega (arith, greatest, g, n, l)
-
 -- fewer roots end within the limit too
 pub end_of_fewer : (files : Files) (newer fewer max last : ℕ) → fewer ≤ newer → RootsEnd files newer max last → RootsEnd files fewer max last
-end_of_fewer files newer fewer max last le (inl (few, below, none)) = inl (omega (arith, le, few), below, none)
+end_of_fewer files newer fewer max last le (inl (few, none)) = inl (omega (arith, le, few), none)
 end_of_fewer files newer fewer max last le (inr (few, greatest)) = inr (omega (arith, le, few), greatest)
 
 end_of_later : (files : Files) (newer max last : ℕ) → RootsEnd files (suc newer) (suc max) last → RootsEnd files newer max last
-end_of_later files newer max last (inl (few, below, none)) = inl (omega (arith, few), below, none)
+end_of_later files newer max last (inl (few, none)) = inl (omega (arith, few), none)
 end_of_later files newer max last (inr (few, greatest)) = inr (omega (arith, few), greatest)
 
 none_left : (bs : List (List ℕ)) (b : List ℕ) → length (b ∷ bs) ≤ 0 → ⊥
@@ -194,10 +186,13 @@ module _ (session : Session) (folders : Folders) (path : List ℕ) (chain : Trus
       record { read = a.read.1; next = a.next.1; last_is = a.last_is; served = subst (λ n. AreServedAfter folders.metadata session.config.root_max_length n bs) (sym a.next.0.number) a.served.1 }
 
   -- a root of the greatest number is the chain's last
-  not_greatest : {C : Type 0} (state : State) (doc d : Document declared.Root) (b : List ℕ) (bs : List (List ℕ)) (ds : List (Document declared.Root)) (max : ℕ) → OnRoots state doc (b ∷ bs) → Way doc (b ∷ bs) (d ∷ ds)
-      → Ends (length (b ∷ bs)) max → version_in state.documents ≡ 2 ^ 64 - 1 → C
-  not_greatest state doc d b bs ds max on a e g =
-      absurd (end_is_last folders.metadata (length (b ∷ bs)) max (number_of doc) (number_of d) (number_of o.root) e (sym (number_in state doc (b ∷ bs) on) ∙ g) a.next.0.number (ascends session.crypto d ds o.root a.next.1 a.last_is))
+  not_greatest : {C : Type 0} (state : State) (doc d : Document declared.Root) (b : List ℕ) (bs : List (List ℕ)) (ds : List (Document declared.Root)) → OnRoots state doc (b ∷ bs) → Way doc (b ∷ bs) (d ∷ ds)
+      → version_in state.documents ≡ 2 ^ 64 - 1 → C
+  not_greatest state doc d b bs ds on a g =
+      let bound = version_bound b d a.read.0 in
+      let at = number_in state doc (b ∷ bs) on in
+      let next = a.next.0.number in
+      absurd (omega (arith, bound, at, next, g))
 
   -- ---- the repository's next roots
 
@@ -207,14 +202,14 @@ module _ (session : Session) (folders : Folders) (path : List ℕ) (chain : Trus
     idle_done old new result doc [] [] max b a e (none, same, is) = done is (subst (λ s. OnRoots s o.root []) (sym same) (at_last old doc b a.last_is))
     idle_done old new result doc [] (d ∷ ds) max b a e i = absurd a.read
     idle_done old new result doc (r ∷ rs) [] max b a e i = absurd a.read
-    idle_done old new result doc (r ∷ rs) (d ∷ ds) max b a e (none, same, is) = not_greatest old doc d r rs ds max b a e (no_next old.documents none)
+    idle_done old new result doc (r ∷ rs) (d ∷ ds) max b a e (none, same, is) = not_greatest old doc d r rs ds b a (no_next old.documents none)
 
     limit_not_met : {C : Type 0} (old : State) (doc : Document declared.Root) (rest : List (List ℕ)) (docs : List (Document declared.Root)) → OnRoots old doc rest → Way doc rest docs → Ends (length rest) 0 → version_in old.documents ≢ 2 ^ 64 - 1 → C
-    limit_not_met old doc [] [] b a (inl (few, below, none)) other = absurd (omega (arith, few))
+    limit_not_met old doc [] [] b a (inl (few, none)) other = absurd (omega (arith, few))
     limit_not_met old doc [] [] b a (inr (few, greatest)) other = absurd (other (ap number_of ((at_last old doc b a.last_is).root) ∙ greatest))
     limit_not_met old doc [] (d ∷ ds) b a e other = absurd a.read
     limit_not_met old doc (r ∷ rs) [] b a e other = absurd a.read
-    limit_not_met old doc (r ∷ rs) (d ∷ ds) b a (inl (few, below, none)) other = absurd (omega (arith, few))
+    limit_not_met old doc (r ∷ rs) (d ∷ ds) b a (inl (few, none)) other = absurd (omega (arith, few))
     limit_not_met old doc (r ∷ rs) (d ∷ ds) b a (inr (few, greatest)) other = absurd (none_left rs r few)
 
     walk_since : (n : ℕ) (old new : State) (result : Result ⊤ Error) → Repeats (Adopts session) (root_loop limit) n tt old new result → Since old.repo new.repo
@@ -252,7 +247,7 @@ module _ (session : Session) (folders : Folders) (path : List ℕ) (chain : Trus
         by_answer (answers h t) = answers h (on_same old new o.root [] last t.documents t.told (subst (TellsSo IsWarm) (sym t.store) b.warm))
 
         by_end : Ends 0 max → Answers (OnRoots new o.root []) answer (Ok false)
-        by_end (inl (few, below, none)) =
+        by_end (inl (few, none)) =
             by_answer (adopts_lacking session folders (Root (version_in old.documents + 1)) old new answer b.told
             (subst (λ n. folders.metadata (root_name (n + 1)) ≡ None) (sym (number_in old o.root [] last)) none) q adopts)
         by_end (inr (few, greatest)) = absurd (other (number_in old o.root [] last ∙ greatest))

@@ -23,7 +23,7 @@ use Rattle.sigstore_tuf.specs.declared.chain.TrustChain.{TrustChain}
 use Rattle.sigstore_tuf.specs.declared.config.UpdaterConfig.{UpdaterConfig}
 use Rattle.sigstore_tuf.specs.declared.documents.InForce.{InForce}
 use Rattle.sigstore_tuf.specs.Documents.{content_of, snapshot_pin, targets_pin}
-use Rattle.sigstore_tuf.specs.Repository.{Folders, Files, target_files}
+use Rattle.sigstore_tuf.specs.Repository.{Quiet, Folders, Files, target_files}
 use Rattle.sigstore_tuf.specs.Names.{kept_target}
 use Rattle.sigstore_tuf.specs.State.{Session, State, session_of, state_of}
 use Rattle.sigstore_tuf.specs.Adopt.{top_targets, FetchesNamed, LoadsNamed}
@@ -31,7 +31,7 @@ use Rattle.sigstore_tuf.specs.Client.{has_version}
 use Rattle.sigstore_tuf.specs.Update.{first_root_of}
 use Rattle.sigstore_tuf.specs.Run.{Attaches, refresh_steps, RunsSteps}
 use Rattle.sigstore_tuf.specs.Target.{fresh_timestamp_of, fresh_snapshot_of, unexpired_of, pinned_version_of, pinned_by_of, all_pinned_of, search_serves_of, entry_in, listed_in, entry_of, info_of, found_of, target_of, within_of, if_pinned, recalled_of, Recalls, file_of, TakesFile, differs, unsaved, given, Downloads, too_long, unfetched, absent, fetched, Obtains, unrecalled, recalled, downloaded, visit_of, chain_of, GetsTarget, unlisted, unobtained, unchained, found}
-use Rattle.sigstore_tuf.specs.Offer.{Quiet, RootsEnd, IsNoneOr, later_in, targets_bytes, AreKeptAfter, Offers, Warm}
+use Rattle.sigstore_tuf.specs.Offer.{RootsEnd, IsNoneOr, later_in, targets_bytes, AreKeptAfter, Offers, Warm}
 use Rattle.sigstore_tuf.proofs.Carrying.{since_same, fetched_since}
 use Rattle.sigstore_tuf.proofs.Causes.{is_want}
 use Rattle.sigstore_tuf.proofs.Steps.{load_wants, save_wants}

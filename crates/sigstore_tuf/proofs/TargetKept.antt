@@ -15,16 +15,17 @@ use Rattle.sigstore_tuf.specs.declared.documents.Held.{Held}
 use Rattle.sigstore_tuf.specs.declared.documents.InForce.{InForce}
 use Rattle.sigstore_tuf.specs.declared.store.StoreFault.{StoreFault}
 use Rattle.sigstore_tuf.specs.declared.store.StoreFault.TheVariants as store
-use Rattle.sigstore_tuf.specs.Repository.{Folders, Files}
+use Rattle.sigstore_tuf.specs.Repository.{Quiet, Folders, Files}
 use Rattle.sigstore_tuf.specs.Store.{is_bad_name, with_file, Keeps as KeepsTold}
 use Rattle.sigstore_tuf.specs.Names.{kept_target}
 use Rattle.sigstore_tuf.specs.State.{Session, state_of}
 use Rattle.sigstore_tuf.specs.Adopt.{top_targets, LoadsNamed, Saves, save_unnamed, save_asked}
 use Rattle.sigstore_tuf.specs.Target as target
 use Rattle.sigstore_tuf.specs.Target.{file_of, if_pinned, recalled_of, Recalls, TakesFile, Downloads, Obtains, chain_in, chain_of, GetsTarget}
-use Rattle.sigstore_tuf.specs.Kept.{Quiet, IsFiled, HoldsInForce, HoldsChain, KeepsInForce, KeepsChain}
+use Rattle.sigstore_tuf.specs.Kept.{IsFiled, HoldsInForce, HoldsChain, KeepsInForce, KeepsChain}
 use Rattle.sigstore_tuf.proofs.Carrying.{loaded_had}
-use Rattle.sigstore_tuf.proofs.Keeping.{quiet_second, told_moved, told_map, told_each, told_both, loaded_told, saved_later, saved_put, roots_kept, with_this}
+use Rattle.sigstore_tuf.proofs.Completing.{quiet_second}
+use Rattle.sigstore_tuf.proofs.Keeping.{told_moved, told_map, told_each, told_both, loaded_told, saved_later, saved_put, roots_kept, with_this}
 
 -- ---- the documents stay
 

@@ -1,6 +1,6 @@
 -- What a store has of the documents in force and of a search (TUF specification, section 5: each document that is adopted is
 -- written to storage).
-use Rattle.std.specs.Prelude.{◌≡◌, ◌≢◌, ℕ, ◌+◌, ◌-◌, ◌^◌, ◌<◌, min, List, drop, Some, None, Result, Ok, Err, IfSome, OnOk, false, ⊤}
+use Rattle.std.specs.Prelude.{◌≡◌, ◌≢◌, ℕ, List, drop, Some, None, Result, Ok, Err, IfSome, OnOk, false, ⊤}
 use Rattle.std.specs.List.{AllByRecursion, last_or}
 use Rattle.foundation.specs.Watched.{IfTold}
 use Rattle.sigstore_tuf_parts.specs.declared.error.Error.{Error}
@@ -13,15 +13,11 @@ use Rattle.sigstore_tuf.specs.declared.chain.RoleDoc.{RoleDoc}
 use Rattle.sigstore_tuf.specs.declared.chain.TrustChain.{TrustChain}
 use Rattle.sigstore_tuf.specs.declared.documents.InForce.{InForce}
 use Rattle.sigstore_tuf.specs.declared.kind.Kind.TheVariants as kind
-use Rattle.sigstore_tuf.specs.Repository.{Files}
+use Rattle.sigstore_tuf.specs.Repository.{Quiet, Files}
 use Rattle.sigstore_tuf.specs.Store.{is_bad_name}
 use Rattle.sigstore_tuf.specs.Names.{history_name, root_file, kept_target}
 use Rattle.sigstore_tuf.specs.State.{State}
 use Rattle.sigstore_tuf.specs.Adopt.{bytes_in}
-
--- no fault was counted from one to the other
-abbrev pub Quiet : ℕ → ℕ → Type 0
-Quiet before now = now < min (before + 1) (2 ^ 64 - 1)
 
 -- the files have these bytes under the name
 abbrev pub IsFiled : Files → List ℕ → List ℕ → Type 0

@@ -1,6 +1,6 @@
 -- A chain that a repository offers, and a store that has nothing else (TUF specification, section 5).
 use Rattle.std.specs.Prelude.{◌≡◌, ◌⊎◌, ℕ, ◌+◌, ◌-◌, ◌^◌, ◌<◌, ◌≤◌, List, [], ◌∷◌, length, true, false}
-use Rattle.std.specs.Prelude.{Option, Some, None, codes, min, ⊤}
+use Rattle.std.specs.Prelude.{Option, Some, None, codes, ⊤}
 use Rattle.std.specs.List.{AllByRecursion}
 use Rattle.jiff_core.specs.declared.timestamp.Timestamp as jiff
 use Rattle.sigstore_tuf_parts.specs.declared.targets.Targets.{Targets}
@@ -16,10 +16,6 @@ use Rattle.sigstore_tuf.specs.Names.{history_name, kept_target}
 use Rattle.sigstore_tuf.specs.Client.{delegates_none}
 use Rattle.sigstore_tuf.specs.Trusted.{Reading, TrustedAs, documents_in}
 
--- the count of faults didn't rise
-abbrev pub Quiet : ℕ → ℕ → Type 0
-Quiet before now = now < min (before + 1) (2 ^ 64 - 1)
-
 -- ---- what is offered
 
 -- the file stands under the name, no longer than its limit
@@ -33,11 +29,11 @@ AreServedAfter files max version [] = ⊤
 AreServedAfter files max version (bytes ∷ later) =
     IsServed files (root_name (version + 1)) bytes max × AreServedAfter files max (version + 1) later
 
--- The next roots, so many, end within the limit: the last of all has the greatest version, which has no next, or it has a lower
--- one, there are fewer than the limit, and the next number isn't there.
+-- The next roots, so many, end within the limit: they are fewer, and nothing stands under the next number; or the last of them has
+-- the greatest version, which has no next.
 abbrev pub RootsEnd : Files → ℕ → ℕ → ℕ → Type 0
 RootsEnd files newer max version =
-    ((newer < max) × (version < 2 ^ 64 - 1) × (files (root_name (version + 1)) ≡ None))
+    ((newer < max) × (files (root_name (version + 1)) ≡ None))
     ⊎ ((newer ≤ max) × (version ≡ 2 ^ 64 - 1))
 
 -- a document that was visited stands under its name

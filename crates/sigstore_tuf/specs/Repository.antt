@@ -1,8 +1,12 @@
 -- What a fetch promises.
-use Rattle.std.specs.Prelude.{◌≡◌, ℕ, ◌<◌, ◌≤◌, List, length, Option, Some, None, Result, Ok, Err, ⊤}
+use Rattle.std.specs.Prelude.{◌≡◌, ℕ, ◌+◌, ◌-◌, ◌^◌, ◌<◌, ◌≤◌, min, List, length, Option, Some, None, Result, Ok, Err, ⊤}
 use Rattle.foundation.specs.Watched.{Watched, Rose, IfTold}
 use Rattle.sigstore_tuf.specs.declared.repository.FetchFault.{FetchFault}
 use Rattle.sigstore_tuf.specs.declared.repository.FetchFault.TheVariants.{Failed, TooLong, NoMemory}
+
+-- the count of faults didn't rise
+abbrev pub Quiet : ℕ → ℕ → Type 0
+Quiet before now = now < min (before + 1) (2 ^ 64 - 1)
 
 -- the bytes under each name
 abbrev pub Files : Type 0

@@ -15,12 +15,12 @@ use Rattle.sigstore_tuf_parts.specs.declared.error.Error.TheVariants as tuf
 use Rattle.sigstore_tuf_parts.specs.Document.{content_in}
 use Rattle.sigstore_tuf.specs.declared.chain.TrustChain.{TrustChain}
 use Rattle.sigstore_tuf.specs.declared.documents.InForce.{InForce}
-use Rattle.sigstore_tuf.specs.Repository.{Files, Folders}
+use Rattle.sigstore_tuf.specs.Repository.{Quiet, Files, Folders}
 use Rattle.sigstore_tuf.specs.State.{State, state_of}
 use Rattle.sigstore_tuf.specs.Update.{first_root_of}
 use Rattle.sigstore_tuf.specs.Run.{Attaches}
 use Rattle.sigstore_tuf.specs.Promises.{Refreshed, Got}
-use Rattle.sigstore_tuf.specs.Offer.{Quiet, Offers, Warm}
+use Rattle.sigstore_tuf.specs.Offer.{Offers, Warm}
 use Rattle.sigstore_tuf.proofs.Carrying.{refresh_carried}
 use Rattle.sigstore_tuf.proofs.Completing.{step_to, quiet_first, quiet_second, not_both, Done, wanting, done}
 use Rattle.sigstore_tuf.proofs.RefreshCompleting.{step_err}
@@ -100,7 +100,7 @@ module _ (anchor : Anchor) (folders : Folders) (files : Files) (chain : TrustCha
         let first = (refresh_carried (session_in anchor) (state_of set repo kept) (state_of last mid held) (Ok tt) r.runs).since in
         let second = gets_since (session_in anchor) trust_path last mid repo' held store' result g.gets in
         let arrived = must_arrive (state_of last mid held)
-                (refreshed_done anchor.crypto folders anchor.root anchor.now anchor.config trust_path chain offer (state_of set repo kept) (state_of last mid held) (Ok tt) (begun set kept b) (quiet_first repo.faults mid.faults repo'.faults first.later second.later quiet) r.runs) in
+        (refreshed_done anchor.crypto folders anchor.root anchor.now anchor.config trust_path chain offer (state_of set repo kept) (state_of last mid held) (Ok tt) (begun set kept b) (quiet_first repo.faults mid.faults repo'.faults first.later second.later quiet) r.runs) in
         target_done anchor.crypto folders anchor.root anchor.now anchor.config trust_path chain offer (state_of last mid held) repo' store' result arrived (quiet_second repo.faults mid.faults repo'.faults first.later second.later quiet) g.gets
 
     chain_completes : (result : Result TrustChain TufError) → GivesChain anchor repo repo' store store' result → GivenChain chain result
