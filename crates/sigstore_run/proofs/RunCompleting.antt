@@ -14,7 +14,7 @@ use Rattle.sigstore_verify.specs.declared.from_root.RootFault.{RootFault}
 use Rattle.sigstore_verify.specs.declared.from_root.RootFault.TheVariants as root
 use Rattle.sigstore_verify.specs.Given.{Given, Outside}
 use Rattle.sigstore_verify.specs.FromRoot.{Runs}
-use Rattle.sigstore_verify.specs.Complete.{verdict_of, rooted_of, Favours, Completes as CompletesCall}
+use Rattle.sigstore_verify.specs.Complete.{verdict_of, rooted_of, Favours, StaysWarm}
 use Rattle.sigstore_verify.proofs.RootCompleting.{runs_complete}
 use Rattle.sigstore_app_parts.specs.Inputs.{Held}
 use Rattle.sigstore_app_parts.specs.Layout.{layout_of}
@@ -57,25 +57,25 @@ module _ (before after : Watched Held) (held : Held) (gathered : Gathered) (told
 
 module _ (given : Given) (before after : Outside) (chain : TrustChain) (bytes : List ℕ) (f : Favours given before after chain bytes) where
   abbrev V : Answer → Type 0
-  V said = Says (rooted_of chain (verdict_of given chain.file bytes)) said
+  V said = Says (rooted_of chain (verdict_of given chain.file bytes)) said × StaysWarm after.store f
 
   refused_says : (fault : RootFault) (said : Answer) → Runs given before after (Err fault) → refusal_answer fault ≡ Some said → V said
   refused_says fault said v h = by_complete (runs_complete given before after (Err fault) v chain bytes f)
     where
-      by_complete : (◌≡◌ {A = Result Rooted RootFault} (Err fault) (Err root.NoMemory)) ⊎ (Err fault ≡ rooted_of chain (verdict_of given chain.file bytes)) → V said
+      by_complete : (◌≡◌ {A = Result Rooted RootFault} (Err fault) (Err root.NoMemory)) ⊎ ((Err fault ≡ rooted_of chain (verdict_of given chain.file bytes)) × StaysWarm after.store f) → V said
       by_complete (inl w) = absurd (no_answer said (ap refusal_answer (sym (err_same fault root.NoMemory w)) ∙ h))
-      by_complete (inr e) = subst (λ r. Says r said) e h
+      by_complete (inr (e, w)) = (subst (λ r. Says r said) e h, w)
 
   reported_says : (rooted : Rooted) (said : Answer) → Runs given before after (Ok rooted) → SaysReport rooted said → V said
   reported_says rooted said v h = by_complete (runs_complete given before after (Ok rooted) v chain bytes f)
     where
-      by_complete : (◌≡◌ {A = Result Rooted RootFault} (Ok rooted) (Err root.NoMemory)) ⊎ (Ok rooted ≡ rooted_of chain (verdict_of given chain.file bytes)) → V said
+      by_complete : (◌≡◌ {A = Result Rooted RootFault} (Ok rooted) (Err root.NoMemory)) ⊎ ((Ok rooted ≡ rooted_of chain (verdict_of given chain.file bytes)) × StaysWarm after.store f) → V said
       by_complete (inl w) = no_both rooted root.NoMemory w
-      by_complete (inr e) = subst (λ r. Says r said) e h
+      by_complete (inr (e, w)) = (subst (λ r. Says r said) e h, w)
 
 module _ (command : Command) (before after : Environment) (chain : TrustChain) (bytes : List ℕ) (f : Favoured command before after chain bytes) where
   abbrev T : Answer → Type 0
-  T said = Says (rooted_of chain (verdict_of (given_in f) chain.file bytes)) said
+  T said = Says (rooted_of chain (verdict_of (given_in f) chain.file bytes)) said × StaysWarm after.outside.store f.outside
 
   judged_says : (found : Gathered) (said : Answer) → found ≡ f.gathered → Judges found (now_of f.layout command.clock) before.outside after.outside (Ok said) → T said
   judged_says found said same j = by_judges (subst (λ g. Judges g (now_of f.layout command.clock) before.outside after.outside (Ok said)) same j)
@@ -104,4 +104,6 @@ module _ (command : Command) (before after : Environment) (chain : TrustChain) (
 pub run_completes : (command : Command) (before after : Environment) (out out' : Watched (List ℕ)) (ended : Status) → RunsTo command before after out out' ended → Completes command before after out out' ended
 run_completes command before after out out' ended (unwritten e d o s) chain bytes f = inl s
 run_completes command before after out out' ended (cut said fault d w s) chain bytes f = inr (inl (s, w.failed))
-run_completes command before after out out' ended (written said d w s) chain bytes f = inr (inr (record { said = said; says = decides_says command before after chain bytes f said d; written = w; ended_is = s }))
+run_completes command before after out out' ended (written said d w s) chain bytes f =
+    let t = decides_says command before after chain bytes f said d in
+    inr (inr (record { said = said; says = t.0; written = w; ended_is = s }, t.1))

@@ -5,7 +5,7 @@ use Rattle.sigstore_tuf.specs.declared.chain.TrustChain.{TrustChain}
 use Rattle.sigstore_verify.specs.declared.from_root.Rooted.{Rooted}
 use Rattle.sigstore_verify.specs.declared.from_root.RootFault.{RootFault}
 use Rattle.sigstore_verify.specs.Given.{Given}
-use Rattle.sigstore_verify.specs.Complete.{verdict_of, rooted_of, TellsQuietly, Favours}
+use Rattle.sigstore_verify.specs.Complete.{verdict_of, rooted_of, TellsQuietly, Favours, StaysWarm}
 use Rattle.sigstore_app_parts.specs.Inputs.{Held}
 use Rattle.sigstore_app_parts.specs.Layout.{layout_of}
 use Rattle.sigstore_app_parts.specs.Gather.{gathered_of}
@@ -44,9 +44,10 @@ pub record SaysVerdict (given : Given) (chain : TrustChain) (bytes : List ℕ) (
   pub ended_is : ended ≡ said.status
 
 -- Where a chain is offered and nothing outside fails, the run says the verdict over it, with status 0 for an acceptance and 1 for a
--- refusal; or memory was wanting, with status 5; or the sink failed, with status 4.
+-- refusal, and the store stays warm; or memory was wanting, with status 5; or the sink failed, with status 4.
 abbrev pub Completes : Command → Environment → Environment → Watched (List ℕ) → Watched (List ℕ) → Status → Type 0
 Completes command before after out out' ended =
     (chain : TrustChain) (bytes : List ℕ) (f : Favoured command before after chain bytes)
     → (ended ≡ status.Memory)
-    ⊎ (((ended ≡ status.Output) × Rose out.faults out'.faults) ⊎ SaysVerdict (given_in f) chain bytes out out' ended)
+    ⊎ (((ended ≡ status.Output) × Rose out.faults out'.faults)
+    ⊎ (SaysVerdict (given_in f) chain bytes out out' ended × StaysWarm after.outside.store f.outside))

@@ -1,5 +1,5 @@
 -- A refresh over an offered chain has its documents in force in the end, unless memory is wanting.
-use Rattle.std.proofs.Common.{◌≡◌, ◌≢◌, ◌⊎◌, inl, inr, ℕ, ◌+◌, ◌≤◌, ◌==◌, nat_lt, List, [], ◌∷◌, ◌++◌, append-nil, length, Bool, true, false, ◌&&◌, not, if◌then◌else◌, Option, Some, None, Result, Ok, Err, codes, refl, sym, ap, ◌∙◌, subst, arith, ℤ, ◌≤ℤ◌, int_lt}
+use Rattle.std.proofs.Common.{◌≡◌, ◌≢◌, ◌⊎◌, inl, inr, ℕ, ◌+◌, ◌^◌, ◌<◌, ◌≤◌, ◌==◌, nat_lt, List, [], ◌∷◌, ◌++◌, append-nil, length, Bool, true, false, ◌&&◌, not, if◌then◌else◌, Option, Some, None, Result, Ok, Err, codes, refl, sym, ap, ◌∙◌, subst, arith, ℤ, ◌≤ℤ◌, int_lt}
 use Rattle.std.specs.Prelude.{⊤, IfErr, ok_or}
 use Rattle.std.proofs.lemmas.Bool.Decides.{nat_tests}
 use Rattle.jiff_core.specs.declared.timestamp.Timestamp as jiff
@@ -46,7 +46,7 @@ use Rattle.sigstore_tuf.proofs.Serving.{Rest}
 use Rattle.sigstore_tuf.proofs.Updates.{judged_puts, top_inserted}
 use Rattle.sigstore_tuf.proofs.Completing.{quiet_first, quiet_second, step_to, equal, if_true, role_ok, Done, wanting, done, Answers, wants, answers, after, Took, adopts_there, TellsSo, AreHarmless, tells_same, took_so, loaded_is, found_wanted}
 use Rattle.sigstore_tuf.proofs.Offered.{Offered}
-use Rattle.sigstore_tuf.proofs.RootsCompleting.{number_of, end_of_fewer, Passed, Seeded, seed_wants, seed_passed, seed_put, seeds_so, IsWarm, stays_warm, OnRoots, walk_done, Somewhere}
+use Rattle.sigstore_tuf.proofs.RootsCompleting.{number_of, end_of_fewer, Passed, Seeded, seed_wants, seed_passed, seed_put, seeds_so, IsWarm, stays_warm, stays_elsewhere, OnRoots, walk_done, Somewhere}
 
 -- ---- tests
 
@@ -81,9 +81,9 @@ held_same {T} reads a b p q e = join (ok_same a.document b.document (sym p ∙ a
     join : a.document ≡ b.document → a ≡ b
     join d = λ i. record { bytes = e i; document = d i }
 
-module _ (session : Session) (folders : Folders) (path : List ℕ) (chain : TrustChain) (o : Offered session folders path chain) where
+module _ (session : Session) (folders : Folders) (path : List ℕ) (chain : TrustChain) (o : Offered session folders path chain) (from : ℕ) (whole : List (List ℕ)) (whole_bound : from + length whole < 2 ^ 64) where
   abbrev Warm : Files → Type 0
-  Warm = IsWarm session folders path chain o
+  Warm = IsWarm session folders path chain o from whole whole_bound
 
   -- each document in force is the chain's, or none is there
   pub record Behind (state : State) : Type 0 where
@@ -95,7 +95,7 @@ module _ (session : Session) (folders : Folders) (path : List ℕ) (chain : Trus
     pub top : IsNoneOr (top_targets state.documents) (Some o.top)
     pub warm : TellsSo Warm state.store
 
-  behind_last : (state : State) → OnRoots session folders path chain o state o.root [] → Behind state
+  behind_last : (state : State) → OnRoots session folders path chain o from whole whole_bound state o.root [] → Behind state
   behind_last state b = record {
     told = b.told;
     root = b.root;
@@ -344,7 +344,7 @@ module _ (session : Session) (folders : Folders) (path : List ℕ) (chain : Trus
       judged = time_judged old.documents b.root b.time
 
       harmless : AreHarmless Warm o.time.bytes (kept_names Timestamp)
-      harmless = (stays_warm session folders path chain o timestamp_name o.time.bytes (inr refl) (inl refl) (inl refl) (inl refl), tt)
+      harmless = (stays_warm session folders path chain o from whole whole_bound timestamp_name o.time.bytes (inr refl) (inl refl) (inl refl) (inl refl) (stays_elsewhere session folders path chain o from whole whole_bound timestamp_name o.time.bytes (λ n. refl)), tt)
 
   fetch_snap_done : (old new : State) (result : Result ⊤ Error) → Timed old → Quiet old.repo.faults new.repo.faults → Refetches session Snapshot old new result → Done (Snapped new) result
   fetch_snap_done old new result b q (inl (current, same, is)) = by_snap b.behind.snap
@@ -361,7 +361,7 @@ module _ (session : Session) (folders : Folders) (path : List ℕ) (chain : Trus
       current = serves_so (snapshot_pin (content_of o.time)) o.pin (content_of o.snap).version (content_of o.snap).expires session.now o.pin_is o.pinned.version_is o.snap_fresh
 
       harmless : AreHarmless Warm o.snap.bytes (kept_names Snapshot)
-      harmless = (stays_warm session folders path chain o snapshot_name o.snap.bytes (inl refl) (inr refl) (inl refl) (inl refl), tt)
+      harmless = (stays_warm session folders path chain o from whole whole_bound snapshot_name o.snap.bytes (inl refl) (inr refl) (inl refl) (inl refl) (stays_elsewhere session folders path chain o from whole whole_bound snapshot_name o.snap.bytes (λ n. refl)), tt)
 
       fetched : old.documents.snapshot ≡ None → Took Snapshot o.snap.bytes old new (Some (with_snapshot old.documents o.snap)) → Snapped new
       fetched none t = record {
@@ -397,7 +397,7 @@ module _ (session : Session) (folders : Folders) (path : List ℕ) (chain : Trus
       (ap taken_of (top_updated old.documents b.timed.behind.root b.snap)) answer a))
     where
       harmless : AreHarmless Warm o.top.bytes (kept_names Targets)
-      harmless = (stays_warm session folders path chain o targets_name o.top.bytes (inl refl) (inl refl) (inr refl) (inl refl), tt)
+      harmless = (stays_warm session folders path chain o from whole whole_bound targets_name o.top.bytes (inl refl) (inl refl) (inr refl) (inl refl) (stays_elsewhere session folders path chain o from whole whole_bound targets_name o.top.bytes (λ n. refl)), tt)
 
       fetched : Took Targets o.top.bytes old new (Some (with_targets old.documents o.top)) → Topped new
       fetched t = record {
@@ -450,17 +450,17 @@ module _ (session : Session) (folders : Folders) (path : List ℕ) (chain : Trus
           let b = rest_since steps mid new result asks.1 r in
           by_done mid (first mid (Ok tt) (quiet_first old.repo.faults mid.repo.faults new.repo.faults a.later b.later quiet) d) (quiet_second old.repo.faults mid.repo.faults new.repo.faults a.later b.later quiet) r
 
-  walked : (most : ℕ) (old mid : State) (answer : Result ⊤ Error) → Somewhere session folders path chain o most old → RootsEnd folders.metadata most session.config.max_root_rotations (number_of o.root) → Quiet old.repo.faults mid.repo.faults
+  walked : (most : ℕ) (old mid : State) (answer : Result ⊤ Error) → Somewhere session folders path chain o from whole whole_bound most old → RootsEnd folders.metadata most session.config.max_root_rotations (number_of o.root) → Quiet old.repo.faults mid.repo.faults
       → Does session WalkRoots old mid answer → Done (Behind mid) answer
   walked most old mid answer s ends q d =
-      by_done (walk_done session folders path chain o (Err (tuf.Transport (transport.Rotations session.config.max_root_rotations))) session.config.max_root_rotations old mid answer s.doc s.rest s.docs s.on s.way
+      by_done (walk_done session folders path chain o from whole whole_bound (Err (tuf.Transport (transport.Rotations session.config.max_root_rotations))) session.config.max_root_rotations old mid answer s.doc s.rest s.docs s.on s.way
       (end_of_fewer folders.metadata most (length s.rest) session.config.max_root_rotations (number_of o.root) s.fewer ends) q d)
     where
-      by_done : Done (OnRoots session folders path chain o mid o.root []) answer → Done (Behind mid) answer
+      by_done : Done (OnRoots session folders path chain o from whole whole_bound mid o.root []) answer → Done (Behind mid) answer
       by_done (wanting h) = wanting h
       by_done (done h b) = done h (behind_last mid b)
 
-  pub refresh_done : (most : ℕ) (old new : State) (result : Result ⊤ Error) → Somewhere session folders path chain o most old → RootsEnd folders.metadata most session.config.max_root_rotations (number_of o.root) → Quiet old.repo.faults new.repo.faults
+  pub refresh_done : (most : ℕ) (old new : State) (result : Result ⊤ Error) → Somewhere session folders path chain o from whole whole_bound most old → RootsEnd folders.metadata most session.config.max_root_rotations (number_of o.root) → Quiet old.repo.faults new.repo.faults
       → RunsSteps session refresh_steps old new result → Done (Topped new) result
   refresh_done most old new result s ends quiet run =
       let r0 : Rest session refresh_steps old new result = record { runs = run.runs } in

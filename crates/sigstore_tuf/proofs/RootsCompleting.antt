@@ -3,6 +3,7 @@ use Rattle.std.proofs.Common.{◌≡◌, ◌≢◌, ◌⊎◌, inl, inr, ℕ, ze
 use Rattle.std.specs.Prelude.{⊤, IfErr}
 use Rattle.std.specs.List.{AllZip, last_or}
 use Rattle.std.proofs.lemmas.Bool.Decides.{nat_tests}
+use Rattle.std.proofs.lemmas.Slice.Eq.{bytes_eq-Decides}
 use Rattle.jiff_core.specs.declared.timestamp.Timestamp as jiff
 use Rattle.foundation.specs.Watched.{Watched, Since}
 use Rattle.foundation.specs.Results.{ok_same, err_same, some_same, no_both}
@@ -31,6 +32,8 @@ use Rattle.sigstore_tuf.proofs.Carrying.{since_same, since_joins, loaded_same, a
 use Rattle.sigstore_tuf.proofs.Causes.{is_want}
 use Rattle.sigstore_tuf.proofs.Steps.{passes, load_wants, keeps_want}
 use Rattle.sigstore_tuf.proofs.Lift.{next_root_is, roots_lift}
+use Rattle.sigstore_tuf.proofs.RootNames.{same_number}
+use Rattle.sigstore_tuf.proofs.Updates.{last_is}
 use Rattle.sigstore_tuf.proofs.Completing.{quiet_first, quiet_second, step_to, equal, if_true, role_ok, Done, wanting, done, Answers, wants, answers, after, Took, Left, adopts_there, adopts_lacking, TellsSo, AreHarmless, tells_same, keeps_so, took_so, loaded_is, none_or_put, found_wanted}
 use Rattle.sigstore_tuf.proofs.Offered.{Ahead, Offered}
 
@@ -63,6 +66,13 @@ no_next set h = by_test (version_in set == 2 ^ 64 - 1) refl h
     by_test : (b : Bool) → (version_in set == 2 ^ 64 - 1) ≡ b → alone (if b then None else Some (version_in set + 1)) ≡ None → version_in set ≡ 2 ^ 64 - 1
     by_test true e h = grind (arith, nat_tests)
     by_test false e h = cc
+
+small_next : (n : ℕ) → n < 2 ^ 64 → n ≢ 2 ^ 64 - 1 → n + 1 < 2 ^ 64
+small_next n h other = by_test (n == 2 ^ 64 - 1) refl
+  where
+    by_test : (b : Bool) → (n == 2 ^ 64 - 1) ≡ b → n + 1 < 2 ^ 64
+    by_test true e = absurd (other (grind (arith, nat_tests)))
+    by_test false e = grind (arith, nat_tests)
 
 -- fewer roots end within the limit too
 pub end_of_fewer : (files : Files) (newer fewer max last : ℕ) → fewer ≤ newer → RootsEnd files newer max last → RootsEnd files fewer max last
@@ -108,11 +118,68 @@ false_true h = cc
 true_false : {C : Type 0} → ◌≡◌ {A = Result Bool Error} (Ok true) (Ok false) → C
 true_false h = cc
 
-module _ (session : Session) (folders : Folders) (path : List ℕ) (chain : TrustChain) (o : Offered session folders path chain) where
-  -- ---- the store below the roots
+-- ---- the store's roots
 
-  -- each name that is read once the last root is known has nothing or the chain's document
+-- a root that may be written under this number: where one of the list has that number it is that one, and none has a lower one
+abbrev pub SuitsRoots : ℕ → List (List ℕ) → ℕ → List ℕ → Type 0
+SuitsRoots version [] n x = n ≤ version
+SuitsRoots version (b ∷ bs) n x = (n ≡ version + 1 → x ≡ b) × SuitsRoots (version + 1) bs n x
+
+pub low_suits : (version : ℕ) (bs : List (List ℕ)) (n : ℕ) (x : List ℕ) → n ≤ version → SuitsRoots version bs n x
+low_suits version [] n x h = h
+low_suits version (b ∷ bs) n x h = (λ e. absurd (omega (arith, e, h)), low_suits (version + 1) bs n x (omega (arith, h)))
+
+first_suits : (version : ℕ) (b : List ℕ) (bs : List (List ℕ)) → SuitsRoots version (b ∷ bs) (version + 1) b
+first_suits version b bs = (λ e. refl, low_suits (version + 1) bs (version + 1) b (le_refl (version + 1)))
+
+-- what suits the roots ahead suits all
+abbrev pub IsPlace : ℕ → List (List ℕ) → ℕ → List (List ℕ) → Type 0
+IsPlace from whole version rest = (n : ℕ) (x : List ℕ) → version < n → SuitsRoots version rest n x → SuitsRoots from whole n x
+
+later_place : (from : ℕ) (whole : List (List ℕ)) (version : ℕ) (b : List ℕ) (bs : List (List ℕ)) → IsPlace from whole version (b ∷ bs) → IsPlace from whole (version + 1) bs
+later_place from whole version b bs p n x less s = p n x (omega (arith, less)) (λ e. absurd (omega (arith, less, e)), s)
+
+-- a write under another name, and that of a root, leave what the store has of the roots
+kept_elsewhere : (files : Files) (name bytes : List ℕ) → ((n : ℕ) → bytes_eq (history_name n) name ≡ false) → (version : ℕ) (bs : List (List ℕ)) → AreKeptAfter files version bs → AreKeptAfter (with_file name bytes files) version bs
+kept_elsewhere files name bytes apart version [] k = λ n less small. ap (λ b. if b then Some bytes else files (history_name n)) (apart n) ∙ k n less small
+kept_elsewhere files name bytes apart version (b ∷ bs) k =
+    (none_or_put files (history_name (version + 1)) name bytes (Some b) (inl (apart (version + 1))) k.0, kept_elsewhere files name bytes apart (version + 1) bs k.1)
+
+kept_by_root : (files : Files) (n : ℕ) (x : List ℕ) → n < 2 ^ 64 → (version : ℕ) (bs : List (List ℕ)) → SuitsRoots version bs n x → version + length bs < 2 ^ 64 → AreKeptAfter files version bs → AreKeptAfter (with_file (history_name n) x files) version bs
+kept_by_root files n x small version [] s bound k = λ m less little. by_test m less little (bytes_eq (history_name m) (history_name n)) refl
+  where
+    by_test : (m : ℕ) → version < m → m < 2 ^ 64 → (b : Bool) → bytes_eq (history_name m) (history_name n) ≡ b → (if b then Some x else files (history_name m)) ≡ None
+    by_test m less little true e = let same = same_number m n little small ((bytes_eq-Decides (history_name m) (history_name n)).0 e) in absurd (omega (arith, same, less, s))
+    by_test m less little false e = k m less little
+kept_by_root files n x small version (b ∷ bs) s bound k =
+    (by_test (bytes_eq (history_name (version + 1)) (history_name n)) refl, kept_by_root files n x small (version + 1) bs s.1 (omega (arith, bound)) k.1)
+  where
+    by_test : (t : Bool) → bytes_eq (history_name (version + 1)) (history_name n) ≡ t → IsNoneOr (if t then Some x else files (history_name (version + 1))) (Some b)
+    by_test true e =
+        let same = same_number (version + 1) n (omega (arith, bound)) small ((bytes_eq-Decides (history_name (version + 1)) (history_name n)).0 e) in
+        inr (ap Some (s.0 (sym same)))
+    by_test false e = k.0
+
+-- the number of the last root is one of 64 bits
+pub way_bound : (session : Session) (folders : Folders) (last doc : Document declared.Root) (rest : List (List ℕ)) (docs : List (Document declared.Root)) → number_of doc < 2 ^ 64 → Ahead session folders last doc rest docs → number_of doc + length rest < 2 ^ 64
+way_bound session folders last doc rest docs bound a = by_rest doc rest docs bound a.read a.next
+  where
+    by_rest : (doc : Document declared.Root) (rest : List (List ℕ)) (docs : List (Document declared.Root)) → number_of doc < 2 ^ 64 → AllZip (λ bytes doc. root_document bytes ≡ Ok doc) rest docs → AreNextRoots session.crypto doc docs
+        → number_of doc + length rest < 2 ^ 64
+    by_rest doc [] [] bound z n = omega (arith, bound)
+    by_rest doc [] (d ∷ ds) bound z n = absurd z
+    by_rest doc (r ∷ rs) [] bound z n = absurd z
+    by_rest doc (r ∷ rs) (d ∷ ds) bound z n =
+        let later = by_rest d rs ds (version_bound r d z.0) z.1 n.1 in
+        let next = n.0.number in
+        omega (arith, later, next)
+
+module _ (session : Session) (folders : Folders) (path : List ℕ) (chain : TrustChain) (o : Offered session folders path chain) (from : ℕ) (whole : List (List ℕ)) (whole_bound : from + length whole < 2 ^ 64) where
+  -- ---- what the store tells
+
+  -- each name that is read has nothing or the chain's document
   pub record IsWarm (files : Files) : Type 0 where
+    pub roots : AreKeptAfter files from whole
     pub time : IsNoneOr (files timestamp_name) (Some o.time.bytes)
     pub snap : IsNoneOr (files snapshot_name) (Some o.snap.bytes)
     pub top : IsNoneOr (files targets_name) (Some o.top.bytes)
@@ -123,16 +190,24 @@ module _ (session : Session) (folders : Folders) (path : List ℕ) (chain : Trus
   Suits q wanted name bytes = (bytes_eq q name ≡ false) ⊎ (◌≡◌ {A = Option (List ℕ)} (Some bytes) (Some wanted))
 
   pub stays_warm : (name bytes : List ℕ) → Suits timestamp_name o.time.bytes name bytes → Suits snapshot_name o.snap.bytes name bytes → Suits targets_name o.top.bytes name bytes → Suits (kept_target path) chain.file name bytes
-      → (files : Files) → IsWarm files → IsWarm (with_file name bytes files)
-  stays_warm name bytes t s g f files w = record {
+      → ((files : Files) → AreKeptAfter files from whole → AreKeptAfter (with_file name bytes files) from whole) → (files : Files) → IsWarm files → IsWarm (with_file name bytes files)
+  stays_warm name bytes t s g f r files w = record {
+    roots = r files w.roots;
     time = none_or_put files timestamp_name name bytes (Some o.time.bytes) t w.time;
     snap = none_or_put files snapshot_name name bytes (Some o.snap.bytes) s w.snap;
     top = none_or_put files targets_name name bytes (Some o.top.bytes) g w.top;
     file = none_or_put files (kept_target path) name bytes (Some chain.file) f w.file;
   }
 
-  root_harmless : (number : ℕ) (bytes : List ℕ) → AreHarmless IsWarm bytes (kept_names (Root number))
-  root_harmless number bytes = (stays_warm (history_name number) bytes (inl refl) (inl refl) (inl refl) (inl refl), (stays_warm root_file bytes (inl refl) (inl refl) (inl refl) (inl refl), tt))
+  -- a write under a name that is no root's
+  pub stays_elsewhere : (name bytes : List ℕ) → ((n : ℕ) → bytes_eq (history_name n) name ≡ false) → (files : Files) → AreKeptAfter files from whole → AreKeptAfter (with_file name bytes files) from whole
+  stays_elsewhere name bytes apart files k = kept_elsewhere files name bytes apart from whole k
+
+  root_harmless : (number : ℕ) (bytes : List ℕ) → number < 2 ^ 64 → SuitsRoots from whole number bytes → AreHarmless IsWarm bytes (kept_names (Root number))
+  root_harmless number bytes small suits = (
+    stays_warm (history_name number) bytes (inl refl) (inl refl) (inl refl) (inl refl) (λ files k. kept_by_root files number bytes small from whole suits whole_bound k),
+    (stays_warm root_file bytes (inl refl) (inl refl) (inl refl) (inl refl) (stays_elsewhere root_file bytes (λ n. refl)), tt),
+  )
 
   -- ---- on the way along the roots
 
@@ -144,17 +219,27 @@ module _ (session : Session) (folders : Folders) (path : List ℕ) (chain : Trus
     pub no_time : state.documents.timestamp ≡ None
     pub no_snap : state.documents.snapshot ≡ None
     pub no_top : state.documents.targets ≡ []
+    pub bound : number_of doc < 2 ^ 64
+    pub place : IsPlace from whole (number_of doc) rest
+    pub suits : (bytes : List ℕ) → last_or None state.documents.roots ≡ Some bytes → SuitsRoots from whole (number_of doc) bytes
     pub warm : TellsSo IsWarm state.store
 
-  on_next : (old new : State) (doc next : Document declared.Root) (bytes : List ℕ) (rest : List (List ℕ)) → OnRoots old doc (bytes ∷ rest) → new.documents ≡ with_root old.documents bytes next → new.repo.told ≡ old.repo.told → TellsSo IsWarm new.store
-      → OnRoots new next rest
-  on_next old new doc next bytes rest b d t w = record {
+  -- the next root suits
+  next_suits : (state : State) (doc next : Document declared.Root) (bytes : List ℕ) (rest : List (List ℕ)) → OnRoots state doc (bytes ∷ rest) → number_of next ≡ number_of doc + 1 → SuitsRoots from whole (number_of next) bytes
+  next_suits state doc next bytes rest b e = subst (λ n. SuitsRoots from whole n bytes) (sym e) (b.place (number_of doc + 1) bytes (omega arith) (first_suits (number_of doc) bytes rest))
+
+  on_next : (old new : State) (doc next : Document declared.Root) (bytes : List ℕ) (rest : List (List ℕ)) → OnRoots old doc (bytes ∷ rest) → root_document bytes ≡ Ok next → number_of next ≡ number_of doc + 1
+      → new.documents ≡ with_root old.documents bytes next → new.repo.told ≡ old.repo.told → TellsSo IsWarm new.store → OnRoots new next rest
+  on_next old new doc next bytes rest b read e d t w = record {
     told = t ∙ b.told;
     root = ap (λ (s : InForce). s.root) d;
     roots = ap (λ (s : InForce). s.roots ++ rest) d ∙ append_assoc old.documents.roots (bytes ∷ []) rest ∙ b.roots;
     no_time = ap (λ (s : InForce). s.timestamp) d;
     no_snap = ap (λ (s : InForce). s.snapshot) d;
     no_top = ap (λ (s : InForce). s.targets) d;
+    bound = version_bound bytes next read;
+    place = subst (λ n. IsPlace from whole n rest) (sym e) (later_place from whole (number_of doc) bytes rest b.place);
+    suits = λ x at. subst (SuitsRoots from whole (number_of next)) (some_same bytes x (sym (last_is bytes old.documents.roots None) ∙ sym (ap (λ (s : InForce). last_or None s.roots) d) ∙ at)) (next_suits old doc next bytes rest b e);
     warm = w;
   }
 
@@ -166,6 +251,9 @@ module _ (session : Session) (folders : Folders) (path : List ℕ) (chain : Trus
     no_time = ap (λ (s : InForce). s.timestamp) d ∙ b.no_time;
     no_snap = ap (λ (s : InForce). s.snapshot) d ∙ b.no_snap;
     no_top = ap (λ (s : InForce). s.targets) d ∙ b.no_top;
+    bound = b.bound;
+    place = b.place;
+    suits = λ x at. b.suits x (sym (ap (λ (s : InForce). last_or None s.roots) d) ∙ at);
     warm = w;
   }
 
@@ -227,12 +315,22 @@ module _ (session : Session) (folders : Folders) (path : List ℕ) (chain : Trus
         number : ℕ
         number = version_in old.documents + 1
 
+        is_number : version_in old.documents + 1 ≡ number_of d
+        is_number = let at = number_in old doc (r ∷ rs) b in let next = a.next.0.number in omega (arith, at, next)
+
+        small : version_in old.documents + 1 < 2 ^ 64
+        small = let bound = version_bound r d a.read.0 in omega (arith, bound, is_number)
+
+        suits : SuitsRoots from whole (version_in old.documents + 1) r
+        suits = subst (λ n. SuitsRoots from whole n r) (sym is_number) (next_suits old doc d r rs b a.next.0.number)
+
         served : IsServed folders.metadata (root_name (version_in old.documents + 1)) r session.config.root_max_length
         served = subst (λ n. IsServed folders.metadata (root_name (n + 1)) r session.config.root_max_length) (sym (number_in old doc (r ∷ rs) b)) a.served.0
 
         by_answer : Answers (Took (Root number) r old new (Some (with_root old.documents r d))) answer (Ok true) → Answers (OnRoots new d rs) answer (Ok true)
         by_answer (wants h) = wants h
-        by_answer (answers h t) = answers h (on_next old new doc d r rs b t.documents t.told (took_so IsWarm (Root number) r old new (Some (with_root old.documents r d)) (root_harmless number r) t b.warm))
+        by_answer (answers h t) =
+            answers h (on_next old new doc d r rs b a.read.0 a.next.0.number t.documents t.told (took_so IsWarm (Root number) r old new (Some (with_root old.documents r d)) (root_harmless number r small suits) t b.warm))
 
     -- after the chain's last there is none
     none_taken : (old new : State) (answer : Result Bool Error) (doc : Document declared.Root) (max : ℕ) → OnRoots old doc [] → Some doc ≡ Some o.root → Ends 0 max → version_in old.documents ≢ 2 ^ 64 - 1
@@ -361,21 +459,24 @@ module _ (session : Session) (folders : Folders) (path : List ℕ) (chain : Trus
     passed_here old new doc rest docs b a p = here new doc rest docs (on_same old new doc rest b p.documents (ap (λ (w : Watched Folders). w.told) p.repo) (tells_same IsWarm old.store new.store p.told b.warm)) a
 
     -- a root of the store is the chain's next
-    root_recalled : {C : Type 0} (old mid : State) (doc : Document declared.Root) (rest : List (List ℕ)) (docs : List (Document declared.Root)) (bytes : List ℕ) → OnRoots old doc rest → Way doc rest docs → old.store.told ≡ Some files
+    root_recalled : {C : Type 0} (old mid : State) (doc : Document declared.Root) (rest : List (List ℕ)) (docs : List (Document declared.Root)) (bytes : List ℕ) → OnRoots old doc rest → Way doc rest docs → old.store.told ≡ Some files → version_in old.documents ≢ 2 ^ 64 - 1
         → AreKeptAfter files (number_of doc) rest → LoadsNamed (history_name (version_in old.documents + 1)) old.store mid.store (Ok (Some bytes))
         → judged_of session.crypto (Root (version_in old.documents + 1)) old.documents bytes None ≡ Ok (Some mid.documents) → mid.repo ≡ old.repo
         → ((d : Document declared.Root) (r : List ℕ) (rs : List (List ℕ)) (ds : List (Document declared.Root)) → rest ≡ r ∷ rs → OnRoots mid d rs → Way d rs ds → mid.store.told ≡ Some files → AreKeptAfter files (number_of d) rs → C) → C
-    root_recalled {C} old mid doc rest docs bytes b a told kept l j repo f = by_rest rest docs b a kept f
+    root_recalled {C} old mid doc rest docs bytes b a told other kept l j repo f = by_rest rest docs b a kept f
       where
         there : files (history_name (number_of doc + 1)) ≡ Some bytes
         there = ap (λ n. files (history_name (n + 1))) (sym (number_in old doc rest b)) ∙ loaded_is (history_name (version_in old.documents + 1)) old.store mid.store files bytes told l
+
+        small : number_of doc + 1 < 2 ^ 64
+        small = small_next (number_of doc) b.bound (λ e. other (number_in old doc rest b ∙ e))
 
         told_mid : mid.store.told ≡ Some files
         told_mid = loaded_same (history_name (version_in old.documents + 1)) old.store mid.store (Ok (Some bytes)) l ∙ told
 
         by_rest : (rest : List (List ℕ)) (docs : List (Document declared.Root)) → OnRoots old doc rest → Way doc rest docs → AreKeptAfter files (number_of doc) rest
             → ((d : Document declared.Root) (r : List ℕ) (rs : List (List ℕ)) (ds : List (Document declared.Root)) → rest ≡ r ∷ rs → OnRoots mid d rs → Way d rs ds → mid.store.told ≡ Some files → AreKeptAfter files (number_of d) rs → C) → C
-        by_rest [] docs b a kept f = let none : files (history_name (number_of doc + 1)) ≡ None = kept (number_of doc + 1) (omega arith) in let never : None ≡ Some bytes = sym none ∙ there in cc
+        by_rest [] docs b a kept f = let none : files (history_name (number_of doc + 1)) ≡ None = kept (number_of doc + 1) (omega arith) small in let never : None ≡ Some bytes = sym none ∙ there in cc
         by_rest (r ∷ rs) [] b a kept f = absurd a.read
         by_rest (r ∷ rs) (d ∷ ds) b a kept f =
             let same : r ≡ bytes = some_same r bytes (found_wanted (files (history_name (number_of doc + 1))) (Some r) bytes kept.0 there) in
@@ -383,30 +484,30 @@ module _ (session : Session) (folders : Folders) (path : List ℕ) (chain : Trus
             let documents : mid.documents ≡ with_root old.documents r d =
             some_same mid.documents (with_root old.documents r d) (ok_same _ _ (sym j ∙ ap (λ x. judged_of session.crypto (Root (version_in old.documents + 1)) old.documents x None) (sym same) ∙ judged)) in
             f d r rs ds refl
-            (on_next old mid doc d r rs b documents (ap (λ (w : Watched Folders). w.told) repo) (tells_same IsWarm old.store mid.store (loaded_same (history_name (version_in old.documents + 1)) old.store mid.store (Ok (Some bytes)) l) b.warm))
+            (on_next old mid doc d r rs b a.read.0 a.next.0.number documents (ap (λ (w : Watched Folders). w.told) repo) (tells_same IsWarm old.store mid.store (loaded_same (history_name (version_in old.documents + 1)) old.store mid.store (Ok (Some bytes)) l) b.warm))
             (later_way doc d r rs ds a) told_mid (subst (λ n. AreKeptAfter files n rs) (sym a.next.0.number) kept.1)
 
     seed_turn : (n : ℕ) (old new : State) (result : Result ⊤ Error) (doc : Document declared.Root) (rest : List (List ℕ)) (docs : List (Document declared.Root)) → SeedsOn n new result → OnRoots old doc rest → Way doc rest docs
-        → old.store.told ≡ Some files → AreKeptAfter files (number_of doc) rest → SeedTurns n (Root (version_in old.documents + 1)) old new result → Done (Somewhere (length rest) new) result
-    seed_turn n old new (Ok x) doc rest docs goes b a told kept (inl s) = by_seeds (seeds_so session.crypto (Root (version_in old.documents + 1)) None old new (Ok false) s)
+        → old.store.told ≡ Some files → version_in old.documents ≢ 2 ^ 64 - 1 → AreKeptAfter files (number_of doc) rest → SeedTurns n (Root (version_in old.documents + 1)) old new result → Done (Somewhere (length rest) new) result
+    seed_turn n old new (Ok x) doc rest docs goes b a told other kept (inl s) = by_seeds (seeds_so session.crypto (Root (version_in old.documents + 1)) None old new (Ok false) s)
       where
         by_seeds : Seeded session.crypto (Root (version_in old.documents + 1)) None old new (Ok false) → Done (Somewhere (length rest) new) (Ok x)
         by_seeds (seed_wants h) = no_both false tuf.NoMemory h
         by_seeds (seed_passed h p) = done refl (passed_here old new doc rest docs b a p)
         by_seeds (seed_put h bytes l j repo) = false_true h
-    seed_turn n old new (Err e) doc rest docs goes b a told kept (inl s) = by_seeds (seeds_so session.crypto (Root (version_in old.documents + 1)) None old new (Err e) s)
+    seed_turn n old new (Err e) doc rest docs goes b a told other kept (inl s) = by_seeds (seeds_so session.crypto (Root (version_in old.documents + 1)) None old new (Err e) s)
       where
         by_seeds : Seeded session.crypto (Root (version_in old.documents + 1)) None old new (Err e) → Done (Somewhere (length rest) new) (Err e)
         by_seeds (seed_wants h) = wanting (ap Err (err_same e tuf.NoMemory h))
         by_seeds (seed_passed h p) = no_both false e (sym h)
         by_seeds (seed_put h bytes l j repo) = no_both true e (sym h)
-    seed_turn n old new result doc rest docs goes b a told kept (inr (mid, s, r)) = by_seeds (seeds_so session.crypto (Root (version_in old.documents + 1)) None old mid (Ok true) s)
+    seed_turn n old new result doc rest docs goes b a told other kept (inr (mid, s, r)) = by_seeds (seeds_so session.crypto (Root (version_in old.documents + 1)) None old mid (Ok true) s)
       where
         by_seeds : Seeded session.crypto (Root (version_in old.documents + 1)) None old mid (Ok true) → Done (Somewhere (length rest) new) result
         by_seeds (seed_wants h) = no_both true tuf.NoMemory h
         by_seeds (seed_passed h p) = true_false h
         by_seeds (seed_put h bytes l j repo) =
-            root_recalled old mid doc rest docs bytes b a told kept l j repo
+            root_recalled old mid doc rest docs bytes b a told other kept l j repo
             (λ d x xs ds is on way told_mid kept_mid. by_done x xs is (goes mid d xs ds on way told_mid kept_mid r))
           where
             by_done : (x : List ℕ) (xs : List (List ℕ)) → rest ≡ x ∷ xs → Done (Somewhere (length xs) new) result → Done (Somewhere (length rest) new) result
@@ -420,18 +521,21 @@ module _ (session : Session) (folders : Folders) (path : List ℕ) (chain : Trus
     recall_done (suc n) old new result doc rest docs b a told kept (inl (none, same, is)) = done is (subst (Somewhere (length rest)) (sym same) (here old doc rest docs b a))
     recall_done (suc n) old new result doc rest docs b a told kept (inr (k, (w, next, t))) =
         let named = next_root_is old.documents k w next in
-        seed_turn n old new result doc rest docs (λ mid doc rest docs b a t k r. recall_done n mid new result doc rest docs b a t k r) b a told kept (subst (λ k. SeedTurns n k old new result) named.0 t)
+        seed_turn n old new result doc rest docs (λ mid doc rest docs b a t k r. recall_done n mid new result doc rest docs b a t k r) b a told named.1 kept (subst (λ k. SeedTurns n k old new result) named.0 t)
 
     -- the root in force is written
     save_done : (most : ℕ) (old new : State) (result : Result ⊤ Error) → Somewhere most old → SavesRoot old new result → Done (Somewhere most new) result
-    save_done most old new result s w = by_result result (warm (bytes_in (Root number) old.documents) w.written) (want (bytes_in (Root number) old.documents) result w.written)
+    save_done most old new result s w = by_result result (warm (bytes_in (Root number) old.documents) refl w.written) (want (bytes_in (Root number) old.documents) result w.written)
       where
         number : ℕ
         number = version_in old.documents
 
-        warm : (b : Option (List ℕ)) → KeepsWhere (Root (version_in old.documents)) b old.store new.store result → TellsSo IsWarm new.store
-        warm None (same, is) = subst (TellsSo IsWarm) (sym same) s.on.warm
-        warm (Some bytes) keeps = keeps_so IsWarm (Root (version_in old.documents)) bytes old.store new.store result (root_harmless (version_in old.documents) bytes) keeps s.on.warm
+        warm : (b : Option (List ℕ)) → last_or None old.documents.roots ≡ b → KeepsWhere (Root (version_in old.documents)) b old.store new.store result → TellsSo IsWarm new.store
+        warm None at (same, is) = subst (TellsSo IsWarm) (sym same) s.on.warm
+        warm (Some bytes) at keeps =
+            let is = number_in old s.doc s.rest s.on in
+            keeps_so IsWarm (Root (version_in old.documents)) bytes old.store new.store result
+            (root_harmless (version_in old.documents) bytes (subst (λ n. n < 2 ^ 64) (sym is) s.on.bound) (subst (λ n. SuitsRoots from whole n bytes) (sym is) (s.on.suits bytes at))) keeps s.on.warm
 
         want : (b : Option (List ℕ)) (result : Result ⊤ Error) → KeepsWhere (Root (version_in old.documents)) b old.store new.store result → IfErr result (λ e. e ≡ tuf.NoMemory)
         want None result (same, is) = subst (λ r. IfErr r (λ e. e ≡ tuf.NoMemory)) (sym is) tt

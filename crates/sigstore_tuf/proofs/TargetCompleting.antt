@@ -1,5 +1,5 @@
 -- A search over the documents of an offered chain gives the chain, unless memory is wanting.
-use Rattle.std.proofs.Common.{◌≡◌, ◌≢◌, ◌⊎◌, inl, inr, ℕ, suc, ◌≤◌, ◌<◌, ◌==◌, nat_lt, List, [], ◌∷◌, length, Bool, true, false, if◌then◌else◌, Option, Some, None, Result, Ok, Err, codes, refl, sym, ap, ◌∙◌, subst, arith}
+use Rattle.std.proofs.Common.{◌≡◌, ◌≢◌, ◌⊎◌, inl, inr, ℕ, suc, ◌+◌, ◌^◌, ◌≤◌, ◌<◌, ◌==◌, nat_lt, List, [], ◌∷◌, length, Bool, true, false, if◌then◌else◌, Option, Some, None, Result, Ok, Err, codes, refl, sym, ap, ◌∙◌, subst, arith, le_refl}
 use Rattle.std.specs.Prelude.{⊤}
 use Rattle.std.proofs.lemmas.Bool.Decides.{nat_tests}
 use Rattle.jiff_core.specs.declared.timestamp.Timestamp as jiff
@@ -18,13 +18,15 @@ use Rattle.sigstore_tuf_parts.specs.Integrity.{fresh_of}
 use Rattle.sigstore_tuf_parts.specs.Names.{timestamp_name, snapshot_name, targets_name}
 use Rattle.sigstore_tuf_parts.specs.Pinned.{Fresh}
 use Rattle.sigstore_tuf_parts.specs.RootRoles.{root_document, meets_role_of}
+use Rattle.sigstore_tuf_parts.proofs.ReadExact.{version_bound}
 use Rattle.sigstore_tuf_parts.proofs.IntegrityLaws.{integrity_exactly, fresh_exactly}
 use Rattle.sigstore_tuf.specs.declared.chain.TrustChain.{TrustChain}
 use Rattle.sigstore_tuf.specs.declared.config.UpdaterConfig.{UpdaterConfig}
 use Rattle.sigstore_tuf.specs.declared.documents.InForce.{InForce}
 use Rattle.sigstore_tuf.specs.Documents.{content_of, snapshot_pin, targets_pin}
 use Rattle.sigstore_tuf.specs.Repository.{Quiet, Folders, Files, target_files}
-use Rattle.sigstore_tuf.specs.Names.{kept_target}
+use Rattle.sigstore_tuf.specs.Store.{with_file}
+use Rattle.sigstore_tuf.specs.Names.{history_name, kept_target}
 use Rattle.sigstore_tuf.specs.State.{Session, State, session_of, state_of}
 use Rattle.sigstore_tuf.specs.Adopt.{top_targets, FetchesNamed, LoadsNamed}
 use Rattle.sigstore_tuf.specs.Client.{has_version}
@@ -32,12 +34,12 @@ use Rattle.sigstore_tuf.specs.Update.{first_root_of}
 use Rattle.sigstore_tuf.specs.Run.{Attaches, refresh_steps, RunsSteps}
 use Rattle.sigstore_tuf.specs.Target.{fresh_timestamp_of, fresh_snapshot_of, unexpired_of, pinned_version_of, pinned_by_of, all_pinned_of, search_serves_of, entry_in, listed_in, entry_of, info_of, found_of, target_of, within_of, if_pinned, recalled_of, Recalls, file_of, TakesFile, differs, unsaved, given, Downloads, too_long, unfetched, absent, fetched, Obtains, unrecalled, recalled, downloaded, visit_of, chain_of, GetsTarget, unlisted, unobtained, unchained, found}
 use Rattle.sigstore_tuf.specs.Offer.{RootsEnd, IsNoneOr, later_in, targets_bytes, AreKeptAfter, Offers, Warm}
-use Rattle.sigstore_tuf.proofs.Carrying.{since_same, fetched_since}
+use Rattle.sigstore_tuf.proofs.Carrying.{since_same, fetched_since, loaded_same}
 use Rattle.sigstore_tuf.proofs.Causes.{is_want}
 use Rattle.sigstore_tuf.proofs.Steps.{load_wants, save_wants}
-use Rattle.sigstore_tuf.proofs.Completing.{step_to, equal, if_true, role_ok, Done, wanting, done, Given, fetch_given, of_given, of_ungiven, TellsSo, tells_same, loaded_is, found_wanted}
+use Rattle.sigstore_tuf.proofs.Completing.{step_to, equal, if_true, role_ok, Done, wanting, done, Given, fetch_given, of_given, of_ungiven, TellsSo, tells_same, saved_so, loaded_is, found_wanted}
 use Rattle.sigstore_tuf.proofs.Offered.{Begun, begun, Offered, OfferedAs, offered_of}
-use Rattle.sigstore_tuf.proofs.RootsCompleting.{number_of, IsWarm, OnRoots, Somewhere, attach_done}
+use Rattle.sigstore_tuf.proofs.RootsCompleting.{number_of, low_suits, way_bound, IsWarm, stays_warm, stays_elsewhere, OnRoots, Somewhere, attach_done}
 use Rattle.sigstore_tuf.proofs.RefreshCompleting.{Topped, refresh_done}
 
 not_lower : (a b : ℕ) → b ≤ a → nat_lt a b ≡ false
@@ -84,14 +86,14 @@ gets_since session path set repo repo' store store' result (unobtained entry e t
 gets_since session path set repo repo' store store' result (unchained entry file e t h c is) = obtains_since session.config entry path repo repo' store store' (Ok file) h
 gets_since session path set repo repo' store store' result (found entry file x t h c is) = obtains_since session.config entry path repo repo' store store' (Ok file) h
 
--- want of memory, or this chain
-pub data GivenChain (chain : TrustChain) (result : Result TrustChain Error) : Type 0 where
-  chain_wanting : result ≡ Err tuf.NoMemory → GivenChain chain result
-  chain_given : result ≡ Ok chain → GivenChain chain result
+-- want of memory, or this chain, and P
+pub data GivenChain (P : Type 0) (chain : TrustChain) (result : Result TrustChain Error) : Type 0 where
+  chain_wanting : result ≡ Err tuf.NoMemory → GivenChain P chain result
+  chain_given : result ≡ Ok chain → P → GivenChain P chain result
 
-module _ (session : Session) (folders : Folders) (path : List ℕ) (chain : TrustChain) (o : Offered session folders path chain) where
+module _ (session : Session) (folders : Folders) (path : List ℕ) (chain : TrustChain) (o : Offered session folders path chain) (from : ℕ) (whole : List (List ℕ)) (whole_bound : from + length whole < 2 ^ 64) where
   abbrev Ready : State → Type 0
-  Ready state = Topped session folders path chain o state
+  Ready state = Topped session folders path chain o from whole whole_bound state
 
   -- ---- the entry
 
@@ -139,49 +141,60 @@ module _ (session : Session) (folders : Folders) (path : List ℕ) (chain : Trus
   within : within_of session.config chain.target ≡ Ok tt
   within = ap (λ b. if b then Err (tuf.IntegrityMismatch mismatch.TooLong) else Ok tt) (not_lower session.config.target_max_length chain.target.length o.file_short)
 
+  abbrev Tells : Watched Files → Type 0
+  Tells store = TellsSo (IsWarm session folders path chain o from whole whole_bound) store
+
   -- want of memory, or the chain's file
-  data GivenFile (result : Result (List ℕ) Error) : Type 0 where
-    file_wanting : result ≡ Err tuf.NoMemory → GivenFile result
-    file_given : result ≡ Ok chain.file → GivenFile result
+  data GivenFile (store : Watched Files) (result : Result (List ℕ) Error) : Type 0 where
+    file_wanting : result ≡ Err tuf.NoMemory → GivenFile store result
+    file_given : result ≡ Ok chain.file → Tells store → GivenFile store result
+
+  warm_file : (files : Files) → IsWarm session folders path chain o from whole whole_bound files → IsWarm session folders path chain o from whole whole_bound (with_file (kept_target path) chain.file files)
+  warm_file =
+      stays_warm session folders path chain o from whole whole_bound (kept_target path) chain.file (inl refl) (inl refl) (inl refl) (inr refl)
+      (stays_elsewhere session folders path chain o from whole whole_bound (kept_target path) chain.file (λ n. refl))
+
+  loaded_tells : (store store' : Watched Files) (loaded : Result (Option (List ℕ)) Error) → Tells store → LoadsNamed (kept_target path) store store' loaded → Tells store'
+  loaded_tells store store' loaded w l = tells_same (IsWarm session folders path chain o from whole whole_bound) store store' (loaded_same (kept_target path) store store' loaded l) w
 
   module _ (repo repo' : Watched Folders) (told : repo.told ≡ Some folders) (quiet : Quiet repo.faults repo'.faults) where
     fetched_so : (result : Result (Option (List ℕ)) Error) → FetchesNamed target_files path chain.target.length repo repo' result → Given (Some chain.file) result
     fetched_so result f = fetch_given target_files path chain.target.length repo repo' folders (Some chain.file) result told o.file_served.there o.file_served.short quiet f
 
-    taken_done : (store store' : Watched Files) (result : Result (List ℕ) Error) → TakesFile chain.target path chain.file store store' result → GivenFile result
-    taken_done store store' result (differs e f s is) = no_both tt e (sym is_file ∙ f)
-    taken_done store store' result (unsaved e f s is) = file_wanting (is ∙ ap Err (save_wants chain.file (kept_target path) store store' (Err e) s))
-    taken_done store store' result (given f s is) = file_given is
+    taken_done : (store store' : Watched Files) (result : Result (List ℕ) Error) → Tells store → TakesFile chain.target path chain.file store store' result → GivenFile store' result
+    taken_done store store' result w (differs e f s is) = no_both tt e (sym is_file ∙ f)
+    taken_done store store' result w (unsaved e f s is) = file_wanting (is ∙ ap Err (save_wants chain.file (kept_target path) store store' (Err e) s))
+    taken_done store store' result w (given f s is) = file_given is (saved_so (IsWarm session folders path chain o from whole whole_bound) chain.file (kept_target path) store store' (Ok tt) warm_file s w)
 
-    download_done : (store store' : Watched Files) (result : Result (List ℕ) Error) → Downloads session.config chain.target path repo repo' store store' result → GivenFile result
-    download_done store store' result (too_long e w r s is) = no_both tt e (sym within ∙ w)
-    download_done store store' result (unfetched e w f s is) = of_ungiven (Some chain.file) e (fetched_so (Err e) f) (λ h. file_wanting (is ∙ ap Err h))
-    download_done store store' result (absent w f s is) = of_given (Some chain.file) None (fetched_so (Ok None) f) (λ h. cc)
-    download_done store store' result (fetched bytes w f t) =
-        of_given (Some chain.file) (Some bytes) (fetched_so (Ok (Some bytes)) f) (λ h. taken_done store store' result (subst (λ b. TakesFile chain.target path b store store' result) (some_same bytes chain.file h) t))
+    download_done : (store store' : Watched Files) (result : Result (List ℕ) Error) → Tells store → Downloads session.config chain.target path repo repo' store store' result → GivenFile store' result
+    download_done store store' result w (too_long e l r s is) = no_both tt e (sym within ∙ l)
+    download_done store store' result w (unfetched e l f s is) = of_ungiven (Some chain.file) e (fetched_so (Err e) f) (λ h. file_wanting (is ∙ ap Err h))
+    download_done store store' result w (absent l f s is) = of_given (Some chain.file) None (fetched_so (Ok None) f) (λ h. cc)
+    download_done store store' result w (fetched bytes l f t) =
+        of_given (Some chain.file) (Some bytes) (fetched_so (Ok (Some bytes)) f) (λ h. taken_done store store' result w (subst (λ b. TakesFile chain.target path b store store' result) (some_same bytes chain.file h) t))
 
-    obtain_done : (store store' : Watched Files) (result : Result (List ℕ) Error) → TellsSo (IsWarm session folders path chain o) store → Obtains session.config chain.target path repo repo' store store' result → GivenFile result
+    obtain_done : (store store' : Watched Files) (result : Result (List ℕ) Error) → Tells store → Obtains session.config chain.target path repo repo' store store' result → GivenFile store' result
     obtain_done store store' result w (unrecalled e r s is) =
         file_wanting (is ∙ ap Err (load_wants (kept_target path) store store' e (subst (λ l. LoadsNamed (kept_target path) store store' l) (recalled_err chain.target r.loaded e r.result_is) r.loads)))
     obtain_done store store' result w (recalled bytes r s is) =
         let loads = subst (λ l. LoadsNamed (kept_target path) store store' l) (recalled_some chain.target r.loaded bytes r.result_is) r.loads in
         let same = some_same chain.file bytes (found_wanted (w.files (kept_target path)) (Some chain.file) bytes w.so.file (loaded_is (kept_target path) store store' w.files bytes w.told loads)) in
-        file_given (is ∙ ap Ok (sym same))
-    obtain_done store store' result w (downloaded mid r d) = download_done mid store' result d
+        file_given (is ∙ ap Ok (sym same)) (loaded_tells store store' r.loaded w r.loads)
+    obtain_done store store' result w (downloaded mid r d) = download_done mid store' result (loaded_tells store mid r.loaded w r.loads) d
 
   -- ---- the chain
 
   chain_is : (set : InForce) (file : List ℕ) → set.roots ≡ chain.roots → set.timestamp ≡ Some o.time → set.snapshot ≡ Some o.snap → top_targets set ≡ Some o.top → file ≡ chain.file → chain_of set chain.target file ≡ Ok chain
-  chain_is set file roots time snap top same = made ∙ ap Ok whole
+  chain_is set file roots time snap top same = made ∙ ap Ok same_chain
     where
       made : chain_of set chain.target file ≡ Ok (record { roots = set.roots; timestamp = o.time.bytes; snapshot = o.snap.bytes; roles = visit_of o.top ∷ []; target = chain.target; file = file })
       made = rw (time, snap, top)
 
-      whole : ◌≡◌ {A = TrustChain} (record { roots = set.roots; timestamp = o.time.bytes; snapshot = o.snap.bytes; roles = visit_of o.top ∷ []; target = chain.target; file = file }) chain
-      whole = λ i. record { roots = roots i; timestamp = o.time_is i; snapshot = o.snap_is i; roles = o.roles_are i; target = chain.target; file = same i }
+      same_chain : ◌≡◌ {A = TrustChain} (record { roots = set.roots; timestamp = o.time.bytes; snapshot = o.snap.bytes; roles = visit_of o.top ∷ []; target = chain.target; file = file }) chain
+      same_chain = λ i. record { roots = roots i; timestamp = o.time_is i; snapshot = o.snap_is i; roles = o.roles_are i; target = chain.target; file = same i }
 
   pub got_done : (old : State) (repo' : Watched Folders) (store' : Watched Files) (result : Result TrustChain Error) → Ready old → Quiet old.repo.faults repo'.faults → GetsTarget session path old.documents old.repo repo' old.store store' result
-      → GivenChain chain result
+      → GivenChain (Tells store') chain result
   got_done old repo' store' result b quiet g = by_case g
     where
       set : InForce
@@ -199,29 +212,35 @@ module _ (session : Session) (folders : Folders) (path : List ℕ) (chain : Trus
       listed : target_of old.documents session.config path session.now ≡ Ok chain.target
       listed = target_is old.documents root time snap b.top
 
-      obtained : (entry : TargetFile) (result : Result (List ℕ) Error) → target_of old.documents session.config path session.now ≡ Ok entry → Obtains session.config entry path old.repo repo' old.store store' result → GivenFile result
+      obtained : (entry : TargetFile) (result : Result (List ℕ) Error) → target_of old.documents session.config path session.now ≡ Ok entry → Obtains session.config entry path old.repo repo' old.store store' result → GivenFile store' result
       obtained entry result t h =
           obtain_done old.repo repo' b.snapped.timed.behind.told quiet old.store store' result b.snapped.timed.behind.warm
           (subst (λ e. Obtains session.config e path old.repo repo' old.store store' result) (ok_same entry chain.target (sym t ∙ listed)) h)
 
-      chained : (entry : TargetFile) (file : List ℕ) → target_of old.documents session.config path session.now ≡ Ok entry → GivenFile (Ok file) → chain_of old.documents entry file ≡ Ok chain
+      chained : (entry : TargetFile) (file : List ℕ) → target_of old.documents session.config path session.now ≡ Ok entry → GivenFile store' (Ok file) → chain_of old.documents entry file ≡ Ok chain
       chained entry file t (file_wanting h) = no_both file tuf.NoMemory h
-      chained entry file t (file_given h) =
+      chained entry file t (file_given h w) =
           ap (λ e. chain_of old.documents e file) (ok_same entry chain.target (sym t ∙ listed)) ∙ chain_is old.documents file b.snapped.timed.behind.roots time snap b.top (ok_same file chain.file h)
 
-      by_want : (e : Error) → result ≡ Err e → (e ≡ tuf.NoMemory) ⊎ (e ≢ tuf.NoMemory) → (e ≢ tuf.NoMemory → ⊥) → GivenChain chain result
+      tells : (file : List ℕ) → GivenFile store' (Ok file) → Tells store'
+      tells file (file_wanting h) = no_both file tuf.NoMemory h
+      tells file (file_given h w) = w
+
+      by_want : (e : Error) → result ≡ Err e → (e ≡ tuf.NoMemory) ⊎ (e ≢ tuf.NoMemory) → (e ≢ tuf.NoMemory → ⊥) → GivenChain (Tells store') chain result
       by_want e is (inl h) never = chain_wanting (is ∙ ap Err h)
       by_want e is (inr h) never = absurd (never h)
 
-      unobtained_so : (e : Error) → result ≡ Err e → GivenFile (Err e) → GivenChain chain result
+      unobtained_so : (e : Error) → result ≡ Err e → GivenFile store' (Err e) → GivenChain (Tells store') chain result
       unobtained_so e is (file_wanting h) = chain_wanting (is ∙ ap Err (err_same e tuf.NoMemory h))
-      unobtained_so e is (file_given h) = no_both chain.file e (sym h)
+      unobtained_so e is (file_given h w) = no_both chain.file e (sym h)
 
-      by_case : GetsTarget session path old.documents old.repo repo' old.store store' result → GivenChain chain result
+      by_case : GetsTarget session path old.documents old.repo repo' old.store store' result → GivenChain (Tells store') chain result
       by_case (unlisted e h r s is) = by_want e is (is_want e) (λ other. no_both chain.target e (sym listed ∙ h other))
       by_case (unobtained entry e t h is) = unobtained_so e is (obtained entry (Err e) t h)
       by_case (unchained entry file e t h c is) = by_want e is (is_want e) (λ other. no_both chain e (sym (chained entry file t (obtained entry (Ok file) t h)) ∙ c other))
-      by_case (found entry file x t h c is) = chain_given (is ∙ sym c ∙ chained entry file t (obtained entry (Ok file) t h))
+      by_case (found entry file x t h c is) =
+          let file_is = obtained entry (Ok file) t h in
+          chain_given (is ∙ sym c ∙ chained entry file t file_is) (tells file file_is)
 
 -- ---- the beginning
 
@@ -240,6 +259,9 @@ module _ (crypto : Crypto) (folders : Folders) (root : List ℕ) (now : jiff.Tim
   pub start : Begun session folders offered.so.root root chain.roots offer.offered.trusted.roots.first
   start = subst (λ r. Begun session folders r root chain.roots offer.offered.trusted.roots.first) (sym offered.root_is) (begun session folders offer.is.root root chain.roots offer.offered.trusted.roots offer.offered.roots)
 
+  pub rest_bound : number_of offer.offered.trusted.roots.first + length start.rest < 2 ^ 64
+  rest_bound = way_bound session folders offered.so.root offer.offered.trusted.roots.first start.rest start.docs (version_bound root offer.offered.trusted.roots.first start.read) start.ahead
+
   set_made : first_root_of crypto root ≡ Ok (record { roots = root ∷ []; root = offer.offered.trusted.roots.first; timestamp = None; snapshot = None; targets = [] })
   set_made = first_made crypto root offer.offered.trusted.roots.first start.read (role_ok crypto (content_in {T = declared.Root} offer.offered.trusted.roots.first) (codes "root") offer.offered.trusted.roots.first start.own)
 
@@ -254,51 +276,68 @@ module _ (crypto : Crypto) (folders : Folders) (root : List ℕ) (now : jiff.Tim
   rest_is : later_in chain.roots ≡ start.rest
   rest_is = ap later_in start.roots_are
 
-  warm_so : (files : Files) → Warm files path chain (number_of offer.offered.trusted.roots.first) → IsWarm session folders path chain offered.so files
+  warm_so : (files : Files) → Warm files path chain (number_of offer.offered.trusted.roots.first) → IsWarm session folders path chain offered.so (number_of offer.offered.trusted.roots.first) start.rest rest_bound files
   warm_so files w = record {
+    roots = subst (λ rest. AreKeptAfter files (number_of offer.offered.trusted.roots.first) rest) rest_is w.roots;
     time = subst (λ b. IsNoneOr (files timestamp_name) (Some b)) (sym offered.so.time_is) w.timestamp;
     snap = subst (λ b. IsNoneOr (files snapshot_name) (Some b)) (sym offered.so.snap_is) w.snapshot;
     top = subst (λ rs. IsNoneOr (files targets_name) (targets_bytes rs)) (sym offered.so.roles_are) w.targets;
     file = w.target;
   }
 
+  so_warm : (files : Files) → IsWarm session folders path chain offered.so (number_of offer.offered.trusted.roots.first) start.rest rest_bound files → Warm files path chain (number_of offer.offered.trusted.roots.first)
+  so_warm files w = record {
+    roots = subst (λ rest. AreKeptAfter files (number_of offer.offered.trusted.roots.first) rest) (sym rest_is) w.roots;
+    timestamp = subst (λ b. IsNoneOr (files timestamp_name) (Some b)) offered.so.time_is w.time;
+    snapshot = subst (λ b. IsNoneOr (files snapshot_name) (Some b)) offered.so.snap_is w.snap;
+    targets = subst (λ rs. IsNoneOr (files targets_name) (targets_bytes rs)) offered.so.roles_are w.top;
+    target = w.file;
+  }
+
+  -- the store tells files that are warm for the chain
+  abbrev pub StaysWarm : Watched Files → Type 0
+  StaysWarm store = TellsSo (λ files. Warm files path chain (number_of offer.offered.trusted.roots.first)) store
+
   -- on the way, and at the end of it
   pub record Going (state : State) : Type 0 where
-    pub somewhere : Somewhere session folders path chain offered.so (length start.rest) state
+    pub somewhere : Somewhere session folders path chain offered.so (number_of offer.offered.trusted.roots.first) start.rest rest_bound (length start.rest) state
 
   pub record Arrived (state : State) : Type 0 where
-    pub topped : Topped session folders path chain offered.so state
+    pub topped : Topped session folders path chain offered.so (number_of offer.offered.trusted.roots.first) start.rest rest_bound state
 
-  going : (new : State) (result : Result ⊤ Error) → Done (Somewhere session folders path chain offered.so (length start.rest) new) result → Done (Going new) result
+  going : (new : State) (result : Result ⊤ Error) → Done (Somewhere session folders path chain offered.so (number_of offer.offered.trusted.roots.first) start.rest rest_bound (length start.rest) new) result → Done (Going new) result
   going new result (wanting h) = wanting h
   going new result (done h s) = done h (record { somewhere = s })
 
-  arrived : (new : State) (result : Result ⊤ Error) → Done (Topped session folders path chain offered.so new) result → Done (Arrived new) result
+  arrived : (new : State) (result : Result ⊤ Error) → Done (Topped session folders path chain offered.so (number_of offer.offered.trusted.roots.first) start.rest rest_bound new) result → Done (Arrived new) result
   arrived new result (wanting h) = wanting h
   arrived new result (done h s) = done h (record { topped = s })
 
   pub attached_done : (set : InForce) (repo : Watched Folders) (store : Watched Files) (files : Files) (new : State) (result : Result ⊤ Error) → first_root_of crypto root ≡ Ok set → repo.told ≡ Some folders → store.told ≡ Some files
       → Warm files path chain (number_of offer.offered.trusted.roots.first) → Attaches crypto (state_of set repo store) new result → Done (Going new) result
   attached_done set repo store files new result made told stored w a =
-      going new result (attach_done session folders path chain offered.so files (state_of set repo store) new result offer.offered.trusted.roots.first start.rest start.docs on start.ahead stored
+      going new result (attach_done session folders path chain offered.so (number_of offer.offered.trusted.roots.first) start.rest rest_bound files (state_of set repo store) new result offer.offered.trusted.roots.first start.rest start.docs on start.ahead stored
       (subst (λ rest. AreKeptAfter files (number_of offer.offered.trusted.roots.first) rest) rest_is w.roots) a)
     where
       is : ◌≡◌ {A = InForce} (record { roots = root ∷ []; root = offer.offered.trusted.roots.first; timestamp = None; snapshot = None; targets = [] }) set
       is = ok_same _ set (sym set_made ∙ made)
 
-      on : OnRoots session folders path chain offered.so (state_of set repo store) offer.offered.trusted.roots.first start.rest
-      on = subst (λ set. OnRoots session folders path chain offered.so (state_of set repo store) offer.offered.trusted.roots.first start.rest) is (record {
+      on : OnRoots session folders path chain offered.so (number_of offer.offered.trusted.roots.first) start.rest rest_bound (state_of set repo store) offer.offered.trusted.roots.first start.rest
+      on = subst (λ set. OnRoots session folders path chain offered.so (number_of offer.offered.trusted.roots.first) start.rest rest_bound (state_of set repo store) offer.offered.trusted.roots.first start.rest) is (record {
         told = told;
         root = refl;
         roots = sym start.roots_are;
         no_time = refl;
         no_snap = refl;
         no_top = refl;
+        bound = version_bound root offer.offered.trusted.roots.first start.read;
+        place = λ n x less s. s;
+        suits = λ x at. low_suits (number_of offer.offered.trusted.roots.first) start.rest (number_of offer.offered.trusted.roots.first) x (le_refl (number_of offer.offered.trusted.roots.first));
         warm = record { files = files; told = stored; so = warm_so files w };
       })
 
   pub refreshed_done : (old new : State) (result : Result ⊤ Error) → Going old → Quiet old.repo.faults new.repo.faults → RunsSteps session refresh_steps old new result → Done (Arrived new) result
-  refreshed_done old new result g quiet r = arrived new result (refresh_done session folders path chain offered.so (length start.rest) old new result g.somewhere ends quiet r)
+  refreshed_done old new result g quiet r = arrived new result (refresh_done session folders path chain offered.so (number_of offer.offered.trusted.roots.first) start.rest rest_bound (length start.rest) old new result g.somewhere ends quiet r)
     where
       ends : RootsEnd folders.metadata (length start.rest) config.max_root_rotations (number_of offered.so.root)
       ends =
@@ -306,5 +345,9 @@ module _ (crypto : Crypto) (folders : Folders) (root : List ℕ) (now : jiff.Tim
           (subst (λ rest. RootsEnd folders.metadata (length rest) config.max_root_rotations (number_of offer.is.root)) rest_is offer.offered.roots_end)
 
   pub target_done : (old : State) (repo' : Watched Folders) (store' : Watched Files) (result : Result TrustChain Error) → Arrived old → Quiet old.repo.faults repo'.faults
-      → GetsTarget session path old.documents old.repo repo' old.store store' result → GivenChain chain result
-  target_done old repo' store' result a quiet g = got_done session folders path chain offered.so old repo' store' result a.topped quiet g
+      → GetsTarget session path old.documents old.repo repo' old.store store' result → GivenChain (StaysWarm store') chain result
+  target_done old repo' store' result a quiet g = by_given (got_done session folders path chain offered.so (number_of offer.offered.trusted.roots.first) start.rest rest_bound old repo' store' result a.topped quiet g)
+    where
+      by_given : GivenChain (TellsSo (IsWarm session folders path chain offered.so (number_of offer.offered.trusted.roots.first) start.rest rest_bound) store') chain result → GivenChain (StaysWarm store') chain result
+      by_given (chain_wanting h) = chain_wanting h
+      by_given (chain_given h t) = chain_given h (record { files = t.files; told = t.told; so = so_warm t.files t.so })

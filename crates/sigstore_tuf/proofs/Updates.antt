@@ -268,7 +268,7 @@ never_equal (Err e) h = cc
 pub top_inserted : (old : InForce) (held : Held declared_targets.Targets) → top_targets (with_targets old held) ≡ Some held
 top_inserted old held = at_insert (codes "targets") (codes "targets") held old.targets
 
-last_is : (x : List ℕ) (xs : List (List ℕ)) (seed : Option (List ℕ)) → last_or seed (xs ++ x ∷ []) ≡ Some x
+pub last_is : (x : List ℕ) (xs : List (List ℕ)) (seed : Option (List ℕ)) → last_or seed (xs ++ x ∷ []) ≡ Some x
 last_is x [] seed = refl
 last_is x (y ∷ ys) seed = last_is x ys (Some y)
 

@@ -83,9 +83,10 @@ abbrev pub targets_bytes : List RoleDoc → Option (List ℕ)
 targets_bytes [] = None
 targets_bytes (role ∷ roles) = role.bytes
 
--- the store has nothing, or each of these roots, under the number after that of the one before it, and nothing under later ones
+-- the store has nothing, or each of these roots, under the number after that of the one before it, and nothing under later
+-- numbers, which are of 64 bits
 abbrev pub AreKeptAfter : Files → ℕ → List (List ℕ) → Type 0
-AreKeptAfter files version [] = (number : ℕ) → version < number → files (history_name number) ≡ None
+AreKeptAfter files version [] = (number : ℕ) → version < number → number < 2 ^ 64 → files (history_name number) ≡ None
 AreKeptAfter files version (bytes ∷ later) =
     IsNoneOr (files (history_name (version + 1))) (Some bytes) × AreKeptAfter files (version + 1) later
 

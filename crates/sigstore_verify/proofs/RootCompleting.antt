@@ -24,7 +24,7 @@ use Rattle.sigstore_tuf.specs.Offer.{Offers, Warm}
 use Rattle.sigstore_tuf.proofs.Carrying.{refresh_carried}
 use Rattle.sigstore_tuf.proofs.Completing.{step_to, quiet_first, quiet_second, not_both, Done, wanting, done}
 use Rattle.sigstore_tuf.proofs.RefreshCompleting.{step_err}
-use Rattle.sigstore_tuf.proofs.TargetCompleting.{GivenChain, chain_wanting, chain_given as is_given, gets_since, first_wants, Going, Arrived, attached_done, refreshed_done, target_done}
+use Rattle.sigstore_tuf.proofs.TargetCompleting.{GivenChain, chain_wanting, chain_given as is_given, gets_since, first_wants, StaysWarm as StaysTold, Going, Arrived, attached_done, refreshed_done, target_done}
 use Rattle.sigstore_verify.specs.declared.error.Error.{Error}
 use Rattle.sigstore_verify.specs.declared.error.Error.TheVariants as verify
 use Rattle.sigstore_verify.specs.declared.report.Kept.{Kept}
@@ -41,7 +41,7 @@ use Rattle.sigstore_verify.specs.Trust.{usable_of}
 use Rattle.sigstore_verify.specs.Judged.{Terms, prepared_of, ready_of, key_judged_of, judged_by, judged_of, needed_by}
 use Rattle.sigstore_verify.specs.Promise.{ReadWhole, ReadCause, Cause, VerifiesKept}
 use Rattle.sigstore_verify.specs.FromRoot.{trust_path, trust_of, bundle_of, session_in, Begins, GivesChain, root_refused, attach_refused, refresh_refused, target_refused, chain_given, JudgesGiven, trust_refused, verifier_refused, bundle_refused, judged, root_of_tuf, root_of_verify, Runs, chain_refused, judgement_refused, accepted}
-use Rattle.sigstore_verify.specs.Complete.{verdict_of, rooted_of, TellsQuietly, Favours, Completes}
+use Rattle.sigstore_verify.specs.Complete.{verdict_of, rooted_of, TellsQuietly, Favours, StaysWarm, Completes}
 
 is_want : (e : Error) → (e ≡ verify.NoMemory) ⊎ (e ≢ verify.NoMemory)
 is_want verify.NoMemory = inl refl
@@ -71,6 +71,9 @@ module _ (anchor : Anchor) (folders : Folders) (files : Files) (chain : TrustCha
   abbrev Goes : State → Type 0
   Goes state = Going anchor.crypto folders anchor.root anchor.now anchor.config trust_path chain offer state
 
+  abbrev StoreWarm : Watched Files → Type 0
+  StoreWarm store = StaysTold anchor.crypto folders anchor.root anchor.now anchor.config trust_path chain offer store
+
   abbrev Arrives : State → Type 0
   Arrives state = Arrived anchor.crypto folders anchor.root anchor.now anchor.config trust_path chain offer state
 
@@ -95,7 +98,7 @@ module _ (anchor : Anchor) (folders : Folders) (files : Files) (chain : TrustCha
     begun set kept b = must_go (state_of set repo kept) (attached_so b.first repo store (state_of set repo kept) (Ok tt) b.first_is told stored b.attached.attaches)
 
     searched : (set last : InForce) (mid : Watched Folders) (kept held : Watched Files) (result : Result TrustChain TufError) → Begins anchor repo store kept set → Refreshed (session_in anchor) (state_of set repo kept) (state_of last mid held) (Ok tt)
-        → Got (session_in anchor) trust_path (state_of last mid held) (state_of last repo' store') result → GivenChain chain result
+        → Got (session_in anchor) trust_path (state_of last mid held) (state_of last repo' store') result → GivenChain (StoreWarm store') chain result
     searched set last mid kept held result b r g =
         let first = (refresh_carried (session_in anchor) (state_of set repo kept) (state_of last mid held) (Ok tt) r.runs).since in
         let second = gets_since (session_in anchor) trust_path last mid repo' held store' result g.gets in
@@ -103,7 +106,7 @@ module _ (anchor : Anchor) (folders : Folders) (files : Files) (chain : TrustCha
         (refreshed_done anchor.crypto folders anchor.root anchor.now anchor.config trust_path chain offer (state_of set repo kept) (state_of last mid held) (Ok tt) (begun set kept b) (quiet_first repo.faults mid.faults repo'.faults first.later second.later quiet) r.runs) in
         target_done anchor.crypto folders anchor.root anchor.now anchor.config trust_path chain offer (state_of last mid held) repo' store' result arrived (quiet_second repo.faults mid.faults repo'.faults first.later second.later quiet) g.gets
 
-    chain_completes : (result : Result TrustChain TufError) → GivesChain anchor repo repo' store store' result → GivenChain chain result
+    chain_completes : (result : Result TrustChain TufError) → GivesChain anchor repo repo' store store' result → GivenChain (StoreWarm store') chain result
     chain_completes result (root_refused e h r s is) = chain_wanting (is ∙ ap Err (first_wants anchor.crypto folders anchor.root anchor.now anchor.config trust_path chain offer e h))
     chain_completes result (attach_refused first set e made a r is) =
         chain_wanting (is ∙ ap Err (wants_only e (attached_so first repo store (state_of set repo store') (Err e) made told stored a.attaches)))
@@ -111,14 +114,14 @@ module _ (anchor : Anchor) (folders : Folders) (files : Files) (chain : TrustCha
         chain_wanting (is ∙ ap Err (wants_only e (refreshed_done anchor.crypto folders anchor.root anchor.now anchor.config trust_path chain offer (state_of set repo kept) (state_of last repo' store') (Err e) (begun set kept b) quiet r.runs)))
     chain_completes result (target_refused set last mid kept held e b r g is) = by_given (searched set last mid kept held (Err e) b r g)
       where
-        by_given : GivenChain chain (Err e) → GivenChain chain result
+        by_given : GivenChain (StoreWarm store') chain (Err e) → GivenChain (StoreWarm store') chain result
         by_given (chain_wanting h) = chain_wanting (is ∙ ap Err (err_same e tuf.NoMemory h))
-        by_given (is_given h) = no_both chain e (sym h)
+        by_given (is_given h w) = no_both chain e (sym h)
     chain_completes result (chain_given set last mid kept held c b r g is) = by_given (searched set last mid kept held (Ok c) b r g)
       where
-        by_given : GivenChain chain (Ok c) → GivenChain chain result
+        by_given : GivenChain (StoreWarm store') chain (Ok c) → GivenChain (StoreWarm store') chain result
         by_given (chain_wanting h) = no_both c tuf.NoMemory h
-        by_given (is_given h) = is_given (is ∙ h)
+        by_given (is_given h w) = is_given (is ∙ h) w
 
 -- ---- the bytes of the artifact
 
@@ -234,39 +237,45 @@ module _ (given : Given) (before after : Outside) (file bytes : List ℕ) (sourc
 
 -- ---- the whole
 
-abbrev Answered : Given → TrustChain → List ℕ → Result Rooted RootFault → Type 0
-Answered given chain bytes result = (result ≡ Err root.NoMemory) ⊎ (result ≡ rooted_of chain (verdict_of given chain.file bytes))
+module _ (given : Given) (before after : Outside) (chain : TrustChain) (bytes : List ℕ) (f : Favours given before after chain bytes) where
+  abbrev Answered : Result Rooted RootFault → Type 0
+  Answered result = (result ≡ Err root.NoMemory) ⊎ ((result ≡ rooted_of chain (verdict_of given chain.file bytes)) × StaysWarm after.store f)
 
-module _ (given : Given) (before after : Outside) where
-  pub runs_complete : (result : Result Rooted RootFault) → Runs given before after result → Completes given before after result
-  runs_complete result runs chain bytes f = by_run runs
+  abbrev AfterWarm : Type 0
+  AfterWarm = StaysTold given.anchor.crypto f.folders given.anchor.root given.anchor.now given.anchor.config trust_path chain f.offers after.store
+
+  warm_so : AfterWarm → StaysWarm after.store f
+  warm_so t = record { files = t.files; told = t.told; warm = t.so }
+
+  chain_of : (answer : Result TrustChain TufError) → GivesChain given.anchor before.repo after.repo before.store after.store answer → GivenChain AfterWarm chain answer
+  chain_of answer g = chain_completes given.anchor f.folders f.files chain f.offers f.warm before.repo after.repo before.store after.store f.repo.told f.store f.repo.quiet answer g
+
+  by_judgement : (result : Result Rooted RootFault) (answer : Result Kept Error) → AfterWarm → result ≡ rooted_of chain answer → (answer ≡ Err verify.NoMemory) ⊎ (answer ≡ verdict_of given chain.file bytes) → Answered result
+  by_judgement result answer w is (inl h) = inl (is ∙ ap (rooted_of chain) h)
+  by_judgement result answer w is (inr h) = inr (is ∙ ap (rooted_of chain) h, warm_so w)
+
+  pub run_complete : (result : Result Rooted RootFault) → Runs given before after result → Answered result
+  run_complete result (chain_refused e g s is) = by_given (chain_of (Err e) g)
     where
-      chain_of : (answer : Result TrustChain TufError) → GivesChain given.anchor before.repo after.repo before.store after.store answer → GivenChain chain answer
-      chain_of answer g = chain_completes given.anchor f.folders f.files chain f.offers f.warm before.repo after.repo before.store after.store f.repo.told f.store f.repo.quiet answer g
+      by_given : GivenChain AfterWarm chain (Err e) → Answered result
+      by_given (chain_wanting h) = inl (is ∙ ap (λ e. Err (root_of_tuf e)) (err_same e tuf.NoMemory h))
+      by_given (is_given h w) = no_both chain e (sym h)
+  run_complete result (judgement_refused c e g j is) = by_given (chain_of (Ok c) g)
+    where
+      by_given : GivenChain AfterWarm chain (Ok c) → Answered result
+      by_given (chain_wanting h) = no_both c tuf.NoMemory h
+      by_given (is_given h w) =
+          let same = ok_same c chain h in
+          by_judgement result (Err e) w (is ∙ ap (λ c. Err (root_of_verify e c)) same)
+          (judge_completes given before after chain.file bytes f.source f.short (Err e) (subst (λ (c : TrustChain). JudgesGiven given c.file before after (Err e)) same j))
+  run_complete result (accepted rooted g j is) = by_given (chain_of (Ok rooted.chain) g)
+    where
+      by_given : GivenChain AfterWarm chain (Ok rooted.chain) → Answered result
+      by_given (chain_wanting h) = no_both rooted.chain tuf.NoMemory h
+      by_given (is_given h w) =
+          let same = ok_same rooted.chain chain h in
+          by_judgement result (Ok (record { result = rooted.result; digests = rooted.digests })) w (is ∙ ap (λ c. Ok (record { result = rooted.result; chain = c; digests = rooted.digests })) same)
+          (judge_completes given before after chain.file bytes f.source f.short (Ok (record { result = rooted.result; digests = rooted.digests })) (subst (λ (c : TrustChain). JudgesGiven given c.file before after (Ok (record { result = rooted.result; digests = rooted.digests }))) same j))
 
-      by_judgement : (answer : Result Kept Error) → result ≡ rooted_of chain answer → (answer ≡ Err verify.NoMemory) ⊎ (answer ≡ verdict_of given chain.file bytes) → Answered given chain bytes result
-      by_judgement answer is (inl h) = inl (is ∙ ap (rooted_of chain) h)
-      by_judgement answer is (inr h) = inr (is ∙ ap (rooted_of chain) h)
-
-      by_run : Runs given before after result → Answered given chain bytes result
-      by_run (chain_refused e g s is) = by_given (chain_of (Err e) g)
-        where
-          by_given : GivenChain chain (Err e) → Answered given chain bytes result
-          by_given (chain_wanting h) = inl (is ∙ ap (λ e. Err (root_of_tuf e)) (err_same e tuf.NoMemory h))
-          by_given (is_given h) = no_both chain e (sym h)
-      by_run (judgement_refused c e g j is) = by_given (chain_of (Ok c) g)
-        where
-          by_given : GivenChain chain (Ok c) → Answered given chain bytes result
-          by_given (chain_wanting h) = no_both c tuf.NoMemory h
-          by_given (is_given h) =
-              let same = ok_same c chain h in
-              by_judgement (Err e) (is ∙ ap (λ c. Err (root_of_verify e c)) same)
-              (judge_completes given before after chain.file bytes f.source f.short (Err e) (subst (λ (c : TrustChain). JudgesGiven given c.file before after (Err e)) same j))
-      by_run (accepted rooted g j is) = by_given (chain_of (Ok rooted.chain) g)
-        where
-          by_given : GivenChain chain (Ok rooted.chain) → Answered given chain bytes result
-          by_given (chain_wanting h) = no_both rooted.chain tuf.NoMemory h
-          by_given (is_given h) =
-              let same = ok_same rooted.chain chain h in
-              by_judgement (Ok (record { result = rooted.result; digests = rooted.digests })) (is ∙ ap (λ c. Ok (record { result = rooted.result; chain = c; digests = rooted.digests })) same)
-              (judge_completes given before after chain.file bytes f.source f.short (Ok (record { result = rooted.result; digests = rooted.digests })) (subst (λ (c : TrustChain). JudgesGiven given c.file before after (Ok (record { result = rooted.result; digests = rooted.digests }))) same j))
+pub runs_complete : (given : Given) (before after : Outside) (result : Result Rooted RootFault) → Runs given before after result → Completes given before after result
+runs_complete given before after result runs chain bytes f = run_complete given before after chain bytes f result runs

@@ -55,10 +55,18 @@ pub record Favours (given : Given) (before after : Outside) (chain : TrustChain)
   pub source : TellsQuietly before.source after.source bytes
   pub short : length bytes ≤ given.max
 
+-- The store then has nothing else either, so that all of this holds again of a next call over it, while nobody else writes it.
+pub record StaysWarm (store : Watched Files) {given : Given} {before after : Outside} {chain : TrustChain} {bytes : List ℕ}
+    (favours : Favours given before after chain bytes) : Type 0 where
+  pub files : Files
+  pub told : store.told ≡ Some files
+  pub warm : Warm files trust_path chain (content_in favours.offers.offered.trusted.roots.first).version
+
 -- Where a chain is offered and nothing outside fails, the answer is want of memory, or the verdict over the chain's trust file: an
--- acceptance where there is nothing to refuse, and else the first refusal. A client that refuses what is in order, such as every
--- rotated root, keeps its users from every update.
+-- acceptance where there is nothing to refuse, and else the first refusal; and the store stays warm. A client that refuses what is
+-- in order, such as every rotated root, keeps its users from every update.
 abbrev pub Completes : Given → Outside → Outside → Result Rooted RootFault → Type 0
 Completes given before after result =
-    (chain : TrustChain) (bytes : List ℕ) → Favours given before after chain bytes
-    → (result ≡ Err NoMemory) ⊎ (result ≡ rooted_of chain (verdict_of given chain.file bytes))
+    (chain : TrustChain) (bytes : List ℕ) (favours : Favours given before after chain bytes)
+    → (result ≡ Err NoMemory)
+    ⊎ ((result ≡ rooted_of chain (verdict_of given chain.file bytes)) × StaysWarm after.store favours)

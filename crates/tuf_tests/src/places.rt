@@ -140,6 +140,27 @@ load root.json => ab";
 const STORED_ELSEWHERE: &str = "load root.json => none
 store ../a  => Err(BadName)";
 
+// A document under its name, a target under `targets/` and its path; nothing under a bad name.
+const OVER_A_STORE: &str = "metadata 2 root.json => ab
+metadata 1 root.json => TooLong { seen: 2 }
+metadata 9 2.root.json => none
+target 9 a/b => file
+target 9 root.json => none
+target 9 ../root.json => none
+metadata 9 /root.json => none";
+
+const CARRIED_IN: &str = "store root.json ab => Ok(())
+store targets/a/b file => Ok(())";
+
+#[test]
+fn a_repository_over_a_store(rt: HostRuntime) {
+    let mut store = MemoryStore::new(rt.alloc());
+    store_all(&rt, &mut store, CARRIED_IN);
+    let mut repo = StoreRepository::new(store);
+    fetch_all(&rt, &mut repo, OVER_A_STORE);
+    drop(repo);
+}
+
 #[test]
 fn objects_in_memory(rt: HostRuntime) {
     hold(&rt, "FetchFault", FETCH_FAULTS);
