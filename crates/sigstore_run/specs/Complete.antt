@@ -37,7 +37,8 @@ abbrev pub given_in : {command : Command} {before after : Environment} {chain : 
 given_in {command} f = given_by f.gathered (now_of f.layout command.clock)
 
 -- what the verdict makes the program say was written whole, and its status is the run's
-pub record SaysVerdict (given : Given) (chain : TrustChain) (bytes : List ℕ) (out out' : Watched (List ℕ)) (ended : Status) : Type 0 where
+pub record SaysVerdict (given : Given) (chain : TrustChain) (bytes : List ℕ) (out out' : Watched (List ℕ))
+    (ended : Status) : Type 0 where
   pub said : Answer
   pub says : Says (rooted_of chain (verdict_of given chain.file bytes)) said
   pub written : TakesAll out out' said.text
