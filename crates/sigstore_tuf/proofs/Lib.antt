@@ -22,3 +22,4 @@ pub mod OverStore
 pub mod Keeping
 pub mod TargetKept
 pub mod Newest
+pub mod StoredLaws

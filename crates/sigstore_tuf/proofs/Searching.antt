@@ -106,7 +106,7 @@ more_than_none max r entry h = by_test (max == 0) refl h
     by_test false e h = (positive max e, h)
 
 -- a file that was had is the entry's
-recalled_there : (entry : TargetFile) (file : List ℕ) (loaded : Result (Option (List ℕ)) Error) → Ok (Some file) ≡ recalled_of entry loaded → file_of entry file ≡ Ok tt
+pub recalled_there : (entry : TargetFile) (file : List ℕ) (loaded : Result (Option (List ℕ)) Error) → Ok (Some file) ≡ recalled_of entry loaded → file_of entry file ≡ Ok tt
 recalled_there entry file (Ok None) h = cc
 recalled_there entry file (Ok (Some bytes)) h = by_test (file_of entry bytes) refl h
   where

@@ -127,7 +127,7 @@ passes (tuf.TargetNotFound path) = inl refl
 passes (tuf.Transport fault) = inl refl
 passes (tuf.Unbuilt form) = inl refl
 
-not_passed : {C : Type 0} (e : Error) → ◌≡◌ {A = Result Bool Error} (Ok true) (passed_over e) → C
+pub not_passed : {C : Type 0} (e : Error) → ◌≡◌ {A = Result Bool Error} (Ok true) (passed_over e) → C
 not_passed {C} e h = by_answer (passes e)
   where
     by_answer : (passed_over e ≡ Ok false) ⊎ (passed_over e ≡ Err tuf.NoMemory) → C

@@ -53,7 +53,7 @@ version_pinned pin p version at same =
     ap (λ pin. pinned_version_of pin version) at ∙ if_true (p.version == version) (tuf.IntegrityMismatch mismatch.Version) (equal p.version version (sym same))
 
 -- the file that a load gave, where it is the entry's
-recalled_some : (entry : TargetFile) (loaded : Result (Option (List ℕ)) Error) (bytes : List ℕ) → Ok (Some bytes) ≡ recalled_of entry loaded → loaded ≡ Ok (Some bytes)
+pub recalled_some : (entry : TargetFile) (loaded : Result (Option (List ℕ)) Error) (bytes : List ℕ) → Ok (Some bytes) ≡ recalled_of entry loaded → loaded ≡ Ok (Some bytes)
 recalled_some entry (Ok None) bytes h = cc
 recalled_some entry (Ok (Some x)) bytes h = by_file (file_of entry x) h
   where

@@ -20,3 +20,4 @@ pub mod Newest
 pub mod Promises
 pub mod Updater
 pub mod Offer
+pub mod Laws
