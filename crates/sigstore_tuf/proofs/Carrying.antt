@@ -1,11 +1,12 @@
 -- What is had after a step was had before it.
-use Rattle.std.proofs.Common.{◌≡◌, ◌⊎◌, inl, inr, ℕ, ◌≤◌, List, [], ◌∷◌, ◌++◌, codes, Bool, Option, Some, None, Result, Ok, Err, refl, sym, ap, ◌∙◌, subst, arith, le_refl, le_trans}
+use Rattle.std.proofs.Common.{◌≡◌, ◌⊎◌, inl, inr, ℕ, ◌≤◌, List, [], ◌∷◌, ◌++◌, codes, Bool, true, false, Option, Some, None, Result, Ok, Err, refl, sym, ap, ◌∙◌, subst, arith, le_refl, le_trans}
 use Rattle.std.specs.Prelude.{⊤, option_map}
 use Rattle.jiff_core.specs.declared.timestamp.Timestamp as jiff
 use Rattle.foundation.specs.Watched.{Watched, IfTold, Since}
 use Rattle.foundation.specs.Results.{some_same}
 use Rattle.sigstore_tuf_parts.specs.declared.error.Error.{Error}
-use Rattle.sigstore_tuf_parts.specs.Names.{root_name}
+use Rattle.sigstore_tuf_parts.specs.Names.{root_name, snapshot_name}
+use Rattle.sigstore_tuf_parts.specs.declared.timestamp.MetaFile.{MetaFile}
 use Rattle.sigstore_tuf_parts.specs.Crypto.{Crypto}
 use Rattle.sigstore_tuf.specs.declared.documents.InForce.{InForce}
 use Rattle.sigstore_tuf.specs.declared.kind.Kind.{Kind}
@@ -15,7 +16,7 @@ use Rattle.sigstore_tuf.specs.declared.store.StoreFault.{StoreFault}
 use Rattle.sigstore_tuf.specs.declared.store.StoreFault.TheVariants as store
 use Rattle.sigstore_tuf.specs.Repository.{Folders, Files, metadata_files}
 use Rattle.sigstore_tuf.specs.Store.{with_file, Keeps as KeepsTold}
-use Rattle.sigstore_tuf.specs.Names.{file_name, max_length, kept_name, kept_names}
+use Rattle.sigstore_tuf.specs.Names.{is_consistent, snapshot_pin_in, file_name, max_length, kept_name, both_names, kept_names}
 use Rattle.sigstore_tuf.specs.State.{Session, State}
 use Rattle.sigstore_tuf.specs.Adopt.{bytes_in, FetchesNamed, fetch_unnamed, fetch_asked, LoadsNamed, load_unnamed, load_asked, Saves, save_unnamed, save_asked, SavesAll, Keeps, KeepsWhere, Adopts, unfetched, absent, refused, kept, adopted, Seeds, unloaded, unkept, unseeded, equal, seeded}
 use Rattle.sigstore_tuf.specs.Client.{version_in}
@@ -23,7 +24,7 @@ use Rattle.sigstore_tuf.specs.Run.{SavesRoot, Attaches, Does, refresh_steps, Run
 use Rattle.sigstore_tuf.specs.Cause.{Has, HasKept, IsInForce, Had, in_repository, in_store, in_force}
 use Rattle.sigstore_tuf.proofs.Updates.{Puts, judged_puts, bytes_put}
 use Rattle.sigstore_tuf.proofs.Lift.{IsAsked, AsksNoRoot, attach_lift, does_lift, runs_lift}
-use Rattle.sigstore_tuf.proofs.StoreNames.{put_from, never_root_file, had_named}
+use Rattle.sigstore_tuf.proofs.StoreNames.{put_from, kept_unversioned, name_of, never_root_file, had_named}
 
 -- what is had at the end was had at the beginning
 pub record Carried (old new : State) : Type 0 where
@@ -138,11 +139,16 @@ AreHadAs old [] bytes = ⊤
 AreHadAs old (name ∷ names) bytes = IsHadAs old name bytes × AreHadAs old names bytes
 
 -- so it is under the names of its kind
-kind_had : (old : State) (k : Kind) (bytes : List ℕ) → Had old k bytes → AreHadAs old (kept_names k) bytes
-kind_had old (Root number) bytes h = (λ q e. had_named old q (Root number) bytes e h, (λ q e. never_root_file q e, tt))
-kind_had old Timestamp bytes h = (λ q e. had_named old q Timestamp bytes e h, tt)
-kind_had old Snapshot bytes h = (λ q e. had_named old q Snapshot bytes e h, tt)
-kind_had old Targets bytes h = (λ q e. had_named old q Targets bytes e h, tt)
+both_had : (old : State) (consistent : Bool) (pin : Option MetaFile) (bytes : List ℕ) → Had old Snapshot bytes → AreHadAs old (both_names consistent pin snapshot_name) bytes
+both_had old consistent None bytes h = (λ q e. had_named old q Snapshot bytes e h, tt)
+both_had old false (Some pin) bytes h = (λ q e. had_named old q Snapshot bytes e h, tt)
+both_had old true (Some pin) bytes h = (λ q e. kept_unversioned q pin.version snapshot_name e, (λ q e. had_named old q Snapshot bytes e h, tt))
+
+kind_had : (old : State) (set : InForce) (k : Kind) (bytes : List ℕ) → Had old k bytes → AreHadAs old (kept_names set k) bytes
+kind_had old set (Root number) bytes h = (λ q e. had_named old q (Root number) bytes e h, (λ q e. never_root_file q e, tt))
+kind_had old set Timestamp bytes h = (λ q e. had_named old q Timestamp bytes e h, tt)
+kind_had old set Snapshot bytes h = both_had old (is_consistent set) (snapshot_pin_in set) bytes h
+kind_had old set Targets bytes h = (λ q e. had_named old q Targets bytes e h, tt)
 
 saved_had : (old : State) (bytes name : List ℕ) (mid new : Watched Files) (result : Result ⊤ Error) → IsHadAs old name bytes → KeptHad old mid → Saves bytes name mid new result → KeptHad old new
 saved_had old bytes name mid new result h k (save_unnamed s r) q x f = k q x (subst (λ (w : Watched Files). HasKept w (kept_name q) x) s f)
@@ -171,8 +177,8 @@ all_had old bytes [] mid new result h k (s, r) = λ q x f. k q x (subst (λ (w :
 all_had old bytes (name ∷ names) mid new result h k (inl (e, s, r)) = saved_had old bytes name mid new (Err e) h.0 k s
 all_had old bytes (name ∷ names) mid new result h k (inr (next, s, more)) = all_had old bytes names next new result h.1 (saved_had old bytes name mid next (Ok tt) h.0 k s) more
 
-keeps_had : (old : State) (k : Kind) (bytes : List ℕ) (new : Watched Files) (result : Result ⊤ Error) → Had old k bytes → Keeps k bytes old.store new result → KeptHad old new
-keeps_had old k bytes new result h w = all_had old bytes (kept_names k) old.store new result (kind_had old k bytes h) (kept_before old old.store refl) w.saves
+keeps_had : (old : State) (set : InForce) (k : Kind) (bytes : List ℕ) (new : Watched Files) (result : Result ⊤ Error) → Had old k bytes → Keeps set k bytes old.store new result → KeptHad old new
+keeps_had old set k bytes new result h w = all_had old bytes (kept_names set k) old.store new result (kind_had old set k bytes h) (kept_before old old.store refl) w.saves
 
 -- ---- each step
 
@@ -183,7 +189,7 @@ unmoved : (old new : State) → Since old.repo new.repo → new.documents ≡ ol
 unmoved old new since d k = record { since = since; had = each; rises = let e = ap version_in d in omega (arith, e) }
   where
     each : (q : Kind) (x : List ℕ) → Had new q x → Had old q x
-    each q x (in_repository f) = in_repository (filed_before metadata_files old.repo new.repo (file_name q) x since.same f)
+    each q x (in_repository n i f) = in_repository n i (filed_before metadata_files old.repo new.repo n x since.same f)
     each q x (in_store f) = k q x f
     each q x (in_force i) = in_force (subst (λ set. IsInForce set q x) d i)
 
@@ -191,7 +197,7 @@ moved : (crypto : Crypto) (k : Kind) (now : Option jiff.Timestamp) (bytes : List
 moved crypto k now bytes old new asked had p since stored = record { since = since; had = each; rises = puts_rise crypto k now old.documents new.documents bytes p }
   where
     each : (q : Kind) (x : List ℕ) → Had new q x → Had old q x
-    each q x (in_repository f) = in_repository (filed_before metadata_files old.repo new.repo (file_name q) x since.same f)
+    each q x (in_repository n i f) = in_repository n i (filed_before metadata_files old.repo new.repo n x since.same f)
     each q x (in_store f) = stored q x f
     each q x (in_force i) = by_force (puts_force crypto k now old new.documents bytes asked p q x i)
       where
@@ -216,9 +222,9 @@ seed_carried crypto k now old new answer asked (seeded bytes l j s r) =
 pub save_carried : (old new : State) (result : Result ⊤ Error) → SavesRoot old new result → Carried old new
 save_carried old new result s = unmoved old new (since_same old.repo new.repo s.repo) s.documents (by_bytes (bytes_in (Root (version_in old.documents)) old.documents) refl s.written)
   where
-    by_bytes : (b : Option (List ℕ)) → bytes_in (Root (version_in old.documents)) old.documents ≡ b → KeepsWhere (Root (version_in old.documents)) b old.store new.store result → KeptHad old new.store
+    by_bytes : (b : Option (List ℕ)) → bytes_in (Root (version_in old.documents)) old.documents ≡ b → KeepsWhere old.documents (Root (version_in old.documents)) b old.store new.store result → KeptHad old new.store
     by_bytes None e (s, r) = store_same old new s
-    by_bytes (Some bytes) e w = keeps_had old (Root (version_in old.documents)) bytes new.store result (in_force (e, refl)) w
+    by_bytes (Some bytes) e w = keeps_had old old.documents (Root (version_in old.documents)) bytes new.store result (in_force (e, refl)) w
 
 pub attach_carried : (crypto : Crypto) (old new : State) (result : Result ⊤ Error) → Attaches crypto old new result → Carried old new
 attach_carried crypto old new result a =
@@ -231,8 +237,8 @@ pub carried_stays : (a : State) → Carried a a
 carried_stays a = unmoved a a (since_same a.repo a.repo refl) refl (store_same a a refl)
 
 module _ (session : Session) where
-  since_of : (k : Kind) (old new : State) (file : Result (Option (List ℕ)) Error) → FetchesNamed metadata_files (file_name k) (max_length session.config k) old.repo new.repo file → Since old.repo new.repo
-  since_of k old new file f = fetched_since metadata_files (file_name k) (max_length session.config k) old.repo new.repo file f
+  since_of : (k : Kind) (old new : State) (file : Result (Option (List ℕ)) Error) → FetchesNamed metadata_files (file_name old.documents k) (max_length session.config k) old.repo new.repo file → Since old.repo new.repo
+  since_of k old new file f = fetched_since metadata_files (file_name old.documents k) (max_length session.config k) old.repo new.repo file f
 
   pub adopt_carried : (k : Kind) (old new : State) (answer : Result Bool Error) → IsAsked k old → Adopts session k old new answer → Carried old new
   adopt_carried k old new answer asked (unfetched e f u r) = unmoved old new (since_of k old new (Err e) f) u.documents (store_same old new u.store)
@@ -240,9 +246,9 @@ module _ (session : Session) where
   adopt_carried k old new answer asked (refused bytes e f j u r) = unmoved old new (since_of k old new (Ok (Some bytes)) f) u.documents (store_same old new u.store)
   adopt_carried k old new answer asked (kept bytes f j u r) = unmoved old new (since_of k old new (Ok (Some bytes)) f) u.documents (store_same old new u.store)
   adopt_carried k old new answer asked (adopted bytes written f j w r) =
-      let had : Had old k bytes = in_repository (fetched_had metadata_files (file_name k) (max_length session.config k) old.repo new.repo bytes f) in
+      let had : Had old k bytes = in_repository (file_name old.documents k) (name_of old.documents k) (fetched_had metadata_files (file_name old.documents k) (max_length session.config k) old.repo new.repo bytes f) in
       moved session.crypto k (Some session.now) bytes old new asked had (judged_puts session.crypto old.documents bytes k (Some session.now) new.documents j) (since_of k old new (Ok (Some bytes)) f)
-      (keeps_had old k bytes new.store written had w)
+      (keeps_had old new.documents k bytes new.store written had w)
 
   pub does_carried : (step : Step) (old new : State) (result : Result ⊤ Error) → AsksNoRoot step → Does session step old new result → Carried old new
   does_carried step old new result asks d =

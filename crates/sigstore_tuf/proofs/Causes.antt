@@ -39,20 +39,20 @@ use Rattle.sigstore_tuf.specs.Repository.{Folders, Files, metadata_files}
 use Rattle.sigstore_tuf.specs.Names.{file_name, max_length}
 use Rattle.sigstore_tuf.specs.Update.{fresh_at_of, newer_of, timestamp_checks_of, update_timestamp_of, targets_pin_of}
 use Rattle.sigstore_tuf.specs.State.{Session, State}
-use Rattle.sigstore_tuf.specs.Adopt.{top_targets, unless_equal, FetchesNamed, fetch_unnamed, fetch_asked, absence_of, there_of, Adopts, unfetched, absent, refused, kept, adopted}
+use Rattle.sigstore_tuf.specs.Adopt.{top_targets, unless_equal, FetchesNamed, FetchesDocument, fetch_unnamed, fetch_asked, absence_of, there_of, Adopts, unfetched, absent, refused, kept, adopted}
 use Rattle.sigstore_tuf.specs.Client.{version_in, root_serves_of, timestamp_serves_of, snapshot_serves_of, delegates_none, undelegated_of}
 use Rattle.sigstore_tuf.specs.Run.{said, Stops, next_root, alone, WalksRoots, Checks, Refetches, Does, refresh_steps, RunsSteps}
 use Rattle.sigstore_tuf.specs.Trusted.{BeginsWith}
 use Rattle.sigstore_tuf.specs.Authorised.{AreAuthorised, given_in}
 use Rattle.sigstore_tuf.specs.Cause as cause
-use Rattle.sigstore_tuf.specs.Cause.{IsInForce, Had, in_force, WasHad, HasTimestamp, HasSnapshot, IsBefore, PinsTargets, Refusal, TransportCause, MayNotLack, RefreshCause, rotated, root_expired, consistent, snapshot_unpinned, kept_expired, targets_unpinned, delegating, wanting}
+use Rattle.sigstore_tuf.specs.Cause.{Has, IsInForce, Had, in_force, WasHad, HasTimestamp, HasSnapshot, IsBefore, PinsTargets, Refusal, TransportCause, MayNotLack, RefreshCause, rotated, root_expired, snapshot_unpinned, kept_expired, targets_unpinned, delegating, wanting}
 use Rattle.sigstore_tuf.proofs.Updates.{ok_some, judged_puts}
 use Rattle.sigstore_tuf.proofs.Authorised.{does_stays}
 use Rattle.sigstore_tuf.proofs.Holding.{stays_whole}
 use Rattle.sigstore_tuf.proofs.Lift.{IsAsked, AsksNoRoot, next_root_is}
 use Rattle.sigstore_tuf.proofs.Steps.{keeps_want, reseeds_want, adopt_rises}
 use Rattle.sigstore_tuf.proofs.Carrying.{fetched_had, Carried, carried_joins, carried_stays, adopt_carried, does_carried}
-use Rattle.sigstore_tuf.proofs.Refusals.{missing, refused_if, refused_unless, IsPinningTargets, refusal_cause}
+use Rattle.sigstore_tuf.proofs.Refusals.{missing, refused_unless, IsPinningTargets, refusal_cause}
 use Rattle.sigstore_tuf.proofs.Serving.{RootFresh, root_looked, root_stays, reseeds_root, refetches_root, timestamp_looked, snapshot_fetched, targets_fetched, Rest, step_split}
 
 -- ---- want of memory
@@ -140,13 +140,15 @@ module _ (session : Session) where
       (h.0, h.1, subst (λ told. IfTold told (λ folders. (bytes : List ℕ) × (part folders name ≡ Some bytes) × (seen ≡ length bytes))) s.same h.2)
   transport_earlier part name max a b c (transport.Rotations limit) s h = h
 
+  has_earlier : (part : Folders → Files) (name bytes : List ℕ) (a b : State) → Carried a b → Has part b.repo name bytes → Has part a.repo name bytes
+  has_earlier part name bytes a b p h = subst (λ told. IfTold told (λ folders. part folders name ≡ Some bytes)) p.since.same h
+
   pub earlier : (a b c : State) (e : Error) → Carried a b → RefreshCause session b c e → RefreshCause session a c e
-  earlier a b c e p (cause.refused k bytes h before r) = cause.refused k bytes (p.had k bytes h) before r
+  earlier a b c e p (cause.refused k bytes h before r) = cause.refused k bytes (has_earlier metadata_files (file_name c.documents k) bytes a b p h) before r
   earlier a b c e p (cause.unfetched k fault before t m is) =
-      cause.unfetched k fault before (transport_earlier metadata_files (file_name k) (max_length session.config k) a.repo b.repo c.repo fault p.since t) m is
+      cause.unfetched k fault before (transport_earlier metadata_files (file_name c.documents k) (max_length session.config k) a.repo b.repo c.repo fault p.since t) m is
   earlier a b c e p (rotated is most more) = rotated is (let r = p.rises in omega arith) more
   earlier a b c e p (root_expired h x) = root_expired (had_earlier a b c _ p h) x
-  earlier a b c e p (consistent h x is) = consistent (had_earlier a b c _ p h) x is
   earlier a b c e p (snapshot_unpinned held h before at none is) = snapshot_unpinned held (had_earlier a b c _ p h) before at none is
   earlier a b c e p (kept_expired held h before at x) = kept_expired held (had_earlier a b c _ p h) before at x
   earlier a b c e p (targets_unpinned held h before at none is) = targets_unpinned held (had_earlier a b c _ p h) before at none is
@@ -164,7 +166,7 @@ module _ (session : Session) where
   not_absent kind.Snapshot fault h = tt
   not_absent kind.Targets fault h = tt
 
-  fault_cause : (k : Kind) (old new : State) (e : Error) → IsBefore k session.now new.documents → FetchesNamed metadata_files (file_name k) (max_length session.config k) old.repo new.repo (Err e) → RefreshCause session old new e
+  fault_cause : (k : Kind) (old new : State) (e : Error) → IsBefore k session.now new.documents → FetchesNamed metadata_files (file_name new.documents k) (max_length session.config k) old.repo new.repo (Err e) → RefreshCause session old new e
   fault_cause k old new e before (fetch_unnamed s r) = wanting (err_same e tuf.NoMemory r)
   fault_cause k old new e before (fetch_asked (Ok file) f r) = cc
   fault_cause k old new e before (fetch_asked (Err fetch.Failed) f r) = cause.unfetched k transport.Failed before f.failed (not_absent k transport.Failed (λ h. cc)) (err_same e _ r)
@@ -172,19 +174,19 @@ module _ (session : Session) where
       cause.unfetched k (transport.TooLong (max_length session.config k) seen) before (refl, f.limit, f.file) (not_absent k _ (λ h. cc)) (err_same e _ r)
   fault_cause k old new e before (fetch_asked (Err fetch.NoMemory) f r) = wanting (err_same e tuf.NoMemory r)
 
-  lacking : (k : Kind) (old new : State) → FetchesNamed metadata_files (file_name k) (max_length session.config k) old.repo new.repo (Ok None) → TransportCause metadata_files (file_name k) (max_length session.config k) old.repo new.repo transport.Absent
+  lacking : (k : Kind) (old new : State) → FetchesNamed metadata_files (file_name new.documents k) (max_length session.config k) old.repo new.repo (Ok None) → TransportCause metadata_files (file_name new.documents k) (max_length session.config k) old.repo new.repo transport.Absent
   lacking k old new (fetch_unnamed s r) = cc
   lacking k old new (fetch_asked (Ok file) f r) = by_told old.repo.told f.file
     where
       is : None ≡ file
       is = let same : ◌≡◌ {A = Result (Option (List ℕ)) Error} (Ok None) (Ok file) = r in cc
 
-      by_told : (told : Option Folders) → IfTold told (λ folders. file ≡ metadata_files folders (file_name k)) → IfTold told (λ folders. metadata_files folders (file_name k) ≡ None)
+      by_told : (told : Option Folders) → IfTold told (λ folders. file ≡ metadata_files folders (file_name new.documents k)) → IfTold told (λ folders. metadata_files folders (file_name new.documents k) ≡ None)
       by_told None h = tt
       by_told (Some folders) h = sym h ∙ sym is
   lacking k old new (fetch_asked (Err fault) f r) = cc
 
-  absence_cause : (k : Kind) (old new : State) → IsBefore k session.now new.documents → FetchesNamed metadata_files (file_name k) (max_length session.config k) old.repo new.repo (Ok None) → IfErr (said (absence_of k)) (RefreshCause session old new)
+  absence_cause : (k : Kind) (old new : State) → IsBefore k session.now new.documents → FetchesNamed metadata_files (file_name new.documents k) (max_length session.config k) old.repo new.repo (Ok None) → IfErr (said (absence_of k)) (RefreshCause session old new)
   absence_cause (kind.Root number) old new before f = tt
   absence_cause kind.Timestamp old new before f = cause.unfetched kind.Timestamp transport.Absent before (lacking kind.Timestamp old new f) tt refl
   absence_cause kind.Snapshot old new before f = cause.unfetched kind.Snapshot transport.Absent before (lacking kind.Snapshot old new f) tt refl
@@ -197,15 +199,20 @@ module _ (session : Session) where
       by_either (inl is) = wanting is
       by_either (inr other) = f other
 
+  -- the name is that by the documents in force at the end
+  fetched_then : (k : Kind) (old new : State) (file : Result (Option (List ℕ)) Error) → new.documents ≡ old.documents → FetchesDocument session old.documents k old.repo new.repo file
+      → FetchesNamed metadata_files (file_name new.documents k) (max_length session.config k) old.repo new.repo file
+  fetched_then k old new file same f = subst (λ set. FetchesNamed metadata_files (file_name set k) (max_length session.config k) old.repo new.repo file) (sym same) f
+
   pub adopt_cause : (k : Kind) (old new : State) (answer : Result Bool Error) → IsBefore k session.now old.documents → IsPinningTargets k session.now old.documents → Adopts session k old new answer → IfErr (said answer) (RefreshCause session old new)
-  adopt_cause k old new answer before pins (unfetched e f u r) = at_answer old new answer (Err e) r (fault_cause k old new e (subst (IsBefore k session.now) (sym u.documents) before) f)
-  adopt_cause k old new answer before pins (absent f u r) = at_answer old new answer (absence_of k) r (absence_cause k old new (subst (IsBefore k session.now) (sym u.documents) before) f)
+  adopt_cause k old new answer before pins (unfetched e f u r) = at_answer old new answer (Err e) r (fault_cause k old new e (subst (IsBefore k session.now) (sym u.documents) before) (fetched_then k old new (Err e) u.documents f))
+  adopt_cause k old new answer before pins (absent f u r) = at_answer old new answer (absence_of k) r (absence_cause k old new (subst (IsBefore k session.now) (sym u.documents) before) (fetched_then k old new (Ok None) u.documents f))
   adopt_cause k old new answer before pins (refused bytes e f j u r) =
-      at_answer old new answer (Err e) r (by_want old new e (λ other. cause.refused k bytes (cause.in_repository (fetched_had metadata_files (file_name k) (max_length session.config k) old.repo new.repo bytes f))
+      at_answer old new answer (Err e) r (by_want old new e (λ other. cause.refused k bytes (fetched_had metadata_files (file_name new.documents k) (max_length session.config k) old.repo new.repo bytes (fetched_then k old new (Ok (Some bytes)) u.documents f))
       (subst (IsBefore k session.now) (sym u.documents) before)
       (subst (λ set. Refusal session.crypto session.now set k bytes e) (sym u.documents) (refusal_cause session.crypto session.now old.documents k bytes e before pins (j other)))))
   adopt_cause k old new answer before pins (kept bytes f j u r) = at_answer old new answer (Ok true) r tt
-  adopt_cause k old new answer before pins (adopted bytes written f j w r) = at_answer old new answer (there_of written) r (by_written written (keeps_want k bytes old.store new.store written w))
+  adopt_cause k old new answer before pins (adopted bytes written f j w r) = at_answer old new answer (there_of written) r (by_written written (keeps_want new.documents k bytes old.store new.store written w))
     where
       by_written : (written : Result ⊤ Error) → IfErr written (λ e. e ≡ tuf.NoMemory) → IfErr (said (there_of written)) (RefreshCause session old new)
       by_written (Ok x) h = tt
@@ -272,12 +279,7 @@ module _ (session : Session) where
   root_had state k = let last = last_there (given_in state.documents) state.documents.roots k.roots.begins in (last.0, (last.1, refl), in_force (last.1, refl))
 
   root_cause : (state : State) (e : Error) → AreAuthorised session.crypto (given_in state.documents) state.documents → root_serves_of state.documents session.now ≡ Err e → RefreshCause session state state e
-  unfolding root_serves_of
-  root_cause state e k h =
-      refused_at (fresh_of (codes "root") (content_in {T = declared_root.Root} state.documents.root).expires session.now) _ e h
-      (λ q. root_expired (root_had state k) (expiry_cause (codes "root") (content_in {T = declared_root.Root} state.documents.root).expires session.now e q)) (λ u q l.
-      refused_if (content_in {T = declared_root.Root} state.documents.root).consistent_snapshot (tuf.Unbuilt form.Consistent) e l
-      (λ is same. consistent (root_had state k) is same))
+  root_cause state e k h = root_expired (root_had state k) (expiry_cause (codes "root") (content_in {T = declared_root.Root} state.documents.root).expires session.now e h)
 
   timestamp_had : (state : State) (held : Held declared_timestamp.Timestamp) → state.documents.timestamp ≡ Some held → WasHad state state kind.Timestamp
   timestamp_had state held is = let there = ap (λ o. held_bytes o) is in (held.bytes, there, in_force there)

@@ -1,11 +1,9 @@
 -- One adoption over told files and without a fault, and what a store keeps.
-use Rattle.std.proofs.Common.{◌≡◌, ◌≢◌, ◌⊎◌, inl, inr, ℕ, ◌+◌, ◌-◌, ◌^◌, ◌<◌, ◌≤◌, ◌==◌, List, [], ◌∷◌, length, Bool, true, false, if◌then◌else◌, bytes_eq, Option, Some, None, Result, Ok, Err, codes, refl, sym, ap, ◌∙◌, subst, arith}
-use Rattle.std.specs.Prelude.{⊤, IfErr, OnOk, IfSome, ok_or, option_map, min}
+use Rattle.std.proofs.Common.{◌≡◌, ◌≢◌, ◌⊎◌, inl, inr, ℕ, ◌≤◌, ◌==◌, List, [], ◌∷◌, length, Bool, true, false, if◌then◌else◌, bytes_eq, Option, Some, None, Result, Ok, Err, refl, sym, ap, ◌∙◌, subst, arith}
+use Rattle.std.specs.Prelude.{⊤, IfErr, IfSome, ok_or, option_map}
 use Rattle.std.proofs.lemmas.Bool.Decides.{nat_tests}
-use Rattle.std.proofs.lemmas.Slice.Eq.{bytes_eq-Decides}
-use Rattle.jiff_core.specs.declared.timestamp.Timestamp as jiff
 use Rattle.foundation.specs.Steps.{◌>>=◌}
-use Rattle.foundation.specs.Watched.{Watched, Rose, IfTold, Since}
+use Rattle.foundation.specs.Watched.{Watched, Rose, IfTold}
 use Rattle.foundation.specs.Results.{ok_same, err_same, some_same, no_both}
 use Rattle.sigstore_types_parts.specs.Entries.{at_name}
 use Rattle.sigstore_tuf_parts.specs.declared.error.Error.{Error}
@@ -21,11 +19,11 @@ use Rattle.sigstore_tuf.specs.declared.repository.FetchFault.{FetchFault}
 use Rattle.sigstore_tuf.specs.declared.repository.FetchFault.TheVariants as fetch
 use Rattle.sigstore_tuf.specs.declared.store.StoreFault.{StoreFault}
 use Rattle.sigstore_tuf.specs.declared.store.StoreFault.TheVariants as store
-use Rattle.sigstore_tuf.specs.Repository.{Quiet, Folders, Files, metadata_files, IsFile, Fetches}
+use Rattle.sigstore_tuf.specs.Repository.{Quiet, Folders, Files, metadata_files, IsFile}
 use Rattle.sigstore_tuf.specs.Store.{with_file, Keeps as KeepsTold}
 use Rattle.sigstore_tuf.specs.Names.{file_name, max_length, kept_names}
 use Rattle.sigstore_tuf.specs.State.{Session, State}
-use Rattle.sigstore_tuf.specs.Adopt.{judged_of, FetchesNamed, fetch_unnamed, fetch_asked, FetchesDocument, LoadsNamed, Saves, save_unnamed, save_asked, SavesAll, absence_of, there_of, Keeps, KeepsWhere, Adopts, unfetched, absent, refused, kept, adopted}
+use Rattle.sigstore_tuf.specs.Adopt.{judged_of, FetchesNamed, fetch_unnamed, fetch_asked, FetchesDocument, LoadsNamed, Saves, save_unnamed, save_asked, SavesAll, absence_of, there_of, Keeps, Adopts, unfetched, absent, refused, kept, adopted}
 use Rattle.sigstore_tuf.specs.Offer.{IsNoneOr}
 use Rattle.sigstore_tuf.proofs.Carrying.{fetched_since, loaded_had}
 use Rattle.sigstore_tuf.proofs.Causes.{is_want}
@@ -110,7 +108,7 @@ after old (Some new) = new
 pub record Took (k : Kind) (bytes : List ℕ) (old new : State) (r : Option InForce) : Type 0 where
   pub documents : new.documents ≡ after old.documents r
   pub told : new.repo.told ≡ old.repo.told
-  pub stored : (new.store ≡ old.store) ⊎ ((written : Result ⊤ Error) × Keeps k bytes old.store new.store written)
+  pub stored : (new.store ≡ old.store) ⊎ ((written : Result ⊤ Error) × Keeps new.documents k bytes old.store new.store written)
 
 -- nothing changed
 pub record Left (old new : State) : Type 0 where
@@ -119,15 +117,15 @@ pub record Left (old new : State) : Type 0 where
   pub store : new.store ≡ old.store
 
 module _ (session : Session) (folders : Folders) where
-  fetched_so : (k : Kind) (file : Option (List ℕ)) (old new : State) (result : Result (Option (List ℕ)) Error) → old.repo.told ≡ Some folders → folders.metadata (file_name k) ≡ file
-      → IfSome file (λ bytes. length bytes ≤ max_length session.config k) → Quiet old.repo.faults new.repo.faults → FetchesDocument session k old.repo new.repo result → Given file result
-  fetched_so k file old new result told is short quiet f = fetch_given metadata_files (file_name k) (max_length session.config k) old.repo new.repo folders file result told is short quiet f
+  fetched_so : (k : Kind) (file : Option (List ℕ)) (old new : State) (result : Result (Option (List ℕ)) Error) → old.repo.told ≡ Some folders → folders.metadata (file_name old.documents k) ≡ file
+      → IfSome file (λ bytes. length bytes ≤ max_length session.config k) → Quiet old.repo.faults new.repo.faults → FetchesDocument session old.documents k old.repo new.repo result → Given file result
+  fetched_so k file old new result told is short quiet f = fetch_given metadata_files (file_name old.documents k) (max_length session.config k) old.repo new.repo folders file result told is short quiet f
 
-  told_after : (k : Kind) (old new : State) (result : Result (Option (List ℕ)) Error) → FetchesDocument session k old.repo new.repo result → new.repo.told ≡ old.repo.told
-  told_after k old new result f = let s = fetched_since metadata_files (file_name k) (max_length session.config k) old.repo new.repo result f in s.same
+  told_after : (k : Kind) (old new : State) (result : Result (Option (List ℕ)) Error) → FetchesDocument session old.documents k old.repo new.repo result → new.repo.told ≡ old.repo.told
+  told_after k old new result f = let s = fetched_since metadata_files (file_name old.documents k) (max_length session.config k) old.repo new.repo result f in s.same
 
   -- the document is there, and is judged so
-  module _ (k : Kind) (bytes : List ℕ) (old new : State) (r : Option InForce) (told : old.repo.told ≡ Some folders) (is : folders.metadata (file_name k) ≡ Some bytes) (short : length bytes ≤ max_length session.config k)
+  module _ (k : Kind) (bytes : List ℕ) (old new : State) (r : Option InForce) (told : old.repo.told ≡ Some folders) (is : folders.metadata (file_name old.documents k) ≡ Some bytes) (short : length bytes ≤ max_length session.config k)
       (quiet : Quiet old.repo.faults new.repo.faults) (judged : judged_of session.crypto k old.documents bytes (Some session.now) ≡ Ok r) where
     abbrev There : Result Bool Error → Type 0
     There answer = Answers (Took k bytes old new r) answer (Ok true)
@@ -143,14 +141,14 @@ module _ (session : Session) (folders : Folders) where
         by_want (inr h) = no_both r e (sym (judged_same x (Err e) same (j h)))
 
     adopted_there : (x : List ℕ) (written : Result ⊤ Error) (answer : Result Bool Error) → Some x ≡ Some bytes → judged_of session.crypto k old.documents x (Some session.now) ≡ Ok (Some new.documents) → new.repo.told ≡ old.repo.told
-        → Keeps k x old.store new.store written → answer ≡ there_of written → There answer
-    adopted_there x written answer same j t w a = by_write written a w (keeps_want k x old.store new.store written w)
+        → Keeps new.documents k x old.store new.store written → answer ≡ there_of written → There answer
+    adopted_there x written answer same j t w a = by_write written a w (keeps_want new.documents k x old.store new.store written w)
       where
-        by_write : (written : Result ⊤ Error) → answer ≡ there_of written → Keeps k x old.store new.store written → IfErr written (λ e. e ≡ tuf.NoMemory) → There answer
+        by_write : (written : Result ⊤ Error) → answer ≡ there_of written → Keeps new.documents k x old.store new.store written → IfErr written (λ e. e ≡ tuf.NoMemory) → There answer
         by_write (Ok y) a w h = answers a (record {
           documents = ap (after old.documents) (ok_same (Some new.documents) r (judged_same x (Ok (Some new.documents)) same j));
           told = t;
-          stored = inr (Ok y, subst (λ x. Keeps k x old.store new.store (Ok y)) (some_same x bytes same) w);
+          stored = inr (Ok y, subst (λ x. Keeps new.documents k x old.store new.store (Ok y)) (some_same x bytes same) w);
         })
         by_write (Err e) a w h = wants (a ∙ ap Err h)
 
@@ -169,7 +167,7 @@ module _ (session : Session) (folders : Folders) where
         of_given (Some bytes) (Some x) (fetched_so k (Some bytes) old new (Ok (Some x)) told is short quiet f) (λ h. adopted_there x written answer h j (told_after k old new (Ok (Some x)) f) w a)
 
   -- it isn't there
-  pub adopts_lacking : (k : Kind) (old new : State) (answer : Result Bool Error) → old.repo.told ≡ Some folders → folders.metadata (file_name k) ≡ None → Quiet old.repo.faults new.repo.faults → Adopts session k old new answer
+  pub adopts_lacking : (k : Kind) (old new : State) (answer : Result Bool Error) → old.repo.told ≡ Some folders → folders.metadata (file_name old.documents k) ≡ None → Quiet old.repo.faults new.repo.faults → Adopts session k old new answer
       → Answers (Left old new) answer (absence_of k)
   adopts_lacking k old new answer told is quiet (unfetched e f u a) = of_ungiven None e (fetched_so k None old new (Err e) told is tt quiet f) (λ h. wants (a ∙ ap Err h))
   adopts_lacking k old new answer told is quiet (absent f u a) = answers a (record { documents = u.documents; told = told_after k old new (Ok None) f; store = u.store })
@@ -214,15 +212,15 @@ module _ (Q : Files → Type 0) where
   all_so bytes (name ∷ names) old new result h (inl (e, s, r)) t = saved_so bytes name old new (Err e) h.0 s t
   all_so bytes (name ∷ names) old new result h (inr (mid, s, more)) t = all_so bytes names mid new result h.1 more (saved_so bytes name old mid (Ok tt) h.0 s t)
 
-  pub keeps_so : (k : Kind) (bytes : List ℕ) (old new : Watched Files) (result : Result ⊤ Error) → AreHarmless Q bytes (kept_names k) → Keeps k bytes old new result → TellsSo Q old → TellsSo Q new
-  keeps_so k bytes old new result h w t = all_so bytes (kept_names k) old new result h w.saves t
+  pub keeps_so : (set : InForce) (k : Kind) (bytes : List ℕ) (old new : Watched Files) (result : Result ⊤ Error) → AreHarmless Q bytes (kept_names set k) → Keeps set k bytes old new result → TellsSo Q old → TellsSo Q new
+  keeps_so set k bytes old new result h w t = all_so bytes (kept_names set k) old new result h w.saves t
 
-  pub took_so : (k : Kind) (bytes : List ℕ) (old new : State) (r : Option InForce) → AreHarmless Q bytes (kept_names k) → Took k bytes old new r → TellsSo Q old.store → TellsSo Q new.store
+  pub took_so : (k : Kind) (bytes : List ℕ) (old new : State) (r : Option InForce) → AreHarmless Q bytes (kept_names new.documents k) → Took k bytes old new r → TellsSo Q old.store → TellsSo Q new.store
   took_so k bytes old new r h took t = by_stored took.stored
     where
-      by_stored : (new.store ≡ old.store) ⊎ ((written : Result ⊤ Error) × Keeps k bytes old.store new.store written) → TellsSo Q new.store
+      by_stored : (new.store ≡ old.store) ⊎ ((written : Result ⊤ Error) × Keeps new.documents k bytes old.store new.store written) → TellsSo Q new.store
       by_stored (inl e) = subst (TellsSo Q) (sym e) t
-      by_stored (inr (written, w)) = keeps_so k bytes old.store new.store written h w t
+      by_stored (inr (written, w)) = keeps_so new.documents k bytes old.store new.store written h w t
 
 -- what is loaded is what is told
 pub loaded_is : (name : List ℕ) (old new : Watched Files) (files : Files) (bytes : List ℕ) → old.told ≡ Some files → LoadsNamed name old new (Ok (Some bytes)) → files name ≡ Some bytes

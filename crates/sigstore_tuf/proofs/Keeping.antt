@@ -12,7 +12,8 @@ use Rattle.sigstore_tuf_parts.specs.declared.error.TransportFault.TheVariants as
 use Rattle.sigstore_tuf_parts.specs.declared.root.Root as declared
 use Rattle.sigstore_tuf_parts.specs.Crypto.{Crypto}
 use Rattle.sigstore_tuf_parts.specs.Document.{Document, content_in}
-use Rattle.sigstore_tuf_parts.specs.Names.{timestamp_name, snapshot_name, targets_name}
+use Rattle.sigstore_tuf_parts.specs.Names.{timestamp_name, snapshot_name, targets_name, versioned_name}
+use Rattle.sigstore_tuf_parts.specs.declared.timestamp.MetaFile.{MetaFile}
 use Rattle.sigstore_tuf_parts.specs.RootRoles.{root_document, meets_role_of, AreNextRoots, Roots}
 use Rattle.sigstore_tuf_parts.proofs.ReadExact.{version_bound}
 use Rattle.sigstore_tuf.specs.declared.documents.InForce.{InForce}
@@ -24,7 +25,7 @@ use Rattle.sigstore_tuf.specs.declared.store.StoreFault.{StoreFault}
 use Rattle.sigstore_tuf.specs.declared.store.StoreFault.TheVariants as store
 use Rattle.sigstore_tuf.specs.Repository.{Quiet, Files}
 use Rattle.sigstore_tuf.specs.Store.{is_bad_name, with_file, HasStoreCause, Keeps as KeepsTold}
-use Rattle.sigstore_tuf.specs.Names.{history_name, root_file, kept_name, kept_names}
+use Rattle.sigstore_tuf.specs.Names.{is_consistent, snapshot_pin_in, history_name, root_file, kept_name, both_names, kept_names}
 use Rattle.sigstore_tuf.specs.Update.{first_root_of}
 use Rattle.sigstore_tuf.specs.State.{Session, State}
 use Rattle.sigstore_tuf.specs.Adopt.{bytes_in, LoadsNamed, load_unnamed, load_asked, passed_of, Saves, save_unnamed, save_asked, SavesAll, KeepsWhere, there_of, Adopts, unfetched, absent, refused, kept, adopted, Seeds, unloaded, unkept, unseeded, equal, seeded}
@@ -40,8 +41,8 @@ use Rattle.sigstore_tuf.proofs.Holding.{stays_whole}
 use Rattle.sigstore_tuf.proofs.Steps.{save_wants}
 use Rattle.sigstore_tuf.proofs.Carrying.{loaded_had}
 use Rattle.sigstore_tuf.proofs.Completing.{quiet_first, quiet_second, not_both}
-use Rattle.sigstore_tuf.proofs.StoreNames.{never_root_file}
-use Rattle.sigstore_tuf.proofs.RootNames.{same_number, history_good}
+use Rattle.sigstore_tuf.proofs.StoreNames.{kept_unversioned, never_root_file}
+use Rattle.sigstore_tuf.proofs.RootNames.{same_number, never_versioned, history_good, versioned_good}
 
 -- ---- told files
 
@@ -207,14 +208,28 @@ with_other name bytes q files n = by_test (bytes_eq q name) refl
 stayed : (k : Kind) (bytes : List ℕ) (files : Files) → files (kept_name k) ≡ Some bytes → Moves k bytes files files
 stayed k bytes files h = record { there = h; others = λ q x n f. f }
 
-written : (k : Kind) (bytes : List ℕ) (files : Files) → Moves k bytes files (files_all bytes (kept_names k) files)
-written (Root number) bytes files = record {
+-- a snapshot under both of its names, or under its own alone
+snapshot_alone : (bytes : List ℕ) (files : Files) → Moves Snapshot bytes files (with_file snapshot_name bytes files)
+snapshot_alone bytes files = record { there = with_this snapshot_name bytes files; others = λ q x n f. with_other snapshot_name bytes (kept_name q) files n ∙ f }
+
+snapshot_written : (consistent : Bool) (pin : Option MetaFile) (bytes : List ℕ) (files : Files) → Moves Snapshot bytes files (files_all bytes (both_names consistent pin snapshot_name) files)
+snapshot_written consistent None bytes files = snapshot_alone bytes files
+snapshot_written false (Some pin) bytes files = snapshot_alone bytes files
+snapshot_written true (Some pin) bytes files =
+    let once = with_file (versioned_name pin.version snapshot_name) bytes files in
+    record {
+      there = with_this snapshot_name bytes once;
+      others = λ q x n f. with_other snapshot_name bytes (kept_name q) once n ∙ (with_other (versioned_name pin.version snapshot_name) bytes (kept_name q) files (λ e. kept_unversioned q pin.version snapshot_name e) ∙ f);
+    }
+
+written : (set : InForce) (k : Kind) (bytes : List ℕ) (files : Files) → Moves k bytes files (files_all bytes (kept_names set k) files)
+written set (Root number) bytes files = record {
   there = with_other root_file bytes (history_name number) (with_file (history_name number) bytes files) (apart (history_name number) root_file refl) ∙ with_this (history_name number) bytes files;
   others = λ q x n f. with_other root_file bytes (kept_name q) (with_file (history_name number) bytes files) (λ e. never_root_file q e) ∙ (with_other (history_name number) bytes (kept_name q) files n ∙ f);
 }
-written Timestamp bytes files = record { there = with_this timestamp_name bytes files; others = λ q x n f. with_other timestamp_name bytes (kept_name q) files n ∙ f }
-written Snapshot bytes files = record { there = with_this snapshot_name bytes files; others = λ q x n f. with_other snapshot_name bytes (kept_name q) files n ∙ f }
-written Targets bytes files = record { there = with_this targets_name bytes files; others = λ q x n f. with_other targets_name bytes (kept_name q) files n ∙ f }
+written set Timestamp bytes files = record { there = with_this timestamp_name bytes files; others = λ q x n f. with_other timestamp_name bytes (kept_name q) files n ∙ f }
+written set Snapshot bytes files = snapshot_written (is_consistent set) (snapshot_pin_in set) bytes files
+written set Targets bytes files = record { there = with_this targets_name bytes files; others = λ q x n f. with_other targets_name bytes (kept_name q) files n ∙ f }
 
 some_kept : (b : Option (List ℕ)) (files files' : Files) (name : List ℕ) → ((x : List ℕ) → files name ≡ Some x → files' name ≡ Some x) → IfSome b (IsFiled files name) → IfSome b (IsFiled files' name)
 some_kept None files files' name f h = tt
@@ -280,21 +295,33 @@ module _ (crypto : Crypto) (now : Option jiff.Timestamp) (bytes : List ℕ) (fil
   last_stays Targets old new n p f h = subst (λ (s : InForce). HasLastRoot files' s.roots) (sym p.new_is) (some_kept (last_or None old.roots) files files' root_file f h)
 
 -- the last root, once a document was written
-last_written : (crypto : Crypto) (k : Kind) (now : Option jiff.Timestamp) (bytes : List ℕ) (files : Files) (old new : InForce) → Puts crypto old bytes k now new → HasLastRoot files old.roots → HasLastRoot (files_all bytes (kept_names k) files) new.roots
+root_file_kept : (consistent : Bool) (pin : Option MetaFile) (bytes : List ℕ) (files : Files) → files_all bytes (both_names consistent pin snapshot_name) files root_file ≡ files root_file
+root_file_kept consistent None bytes files = with_other snapshot_name bytes root_file files (apart root_file snapshot_name refl)
+root_file_kept false (Some pin) bytes files = with_other snapshot_name bytes root_file files (apart root_file snapshot_name refl)
+root_file_kept true (Some pin) bytes files =
+    with_other snapshot_name bytes root_file (with_file (versioned_name pin.version snapshot_name) bytes files) (apart root_file snapshot_name refl)
+    ∙ with_other (versioned_name pin.version snapshot_name) bytes root_file files (λ e. never_versioned pin.version snapshot_name 114 _ (omega arith) e)
+
+last_written : (crypto : Crypto) (k : Kind) (now : Option jiff.Timestamp) (bytes : List ℕ) (files : Files) (old new : InForce) → Puts crypto old bytes k now new → HasLastRoot files old.roots → HasLastRoot (files_all bytes (kept_names new k) files) new.roots
 last_written crypto (Root number) now bytes files old new p h =
-    subst (λ o. IfSome o (IsFiled (files_all bytes (kept_names (Root number)) files) root_file)) (sym (bytes_put crypto old new bytes (Root number) now p)) (with_this root_file bytes (with_file (history_name number) bytes files))
+    subst (λ o. IfSome o (IsFiled (files_all bytes (kept_names new (Root number)) files) root_file)) (sym (bytes_put crypto old new bytes (Root number) now p)) (with_this root_file bytes (with_file (history_name number) bytes files))
 last_written crypto Timestamp now bytes files old new p h =
     last_stays crypto now bytes files (with_file timestamp_name bytes files) Timestamp old new tt p (λ x f. with_other timestamp_name bytes root_file files (apart root_file timestamp_name refl) ∙ f) h
 last_written crypto Snapshot now bytes files old new p h =
-    last_stays crypto now bytes files (with_file snapshot_name bytes files) Snapshot old new tt p (λ x f. with_other snapshot_name bytes root_file files (apart root_file snapshot_name refl) ∙ f) h
+    last_stays crypto now bytes files (files_all bytes (kept_names new Snapshot) files) Snapshot old new tt p (λ x f. root_file_kept (is_consistent new) (snapshot_pin_in new) bytes files ∙ f) h
 last_written crypto Targets now bytes files old new p h =
     last_stays crypto now bytes files (with_file targets_name bytes files) Targets old new tt p (λ x f. with_other targets_name bytes root_file files (apart root_file targets_name refl) ∙ f) h
 
-good_names : (k : Kind) (old : State) → IsAsked k old → version_in old.documents < 2 ^ 64 → AreGood (kept_names k)
-good_names (Root number) old asked bound = (history_good number (number_fits number (version_in old.documents) asked.0 asked.1 bound), (refl, tt))
-good_names Timestamp old asked bound = (refl, tt)
-good_names Snapshot old asked bound = (refl, tt)
-good_names Targets old asked bound = (refl, tt)
+both_good : (consistent : Bool) (pin : Option MetaFile) → AreGood (both_names consistent pin snapshot_name)
+both_good consistent None = (refl, tt)
+both_good false (Some pin) = (refl, tt)
+both_good true (Some pin) = (versioned_good pin.version, (refl, tt))
+
+good_names : (set : InForce) (k : Kind) → AreGood (kept_names set k)
+good_names set (Root number) = (history_good number, (refl, tt))
+good_names set Timestamp = (refl, tt)
+good_names set Snapshot = both_good (is_consistent set) (snapshot_pin_in set)
+good_names set Targets = (refl, tt)
 
 -- ---- each change keeps what a store has
 
@@ -390,7 +417,7 @@ roots_again files (b ∷ c ∷ cs) root bytes r l h =
     let there : files (history_name (numbered root)) ≡ Some bytes = subst (λ (d : Document declared.Root). files (history_name (numbered d)) ≡ Some bytes) doc last.there in
     roots_kept files (with_file (history_name (numbered root)) bytes files) (c ∷ cs) (λ n x f. agrees (history_name (numbered root)) bytes (history_name n) files there ∙ f) h
 
-again : (files : Files) (set : InForce) (bytes : List ℕ) → RootFacts set.roots set.root → last_or None set.roots ≡ Some bytes → HoldsAdopted files set → HoldsInForce (files_all bytes (kept_names (Root (version_in set))) files) set
+again : (files : Files) (set : InForce) (bytes : List ℕ) → RootFacts set.roots set.root → last_or None set.roots ≡ Some bytes → HoldsAdopted files set → HoldsInForce (files_all bytes (kept_names set (Root (version_in set))) files) set
 again files set bytes r l h = record {
   root = subst (λ o. IfSome o (IsFiled files' root_file)) (sym l) (with_this root_file bytes once);
   adopted = record {
@@ -418,15 +445,15 @@ last_is_there given (b ∷ bs) h = last_there b bs
 saves_root : (crypto : Crypto) (old new : State) → IsAuthorised crypto old.documents → Quiet old.store.faults new.store.faults → SavesRoot old new (Ok tt) → KeepsAdopted old → KeepsInForce new
 saves_root crypto old new a quiet s h =
     let last = last_is_there (given_in old.documents) old.documents.roots a.roots.begins in
-    let w = subst (λ b. KeepsWhere (Root (version_in old.documents)) b old.store new.store (Ok tt)) last.1 s.written in
+    let w = subst (λ b. KeepsWhere old.documents (Root (version_in old.documents)) b old.store new.store (Ok tt)) last.1 s.written in
     let r = facts crypto old.documents a in
     subst (λ set. IfTold new.store.told (λ files. HoldsInForce files set)) (sym s.documents)
-    (all_put (λ files. HoldsInForce files old.documents) last.0 (kept_names (Root (version_in old.documents))) old.store new.store (Ok tt) (history_good (version_in old.documents) r.bound, (refl, tt)) (λ e. cc) quiet w.saves
-    (told_map (λ files. HoldsAdopted files old.documents) (λ files. HoldsInForce (files_all last.0 (kept_names (Root (version_in old.documents))) files) old.documents) old.store.told (λ files h. again files old.documents last.0 r last.1 h) h))
+    (all_put (λ files. HoldsInForce files old.documents) last.0 (kept_names old.documents (Root (version_in old.documents))) old.store new.store (Ok tt) (good_names old.documents (Root (version_in old.documents))) (λ e. cc) quiet w.saves
+    (told_map (λ files. HoldsAdopted files old.documents) (λ files. HoldsInForce (files_all last.0 (kept_names old.documents (Root (version_in old.documents))) files) old.documents) old.store.told (λ files h. again files old.documents last.0 r last.1 h) h))
 
-where_later : (k : Kind) (bytes : Option (List ℕ)) (old new : Watched Files) (result : Result ⊤ Error) → KeepsWhere k bytes old new result → old.faults ≤ new.faults
-where_later k None old new result (s, r) = subst (λ (w : Watched Files). old.faults ≤ w.faults) (sym s) (le_refl old.faults)
-where_later k (Some bytes) old new result w = all_later bytes (kept_names k) old new result w.saves
+where_later : (set : InForce) (k : Kind) (bytes : Option (List ℕ)) (old new : Watched Files) (result : Result ⊤ Error) → KeepsWhere set k bytes old new result → old.faults ≤ new.faults
+where_later set k None old new result (s, r) = subst (λ (w : Watched Files). old.faults ≤ w.faults) (sym s) (le_refl old.faults)
+where_later set k (Some bytes) old new result w = all_later bytes (kept_names set k) old new result w.saves
 
 recalls_keep : (crypto : Crypto) (n : ℕ) (old new : State) (result : Result ⊤ Error) → Repeats (λ k. Seeds crypto k None) (root_loop (Ok tt)) n tt old new result → Keeping HoldsAdopted crypto old new result
 recalls_keep crypto n old new result r =
@@ -437,14 +464,14 @@ pub attach_later : (crypto : Crypto) (old new : State) (result : Result ⊤ Erro
 attach_later crypto old new result (roots_unrecalled e r is) = (recalls_keep crypto (roots_left old.documents) old new (Err e) r).later
 attach_later crypto old new result (roots_recalled mid r s) =
     le_trans (recalls_keep crypto (roots_left old.documents) old mid (Ok tt) r).later
-    (where_later (Root (version_in mid.documents)) (bytes_in (Root (version_in mid.documents)) mid.documents) mid.store new.store result s.written)
+    (where_later mid.documents (Root (version_in mid.documents)) (bytes_in (Root (version_in mid.documents)) mid.documents) mid.store new.store result s.written)
 
 pub attach_kept : (crypto : Crypto) (old new : State) (result : Result ⊤ Error) → IsAuthorised crypto old.documents → Attaches crypto old new result → AttachesKept old new result
 attach_kept crypto old new (Err e) a t = tt
 attach_kept crypto old new (Ok x) a (roots_unrecalled e r is) = cc
 attach_kept crypto old new (Ok x) a (roots_recalled mid r s) = λ quiet h.
     let k = recalls_keep crypto (roots_left old.documents) old mid (Ok tt) r in
-    let l = where_later (Root (version_in mid.documents)) (bytes_in (Root (version_in mid.documents)) mid.documents) mid.store new.store (Ok x) s.written in
+    let l = where_later mid.documents (Root (version_in mid.documents)) (bytes_in (Root (version_in mid.documents)) mid.documents) mid.store new.store (Ok x) s.written in
     saves_root crypto mid new (k.authorised a) (quiet_second old.store.faults mid.store.faults new.store.faults k.later l quiet) s
     (k.kept a (λ e. cc) (quiet_first old.store.faults mid.store.faults new.store.faults k.later l quiet) h)
 
@@ -473,15 +500,15 @@ module _ (session : Session) where
   adopts_keep k old new answer asked (adopted bytes result f j w r) =
       let p = judged_puts session.crypto old.documents bytes k (Some session.now) new.documents j in
       record {
-        later = all_later bytes (kept_names k) old.store new.store result w.saves;
+        later = all_later bytes (kept_names new.documents k) old.store new.store result w.saves;
         authorised = λ a. stays_whole session.crypto old.documents new.documents (judged_stays session.crypto k (Some session.now) old.documents new.documents bytes j) a;
         kept = λ a most quiet h.
             let facts = facts session.crypto old.documents a in
-            all_put (λ files. HoldsInForce files new.documents) bytes (kept_names k) old.store new.store result (good_names k old asked facts.bound) (wanted answer result most r) quiet w.saves
-            (told_map (λ files. HoldsInForce files old.documents) (λ files. HoldsInForce (files_all bytes (kept_names k) files) new.documents) old.store.told
+            all_put (λ files. HoldsInForce files new.documents) bytes (kept_names new.documents k) old.store new.store result (good_names new.documents k) (wanted answer result most r) quiet w.saves
+            (told_map (λ files. HoldsInForce files old.documents) (λ files. HoldsInForce (files_all bytes (kept_names new.documents k) files) new.documents) old.store.told
             (λ files h. record {
               root = last_written session.crypto k (Some session.now) bytes files old.documents new.documents p h.root;
-              adopted = adopted_put session.crypto (Some session.now) bytes files (files_all bytes (kept_names k) files) k old new.documents asked facts p (written k bytes files) h.adopted;
+              adopted = adopted_put session.crypto (Some session.now) bytes files (files_all bytes (kept_names new.documents k) files) k old new.documents asked facts p (written new.documents k bytes files) h.adopted;
             }) h);
       }
 

@@ -2,6 +2,7 @@ pub mod Files
 pub mod Components
 pub mod Updates
 pub mod Lift
+pub mod LastPart
 pub mod Steps
 pub mod Authorised
 pub mod Holding

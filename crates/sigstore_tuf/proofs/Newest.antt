@@ -84,8 +84,8 @@ module _ (session : Session) where
   stop_ends k old new is (unfetched e f u r) = cc
   stop_ends k old new is (absent f u r) =
       subst (Ends old) (sym u.documents)
-      (told_all (λ folders. folders.metadata (file_name k) ≡ None) (λ folders. IsLastRoot folders old.documents) old.repo.told (λ folders h. inr (subst (λ k. folders.metadata (file_name k) ≡ None) is h))
-      (lacked metadata_files (file_name k) (max_length session.config k) old.repo new.repo f))
+      (told_all (λ folders. folders.metadata (file_name old.documents k) ≡ None) (λ folders. IsLastRoot folders old.documents) old.repo.told (λ folders h. inr (subst (λ k. folders.metadata (file_name old.documents k) ≡ None) is h))
+      (lacked metadata_files (file_name old.documents k) (max_length session.config k) old.repo new.repo f))
   stop_ends k old new is (refused bytes e f j u r) = cc
   stop_ends k old new is (kept bytes f j u r) = cc
   stop_ends k old new is (adopted bytes written f j w r) = by_written written r

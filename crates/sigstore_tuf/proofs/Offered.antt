@@ -1,12 +1,11 @@
 -- What an offered chain of one role has: its documents as they are held, and where they stand.
-use Rattle.std.proofs.Common.{◌≡◌, ◌⊎◌, inl, inr, ℕ, zero, suc, ◌+◌, ◌-◌, ◌^◌, ◌<◌, ◌≤◌, ◌==◌, List, [], ◌∷◌, map, length, Bool, true, false, if◌then◌else◌, Option, Some, None, Result, Ok, Err, codes, refl, sym, ap, ◌∙◌, subst, arith}
-use Rattle.std.specs.Prelude.{⊤, is_some, option_map, option_and_then}
+use Rattle.std.proofs.Common.{◌≡◌, ℕ, zero, suc, ◌≤◌, ◌==◌, List, [], ◌∷◌, map, Bool, true, false, Option, Some, None, Ok, codes, refl, sym, ap, ◌∙◌, subst, arith}
+use Rattle.std.specs.Prelude.{option_map, option_and_then}
 use Rattle.std.specs.List.{AllByRecursion, AllZip, last_or}
 use Rattle.std.proofs.lemmas.Bool.Decides.{nat_tests}
 use Rattle.jiff_core.specs.declared.timestamp.Timestamp as jiff
-use Rattle.foundation.specs.Results.{ok_same, some_same}
+use Rattle.foundation.specs.Results.{some_same}
 use Rattle.sigstore_types_parts.specs.Entries.{at_name}
-use Rattle.sigstore_tuf_parts.specs.declared.error.Error.{Error}
 use Rattle.sigstore_tuf_parts.specs.declared.keys.RoleKeys.{RoleKeys}
 use Rattle.sigstore_tuf_parts.specs.declared.root.Root as declared
 use Rattle.sigstore_tuf_parts.specs.declared.snapshot.Snapshot.{Snapshot}
@@ -19,6 +18,7 @@ use Rattle.sigstore_tuf_parts.specs.Crypto.{Crypto}
 use Rattle.sigstore_tuf_parts.specs.Document.{Document, content_in}
 use Rattle.sigstore_tuf_parts.specs.Meets.{Meets}
 use Rattle.sigstore_tuf_parts.specs.Names.{timestamp_name, snapshot_name, targets_name}
+use Rattle.sigstore_tuf.specs.Names.{pinned_name, target_name_of}
 use Rattle.sigstore_tuf_parts.specs.Pinned.{Pinned, PinnedFile, Fresh}
 use Rattle.sigstore_tuf_parts.specs.RootRoles.{root_document, MeetsRole, AreNextRoots, Roots}
 use Rattle.sigstore_tuf.specs.declared.chain.RoleDoc.{RoleDoc}
@@ -28,9 +28,9 @@ use Rattle.sigstore_tuf.specs.declared.documents.Held.{Held}
 use Rattle.sigstore_tuf.specs.Authorised.{IsSigned}
 use Rattle.sigstore_tuf.specs.Client.{no_roles, delegates_none}
 use Rattle.sigstore_tuf.specs.Documents.{timestamp_document, snapshot_document, targets_document, content_of, snapshot_pin, targets_pin}
-use Rattle.sigstore_tuf.specs.Offer.{IsServed, AreServedAfter, RootsEnd, IsServedRole, later_in, OffersAs, IsPlain, Offers}
+use Rattle.sigstore_tuf.specs.Offer.{IsServed, AreServedAfter, IsServedRole, later_in, OffersAs, IsPlain, Offers}
 use Rattle.sigstore_tuf.specs.Order.{is_pinned, lists, delegated_in, first_visit, search_of, walk_of, order}
-use Rattle.sigstore_tuf.specs.Repository.{Folders, Files}
+use Rattle.sigstore_tuf.specs.Repository.{Folders}
 use Rattle.sigstore_tuf.specs.State.{Session, session_of}
 use Rattle.sigstore_tuf.specs.Target.{visit_of}
 use Rattle.sigstore_tuf.specs.Trusted.{visit_in, documents_in, last_in, Authority, root_authority, IsTrustedVisit, IsTrustedRole, BeginsWith, AreRoots, Reading, TrustedAs}
@@ -183,7 +183,6 @@ module _ (session : Session) (folders : Folders) (last : Document declared.Root)
 pub record Offered (session : Session) (folders : Folders) (path : List ℕ) (chain : TrustChain) : Type 0 where
   pub root : Document declared.Root
   pub root_fresh : Fresh (content_in root).expires session.now
-  pub names : (content_in root).consistent_snapshot ≡ false
   pub time : Held Timestamp
   pub time_signed : IsSigned timestamp_document session.crypto (content_in root) (codes "timestamp") time
   pub time_fresh : Fresh (content_of time).expires session.now
@@ -207,9 +206,11 @@ pub record Offered (session : Session) (folders : Folders) (path : List ℕ) (ch
   pub snap_is : snap.bytes ≡ chain.snapshot
   pub roles_are : visit_of top ∷ [] ≡ chain.roles
   pub time_served : IsServed folders.metadata timestamp_name time.bytes session.config.timestamp_max_length
-  pub snap_served : IsServed folders.metadata snapshot_name snap.bytes session.config.snapshot_max_length
-  pub top_served : IsServed folders.metadata targets_name top.bytes session.config.targets_max_length
-  pub file_served : IsServed folders.targets path chain.file chain.target.length
+  pub snap_served : IsServed folders.metadata (pinned_name (content_in root).consistent_snapshot (Some pin) snapshot_name) snap.bytes session.config.snapshot_max_length
+  pub top_served : IsServed folders.metadata (pinned_name (content_in root).consistent_snapshot (Some top_pin) targets_name) top.bytes session.config.targets_max_length
+  pub name : List ℕ
+  pub name_is : target_name_of (content_in root).consistent_snapshot chain.target path ≡ Some name
+  pub file_served : IsServed folders.targets name chain.file chain.target.length
   pub file_short : chain.target.length ≤ session.config.target_max_length
   pub file_pinned : PinnedFile chain.file chain.target
 
@@ -224,18 +225,17 @@ module _ (crypto : Crypto) (folders : Folders) (given : List ℕ) (now : jiff.Ti
       let is : Reading = offer.is in
       let o : OffersAs crypto folders given now config path chain is = offer.offered in
       let t : TrustedAs crypto given now config.max_delegations path chain is = o.trusted in
-      let p : IsPlain chain is = offer.plain in
+      let p : IsPlain chain = offer.plain in
       let one : OneRole crypto (content_in is.root) (content_in is.snapshot) now chain.roles config.max_delegations =
       role_is crypto (content_in is.root) (content_in is.snapshot) now chain.roles path config.max_delegations p.top p.top_is p.undelegated t.order_is t.roles in
       let role = one.trusted in
       let doc : documents_in chain.roles (codes "targets") ≡ Some (content_in role.doc) = ap (λ rs. documents_in rs (codes "targets")) one.roles_are ∙ role_document one.bytes role.doc role.read in
       let same : p.top ≡ content_in role.doc = some_same p.top (content_in role.doc) (sym p.top_is ∙ doc) in
       let listed = subst (λ rs. option_and_then (λ (doc : Targets). at_name path doc.targets) (last_in rs) ≡ Some chain.target) one.roles_are t.listed in
-      let served = subst (λ rs. AllByRecursion (λ (r : RoleDoc). IsServedRole folders.metadata config.targets_max_length r r.bytes) rs) one.roles_are o.roles in
+      let served = subst (λ rs. AllByRecursion (λ (r : RoleDoc). IsServedRole folders.metadata (content_in is.root).consistent_snapshot (content_in is.snapshot) config.targets_max_length r r.bytes) rs) one.roles_are o.roles in
       let all : Offered (session_of crypto config now) folders path chain = record {
         root = is.root;
         root_fresh = t.root_fresh;
-        names = p.names;
         time = record { bytes = chain.timestamp; document = is.timestamp };
         time_signed = record { read = t.timestamp_read; met = t.timestamp_met };
         time_fresh = t.timestamp_fresh;
@@ -260,7 +260,9 @@ module _ (crypto : Crypto) (folders : Folders) (given : List ℕ) (now : jiff.Ti
         roles_are = sym one.roles_are;
         time_served = o.timestamp;
         snap_served = o.snapshot;
-        top_served = served.0;
+        top_served = subst (λ pin. IsServed folders.metadata (pinned_name (content_in is.root).consistent_snapshot pin targets_name) one.bytes config.targets_max_length) role.pin_is served.0;
+        name = o.name;
+        name_is = o.name_is;
         file_served = o.target;
         file_short = o.target_short;
         file_pinned = t.file;

@@ -1,10 +1,8 @@
 -- A fetch from a store's files is what its load says.
-use Rattle.std.proofs.Common.{◌≡◌, ℕ, ◌≤◌, ◌<◌, List, length, Bool, true, false, Option, Some, None, Result, Ok, Err, refl, sym, ap, ◌∙◌, subst, arith}
-use Rattle.std.specs.Prelude.{option_map, ⊤}
+use Rattle.std.proofs.Common.{◌≡◌, ℕ, List, Option, Some, None, Result, Ok, Err, refl, sym, ap, ◌∙◌, subst}
+use Rattle.std.specs.Prelude.{option_map}
 use Rattle.foundation.specs.Watched.{Watched, Rose, IfTold}
-use Rattle.foundation.specs.Results.{ok_same, err_same, some_same, no_both}
 use Rattle.sigstore_tuf.specs.declared.repository.FetchFault.{FetchFault}
-use Rattle.sigstore_tuf.specs.declared.repository.FetchFault.TheVariants as fetch
 use Rattle.sigstore_tuf.specs.declared.store.StoreFault.{StoreFault}
 use Rattle.sigstore_tuf.specs.declared.store.StoreFault.TheVariants as store
 use Rattle.sigstore_tuf.specs.Repository.{Folders, Files, FailsOnly, WithinLimit, IsFile, Fetches}

@@ -1,6 +1,6 @@
 -- A refresh over an offered chain has its documents in force in the end, unless memory is wanting.
-use Rattle.std.proofs.Common.{◌≡◌, ◌≢◌, ◌⊎◌, inl, inr, ℕ, ◌+◌, ◌^◌, ◌<◌, ◌≤◌, ◌==◌, nat_lt, List, [], ◌∷◌, ◌++◌, append-nil, length, Bool, true, false, ◌&&◌, not, if◌then◌else◌, Option, Some, None, Result, Ok, Err, codes, refl, sym, ap, ◌∙◌, subst, arith, ℤ, ◌≤ℤ◌, int_lt}
-use Rattle.std.specs.Prelude.{⊤, IfErr, ok_or}
+use Rattle.std.proofs.Common.{◌≡◌, ◌≢◌, ◌⊎◌, inl, inr, ℕ, ◌+◌, ◌^◌, ◌<◌, ◌==◌, nat_lt, List, [], ◌∷◌, append-nil, length, Bool, true, false, ◌&&◌, not, bytes_eq, get_or, if◌then◌else◌, Option, Some, None, Result, Ok, Err, codes, refl, sym, ap, ◌∙◌, subst, arith, ℤ, ◌≤ℤ◌, int_lt}
+use Rattle.std.specs.Prelude.{⊤, ok_or, option_and_then}
 use Rattle.std.proofs.lemmas.Bool.Decides.{nat_tests}
 use Rattle.jiff_core.specs.declared.timestamp.Timestamp as jiff
 use Rattle.foundation.specs.Steps.{◌>>=◌}
@@ -14,12 +14,11 @@ use Rattle.sigstore_tuf_parts.specs.declared.error.TransportFault.TheVariants as
 use Rattle.sigstore_tuf_parts.specs.declared.error.Mismatch.TheVariants as mismatch
 use Rattle.sigstore_tuf_parts.specs.declared.root.Root as declared
 use Rattle.sigstore_tuf_parts.specs.declared.snapshot.Snapshot as declared_snapshot
-use Rattle.sigstore_tuf_parts.specs.declared.targets.Targets as declared_targets
 use Rattle.sigstore_tuf_parts.specs.declared.timestamp.MetaFile.{MetaFile}
 use Rattle.sigstore_tuf_parts.specs.declared.timestamp.Timestamp as declared_timestamp
 use Rattle.sigstore_tuf_parts.specs.Document.{Document, content_in}
 use Rattle.sigstore_tuf_parts.specs.Integrity.{integrity_of, version_of, is_past, fresh_of}
-use Rattle.sigstore_tuf_parts.specs.Names.{timestamp_name, snapshot_name, targets_name}
+use Rattle.sigstore_tuf_parts.specs.Names.{timestamp_name, snapshot_name, targets_name, versioned_name}
 use Rattle.sigstore_tuf_parts.specs.Pinned.{Fresh}
 use Rattle.sigstore_tuf_parts.specs.RootRoles.{meets_role_of, MeetsRole}
 use Rattle.sigstore_tuf_parts.proofs.IntegrityLaws.{integrity_exactly, fresh_exactly}
@@ -29,24 +28,25 @@ use Rattle.sigstore_tuf.specs.declared.documents.InForce.{InForce}
 use Rattle.sigstore_tuf.specs.declared.kind.Kind.{Kind}
 use Rattle.sigstore_tuf.specs.declared.kind.Kind.TheVariants.{Root, Timestamp, Snapshot, Targets}
 use Rattle.sigstore_tuf.specs.declared.step.Step.{Step}
-use Rattle.sigstore_tuf.specs.declared.step.Step.TheVariants.{WalkRoots, CheckRoot, Seed, Fetch, CheckTimestamp, CheckSnapshot, CheckDelegations}
+use Rattle.sigstore_tuf.specs.declared.step.Step.TheVariants.{WalkRoots}
 use Rattle.sigstore_tuf.specs.Documents.{timestamp_document, snapshot_document, targets_document, content_of, snapshot_pin, targets_pin}
 use Rattle.sigstore_tuf.specs.Repository.{Quiet, Folders, Files}
-use Rattle.sigstore_tuf.specs.Names.{kept_name, kept_names, kept_target}
+use Rattle.sigstore_tuf.specs.Names.{history_name, is_consistent, snapshot_pin_in, targets_pin_in, pinned_name, file_name, both_names, kept_name, kept_names, kept_target}
 use Rattle.sigstore_tuf.specs.State.{Session, State}
 use Rattle.sigstore_tuf.specs.Update.{with_timestamp, with_snapshot, with_targets, not_below_of, other_of, newer_than_of, newer_of, fresh_at_of, timestamp_checks_of, update_timestamp_of, snapshot_pin_of, kept_pins_of, snapshot_checks_of, update_snapshot_of, targets_pin_of, targets_checks_of, update_targets_of}
-use Rattle.sigstore_tuf.specs.Adopt.{top_targets, unless_equal, taken_of, judged_of, LoadsNamed, Adopts, Seeds}
-use Rattle.sigstore_tuf.specs.Client.{consistent_of, root_serves_of, timestamp_serves_of, snapshot_serves_of, has_version, serves, snapshot_kept_in, targets_kept_in, is_current, undelegated_of}
+use Rattle.sigstore_tuf.specs.Adopt.{top_targets, unless_equal, taken_of, judged_of, LoadsNamed}
+use Rattle.sigstore_tuf.specs.Client.{root_serves_of, timestamp_serves_of, snapshot_serves_of, serves, snapshot_kept_in, targets_kept_in, undelegated_of}
 use Rattle.sigstore_tuf.specs.Run.{Checks, said, Refetches, moment_of, Reseeds, Does, Runs, refresh_steps, RunsSteps}
 use Rattle.sigstore_tuf.specs.Offer.{RootsEnd, IsNoneOr}
-use Rattle.sigstore_tuf.proofs.Carrying.{since_same, since_joins, fetched_since, loaded_same, adopt_carried, seed_carried}
+use Rattle.sigstore_tuf.proofs.Carrying.{since_same, since_joins, loaded_same, adopt_carried, seed_carried}
 use Rattle.sigstore_tuf.proofs.Causes.{is_want}
 use Rattle.sigstore_tuf.proofs.Lift.{NotRoot, AskNoRoots, does_lift, runs_lift}
 use Rattle.sigstore_tuf.proofs.Serving.{Rest}
 use Rattle.sigstore_tuf.proofs.Updates.{judged_puts, top_inserted}
 use Rattle.sigstore_tuf.proofs.Completing.{quiet_first, quiet_second, step_to, equal, if_true, role_ok, Done, wanting, done, Answers, wants, answers, after, Took, adopts_there, TellsSo, AreHarmless, tells_same, took_so, loaded_is, found_wanted}
+use Rattle.sigstore_tuf.proofs.RootNames.{versioned_apart}
 use Rattle.sigstore_tuf.proofs.Offered.{Offered}
-use Rattle.sigstore_tuf.proofs.RootsCompleting.{number_of, end_of_fewer, Passed, Seeded, seed_wants, seed_passed, seed_put, seeds_so, IsWarm, stays_warm, stays_elsewhere, OnRoots, walk_done, Somewhere}
+use Rattle.sigstore_tuf.proofs.RootsCompleting.{number_of, end_of_fewer, Seeded, seed_wants, seed_passed, seed_put, seeds_so, IsWarm, stays_warm, stays_elsewhere, OnRoots, walk_done, Somewhere}
 
 -- ---- tests
 
@@ -183,11 +183,8 @@ module _ (session : Session) (folders : Folders) (path : List ℕ) (chain : Trus
   met set name doc root m = role_ok session.crypto (content_in {T = declared.Root} set.root) name doc (subst (λ (r : Document declared.Root). MeetsRole session.crypto (content_in {T = declared.Root} r) name doc) (sym root) m)
 
   pub root_serves : (set : InForce) → set.root ≡ o.root → root_serves_of set session.now ≡ Ok tt
-  unfolding root_serves_of
   root_serves set root =
-      step_to (fresh_of (codes "root") (content_in {T = declared.Root} set.root).expires session.now) _ tt
-      (fresh_ok (codes "root") (content_in {T = declared.Root} set.root).expires (subst (λ (r : Document declared.Root). Fresh (content_in {T = declared.Root} r).expires session.now) (sym root) o.root_fresh))
-      ∙ ap (λ (r : Document declared.Root). consistent_of (content_in {T = declared.Root} r).consistent_snapshot) root ∙ ap consistent_of o.names
+      fresh_ok (codes "root") (content_in {T = declared.Root} set.root).expires (subst (λ (r : Document declared.Root). Fresh (content_in {T = declared.Root} r).expires session.now) (sym root) o.root_fresh)
 
   timestamp_serves : (set : InForce) → set.timestamp ≡ Some o.time → timestamp_serves_of set session.now ≡ Ok tt
   unfolding timestamp_serves_of
@@ -343,8 +340,36 @@ module _ (session : Session) (folders : Folders) (path : List ℕ) (chain : Trus
       judged : TimeJudged old.documents
       judged = time_judged old.documents b.root b.time
 
-      harmless : AreHarmless Warm o.time.bytes (kept_names Timestamp)
+      harmless : AreHarmless Warm o.time.bytes (kept_names new.documents Timestamp)
       harmless = (stays_warm session folders path chain o from whole whole_bound timestamp_name o.time.bytes (inr refl) (inl refl) (inl refl) (inl refl) (stays_elsewhere session folders path chain o from whole whole_bound timestamp_name o.time.bytes (λ n. refl)), tt)
+
+  -- a snapshot is written under its names
+  snap_harmless : AreHarmless Warm o.snap.bytes (snapshot_name ∷ [])
+  snap_harmless = (stays_warm session folders path chain o from whole whole_bound snapshot_name o.snap.bytes (inl refl) (inr refl) (inl refl) (inl refl) (stays_elsewhere session folders path chain o from whole whole_bound snapshot_name o.snap.bytes (λ n. refl)), tt)
+
+  both_harmless : (consistent : Bool) (pin : Option MetaFile) → AreHarmless Warm o.snap.bytes (both_names consistent pin snapshot_name)
+  both_harmless consistent None = snap_harmless
+  both_harmless false (Some pin) = snap_harmless
+  both_harmless true (Some pin) = (
+    stays_warm session folders path chain o from whole whole_bound (versioned_name pin.version snapshot_name) o.snap.bytes (inl (apart timestamp_name 116 refl (omega arith))) (inl (apart snapshot_name 115 refl (omega arith)))
+        (inl (apart targets_name 116 refl (omega arith))) (inl (apart (kept_target path) 116 refl (omega arith)))
+        (stays_elsewhere session folders path chain o from whole whole_bound (versioned_name pin.version snapshot_name) o.snap.bytes (λ n. apart (history_name n) 114 refl (omega arith))),
+    snap_harmless,
+  )
+    where
+      apart : (xs : List ℕ) (x : ℕ) → get_or xs 0 0 ≡ x → 57 < x → bytes_eq xs (versioned_name pin.version snapshot_name) ≡ false
+      apart xs x is h = versioned_apart pin.version snapshot_name xs x is h
+
+  -- the names of the pinned documents
+  snap_name : (set : InForce) → set.root ≡ o.root → set.timestamp ≡ Some o.time → file_name set Snapshot ≡ pinned_name (content_in {T = declared.Root} o.root).consistent_snapshot (Some o.pin) snapshot_name
+  snap_name set root time =
+      ap (λ (r : Document declared.Root). pinned_name (content_in {T = declared.Root} r).consistent_snapshot (snapshot_pin_in set) snapshot_name) root
+      ∙ ap (λ pin. pinned_name (content_in {T = declared.Root} o.root).consistent_snapshot pin snapshot_name) (ap (option_and_then (λ (held : Held declared_timestamp.Timestamp). snapshot_pin (content_of held))) time ∙ o.pin_is)
+
+  top_name : (set : InForce) → set.root ≡ o.root → set.snapshot ≡ Some o.snap → file_name set Targets ≡ pinned_name (content_in {T = declared.Root} o.root).consistent_snapshot (Some o.top_pin) targets_name
+  top_name set root snap =
+      ap (λ (r : Document declared.Root). pinned_name (content_in {T = declared.Root} r).consistent_snapshot (targets_pin_in set) targets_name) root
+      ∙ ap (λ pin. pinned_name (content_in {T = declared.Root} o.root).consistent_snapshot pin targets_name) (ap (option_and_then (λ (held : Held declared_snapshot.Snapshot). targets_pin (content_of held))) snap ∙ o.top_pin_is)
 
   fetch_snap_done : (old new : State) (result : Result ⊤ Error) → Timed old → Quiet old.repo.faults new.repo.faults → Refetches session Snapshot old new result → Done (Snapped new) result
   fetch_snap_done old new result b q (inl (current, same, is)) = by_snap b.behind.snap
@@ -360,8 +385,8 @@ module _ (session : Session) (folders : Folders) (path : List ℕ) (chain : Trus
       current : snapshot_kept_in (Some o.time) (Some o.snap) session.now ≡ true
       current = serves_so (snapshot_pin (content_of o.time)) o.pin (content_of o.snap).version (content_of o.snap).expires session.now o.pin_is o.pinned.version_is o.snap_fresh
 
-      harmless : AreHarmless Warm o.snap.bytes (kept_names Snapshot)
-      harmless = (stays_warm session folders path chain o from whole whole_bound snapshot_name o.snap.bytes (inl refl) (inr refl) (inl refl) (inl refl) (stays_elsewhere session folders path chain o from whole whole_bound snapshot_name o.snap.bytes (λ n. refl)), tt)
+      harmless : AreHarmless Warm o.snap.bytes (kept_names new.documents Snapshot)
+      harmless = both_harmless (is_consistent new.documents) (snapshot_pin_in new.documents)
 
       fetched : old.documents.snapshot ≡ None → Took Snapshot o.snap.bytes old new (Some (with_snapshot old.documents o.snap)) → Snapped new
       fetched none t = record {
@@ -376,7 +401,7 @@ module _ (session : Session) (folders : Folders) (path : List ℕ) (chain : Trus
       by_snap (inl none) =
           answered answer result is
           (took_then Snapshot o.snap.bytes old new (Some (with_snapshot old.documents o.snap)) answer (fetched none)
-          (adopts_there session folders Snapshot o.snap.bytes old new (Some (with_snapshot old.documents o.snap)) b.behind.told o.snap_served.there o.snap_served.short q
+          (adopts_there session folders Snapshot o.snap.bytes old new (Some (with_snapshot old.documents o.snap)) b.behind.told (ap folders.metadata (snap_name old.documents b.behind.root b.time) ∙ o.snap_served.there) o.snap_served.short q
           (ap taken_of (snap_updated old.documents b.behind.root b.time none)) answer a))
       by_snap (inr there) =
           let never : true ≡ false = sym current ∙ ap (λ t. snapshot_kept_in t (Some o.snap) session.now) (sym b.time) ∙ ap (λ s. snapshot_kept_in old.documents.timestamp s session.now) (sym there) ∙ other in cc
@@ -393,10 +418,10 @@ module _ (session : Session) (folders : Folders) (path : List ℕ) (chain : Trus
   fetch_top_done old new result b q (inr (other, (answer, a, is))) =
       answered answer result is
       (took_then Targets o.top.bytes old new (Some (with_targets old.documents o.top)) answer fetched
-      (adopts_there session folders Targets o.top.bytes old new (Some (with_targets old.documents o.top)) b.timed.behind.told o.top_served.there o.top_served.short q
+      (adopts_there session folders Targets o.top.bytes old new (Some (with_targets old.documents o.top)) b.timed.behind.told (ap folders.metadata (top_name old.documents b.timed.behind.root b.snap) ∙ o.top_served.there) o.top_served.short q
       (ap taken_of (top_updated old.documents b.timed.behind.root b.snap)) answer a))
     where
-      harmless : AreHarmless Warm o.top.bytes (kept_names Targets)
+      harmless : AreHarmless Warm o.top.bytes (kept_names new.documents Targets)
       harmless = (stays_warm session folders path chain o from whole whole_bound targets_name o.top.bytes (inl refl) (inl refl) (inr refl) (inl refl) (stays_elsewhere session folders path chain o from whole whole_bound targets_name o.top.bytes (λ n. refl)), tt)
 
       fetched : Took Targets o.top.bytes old new (Some (with_targets old.documents o.top)) → Topped new

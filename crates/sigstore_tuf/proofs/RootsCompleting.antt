@@ -18,23 +18,22 @@ use Rattle.sigstore_tuf_parts.specs.RootRoles.{root_document, meets_role_of, IsN
 use Rattle.sigstore_tuf.specs.declared.chain.TrustChain.{TrustChain}
 use Rattle.sigstore_tuf.specs.declared.documents.InForce.{InForce}
 use Rattle.sigstore_tuf.specs.declared.kind.Kind.{Kind}
-use Rattle.sigstore_tuf.specs.declared.kind.Kind.TheVariants.{Root, Timestamp, Snapshot, Targets}
+use Rattle.sigstore_tuf.specs.declared.kind.Kind.TheVariants.{Root}
 use Rattle.sigstore_tuf.specs.Repository.{Quiet, Folders, Files}
 use Rattle.sigstore_tuf.specs.Store.{with_file}
 use Rattle.sigstore_tuf.specs.Names.{history_name, root_file, kept_name, kept_names, kept_target}
 use Rattle.sigstore_tuf.specs.State.{Session, State}
 use Rattle.sigstore_tuf.specs.Update.{with_root, next_number_of, root_checks_of, update_root_of}
-use Rattle.sigstore_tuf.specs.Adopt.{bytes_in, judged_of, LoadsNamed, Keeps, KeepsWhere, Adopts, passed_over, Seeds, unloaded, unkept, unseeded, equal as seed_equal, seeded}
+use Rattle.sigstore_tuf.specs.Adopt.{bytes_in, judged_of, LoadsNamed, KeepsWhere, Adopts, passed_over, Seeds, unloaded, unkept, unseeded, equal as seed_equal, seeded}
 use Rattle.sigstore_tuf.specs.Client.{version_in}
-use Rattle.sigstore_tuf.specs.Run.{Turn, IsIdle, Stops, Repeats, next_root, alone, root_loop, roots_left, said, SavesRoot, Attaches, roots_unrecalled, roots_recalled}
+use Rattle.sigstore_tuf.specs.Run.{Turn, IsIdle, Stops, Repeats, next_root, alone, root_loop, roots_left, SavesRoot, Attaches, roots_unrecalled, roots_recalled}
 use Rattle.sigstore_tuf.specs.Offer.{IsServed, AreServedAfter, RootsEnd, IsNoneOr, AreKeptAfter}
 use Rattle.sigstore_tuf.proofs.Carrying.{since_same, since_joins, loaded_same, adopt_carried}
-use Rattle.sigstore_tuf.proofs.Causes.{is_want}
 use Rattle.sigstore_tuf.proofs.Steps.{passes, load_wants, keeps_want}
 use Rattle.sigstore_tuf.proofs.Lift.{next_root_is, roots_lift}
 use Rattle.sigstore_tuf.proofs.RootNames.{same_number}
 use Rattle.sigstore_tuf.proofs.Updates.{last_is}
-use Rattle.sigstore_tuf.proofs.Completing.{quiet_first, quiet_second, step_to, equal, if_true, role_ok, Done, wanting, done, Answers, wants, answers, after, Took, Left, adopts_there, adopts_lacking, TellsSo, AreHarmless, tells_same, keeps_so, took_so, loaded_is, none_or_put, found_wanted}
+use Rattle.sigstore_tuf.proofs.Completing.{quiet_first, quiet_second, step_to, equal, if_true, role_ok, Done, wanting, done, Answers, wants, answers, Took, Left, adopts_there, adopts_lacking, TellsSo, AreHarmless, tells_same, keeps_so, took_so, loaded_is, none_or_put, found_wanted}
 use Rattle.sigstore_tuf.proofs.Offered.{Ahead, Offered}
 
 -- ---- a next root is judged well
@@ -203,8 +202,8 @@ module _ (session : Session) (folders : Folders) (path : List ℕ) (chain : Trus
   pub stays_elsewhere : (name bytes : List ℕ) → ((n : ℕ) → bytes_eq (history_name n) name ≡ false) → (files : Files) → AreKeptAfter files from whole → AreKeptAfter (with_file name bytes files) from whole
   stays_elsewhere name bytes apart files k = kept_elsewhere files name bytes apart from whole k
 
-  root_harmless : (number : ℕ) (bytes : List ℕ) → number < 2 ^ 64 → SuitsRoots from whole number bytes → AreHarmless IsWarm bytes (kept_names (Root number))
-  root_harmless number bytes small suits = (
+  root_harmless : (set : InForce) (number : ℕ) (bytes : List ℕ) → number < 2 ^ 64 → SuitsRoots from whole number bytes → AreHarmless IsWarm bytes (kept_names set (Root number))
+  root_harmless set number bytes small suits = (
     stays_warm (history_name number) bytes (inl refl) (inl refl) (inl refl) (inl refl) (λ files k. kept_by_root files number bytes small from whole suits whole_bound k),
     (stays_warm root_file bytes (inl refl) (inl refl) (inl refl) (inl refl) (stays_elsewhere root_file bytes (λ n. refl)), tt),
   )
@@ -330,7 +329,7 @@ module _ (session : Session) (folders : Folders) (path : List ℕ) (chain : Trus
         by_answer : Answers (Took (Root number) r old new (Some (with_root old.documents r d))) answer (Ok true) → Answers (OnRoots new d rs) answer (Ok true)
         by_answer (wants h) = wants h
         by_answer (answers h t) =
-            answers h (on_next old new doc d r rs b a.read.0 a.next.0.number t.documents t.told (took_so IsWarm (Root number) r old new (Some (with_root old.documents r d)) (root_harmless number r small suits) t b.warm))
+            answers h (on_next old new doc d r rs b a.read.0 a.next.0.number t.documents t.told (took_so IsWarm (Root number) r old new (Some (with_root old.documents r d)) (root_harmless new.documents number r small suits) t b.warm))
 
     -- after the chain's last there is none
     none_taken : (old new : State) (answer : Result Bool Error) (doc : Document declared.Root) (max : ℕ) → OnRoots old doc [] → Some doc ≡ Some o.root → Ends 0 max → version_in old.documents ≢ 2 ^ 64 - 1
@@ -530,16 +529,16 @@ module _ (session : Session) (folders : Folders) (path : List ℕ) (chain : Trus
         number : ℕ
         number = version_in old.documents
 
-        warm : (b : Option (List ℕ)) → last_or None old.documents.roots ≡ b → KeepsWhere (Root (version_in old.documents)) b old.store new.store result → TellsSo IsWarm new.store
+        warm : (b : Option (List ℕ)) → last_or None old.documents.roots ≡ b → KeepsWhere old.documents (Root (version_in old.documents)) b old.store new.store result → TellsSo IsWarm new.store
         warm None at (same, is) = subst (TellsSo IsWarm) (sym same) s.on.warm
         warm (Some bytes) at keeps =
             let is = number_in old s.doc s.rest s.on in
-            keeps_so IsWarm (Root (version_in old.documents)) bytes old.store new.store result
-            (root_harmless (version_in old.documents) bytes (subst (λ n. n < 2 ^ 64) (sym is) s.on.bound) (subst (λ n. SuitsRoots from whole n bytes) (sym is) (s.on.suits bytes at))) keeps s.on.warm
+            keeps_so IsWarm old.documents (Root (version_in old.documents)) bytes old.store new.store result
+            (root_harmless old.documents (version_in old.documents) bytes (subst (λ n. n < 2 ^ 64) (sym is) s.on.bound) (subst (λ n. SuitsRoots from whole n bytes) (sym is) (s.on.suits bytes at))) keeps s.on.warm
 
-        want : (b : Option (List ℕ)) (result : Result ⊤ Error) → KeepsWhere (Root (version_in old.documents)) b old.store new.store result → IfErr result (λ e. e ≡ tuf.NoMemory)
+        want : (b : Option (List ℕ)) (result : Result ⊤ Error) → KeepsWhere old.documents (Root (version_in old.documents)) b old.store new.store result → IfErr result (λ e. e ≡ tuf.NoMemory)
         want None result (same, is) = subst (λ r. IfErr r (λ e. e ≡ tuf.NoMemory)) (sym is) tt
-        want (Some bytes) result keeps = keeps_want (Root (version_in old.documents)) bytes old.store new.store result keeps
+        want (Some bytes) result keeps = keeps_want old.documents (Root (version_in old.documents)) bytes old.store new.store result keeps
 
         by_result : (result : Result ⊤ Error) → TellsSo IsWarm new.store → IfErr result (λ e. e ≡ tuf.NoMemory) → Done (Somewhere most new) result
         by_result (Ok x) t h =

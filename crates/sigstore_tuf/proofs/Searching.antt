@@ -25,10 +25,11 @@ use Rattle.sigstore_tuf.specs.declared.documents.Held.{Held}
 use Rattle.sigstore_tuf.specs.declared.documents.InForce.{InForce}
 use Rattle.sigstore_tuf.specs.declared.chain.TrustChain.{TrustChain}
 use Rattle.sigstore_tuf.specs.Documents.{targets_document, content_of, snapshot_pin, targets_pin}
+use Rattle.sigstore_tuf.specs.Names.{is_consistent}
 use Rattle.sigstore_tuf.specs.State.{Session}
 use Rattle.sigstore_tuf.specs.Adopt.{top_targets}
 use Rattle.sigstore_tuf.specs.Client.{undelegated_of}
-use Rattle.sigstore_tuf.specs.Target.{fresh_timestamp_of, fresh_snapshot_of, unexpired_of, pinned_version_of, pinned_by_of, all_pinned_of, search_serves_of, entry_in, listed_in, entry_of, info_of, found_of, target_of, if_pinned, recalled_of, file_of, TakesFile, differs, unsaved, given, Downloads, too_long, unfetched, absent, fetched, Obtains, unrecalled, recalled, downloaded, visit_of, chain_of, GetsTarget, unlisted, unobtained, unchained, found}
+use Rattle.sigstore_tuf.specs.Target.{fresh_timestamp_of, fresh_snapshot_of, unexpired_of, pinned_version_of, pinned_by_of, all_pinned_of, search_serves_of, entry_in, listed_in, entry_of, info_of, found_of, target_of, if_pinned, recalled_of, file_of, TakesFile, differs, unsaved, given, Downloads, unnamed, unfetched, absent, fetched, Obtains, unrecalled, recalled, downloaded, visit_of, chain_of, GetsTarget, unlisted, unobtained, unchained, found}
 use Rattle.sigstore_tuf.specs.Order.{is_pinned, lists, first_visit, search_of, walk_of, order}
 use Rattle.sigstore_tuf.specs.Trusted.{documents_in, IsTrustedRole, Trusted}
 use Rattle.sigstore_tuf.specs.Authorised.{AreAuthorised, Serve}
@@ -120,16 +121,16 @@ taken_there entry path bytes store store' file (differs e f s r) = no_both file 
 taken_there entry path bytes store store' file (unsaved e f s r) = no_both file e r
 taken_there entry path bytes store store' file (given f s r) = ap (file_of entry) (ok_same file bytes r) ∙ f
 
-pub downloaded_there : (config : UpdaterConfig) (entry : TargetFile) (path : List ℕ) (repo repo' : Watched Folders) (store store' : Watched Files) (file : List ℕ) → Downloads config entry path repo repo' store store' (Ok file) → file_of entry file ≡ Ok tt
-downloaded_there config entry path repo repo' store store' file (too_long e w r s is) = no_both file e is
-downloaded_there config entry path repo repo' store store' file (unfetched e w f s is) = no_both file e is
-downloaded_there config entry path repo repo' store store' file (absent w f s is) = no_both file _ is
-downloaded_there config entry path repo repo' store store' file (fetched bytes w f t) = taken_there entry path bytes store store' file t
+pub downloaded_there : (consistent : Bool) (config : UpdaterConfig) (entry : TargetFile) (path : List ℕ) (repo repo' : Watched Folders) (store store' : Watched Files) (file : List ℕ) → Downloads consistent config entry path repo repo' store store' (Ok file) → file_of entry file ≡ Ok tt
+downloaded_there consistent config entry path repo repo' store store' file (unnamed e w r s is) = no_both file e is
+downloaded_there consistent config entry path repo repo' store store' file (unfetched name e w f s is) = no_both file e is
+downloaded_there consistent config entry path repo repo' store store' file (absent name w f s is) = no_both file _ is
+downloaded_there consistent config entry path repo repo' store store' file (fetched name bytes w f t) = taken_there entry path bytes store store' file t
 
-file_there : (config : UpdaterConfig) (entry : TargetFile) (path : List ℕ) (repo repo' : Watched Folders) (store store' : Watched Files) (file : List ℕ) → Obtains config entry path repo repo' store store' (Ok file) → file_of entry file ≡ Ok tt
-file_there config entry path repo repo' store store' file (unrecalled e r s is) = no_both file e is
-file_there config entry path repo repo' store store' file (recalled bytes r s is) = ap (file_of entry) (ok_same file bytes is) ∙ recalled_there entry bytes r.loaded r.result_is
-file_there config entry path repo repo' store store' file (downloaded mid r d) = downloaded_there config entry path repo repo' mid store' file d
+file_there : (consistent : Bool) (config : UpdaterConfig) (entry : TargetFile) (path : List ℕ) (repo repo' : Watched Folders) (store store' : Watched Files) (file : List ℕ) → Obtains consistent config entry path repo repo' store store' (Ok file) → file_of entry file ≡ Ok tt
+file_there consistent config entry path repo repo' store store' file (unrecalled e r s is) = no_both file e is
+file_there consistent config entry path repo repo' store store' file (recalled bytes r s is) = ap (file_of entry) (ok_same file bytes is) ∙ recalled_there entry bytes r.loaded r.result_is
+file_there consistent config entry path repo repo' store store' file (downloaded mid r d) = downloaded_there consistent config entry path repo repo' mid store' file d
 
 -- the documents of the one role
 documents_one : (targets : Held Targets) → targets_document targets.bytes ≡ Ok targets.document → documents_in (visit_of targets ∷ []) (codes "targets") ≡ Some (content_of targets)
@@ -208,13 +209,13 @@ module _ (crypto : Crypto) (root path : List ℕ) (config : UpdaterConfig) (now 
       (a.1, a.2 ∙ ap Ok (found_entry f.0 entry f.2))
 
   found_trusted : (repo repo' : Watched Folders) (store store' : Watched Files) (entry : TargetFile) (file : List ℕ) (chain : TrustChain) → AreAuthorised crypto root set → target_of set config path now ≡ Ok entry
-      → Obtains config entry path repo repo' store store' (Ok file) → chain_of set entry file ≡ Ok chain → Trusts chain
+      → Obtains (is_consistent set) config entry path repo repo' store store' (Ok file) → chain_of set entry file ≡ Ok chain → Trusts chain
   found_trusted repo repo' store store' entry file chain k t f c =
       let a = target_there entry t in
       let serve = search_serves set now a.0 in
       let e = entry_there serve entry a.1 in
       subst Trusts (ok_same (made serve entry file) chain (sym (chain_made serve entry file) ∙ c))
-      (made_trusted serve entry file k e.0.0 e.0.1 e.1 (file_there config entry path repo repo' store store' file f))
+      (made_trusted serve entry file k e.0.0 e.0.1 e.1 (file_there (is_consistent set) config entry path repo repo' store store' file f))
 
 -- a chain that is handed back is trusted
 pub chain_trusted : (session : Session) (root path : List ℕ) (set : InForce) (repo repo' : Watched Folders) (store store' : Watched Files) (result : Result TrustChain Error) → AreAuthorised session.crypto root set

@@ -13,7 +13,6 @@ use Rattle.sigstore_tuf_parts.specs.declared.timestamp.Timestamp.{Timestamp}
 use Rattle.sigstore_tuf_parts.specs.declared.snapshot.Snapshot.{Snapshot}
 use Rattle.sigstore_tuf_parts.specs.declared.targets.Targets.{Targets}
 use Rattle.sigstore_tuf_parts.specs.Document.{Document, content_in}
-use Rattle.sigstore_tuf_parts.specs.Integrity.{fresh_of}
 use Rattle.sigstore_tuf_parts.specs.Pinned.{Fresh}
 use Rattle.sigstore_tuf.specs.declared.documents.Held.{Held}
 use Rattle.sigstore_tuf.specs.declared.documents.InForce.{InForce}
@@ -150,10 +149,7 @@ module _ (session : Session) where
   looked test old new c = subst (λ (s : State). test s.documents ≡ Ok tt) (sym c.same) c.passed
 
   root_there : (set : InForce) → root_serves_of set session.now ≡ Ok tt → Fresh (content_in set.root).expires session.now
-  unfolding root_serves_of
-  root_there set h =
-      let a = step_ok (fresh_of (codes "root") (content_in set.root).expires session.now) _ tt h in
-      fresh_from (codes "root") (content_in set.root).expires session.now a.1
+  root_there set h = fresh_from (codes "root") (content_in set.root).expires session.now h
 
   abbrev pub RootFresh : State → Type 0
   RootFresh state = Fresh (content_in state.documents.root).expires session.now

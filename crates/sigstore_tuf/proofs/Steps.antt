@@ -6,6 +6,8 @@ use Rattle.std.specs.List.{last_or}
 use Rattle.jiff_core.specs.declared.timestamp.Timestamp as jiff
 use Rattle.foundation.specs.Watched.{Watched}
 use Rattle.sigstore_tuf_parts.specs.Crypto.{Crypto}
+use Rattle.sigstore_tuf_parts.specs.declared.timestamp.MetaFile.{MetaFile}
+use Rattle.sigstore_tuf_parts.specs.Names.{versioned_name}
 use Rattle.sigstore_tuf_parts.specs.declared.error.Error.{Error}
 use Rattle.sigstore_tuf_parts.specs.declared.error.Error.TheVariants as tuf
 use Rattle.sigstore_tuf.specs.declared.documents.InForce.{InForce}
@@ -13,7 +15,7 @@ use Rattle.sigstore_tuf.specs.declared.kind.Kind.{Kind}
 use Rattle.sigstore_tuf.specs.declared.kind.Kind.TheVariants.{Root, Timestamp, Snapshot, Targets}
 use Rattle.sigstore_tuf.specs.Repository.{Folders, Files, metadata_files}
 use Rattle.sigstore_tuf.specs.Update.{update_root_of, Updates}
-use Rattle.sigstore_tuf.specs.Names.{file_name, max_length, kept_name, kept_names}
+use Rattle.sigstore_tuf.specs.Names.{pinned_name, file_name, max_length, kept_name, both_names, kept_names}
 use Rattle.sigstore_tuf.specs.State.{Session, State, state_of}
 use Rattle.sigstore_tuf.specs.Adopt.{FetchesNamed, FetchesDocument, loaded_of, LoadsNamed, load_unnamed, load_asked, passed_of, Saves, save_unnamed, save_asked, SavesAll, Keeps, KeepsWhere, there_of, there_unless_equal, bytes_in, update_of, taken_of, unless_equal, judged_of, Takes, Adopts, unfetched, absent, refused, kept, adopted, passed_over, Seeds, unloaded, unkept, unseeded, seeded, equal}
 use Rattle.sigstore_tuf.specs.Run.{Turn, Loop, IsIdle, Stops, Repeats, next_root, roots_left, said, moment_of, Reseeds, Does, Runs, Attaches}
@@ -25,10 +27,22 @@ use Rattle.sigstore_tuf.specs.declared.store.StoreFault.{StoreFault}
 use Rattle.sigstore_tuf.specs.declared.store.StoreFault.TheVariants as store
 use Rattle.foundation.specs.Results.{err_same}
 
-pub fetched_for : (session : Session) (k : Kind) {name : List ℕ} {max : ℕ} {old new : Watched Folders} {result : Result (Option (List ℕ)) Error} → name ≡ file_name k → max ≡ max_length session.config k
-    → FetchesNamed metadata_files name max old new result → FetchesDocument session k old new result
-fetched_for session k {name} {max} {old} {new} {result} at bound f =
+pub fetched_for : (session : Session) (set : InForce) (k : Kind) {name : List ℕ} {max : ℕ} {old new : Watched Folders} {result : Result (Option (List ℕ)) Error} → name ≡ file_name set k → max ≡ max_length session.config k
+    → FetchesNamed metadata_files name max old new result → FetchesDocument session set k old new result
+fetched_for session set k {name} {max} {old} {new} {result} at bound f =
     subst (λ n. FetchesNamed metadata_files n (max_length session.config k) old new result) at (subst (λ m. FetchesNamed metadata_files name m old new result) bound f)
+
+pub pinned_same : {c d : Bool} {p q : Option MetaFile} (name : List ℕ) → c ≡ d → p ≡ q → pinned_name c p name ≡ pinned_name d q name
+pinned_same {c} {d} {p} {q} name a b = ap (λ c. pinned_name c p name) a ∙ ap (λ p. pinned_name d p name) b
+
+pub both_same : {c d : Bool} {p q : Option MetaFile} (name : List ℕ) → c ≡ d → p ≡ q → both_names c p name ≡ both_names d q name
+both_same {c} {d} {p} {q} name a b = ap (λ c. both_names c p name) a ∙ ap (λ p. both_names d p name) b
+
+pub both_versioned : {c : Bool} {o : Option MetaFile} {n : List ℕ} (pin : MetaFile) (name : List ℕ) → c ≡ true → o ≡ Some pin → n ≡ versioned_name pin.version name → n ∷ name ∷ [] ≡ both_names c o name
+both_versioned {c} {o} {n} pin name a b e = ap (λ n. n ∷ name ∷ []) e ∙ sym (both_same name a b)
+
+pub all_as : (bytes : List ℕ) {names others : List (List ℕ)} (old new : Watched Files) (result : Result ⊤ Error) → others ≡ names → SavesAll bytes others old new result → SavesAll bytes names old new result
+all_as bytes {names} {others} old new result at s = subst (λ n. SavesAll bytes n old new result) at s
 
 pub fetched_as : {part : Folders → Files} {name other : List ℕ} {max : ℕ} {old new : Watched Folders} {result : Result (Option (List ℕ)) Error} → other ≡ name → FetchesNamed part other max old new result → FetchesNamed part name max old new result
 fetched_as {part} {name} {other} {max} {old} {new} {result} at f = subst (λ n. FetchesNamed part n max old new result) at f
@@ -39,8 +53,8 @@ loaded_as {name} {other} {old} {new} {result} at l = subst (λ n. LoadsNamed n o
 pub saved_as : {bytes name other : List ℕ} {old new : Watched Files} {result : Result ⊤ Error} → other ≡ name → Saves bytes other old new result → Saves bytes name old new result
 saved_as {bytes} {name} {other} {old} {new} {result} at s = subst (λ n. Saves bytes n old new result) at s
 
-pub kept_as : (k : Kind) {bytes : List ℕ} {names : List (List ℕ)} {old new : Watched Files} {result : Result ⊤ Error} → names ≡ kept_names k → SavesAll bytes names old new result → Keeps k bytes old new result
-kept_as k {bytes} {names} {old} {new} {result} at s = record { saves = subst (λ n. SavesAll bytes n old new result) at s }
+pub kept_as : (set : InForce) (k : Kind) {bytes : List ℕ} {names : List (List ℕ)} {old new : Watched Files} {result : Result ⊤ Error} → names ≡ kept_names set k → SavesAll bytes names old new result → Keeps set k bytes old new result
+kept_as set k {bytes} {names} {old} {new} {result} at s = record { saves = subst (λ n. SavesAll bytes n old new result) at s }
 
 -- ---- what an update says of a document that is taken in
 
@@ -93,10 +107,10 @@ other_takes crypto k old new bytes now updated result n u r = subst (Takes (judg
 
 -- the bytes that are written are those that were judged
 pub kept_put : (session : Session) (k : Kind) (old new : InForce) (bytes : List ℕ) {store store' : Watched Files} {result : Result ⊤ Error} → judged_of session.crypto k old bytes (Some session.now) ≡ Ok (Some new)
-    → KeepsWhere k (bytes_in k new) store store' result → Keeps k bytes store store' result
+    → KeepsWhere new k (bytes_in k new) store store' result → Keeps new k bytes store store' result
 kept_put session k old new bytes {store} {store'} {result} judged w =
     let at = bytes_put session.crypto old new bytes k (Some session.now) (judged_puts session.crypto old bytes k (Some session.now) new judged) in
-    subst (λ b. KeepsWhere k b store store' result) at w
+    subst (λ b. KeepsWhere new k b store store' result) at w
 
 -- a document of the store that was judged
 pub seed_taken : (crypto : Crypto) (k : Kind) (now : Option jiff.Timestamp) (old new : InForce) (repo : Watched Folders) (store store' : Watched Files) (bytes : List ℕ) (was : Bool)
@@ -238,9 +252,9 @@ all_want bytes [] old new result (s, r) = subst IsWant (sym r) tt
 all_want bytes (name ∷ names) old new result (inl (e, s, r)) = subst IsWant (sym r) (save_wants bytes name old new (Err e) s)
 all_want bytes (name ∷ names) old new result (inr (mid, s, more)) = all_want bytes names mid new result more
 
-where_wants : (k : Kind) (bytes : Option (List ℕ)) (old new : Watched Files) (result : Result ⊤ Error) → KeepsWhere k bytes old new result → IsWant result
-where_wants k None old new result (s, r) = subst IsWant (sym r) tt
-where_wants k (Some bytes) old new result w = all_want bytes (kept_names k) old new result w.saves
+where_wants : (set : InForce) (k : Kind) (bytes : Option (List ℕ)) (old new : Watched Files) (result : Result ⊤ Error) → KeepsWhere set k bytes old new result → IsWant result
+where_wants set k None old new result (s, r) = subst IsWant (sym r) tt
+where_wants set k (Some bytes) old new result w = all_want bytes (kept_names set k) old new result w.saves
 
 seeds_want : (crypto : Crypto) (k : Kind) (now : Option jiff.Timestamp) (old new : State) (answer : Result Bool Error) → Seeds crypto k now old new answer → IsWant (said answer)
 seeds_want crypto k now old new answer (unloaded e l u r) = subst (λ a. IsWant (said a)) (sym r) (load_wants (kept_name k) old.store new.store e l)
@@ -260,10 +274,10 @@ want_cause (Err e) w = w
 pub attach_wants : (crypto : Crypto) (old new : State) (result : Result ⊤ Error) → Attaches crypto old new result → IfErr result (λ e. e ≡ tuf.NoMemory)
 attach_wants crypto old new result a =
     want_cause result (attach_lift (λ old new result. IsWant result) (λ a b c result p q. q) (λ a. tt) crypto (λ k old new answer asked s. seeds_want crypto k None old new answer s)
-    (λ old new result s. where_wants (Root (version_in old.documents)) (bytes_in (Root (version_in old.documents)) old.documents) old.store new.store result s.written) old new result a)
+    (λ old new result s. where_wants old.documents (Root (version_in old.documents)) (bytes_in (Root (version_in old.documents)) old.documents) old.store new.store result s.written) old new result a)
 
-pub keeps_want : (k : Kind) (bytes : List ℕ) (old new : Watched Files) (result : Result ⊤ Error) → Keeps k bytes old new result → IfErr result (λ e. e ≡ tuf.NoMemory)
-keeps_want k bytes old new result w = want_cause result (all_want bytes (kept_names k) old new result w.saves)
+pub keeps_want : (set : InForce) (k : Kind) (bytes : List ℕ) (old new : Watched Files) (result : Result ⊤ Error) → Keeps set k bytes old new result → IfErr result (λ e. e ≡ tuf.NoMemory)
+keeps_want set k bytes old new result w = want_cause result (all_want bytes (kept_names set k) old new result w.saves)
 
 pub reseeds_want : (session : Session) (k : Kind) (old new : State) (result : Result ⊤ Error) → Reseeds session k old new result → IfErr result (λ e. e ≡ tuf.NoMemory)
 reseeds_want session k old new result (inl (there, same, is)) = subst (λ r. IfErr r (λ e. e ≡ tuf.NoMemory)) (sym is) tt

@@ -1,9 +1,7 @@
 -- What a store can put in force is signed, and what it can give is listed.
-use Rattle.std.proofs.Common.{◌≡◌, ℕ, List, Bool, true, false, Option, Some, None, Result, Ok, Err, codes, refl, sym, ap, ◌∙◌, subst}
-use Rattle.std.specs.Prelude.{⊤}
+use Rattle.std.proofs.Common.{◌≡◌, ℕ, List, Bool, true, false, Option, Some, Result, Ok, subst}
 use Rattle.jiff_core.specs.declared.timestamp.Timestamp as jiff
-use Rattle.foundation.specs.Watched.{Watched}
-use Rattle.foundation.specs.Results.{ok_same, some_same, no_both}
+use Rattle.foundation.specs.Results.{no_both}
 use Rattle.sigstore_tuf_parts.specs.declared.error.Error.{Error}
 use Rattle.sigstore_tuf_parts.specs.Crypto.{Crypto}
 use Rattle.sigstore_tuf_parts.proofs.IntegrityLaws.{integrity_exactly}
@@ -12,7 +10,7 @@ use Rattle.sigstore_tuf.specs.declared.kind.Kind.TheVariants.{Root, Timestamp, S
 use Rattle.sigstore_tuf.specs.Documents.{timestamp_document, snapshot_document, targets_document}
 use Rattle.sigstore_tuf.specs.State.{State}
 use Rattle.sigstore_tuf.specs.Names.{kept_name, kept_target}
-use Rattle.sigstore_tuf.specs.Adopt.{passed_over, LoadsNamed, Seeds, unloaded, unkept, unseeded, equal, seeded}
+use Rattle.sigstore_tuf.specs.Adopt.{LoadsNamed, unloaded, unkept, unseeded, equal, seeded}
 use Rattle.sigstore_tuf.specs.Laws.{IsSignedAs, SeedsAreSigned, RecallsArePinned}
 use Rattle.sigstore_tuf.proofs.Carrying.{loaded_had}
 use Rattle.sigstore_tuf.proofs.Updates.{Puts, judged_puts, bytes_put}

@@ -1,6 +1,6 @@
 -- Each refusal of a search and of its file has its cause.
 use Rattle.std.proofs.Common.{◌≡◌, ◌≢◌, ◌⊎◌, inl, inr, ℕ, ◌<◌, ◌==◌, nat_lt, if◌then◌else◌, List, [], Bool, true, false, Option, Some, None, Result, Ok, Err, codes, refl, sym, ap, ◌∙◌, subst, arith}
-use Rattle.std.specs.Prelude.{⊤, IfErr}
+use Rattle.std.specs.Prelude.{ok_or, ⊤, IfErr}
 use Rattle.std.proofs.lemmas.Bool.Decides.{nat_tests}
 use Rattle.foundation.specs.Watched.{Watched, IfTold, Since}
 use Rattle.foundation.specs.Results.{step_ok, err_same, some_same, no_both, refused_at}
@@ -27,13 +27,14 @@ use Rattle.sigstore_tuf.specs.declared.repository.FetchFault.TheVariants as fetc
 use Rattle.sigstore_tuf.specs.Documents.{content_of, snapshot_pin, targets_pin}
 use Rattle.sigstore_tuf.specs.Repository.{Folders, Files, target_files}
 use Rattle.sigstore_tuf.specs.State.{Session}
-use Rattle.sigstore_tuf.specs.Names.{kept_target}
+use Rattle.sigstore_tuf.specs.Names.{is_consistent, target_name_of, kept_target}
 use Rattle.sigstore_tuf.specs.Adopt.{top_targets, FetchesNamed, fetch_unnamed, fetch_asked, LoadsNamed}
 use Rattle.sigstore_tuf.specs.Client.{has_version, delegates_none, undelegated_of}
 use Rattle.sigstore_tuf.specs.Target as target
-use Rattle.sigstore_tuf.specs.Target.{fresh_timestamp_of, fresh_snapshot_of, unexpired_of, pinned_version_of, pinned_by_of, all_pinned_of, search_serves_of, entry_in, listed_in, entry_of, info_of, found_of, within_of, target_of, file_of, recalled_of, Recalls, TakesFile, Downloads, Obtains, chain_in, chain_of, GetsTarget}
-use Rattle.sigstore_tuf.specs.Cause.{TransportCause, FileCause, listed_too_long, file_unfetched, file_differs, file_wanting, none_visited, not_listed, IsListed, no_timestamp, no_snapshot, no_targets, TargetCause, root_past, timestamp_past, snapshot_past, not_refreshed, targets_past, snapshot_unlike, targets_unlike, search_delegating, unlisted, of_file, target_wanting}
+use Rattle.sigstore_tuf.specs.Target.{fresh_timestamp_of, fresh_snapshot_of, unexpired_of, pinned_version_of, pinned_by_of, all_pinned_of, search_serves_of, entry_in, listed_in, entry_of, info_of, found_of, within_of, target_of, fetch_name_of, file_of, recalled_of, Recalls, TakesFile, Downloads, Obtains, chain_in, chain_of, GetsTarget}
+use Rattle.sigstore_tuf.specs.Cause.{TransportCause, FileCause, listed_too_long, without_digest, file_unfetched, file_differs, file_wanting, none_visited, not_listed, IsListed, no_timestamp, no_snapshot, no_targets, TargetCause, root_past, timestamp_past, snapshot_past, not_refreshed, targets_past, snapshot_unlike, targets_unlike, search_delegating, unlisted, of_file, target_wanting}
 use Rattle.sigstore_tuf.specs.Authorised.{Serve}
+use Rattle.sigstore_tuf.proofs.Updates.{ok_some}
 use Rattle.sigstore_tuf.proofs.Carrying.{fetched_had}
 use Rattle.sigstore_tuf.proofs.Refusals.{refused_if, refused_unless, other_number}
 use Rattle.sigstore_tuf.proofs.Causes.{is_want, transport_earlier}
@@ -52,40 +53,59 @@ passed false d h = cc
 
 -- ---- the file
 
-module _ (config : UpdaterConfig) (entry : TargetFile) (path : List ℕ) where
-  unfetched_cause : (old new : Watched Folders) (e : Error) → FetchesNamed target_files path entry.length old new (Err e) → FileCause config entry path old new e
-  unfetched_cause old new e (fetch_unnamed s r) = file_wanting (err_same e tuf.NoMemory r)
-  unfetched_cause old new e (fetch_asked (Ok file) f r) = cc
-  unfetched_cause old new e (fetch_asked (Err fetch.Failed) f r) = file_unfetched transport.Failed f.failed (err_same e _ r)
-  unfetched_cause old new e (fetch_asked (Err (fetch.TooLong seen)) f r) = file_unfetched (transport.TooLong entry.length seen) (refl, f.limit, f.file) (err_same e _ r)
-  unfetched_cause old new e (fetch_asked (Err fetch.NoMemory) f r) = file_wanting (err_same e tuf.NoMemory r)
+module _ (consistent : Bool) (config : UpdaterConfig) (entry : TargetFile) (path : List ℕ) where
+  module _ (name : List ℕ) (name_is : target_name_of consistent entry path ≡ Some name) where
+    unfetched_cause : (old new : Watched Folders) (e : Error) → FetchesNamed target_files name entry.length old new (Err e) → FileCause consistent config entry path old new e
+    unfetched_cause old new e (fetch_unnamed s r) = file_wanting (err_same e tuf.NoMemory r)
+    unfetched_cause old new e (fetch_asked (Ok file) f r) = cc
+    unfetched_cause old new e (fetch_asked (Err fetch.Failed) f r) = file_unfetched name transport.Failed name_is f.failed (err_same e _ r)
+    unfetched_cause old new e (fetch_asked (Err (fetch.TooLong seen)) f r) = file_unfetched name (transport.TooLong entry.length seen) name_is (refl, f.limit, f.file) (err_same e _ r)
+    unfetched_cause old new e (fetch_asked (Err fetch.NoMemory) f r) = file_wanting (err_same e tuf.NoMemory r)
 
-  lacking : (old new : Watched Folders) → FetchesNamed target_files path entry.length old new (Ok None) → TransportCause target_files path entry.length old new transport.Absent
-  lacking old new (fetch_unnamed s r) = cc
-  lacking old new (fetch_asked (Ok file) f r) = by_told old.told f.file
+    lacking : (old new : Watched Folders) → FetchesNamed target_files name entry.length old new (Ok None) → TransportCause target_files name entry.length old new transport.Absent
+    lacking old new (fetch_unnamed s r) = cc
+    lacking old new (fetch_asked (Ok file) f r) = by_told old.told f.file
+      where
+        is : None ≡ file
+        is = let same : ◌≡◌ {A = Result (Option (List ℕ)) Error} (Ok None) (Ok file) = r in cc
+
+        by_told : (told : Option Folders) → IfTold told (λ folders. file ≡ target_files folders name) → IfTold told (λ folders. target_files folders name ≡ None)
+        by_told None h = tt
+        by_told (Some folders) h = sym h ∙ sym is
+    lacking old new (fetch_asked (Err fault) f r) = cc
+
+    taken_cause : (bytes : List ℕ) (old new : Watched Folders) (store store' : Watched Files) (e : Error) → FetchesNamed target_files name entry.length old new (Ok (Some bytes)) → TakesFile entry path bytes store store' (Err e) → FileCause consistent config entry path old new e
+    taken_cause bytes old new store store' e f (target.differs d c s is) =
+        let same = err_same e d is in
+        file_differs name bytes name_is (fetched_had target_files name entry.length old new bytes f) (integrity_cause (Some entry.length) (Some entry.hashes) bytes e (c ∙ ap Err (sym same)))
+    taken_cause bytes old new store store' e f (target.unsaved d c s is) = file_wanting (err_same e d is ∙ save_wants bytes (kept_target path) store store' (Err d) s)
+    taken_cause bytes old new store store' e f (target.given c s is) = no_both bytes e (sym is)
+
+  -- the name that was found
+  named : (name : List ℕ) → fetch_name_of consistent config entry path ≡ Ok name → target_name_of consistent entry path ≡ Some name
+  unfolding fetch_name_of
+  named name h = let a = step_ok (within_of config entry) _ name h in ok_some (target_name_of consistent entry path) (tuf.IntegrityMismatch mismatch.NoDigest) name a.2
+
+  unnamed_cause : (old new : Watched Folders) (e : Error) → fetch_name_of consistent config entry path ≡ Err e → FileCause consistent config entry path old new e
+  unfolding fetch_name_of
+  unnamed_cause old new e h =
+      refused_at (within_of config entry) _ e h
+      (λ q. refused_if (nat_lt config.target_max_length entry.length) (tuf.IntegrityMismatch mismatch.TooLong) e q (λ b at. listed_too_long at (is_less config.target_max_length entry.length b)))
+      (λ u q k. by_name (target_name_of consistent entry path) refl k)
     where
-      is : None ≡ file
-      is = let same : ◌≡◌ {A = Result (Option (List ℕ)) Error} (Ok None) (Ok file) = r in cc
+      by_name : (o : Option (List ℕ)) → target_name_of consistent entry path ≡ o → ok_or o (tuf.IntegrityMismatch mismatch.NoDigest) ≡ Err e → FileCause consistent config entry path old new e
+      by_name None is k = without_digest is (sym (err_same _ e k))
+      by_name (Some name) is k = cc
 
-      by_told : (told : Option Folders) → IfTold told (λ folders. file ≡ target_files folders path) → IfTold told (λ folders. target_files folders path ≡ None)
-      by_told None h = tt
-      by_told (Some folders) h = sym h ∙ sym is
-  lacking old new (fetch_asked (Err fault) f r) = cc
-
-  taken_cause : (bytes : List ℕ) (old new : Watched Folders) (store store' : Watched Files) (e : Error) → FetchesNamed target_files path entry.length old new (Ok (Some bytes)) → TakesFile entry path bytes store store' (Err e) → FileCause config entry path old new e
-  taken_cause bytes old new store store' e f (target.differs d c s is) =
-      let same = err_same e d is in
-      file_differs bytes (fetched_had target_files path entry.length old new bytes f) (integrity_cause (Some entry.length) (Some entry.hashes) bytes e (c ∙ ap Err (sym same)))
-  taken_cause bytes old new store store' e f (target.unsaved d c s is) = file_wanting (err_same e d is ∙ save_wants bytes (kept_target path) store store' (Err d) s)
-  taken_cause bytes old new store store' e f (target.given c s is) = no_both bytes e (sym is)
-
-  pub download_cause : (old new : Watched Folders) (store store' : Watched Files) (e : Error) → Downloads config entry path old new store store' (Err e) → FileCause config entry path old new e
-  download_cause old new store store' e (target.too_long d w r s is) =
-      let same = err_same e d is in
-      refused_if (nat_lt config.target_max_length entry.length) (tuf.IntegrityMismatch mismatch.TooLong) d w (λ b at. listed_too_long (same ∙ at) (is_less config.target_max_length entry.length b))
-  download_cause old new store store' e (target.unfetched d w f s is) = unfetched_cause old new e (subst (λ x. FetchesNamed target_files path entry.length old new (Err x)) (sym (err_same e d is)) f)
-  download_cause old new store store' e (target.absent w f s is) = file_unfetched transport.Absent (lacking old new f) (err_same e _ is)
-  download_cause old new store store' e (target.fetched bytes w f t) = taken_cause bytes old new store store' e f t
+  pub download_cause : (old new : Watched Folders) (store store' : Watched Files) (e : Error) → Downloads consistent config entry path old new store store' (Err e) → FileCause consistent config entry path old new e
+  download_cause old new store store' e (target.unnamed d w r s is) = by_want (is_want e)
+    where
+      by_want : (e ≡ tuf.NoMemory) ⊎ (e ≢ tuf.NoMemory) → FileCause consistent config entry path old new e
+      by_want (inl h) = file_wanting h
+      by_want (inr h) = unnamed_cause old new e (w (λ k. h (err_same e d is ∙ k)) ∙ ap Err (sym (err_same e d is)))
+  download_cause old new store store' e (target.unfetched name d w f s is) = unfetched_cause name (named name w) old new e (subst (λ x. FetchesNamed target_files name entry.length old new (Err x)) (sym (err_same e d is)) f)
+  download_cause old new store store' e (target.absent name w f s is) = file_unfetched name transport.Absent (named name w) (lacking name (named name w) old new f) (err_same e _ is)
+  download_cause old new store store' e (target.fetched name bytes w f t) = taken_cause name (named name w) bytes old new store store' e f t
 
   recalled_wants : (loaded : Result (Option (List ℕ)) Error) (e : Error) → Err e ≡ recalled_of entry loaded → loaded ≡ Err e
   recalled_wants (Ok None) e h = cc
@@ -95,7 +115,7 @@ module _ (config : UpdaterConfig) (entry : TargetFile) (path : List ℕ) where
   pub recall_wants : (store store' : Watched Files) (e : Error) → Recalls entry path store store' (Err e) → e ≡ tuf.NoMemory
   recall_wants store store' e r = load_wants (kept_target path) store store' e (subst (λ l. LoadsNamed (kept_target path) store store' l) (recalled_wants r.loaded e r.result_is) r.loads)
 
-  pub obtain_cause : (old new : Watched Folders) (store store' : Watched Files) (e : Error) → Obtains config entry path old new store store' (Err e) → FileCause config entry path old new e
+  pub obtain_cause : (old new : Watched Folders) (store store' : Watched Files) (e : Error) → Obtains consistent config entry path old new store store' (Err e) → FileCause consistent config entry path old new e
   obtain_cause old new store store' e (target.unrecalled d r s is) = file_wanting (err_same e d is ∙ recall_wants store store' d r)
   obtain_cause old new store store' e (target.recalled bytes r s is) = no_both bytes e (sym is)
   obtain_cause old new store store' e (target.downloaded mid r d) = download_cause old new mid store' e d
@@ -214,7 +234,7 @@ module _ (session : Session) (path : List ℕ) (set : InForce) (old new : Watche
   got_cause : (store store' : Watched Files) (e : Error) → GetsTarget session path set old new store store' (Err e) → C e
   got_cause store store' e (target.unlisted d h r s is) = subst C (sym (err_same e d is)) (by_want d (λ other. target_cause d (h other)))
   got_cause store store' e (target.unobtained entry d t f is) =
-      subst C (sym (err_same e d is)) (of_file entry (listed_so entry t) (obtain_cause session.config entry path old new store store' d f))
+      subst C (sym (err_same e d is)) (of_file entry (listed_so entry t) (obtain_cause (is_consistent set) session.config entry path old new store store' d f))
   got_cause store store' e (target.unchained entry file d t f h is) = subst C (sym (err_same e d is)) (by_want d (λ other. chained entry file d t (h other)))
   got_cause store store' e (target.found entry file chain t f c is) = no_both chain e (sym is)
 
@@ -227,11 +247,12 @@ gets_cause session path set old new store store' (Err e) g = got_cause session p
 -- ---- the cause, of a repository as it was seen earlier
 
 module _ (session : Session) (path : List ℕ) (a b c : Watched Folders) (s : Since a b) where
-  file_earlier : (entry : TargetFile) (e : Error) → FileCause session.config entry path b c e → FileCause session.config entry path a c e
-  file_earlier entry e (listed_too_long is more) = listed_too_long is more
-  file_earlier entry e (file_unfetched fault t is) = file_unfetched fault (transport_earlier session target_files path entry.length a b c fault s t) is
-  file_earlier entry e (file_differs bytes h i) = file_differs bytes (subst (λ told. IfTold told (λ folders. target_files folders path ≡ Some bytes)) s.same h) i
-  file_earlier entry e (file_wanting is) = file_wanting is
+  file_earlier : (consistent : Bool) (entry : TargetFile) (e : Error) → FileCause consistent session.config entry path b c e → FileCause consistent session.config entry path a c e
+  file_earlier consistent entry e (listed_too_long is more) = listed_too_long is more
+  file_earlier consistent entry e (without_digest none is) = without_digest none is
+  file_earlier consistent entry e (file_unfetched name fault n t is) = file_unfetched name fault n (transport_earlier session target_files name entry.length a b c fault s t) is
+  file_earlier consistent entry e (file_differs name bytes n h i) = file_differs name bytes n (subst (λ told. IfTold told (λ folders. target_files folders name ≡ Some bytes)) s.same h) i
+  file_earlier consistent entry e (file_wanting is) = file_wanting is
 
   pub target_earlier : (set : InForce) (e : Error) → TargetCause session path set b c e → TargetCause session path set a c e
   target_earlier set e (root_past x) = root_past x
@@ -243,5 +264,5 @@ module _ (session : Session) (path : List ℕ) (a b c : Watched Folders) (s : Si
   target_earlier set e (targets_unlike held at u is) = targets_unlike held at u is
   target_earlier set e (search_delegating held at d is) = search_delegating held at d is
   target_earlier set e (unlisted u is) = unlisted u is
-  target_earlier set e (of_file entry l f) = of_file entry l (file_earlier entry e f)
+  target_earlier set e (of_file entry l f) = of_file entry l (file_earlier (is_consistent set) entry e f)
   target_earlier set e (target_wanting is) = target_wanting is

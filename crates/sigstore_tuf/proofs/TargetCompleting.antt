@@ -1,11 +1,10 @@
 -- A search over the documents of an offered chain gives the chain, unless memory is wanting.
-use Rattle.std.proofs.Common.{◌≡◌, ◌≢◌, ◌⊎◌, inl, inr, ℕ, suc, ◌+◌, ◌^◌, ◌≤◌, ◌<◌, ◌==◌, nat_lt, List, [], ◌∷◌, length, Bool, true, false, if◌then◌else◌, Option, Some, None, Result, Ok, Err, codes, refl, sym, ap, ◌∙◌, subst, arith, le_refl}
-use Rattle.std.specs.Prelude.{⊤}
+use Rattle.std.proofs.Common.{◌≡◌, ◌≢◌, ◌⊎◌, inl, inr, ℕ, suc, ◌+◌, ◌^◌, ◌≤◌, ◌<◌, ◌==◌, nat_lt, List, [], ◌∷◌, length, Bool, false, if◌then◌else◌, Option, Some, None, Result, Ok, Err, codes, refl, sym, ap, ◌∙◌, subst, arith, le_refl}
+use Rattle.std.specs.Prelude.{⊤, ok_or}
 use Rattle.std.proofs.lemmas.Bool.Decides.{nat_tests}
 use Rattle.jiff_core.specs.declared.timestamp.Timestamp as jiff
 use Rattle.foundation.specs.Watched.{Watched, Since}
 use Rattle.foundation.specs.Results.{ok_same, err_same, some_same, no_both}
-use Rattle.sigstore_types_parts.specs.Entries.{at_name}
 use Rattle.sigstore_tuf_parts.specs.declared.error.Error.{Error}
 use Rattle.sigstore_tuf_parts.specs.declared.error.Error.TheVariants as tuf
 use Rattle.sigstore_tuf_parts.specs.declared.error.Mismatch.TheVariants as mismatch
@@ -26,13 +25,12 @@ use Rattle.sigstore_tuf.specs.declared.documents.InForce.{InForce}
 use Rattle.sigstore_tuf.specs.Documents.{content_of, snapshot_pin, targets_pin}
 use Rattle.sigstore_tuf.specs.Repository.{Quiet, Folders, Files, target_files}
 use Rattle.sigstore_tuf.specs.Store.{with_file}
-use Rattle.sigstore_tuf.specs.Names.{history_name, kept_target}
+use Rattle.sigstore_tuf.specs.Names.{is_consistent, target_name_of, kept_target}
 use Rattle.sigstore_tuf.specs.State.{Session, State, session_of, state_of}
 use Rattle.sigstore_tuf.specs.Adopt.{top_targets, FetchesNamed, LoadsNamed}
-use Rattle.sigstore_tuf.specs.Client.{has_version}
 use Rattle.sigstore_tuf.specs.Update.{first_root_of}
 use Rattle.sigstore_tuf.specs.Run.{Attaches, refresh_steps, RunsSteps}
-use Rattle.sigstore_tuf.specs.Target.{fresh_timestamp_of, fresh_snapshot_of, unexpired_of, pinned_version_of, pinned_by_of, all_pinned_of, search_serves_of, entry_in, listed_in, entry_of, info_of, found_of, target_of, within_of, if_pinned, recalled_of, Recalls, file_of, TakesFile, differs, unsaved, given, Downloads, too_long, unfetched, absent, fetched, Obtains, unrecalled, recalled, downloaded, visit_of, chain_of, GetsTarget, unlisted, unobtained, unchained, found}
+use Rattle.sigstore_tuf.specs.Target.{fresh_timestamp_of, fresh_snapshot_of, unexpired_of, pinned_version_of, pinned_by_of, all_pinned_of, search_serves_of, entry_in, listed_in, entry_of, info_of, target_of, within_of, if_pinned, recalled_of, file_of, TakesFile, differs, unsaved, given, fetch_name_of, Downloads, unnamed, unfetched, absent, fetched, Obtains, unrecalled, recalled, downloaded, visit_of, chain_of, GetsTarget, unlisted, unobtained, unchained, found}
 use Rattle.sigstore_tuf.specs.Offer.{RootsEnd, IsNoneOr, later_in, targets_bytes, AreKeptAfter, Offers, Warm}
 use Rattle.sigstore_tuf.proofs.Carrying.{since_same, fetched_since, loaded_same}
 use Rattle.sigstore_tuf.proofs.Causes.{is_want}
@@ -69,22 +67,22 @@ recalled_err entry (Err d) e h = sym h
 
 -- ---- what a search leaves of the repository
 
-downloads_since : (config : UpdaterConfig) (entry : TargetFile) (path : List ℕ) (repo repo' : Watched Folders) (store store' : Watched Files) (result : Result (List ℕ) Error) → Downloads config entry path repo repo' store store' result → Since repo repo'
-downloads_since config entry path repo repo' store store' result (too_long e w r s is) = since_same repo repo' r
-downloads_since config entry path repo repo' store store' result (unfetched e w f s is) = fetched_since target_files path entry.length repo repo' (Err e) f
-downloads_since config entry path repo repo' store store' result (absent w f s is) = fetched_since target_files path entry.length repo repo' (Ok None) f
-downloads_since config entry path repo repo' store store' result (fetched bytes w f t) = fetched_since target_files path entry.length repo repo' (Ok (Some bytes)) f
+downloads_since : (consistent : Bool) (config : UpdaterConfig) (entry : TargetFile) (path : List ℕ) (repo repo' : Watched Folders) (store store' : Watched Files) (result : Result (List ℕ) Error) → Downloads consistent config entry path repo repo' store store' result → Since repo repo'
+downloads_since consistent config entry path repo repo' store store' result (unnamed e w r s is) = since_same repo repo' r
+downloads_since consistent config entry path repo repo' store store' result (unfetched name e w f s is) = fetched_since target_files name entry.length repo repo' (Err e) f
+downloads_since consistent config entry path repo repo' store store' result (absent name w f s is) = fetched_since target_files name entry.length repo repo' (Ok None) f
+downloads_since consistent config entry path repo repo' store store' result (fetched name bytes w f t) = fetched_since target_files name entry.length repo repo' (Ok (Some bytes)) f
 
-obtains_since : (config : UpdaterConfig) (entry : TargetFile) (path : List ℕ) (repo repo' : Watched Folders) (store store' : Watched Files) (result : Result (List ℕ) Error) → Obtains config entry path repo repo' store store' result → Since repo repo'
-obtains_since config entry path repo repo' store store' result (unrecalled e r s is) = since_same repo repo' s
-obtains_since config entry path repo repo' store store' result (recalled bytes r s is) = since_same repo repo' s
-obtains_since config entry path repo repo' store store' result (downloaded mid r d) = downloads_since config entry path repo repo' mid store' result d
+obtains_since : (consistent : Bool) (config : UpdaterConfig) (entry : TargetFile) (path : List ℕ) (repo repo' : Watched Folders) (store store' : Watched Files) (result : Result (List ℕ) Error) → Obtains consistent config entry path repo repo' store store' result → Since repo repo'
+obtains_since consistent config entry path repo repo' store store' result (unrecalled e r s is) = since_same repo repo' s
+obtains_since consistent config entry path repo repo' store store' result (recalled bytes r s is) = since_same repo repo' s
+obtains_since consistent config entry path repo repo' store store' result (downloaded mid r d) = downloads_since consistent config entry path repo repo' mid store' result d
 
 pub gets_since : (session : Session) (path : List ℕ) (set : InForce) (repo repo' : Watched Folders) (store store' : Watched Files) (result : Result TrustChain Error) → GetsTarget session path set repo repo' store store' result → Since repo repo'
 gets_since session path set repo repo' store store' result (unlisted e h r s is) = since_same repo repo' r
-gets_since session path set repo repo' store store' result (unobtained entry e t h is) = obtains_since session.config entry path repo repo' store store' (Err e) h
-gets_since session path set repo repo' store store' result (unchained entry file e t h c is) = obtains_since session.config entry path repo repo' store store' (Ok file) h
-gets_since session path set repo repo' store store' result (found entry file x t h c is) = obtains_since session.config entry path repo repo' store store' (Ok file) h
+gets_since session path set repo repo' store store' result (unobtained entry e t h is) = obtains_since (is_consistent set) session.config entry path repo repo' store store' (Err e) h
+gets_since session path set repo repo' store store' result (unchained entry file e t h c is) = obtains_since (is_consistent set) session.config entry path repo repo' store store' (Ok file) h
+gets_since session path set repo repo' store store' result (found entry file x t h c is) = obtains_since (is_consistent set) session.config entry path repo repo' store store' (Ok file) h
 
 -- want of memory, or this chain, and P
 pub data GivenChain (P : Type 0) (chain : TrustChain) (result : Result TrustChain Error) : Type 0 where
@@ -158,29 +156,44 @@ module _ (session : Session) (folders : Folders) (path : List ℕ) (chain : Trus
   loaded_tells store store' loaded w l = tells_same (IsWarm session folders path chain o from whole whole_bound) store store' (loaded_same (kept_target path) store store' loaded l) w
 
   module _ (repo repo' : Watched Folders) (told : repo.told ≡ Some folders) (quiet : Quiet repo.faults repo'.faults) where
-    fetched_so : (result : Result (Option (List ℕ)) Error) → FetchesNamed target_files path chain.target.length repo repo' result → Given (Some chain.file) result
-    fetched_so result f = fetch_given target_files path chain.target.length repo repo' folders (Some chain.file) result told o.file_served.there o.file_served.short quiet f
+    fetched_so : (name : List ℕ) (result : Result (Option (List ℕ)) Error) → name ≡ o.name → FetchesNamed target_files name chain.target.length repo repo' result → Given (Some chain.file) result
+    fetched_so name result same f = fetch_given target_files name chain.target.length repo repo' folders (Some chain.file) result told (ap folders.targets same ∙ o.file_served.there) o.file_served.short quiet f
 
     taken_done : (store store' : Watched Files) (result : Result (List ℕ) Error) → Tells store → TakesFile chain.target path chain.file store store' result → GivenFile store' result
     taken_done store store' result w (differs e f s is) = no_both tt e (sym is_file ∙ f)
     taken_done store store' result w (unsaved e f s is) = file_wanting (is ∙ ap Err (save_wants chain.file (kept_target path) store store' (Err e) s))
     taken_done store store' result w (given f s is) = file_given is (saved_so (IsWarm session folders path chain o from whole whole_bound) chain.file (kept_target path) store store' (Ok tt) warm_file s w)
 
-    download_done : (store store' : Watched Files) (result : Result (List ℕ) Error) → Tells store → Downloads session.config chain.target path repo repo' store store' result → GivenFile store' result
-    download_done store store' result w (too_long e l r s is) = no_both tt e (sym within ∙ l)
-    download_done store store' result w (unfetched e l f s is) = of_ungiven (Some chain.file) e (fetched_so (Err e) f) (λ h. file_wanting (is ∙ ap Err h))
-    download_done store store' result w (absent l f s is) = of_given (Some chain.file) None (fetched_so (Ok None) f) (λ h. cc)
-    download_done store store' result w (fetched bytes l f t) =
-        of_given (Some chain.file) (Some bytes) (fetched_so (Ok (Some bytes)) f) (λ h. taken_done store store' result w (subst (λ b. TakesFile chain.target path b store store' result) (some_same bytes chain.file h) t))
+    -- the names are as the root of the chain says
+    module _ (consistent : Bool) (so : consistent ≡ (content_in {T = declared.Root} o.root).consistent_snapshot) where
+      named : fetch_name_of consistent session.config chain.target path ≡ Ok o.name
+      unfolding fetch_name_of
+      named =
+          step_to (within_of session.config chain.target) _ tt within
+          ∙ ap (λ n. ok_or n (tuf.IntegrityMismatch mismatch.NoDigest)) (ap (λ c. target_name_of c chain.target path) so ∙ o.name_is)
 
-    obtain_done : (store store' : Watched Files) (result : Result (List ℕ) Error) → Tells store → Obtains session.config chain.target path repo repo' store store' result → GivenFile store' result
-    obtain_done store store' result w (unrecalled e r s is) =
-        file_wanting (is ∙ ap Err (load_wants (kept_target path) store store' e (subst (λ l. LoadsNamed (kept_target path) store store' l) (recalled_err chain.target r.loaded e r.result_is) r.loads)))
-    obtain_done store store' result w (recalled bytes r s is) =
-        let loads = subst (λ l. LoadsNamed (kept_target path) store store' l) (recalled_some chain.target r.loaded bytes r.result_is) r.loads in
-        let same = some_same chain.file bytes (found_wanted (w.files (kept_target path)) (Some chain.file) bytes w.so.file (loaded_is (kept_target path) store store' w.files bytes w.told loads)) in
-        file_given (is ∙ ap Ok (sym same)) (loaded_tells store store' r.loaded w r.loads)
-    obtain_done store store' result w (downloaded mid r d) = download_done mid store' result (loaded_tells store mid r.loaded w r.loads) d
+      is_name : (name : List ℕ) → fetch_name_of consistent session.config chain.target path ≡ Ok name → name ≡ o.name
+      is_name name l = ok_same name o.name (sym l ∙ named)
+
+      download_done : (store store' : Watched Files) (result : Result (List ℕ) Error) → Tells store → Downloads consistent session.config chain.target path repo repo' store store' result → GivenFile store' result
+      download_done store store' result w (unnamed e l r s is) = by_want (is_want e)
+        where
+          by_want : (e ≡ tuf.NoMemory) ⊎ (e ≢ tuf.NoMemory) → GivenFile store' result
+          by_want (inl h) = file_wanting (is ∙ ap Err h)
+          by_want (inr h) = no_both o.name e (sym named ∙ l h)
+      download_done store store' result w (unfetched name e l f s is) = of_ungiven (Some chain.file) e (fetched_so name (Err e) (is_name name l) f) (λ h. file_wanting (is ∙ ap Err h))
+      download_done store store' result w (absent name l f s is) = of_given (Some chain.file) None (fetched_so name (Ok None) (is_name name l) f) (λ h. cc)
+      download_done store store' result w (fetched name bytes l f t) =
+          of_given (Some chain.file) (Some bytes) (fetched_so name (Ok (Some bytes)) (is_name name l) f) (λ h. taken_done store store' result w (subst (λ b. TakesFile chain.target path b store store' result) (some_same bytes chain.file h) t))
+
+      obtain_done : (store store' : Watched Files) (result : Result (List ℕ) Error) → Tells store → Obtains consistent session.config chain.target path repo repo' store store' result → GivenFile store' result
+      obtain_done store store' result w (unrecalled e r s is) =
+          file_wanting (is ∙ ap Err (load_wants (kept_target path) store store' e (subst (λ l. LoadsNamed (kept_target path) store store' l) (recalled_err chain.target r.loaded e r.result_is) r.loads)))
+      obtain_done store store' result w (recalled bytes r s is) =
+          let loads = subst (λ l. LoadsNamed (kept_target path) store store' l) (recalled_some chain.target r.loaded bytes r.result_is) r.loads in
+          let same = some_same chain.file bytes (found_wanted (w.files (kept_target path)) (Some chain.file) bytes w.so.file (loaded_is (kept_target path) store store' w.files bytes w.told loads)) in
+          file_given (is ∙ ap Ok (sym same)) (loaded_tells store store' r.loaded w r.loads)
+      obtain_done store store' result w (downloaded mid r d) = download_done mid store' result (loaded_tells store mid r.loaded w r.loads) d
 
   -- ---- the chain
 
@@ -212,10 +225,10 @@ module _ (session : Session) (folders : Folders) (path : List ℕ) (chain : Trus
       listed : target_of old.documents session.config path session.now ≡ Ok chain.target
       listed = target_is old.documents root time snap b.top
 
-      obtained : (entry : TargetFile) (result : Result (List ℕ) Error) → target_of old.documents session.config path session.now ≡ Ok entry → Obtains session.config entry path old.repo repo' old.store store' result → GivenFile store' result
+      obtained : (entry : TargetFile) (result : Result (List ℕ) Error) → target_of old.documents session.config path session.now ≡ Ok entry → Obtains (is_consistent old.documents) session.config entry path old.repo repo' old.store store' result → GivenFile store' result
       obtained entry result t h =
-          obtain_done old.repo repo' b.snapped.timed.behind.told quiet old.store store' result b.snapped.timed.behind.warm
-          (subst (λ e. Obtains session.config e path old.repo repo' old.store store' result) (ok_same entry chain.target (sym t ∙ listed)) h)
+          obtain_done old.repo repo' b.snapped.timed.behind.told quiet (is_consistent old.documents) (ap (λ (r : Document declared.Root). (content_in {T = declared.Root} r).consistent_snapshot) root) old.store store' result b.snapped.timed.behind.warm
+          (subst (λ e. Obtains (is_consistent old.documents) session.config e path old.repo repo' old.store store' result) (ok_same entry chain.target (sym t ∙ listed)) h)
 
       chained : (entry : TargetFile) (file : List ℕ) → target_of old.documents session.config path session.now ≡ Ok entry → GivenFile store' (Ok file) → chain_of old.documents entry file ≡ Ok chain
       chained entry file t (file_wanting h) = no_both file tuf.NoMemory h

@@ -1,5 +1,5 @@
 -- After a search the store has the documents in force, and the chain that is given.
-use Rattle.std.proofs.Common.{◌≡◌, inl, inr, ℕ, ◌≤◌, List, drop, false, Option, Some, None, Result, Ok, Err, refl, sym, ◌∙◌, subst, le_refl, le_trans}
+use Rattle.std.proofs.Common.{◌≡◌, inl, inr, ℕ, ◌≤◌, List, drop, Bool, false, Option, Some, None, Result, Ok, Err, refl, sym, ◌∙◌, subst, le_refl, le_trans}
 use Rattle.std.specs.Prelude.{⊤, option_map, IfSome, IfOk}
 use Rattle.foundation.specs.Watched.{Watched, IfTold}
 use Rattle.foundation.specs.Results.{ok_same, no_both}
@@ -17,7 +17,7 @@ use Rattle.sigstore_tuf.specs.declared.store.StoreFault.{StoreFault}
 use Rattle.sigstore_tuf.specs.declared.store.StoreFault.TheVariants as store
 use Rattle.sigstore_tuf.specs.Repository.{Quiet, Folders, Files}
 use Rattle.sigstore_tuf.specs.Store.{is_bad_name, with_file, Keeps as KeepsTold}
-use Rattle.sigstore_tuf.specs.Names.{kept_target}
+use Rattle.sigstore_tuf.specs.Names.{is_consistent, kept_target}
 use Rattle.sigstore_tuf.specs.State.{Session, state_of}
 use Rattle.sigstore_tuf.specs.Adopt.{top_targets, LoadsNamed, Saves, save_unnamed, save_asked}
 use Rattle.sigstore_tuf.specs.Target as target
@@ -74,23 +74,23 @@ module _ (path : List ℕ) where
     taken_stays entry bytes old new result (target.unsaved e f s r) h = saved_stays bytes old new (Err e) s h
     taken_stays entry bytes old new result (target.given f s r) h = saved_stays bytes old new (Ok tt) s h
 
-    downloaded_stays : (config : UpdaterConfig) (entry : TargetFile) (repo repo' : Watched Folders) (old new : Watched Files) (result : Result (List ℕ) Error) → Downloads config entry path repo repo' old new result → Has old → Has new
-    downloaded_stays config entry repo repo' old new result (target.too_long e w r s is) h = subst Has (sym s) h
-    downloaded_stays config entry repo repo' old new result (target.unfetched e w f s is) h = subst Has (sym s) h
-    downloaded_stays config entry repo repo' old new result (target.absent w f s is) h = subst Has (sym s) h
-    downloaded_stays config entry repo repo' old new result (target.fetched bytes w f t) h = taken_stays entry bytes old new result t h
+    downloaded_stays : (consistent : Bool) (config : UpdaterConfig) (entry : TargetFile) (repo repo' : Watched Folders) (old new : Watched Files) (result : Result (List ℕ) Error) → Downloads consistent config entry path repo repo' old new result → Has old → Has new
+    downloaded_stays consistent config entry repo repo' old new result (target.unnamed e w r s is) h = subst Has (sym s) h
+    downloaded_stays consistent config entry repo repo' old new result (target.unfetched name e w f s is) h = subst Has (sym s) h
+    downloaded_stays consistent config entry repo repo' old new result (target.absent name w f s is) h = subst Has (sym s) h
+    downloaded_stays consistent config entry repo repo' old new result (target.fetched name bytes w f t) h = taken_stays entry bytes old new result t h
 
-    obtained_stays : (config : UpdaterConfig) (entry : TargetFile) (repo repo' : Watched Folders) (old new : Watched Files) (result : Result (List ℕ) Error) → Obtains config entry path repo repo' old new result → Has old → Has new
-    obtained_stays config entry repo repo' old new result (target.unrecalled e r s is) h = recalled_stays entry old new (Err e) r h
-    obtained_stays config entry repo repo' old new result (target.recalled bytes r s is) h = recalled_stays entry old new (Ok (Some bytes)) r h
-    obtained_stays config entry repo repo' old new result (target.downloaded mid r d) h = downloaded_stays config entry repo repo' mid new result d (recalled_stays entry old mid (Ok None) r h)
+    obtained_stays : (consistent : Bool) (config : UpdaterConfig) (entry : TargetFile) (repo repo' : Watched Folders) (old new : Watched Files) (result : Result (List ℕ) Error) → Obtains consistent config entry path repo repo' old new result → Has old → Has new
+    obtained_stays consistent config entry repo repo' old new result (target.unrecalled e r s is) h = recalled_stays entry old new (Err e) r h
+    obtained_stays consistent config entry repo repo' old new result (target.recalled bytes r s is) h = recalled_stays entry old new (Ok (Some bytes)) r h
+    obtained_stays consistent config entry repo repo' old new result (target.downloaded mid r d) h = downloaded_stays consistent config entry repo repo' mid new result d (recalled_stays entry old mid (Ok None) r h)
 
   pub gets_stay : (session : Session) (set : InForce) (repo repo' : Watched Folders) (old new : Watched Files) (result : Result TrustChain Error) → GetsTarget session path set repo repo' old new result
       → KeepsInForce (state_of set repo old) → KeepsInForce (state_of set repo' new)
   gets_stay session set repo repo' old new result (target.unlisted e t r s is) h = subst (Has set) (sym s) h
-  gets_stay session set repo repo' old new result (target.unobtained entry e t f is) h = obtained_stays set session.config entry repo repo' old new (Err e) f h
-  gets_stay session set repo repo' old new result (target.unchained entry file e t f c is) h = obtained_stays set session.config entry repo repo' old new (Ok file) f h
-  gets_stay session set repo repo' old new result (target.found entry file chain t f c is) h = obtained_stays set session.config entry repo repo' old new (Ok file) f h
+  gets_stay session set repo repo' old new result (target.unobtained entry e t f is) h = obtained_stays set (is_consistent set) session.config entry repo repo' old new (Err e) f h
+  gets_stay session set repo repo' old new result (target.unchained entry file e t f c is) h = obtained_stays set (is_consistent set) session.config entry repo repo' old new (Ok file) f h
+  gets_stay session set repo repo' old new result (target.found entry file chain t f c is) h = obtained_stays set (is_consistent set) session.config entry repo repo' old new (Ok file) f h
 
   -- ---- the file
 
@@ -124,41 +124,41 @@ module _ (path : List ℕ) where
   taken_later entry bytes old new result (target.unsaved e f s r) = saved_later bytes (kept_target path) old new (Err e) s
   taken_later entry bytes old new result (target.given f s r) = saved_later bytes (kept_target path) old new (Ok tt) s
 
-  downloaded_later : (config : UpdaterConfig) (entry : TargetFile) (repo repo' : Watched Folders) (old new : Watched Files) (result : Result (List ℕ) Error) → Downloads config entry path repo repo' old new result → old.faults ≤ new.faults
-  downloaded_later config entry repo repo' old new result (target.too_long e w r s is) = subst (λ (w : Watched Files). old.faults ≤ w.faults) (sym s) (le_refl old.faults)
-  downloaded_later config entry repo repo' old new result (target.unfetched e w f s is) = subst (λ (w : Watched Files). old.faults ≤ w.faults) (sym s) (le_refl old.faults)
-  downloaded_later config entry repo repo' old new result (target.absent w f s is) = subst (λ (w : Watched Files). old.faults ≤ w.faults) (sym s) (le_refl old.faults)
-  downloaded_later config entry repo repo' old new result (target.fetched bytes w f t) = taken_later entry bytes old new result t
+  downloaded_later : (consistent : Bool) (config : UpdaterConfig) (entry : TargetFile) (repo repo' : Watched Folders) (old new : Watched Files) (result : Result (List ℕ) Error) → Downloads consistent config entry path repo repo' old new result → old.faults ≤ new.faults
+  downloaded_later consistent config entry repo repo' old new result (target.unnamed e w r s is) = subst (λ (w : Watched Files). old.faults ≤ w.faults) (sym s) (le_refl old.faults)
+  downloaded_later consistent config entry repo repo' old new result (target.unfetched name e w f s is) = subst (λ (w : Watched Files). old.faults ≤ w.faults) (sym s) (le_refl old.faults)
+  downloaded_later consistent config entry repo repo' old new result (target.absent name w f s is) = subst (λ (w : Watched Files). old.faults ≤ w.faults) (sym s) (le_refl old.faults)
+  downloaded_later consistent config entry repo repo' old new result (target.fetched name bytes w f t) = taken_later entry bytes old new result t
 
   recalled_later : (entry : TargetFile) (old new : Watched Files) (result : Result (Option (List ℕ)) Error) → Recalls entry path old new result → old.faults ≤ new.faults
   recalled_later entry old new result r = (loaded_told (kept_target path) old new r.loaded r.loads).1
 
-  obtained_later : (config : UpdaterConfig) (entry : TargetFile) (repo repo' : Watched Folders) (old new : Watched Files) (result : Result (List ℕ) Error) → Obtains config entry path repo repo' old new result → old.faults ≤ new.faults
-  obtained_later config entry repo repo' old new result (target.unrecalled e r s is) = recalled_later entry old new (Err e) r
-  obtained_later config entry repo repo' old new result (target.recalled bytes r s is) = recalled_later entry old new (Ok (Some bytes)) r
-  obtained_later config entry repo repo' old new result (target.downloaded mid r d) = le_trans (recalled_later entry old mid (Ok None) r) (downloaded_later config entry repo repo' mid new result d)
+  obtained_later : (consistent : Bool) (config : UpdaterConfig) (entry : TargetFile) (repo repo' : Watched Folders) (old new : Watched Files) (result : Result (List ℕ) Error) → Obtains consistent config entry path repo repo' old new result → old.faults ≤ new.faults
+  obtained_later consistent config entry repo repo' old new result (target.unrecalled e r s is) = recalled_later entry old new (Err e) r
+  obtained_later consistent config entry repo repo' old new result (target.recalled bytes r s is) = recalled_later entry old new (Ok (Some bytes)) r
+  obtained_later consistent config entry repo repo' old new result (target.downloaded mid r d) = le_trans (recalled_later entry old mid (Ok None) r) (downloaded_later consistent config entry repo repo' mid new result d)
 
   pub gets_later : (session : Session) (set : InForce) (repo repo' : Watched Folders) (old new : Watched Files) (result : Result TrustChain Error) → GetsTarget session path set repo repo' old new result → old.faults ≤ new.faults
   gets_later session set repo repo' old new result (target.unlisted e t r s is) = subst (λ (w : Watched Files). old.faults ≤ w.faults) (sym s) (le_refl old.faults)
-  gets_later session set repo repo' old new result (target.unobtained entry e t f is) = obtained_later session.config entry repo repo' old new (Err e) f
-  gets_later session set repo repo' old new result (target.unchained entry file e t f c is) = obtained_later session.config entry repo repo' old new (Ok file) f
-  gets_later session set repo repo' old new result (target.found entry file chain t f c is) = obtained_later session.config entry repo repo' old new (Ok file) f
+  gets_later session set repo repo' old new result (target.unobtained entry e t f is) = obtained_later (is_consistent set) session.config entry repo repo' old new (Err e) f
+  gets_later session set repo repo' old new result (target.unchained entry file e t f c is) = obtained_later (is_consistent set) session.config entry repo repo' old new (Ok file) f
+  gets_later session set repo repo' old new result (target.found entry file chain t f c is) = obtained_later (is_consistent set) session.config entry repo repo' old new (Ok file) f
 
-  downloaded_there : (config : UpdaterConfig) (entry : TargetFile) (repo repo' : Watched Folders) (old new : Watched Files) (file : List ℕ) → is_bad_name (kept_target path) ≡ false → Quiet old.faults new.faults
-      → Downloads config entry path repo repo' old new (Ok file) → HasFile file new
-  downloaded_there config entry repo repo' old new file good quiet (target.too_long e w r s is) = no_both file e is
-  downloaded_there config entry repo repo' old new file good quiet (target.unfetched e w f s is) = no_both file e is
-  downloaded_there config entry repo repo' old new file good quiet (target.absent w f s is) = no_both file _ is
-  downloaded_there config entry repo repo' old new file good quiet (target.fetched bytes w f t) = taken_there entry bytes file old new good quiet t
+  downloaded_there : (consistent : Bool) (config : UpdaterConfig) (entry : TargetFile) (repo repo' : Watched Folders) (old new : Watched Files) (file : List ℕ) → is_bad_name (kept_target path) ≡ false → Quiet old.faults new.faults
+      → Downloads consistent config entry path repo repo' old new (Ok file) → HasFile file new
+  downloaded_there consistent config entry repo repo' old new file good quiet (target.unnamed e w r s is) = no_both file e is
+  downloaded_there consistent config entry repo repo' old new file good quiet (target.unfetched name e w f s is) = no_both file e is
+  downloaded_there consistent config entry repo repo' old new file good quiet (target.absent name w f s is) = no_both file _ is
+  downloaded_there consistent config entry repo repo' old new file good quiet (target.fetched name bytes w f t) = taken_there entry bytes file old new good quiet t
 
-  obtained_there : (config : UpdaterConfig) (entry : TargetFile) (repo repo' : Watched Folders) (old new : Watched Files) (file : List ℕ) → is_bad_name (kept_target path) ≡ false → Quiet old.faults new.faults
-      → Obtains config entry path repo repo' old new (Ok file) → HasFile file new
-  obtained_there config entry repo repo' old new file good quiet (target.unrecalled e r s is) = no_both file e is
-  obtained_there config entry repo repo' old new file good quiet (target.recalled bytes r s is) = subst (λ b. HasFile b new) (sym (ok_same file bytes is)) (recalled_there entry bytes old new r)
-  obtained_there config entry repo repo' old new file good quiet (target.downloaded mid r d) =
+  obtained_there : (consistent : Bool) (config : UpdaterConfig) (entry : TargetFile) (repo repo' : Watched Folders) (old new : Watched Files) (file : List ℕ) → is_bad_name (kept_target path) ≡ false → Quiet old.faults new.faults
+      → Obtains consistent config entry path repo repo' old new (Ok file) → HasFile file new
+  obtained_there consistent config entry repo repo' old new file good quiet (target.unrecalled e r s is) = no_both file e is
+  obtained_there consistent config entry repo repo' old new file good quiet (target.recalled bytes r s is) = subst (λ b. HasFile b new) (sym (ok_same file bytes is)) (recalled_there entry bytes old new r)
+  obtained_there consistent config entry repo repo' old new file good quiet (target.downloaded mid r d) =
       let a = recalled_later entry old mid (Ok None) r in
-      let b = downloaded_later config entry repo repo' mid new (Ok file) d in
-      downloaded_there config entry repo repo' mid new file good (quiet_second old.faults mid.faults new.faults a b quiet) d
+      let b = downloaded_later consistent config entry repo repo' mid new (Ok file) d in
+      downloaded_there consistent config entry repo repo' mid new file good (quiet_second old.faults mid.faults new.faults a b quiet) d
 
   -- ---- the chain
 
@@ -186,4 +186,4 @@ module _ (path : List ℕ) where
   gets_kept session set repo repo' old new (Ok chain) (target.unchained entry file e t f c w) = no_both chain e w
   gets_kept session set repo repo' old new (Ok chain) (target.found entry file other t f c w) = λ good quiet h.
       told_both (λ files. files (kept_target path) ≡ Some file) (λ files. HoldsInForce files set) (λ files. HoldsChain files path chain) new.told (λ files there k. chain_kept files set entry file chain (c ∙ sym w) there k)
-      (obtained_there session.config entry repo repo' old new file good quiet f) (obtained_stays set session.config entry repo repo' old new (Ok file) f h)
+      (obtained_there (is_consistent set) session.config entry repo repo' old new file good quiet f) (obtained_stays set (is_consistent set) session.config entry repo repo' old new (Ok file) f h)

@@ -83,9 +83,10 @@ pub data FetchesNamed (part : Folders → Files) (name : List ℕ) (max : ℕ) (
   fetch_asked : (answer : Result (Option (List ℕ)) FetchFault) → Fetches part old new name max answer
       → result ≡ fetched_of max answer → FetchesNamed part name max old new result
 
-abbrev pub FetchesDocument : Session → Kind → Watched Folders → Watched Folders → Result (Option (List ℕ)) Error → Type 0
-FetchesDocument session kind old new result =
-    FetchesNamed metadata_files (file_name kind) (max_length session.config kind) old new result
+-- the document's file, by the name that the documents in force give it
+abbrev pub FetchesDocument : Session → InForce → Kind → Watched Folders → Watched Folders → Result (Option (List ℕ)) Error → Type 0
+FetchesDocument session set kind old new result =
+    FetchesNamed metadata_files (file_name set kind) (max_length session.config kind) old new result
 
 -- ---- a load
 
@@ -122,14 +123,14 @@ SavesAll bytes (name ∷ names) old new result =
     ((e : Error) × Saves bytes name old new (Err e) × (result ≡ Err e))
     ⊎ ((mid : Watched Files) × Saves bytes name old mid (Ok tt) × SavesAll bytes names mid new result)
 
--- under all the names of its kind
-pub record Keeps (kind : Kind) (bytes : List ℕ) (old new : Watched Files) (result : Result ⊤ Error) : Type 0 where
-  pub saves : SavesAll bytes (kept_names kind) old new result
+-- under all the names that the documents in force give it
+pub record Keeps (set : InForce) (kind : Kind) (bytes : List ℕ) (old new : Watched Files) (result : Result ⊤ Error) : Type 0 where
+  pub saves : SavesAll bytes (kept_names set kind) old new result
 
 -- where the document is in force
-abbrev pub KeepsWhere : Kind → Option (List ℕ) → Watched Files → Watched Files → Result ⊤ Error → Type 0
-KeepsWhere kind None old new result = (new ≡ old) × (result ≡ Ok tt)
-KeepsWhere kind (Some bytes) old new result = Keeps kind bytes old new result
+abbrev pub KeepsWhere : InForce → Kind → Option (List ℕ) → Watched Files → Watched Files → Result ⊤ Error → Type 0
+KeepsWhere set kind None old new result = (new ≡ old) × (result ≡ Ok tt)
+KeepsWhere set kind (Some bytes) old new result = Keeps set kind bytes old new result
 
 -- ---- from the repository
 
@@ -156,19 +157,19 @@ pub record Unmoved (old new : State) : Type 0 where
 
 -- The document is fetched, judged by what is in force, put in force and written. The answer is whether it was there.
 pub data Adopts (session : Session) (kind : Kind) (old new : State) (result : Result Bool Error) : Type 0 where
-  unfetched : (e : Error) → FetchesDocument session kind old.repo new.repo (Err e) → Unmoved old new → result ≡ Err e
+  unfetched : (e : Error) → FetchesDocument session old.documents kind old.repo new.repo (Err e) → Unmoved old new → result ≡ Err e
       → Adopts session kind old new result
-  absent : FetchesDocument session kind old.repo new.repo (Ok None) → Unmoved old new → result ≡ absence_of kind
+  absent : FetchesDocument session old.documents kind old.repo new.repo (Ok None) → Unmoved old new → result ≡ absence_of kind
       → Adopts session kind old new result
-  refused : (bytes : List ℕ) (e : Error) → FetchesDocument session kind old.repo new.repo (Ok (Some bytes))
+  refused : (bytes : List ℕ) (e : Error) → FetchesDocument session old.documents kind old.repo new.repo (Ok (Some bytes))
       → (e ≢ tuf.NoMemory → judged_of session.crypto kind old.documents bytes (Some session.now) ≡ Err e)
       → Unmoved old new → result ≡ Err e → Adopts session kind old new result
-  kept : (bytes : List ℕ) → FetchesDocument session kind old.repo new.repo (Ok (Some bytes))
+  kept : (bytes : List ℕ) → FetchesDocument session old.documents kind old.repo new.repo (Ok (Some bytes))
       → judged_of session.crypto kind old.documents bytes (Some session.now) ≡ Ok None
       → Unmoved old new → result ≡ Ok true → Adopts session kind old new result
-  adopted : (bytes : List ℕ) (written : Result ⊤ Error) → FetchesDocument session kind old.repo new.repo (Ok (Some bytes))
+  adopted : (bytes : List ℕ) (written : Result ⊤ Error) → FetchesDocument session old.documents kind old.repo new.repo (Ok (Some bytes))
       → judged_of session.crypto kind old.documents bytes (Some session.now) ≡ Ok (Some new.documents)
-      → Keeps kind bytes old.store new.store written → result ≡ there_of written → Adopts session kind old new result
+      → Keeps new.documents kind bytes old.store new.store written → result ≡ there_of written → Adopts session kind old new result
 
 -- ---- from the store
 

@@ -1,6 +1,6 @@
 -- What each refusal of the client tells: of the documents that were had, and of those in force at the call's end
 -- (TUF specification, section 5).
-use Rattle.std.specs.Prelude.{◌≡◌, ◌≢◌, ℕ, ◌+◌, ◌-◌, ◌^◌, ◌<◌, ◌≤◌, List, length, true, false, Some, None, Ok, Contains, codes, ⊤}
+use Rattle.std.specs.Prelude.{◌≡◌, ◌≢◌, ℕ, ◌+◌, ◌-◌, ◌^◌, ◌<◌, ◌≤◌, List, length, Bool, true, false, Some, None, Ok, Contains, codes, ⊤}
 use Rattle.jiff_core.specs.declared.timestamp.Timestamp as jiff
 use Rattle.foundation.specs.Watched.{Watched, Rose, IfTold}
 use Rattle.sigstore_types_parts.specs.Entries.{at_name}
@@ -34,7 +34,7 @@ use Rattle.sigstore_tuf.specs.declared.kind.Kind.{Kind}
 use Rattle.sigstore_tuf.specs.declared.kind.Kind.TheVariants.{Root, Timestamp, Snapshot, Targets}
 use Rattle.sigstore_tuf.specs.Documents.{timestamp_document, snapshot_document, targets_document, content_of, snapshot_pin, targets_pin}
 use Rattle.sigstore_tuf.specs.Repository.{Folders, Files, metadata_files, target_files}
-use Rattle.sigstore_tuf.specs.Names.{file_name, max_length, kept_name}
+use Rattle.sigstore_tuf.specs.Names.{is_consistent, file_name, IsNameOf, max_length, kept_name, target_name_of}
 use Rattle.sigstore_tuf.specs.State.{Session, State}
 use Rattle.sigstore_tuf.specs.Adopt.{top_targets, bytes_in}
 use Rattle.sigstore_tuf.specs.Client.{version_in, delegates_none}
@@ -55,9 +55,9 @@ IsInForce set Timestamp bytes = bytes_in Timestamp set ≡ Some bytes
 IsInForce set Snapshot bytes = bytes_in Snapshot set ≡ Some bytes
 IsInForce set Targets bytes = bytes_in Targets set ≡ Some bytes
 
--- A document was had: a told repository has it under its name there, or a told store under its name there, or it was in force.
+-- A document was had: a told repository has it under a name of its kind, or a told store under its name there, or it was in force.
 pub data Had (state : State) (k : Kind) (bytes : List ℕ) : Type 0 where
-  in_repository : Has metadata_files state.repo (file_name k) bytes → Had state k bytes
+  in_repository : (name : List ℕ) → IsNameOf k name → Has metadata_files state.repo name bytes → Had state k bytes
   in_store : HasKept state.store (kept_name k) bytes → Had state k bytes
   in_force : IsInForce state.documents k bytes → Had state k bytes
 
@@ -189,22 +189,21 @@ MayNotLack Targets fault = ⊤
 
 -- ---- why a refresh refuses
 
--- A document that was had, or that the repository didn't give, is refused by those in force at the end; so many next roots were
--- adopted as the limit allows, and there is another number; or a document in force at the end, which was had, doesn't serve. What
--- comes before a document is in force, and fresh.
+-- A document that the repository has, or that it didn't give, by the name that those in force at the end give it, is refused by
+-- these; so many next roots were adopted as the limit allows, and there is another number; or a document in force at the end, which
+-- was had, doesn't serve. What comes before a document is in force, and fresh.
 pub data RefreshCause (session : Session) (old new : State) (e : Error) : Type 0 where
-  refused : (k : Kind) (bytes : List ℕ) → Had old k bytes → IsBefore k session.now new.documents
+  refused : (k : Kind) (bytes : List ℕ) → Has metadata_files old.repo (file_name new.documents k) bytes
+      → IsBefore k session.now new.documents
       → Refusal session.crypto session.now new.documents k bytes e → RefreshCause session old new e
   unfetched : (k : Kind) (fault : TransportFault) → IsBefore k session.now new.documents
-      → TransportCause metadata_files (file_name k) (max_length session.config k) old.repo new.repo fault
+      → TransportCause metadata_files (file_name new.documents k) (max_length session.config k) old.repo new.repo fault
       → MayNotLack k fault → e ≡ tuf.Transport fault → RefreshCause session old new e
   rotated : e ≡ tuf.Transport (transport.Rotations session.config.max_root_rotations)
       → version_in old.documents + session.config.max_root_rotations ≤ version_in new.documents
       → version_in new.documents ≢ 2 ^ 64 - 1 → RefreshCause session old new e
   root_expired : WasHad old new (Root (version_in new.documents))
       → ExpiryCause (codes "root") (content_in new.documents.root).expires session.now e → RefreshCause session old new e
-  consistent : WasHad old new (Root (version_in new.documents)) → (content_in new.documents.root).consistent_snapshot ≡ true
-      → e ≡ tuf.Unbuilt form.Consistent → RefreshCause session old new e
   snapshot_unpinned : (held : Held declared_timestamp.Timestamp) → WasHad old new Timestamp → IsBefore Timestamp session.now new.documents
       → new.documents.timestamp ≡ Some held → snapshot_pin (content_of held) ≡ None → e ≡ tuf.Malformed rule.Unpinned
       → RefreshCause session old new e
@@ -221,15 +220,19 @@ pub data RefreshCause (session : Session) (old new : State) (e : Error) : Type 0
 
 -- ---- why a search refuses
 
--- the entry of a target is longer than the limit, or the repository's file of it isn't had or is another
-pub data FileCause (config : UpdaterConfig) (entry : TargetFile) (path : List ℕ) (old new : Watched Folders) (e : Error) : Type 0 where
+-- the entry of a target is longer than the limit, or has no digest for its name, or the repository's file of it isn't had or is another
+pub data FileCause (consistent : Bool) (config : UpdaterConfig) (entry : TargetFile) (path : List ℕ) (old new : Watched Folders)
+    (e : Error) : Type 0 where
   listed_too_long : e ≡ tuf.IntegrityMismatch mismatch.TooLong → config.target_max_length < entry.length
-      → FileCause config entry path old new e
-  file_unfetched : (fault : TransportFault) → TransportCause target_files path entry.length old new fault → e ≡ tuf.Transport fault
-      → FileCause config entry path old new e
-  file_differs : (bytes : List ℕ) → Has target_files old path bytes → IntegrityCause (Some entry.length) (Some entry.hashes) bytes e
-      → FileCause config entry path old new e
-  file_wanting : e ≡ tuf.NoMemory → FileCause config entry path old new e
+      → FileCause consistent config entry path old new e
+  without_digest : target_name_of consistent entry path ≡ None → e ≡ tuf.IntegrityMismatch mismatch.NoDigest
+      → FileCause consistent config entry path old new e
+  file_unfetched : (name : List ℕ) (fault : TransportFault) → target_name_of consistent entry path ≡ Some name
+      → TransportCause target_files name entry.length old new fault → e ≡ tuf.Transport fault
+      → FileCause consistent config entry path old new e
+  file_differs : (name bytes : List ℕ) → target_name_of consistent entry path ≡ Some name → Has target_files old name bytes
+      → IntegrityCause (Some entry.length) (Some entry.hashes) bytes e → FileCause consistent config entry path old new e
+  file_wanting : e ≡ tuf.NoMemory → FileCause consistent config entry path old new e
 
 -- why there is no such entry: no document may be visited, or the targets document doesn't list the path and delegates to no role
 pub data IsUnlisted (config : UpdaterConfig) (path : List ℕ) (set : InForce) : Type 0 where
@@ -267,7 +270,7 @@ pub data TargetCause (session : Session) (path : List ℕ) (set : InForce) (old 
   search_delegating : (held : Held declared_targets.Targets) → top_targets set ≡ Some held
       → delegates_none (content_of held).delegations ≡ false → e ≡ tuf.Unbuilt form.Delegations → TargetCause session path set old new e
   unlisted : IsUnlisted session.config path set → e ≡ tuf.TargetNotFound path → TargetCause session path set old new e
-  of_file : (entry : TargetFile) → IsListed set path entry → FileCause session.config entry path old new e
+  of_file : (entry : TargetFile) → IsListed set path entry → FileCause (is_consistent set) session.config entry path old new e
       → TargetCause session path set old new e
   target_wanting : e ≡ tuf.NoMemory → TargetCause session path set old new e
 

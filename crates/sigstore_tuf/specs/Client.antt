@@ -28,15 +28,10 @@ use Rattle.sigstore_tuf.specs.Adopt.{top_targets}
 abbrev pub version_in : InForce → ℕ
 version_in set = (content_in set.root).version
 
-abbrev pub consistent_of : Bool → Result ⊤ Error
-consistent_of consistent = if consistent then Err (Unbuilt form.Consistent) else Ok tt
-
 -- It isn't expired (5.3.10, 'check for a freeze attack'; only the last root has to be fresh, since each before it only leads to
--- the next), and its names aren't consistent ones.
-unfoldable pub root_serves_of : InForce → jiff.Timestamp → Result ⊤ Error
-root_serves_of set now = do
-  _ ← fresh_of (codes "root") (content_in set.root).expires now
-  consistent_of (content_in set.root).consistent_snapshot
+-- the next).
+abbrev pub root_serves_of : InForce → jiff.Timestamp → Result ⊤ Error
+root_serves_of set now = fresh_of (codes "root") (content_in set.root).expires now
 
 -- ---- the timestamp
 

@@ -1,16 +1,56 @@
--- The names under which documents are fetched and kept.
-use Rattle.std.specs.Prelude.{ℕ, List, [], ◌∷◌, ◌++◌, codes}
-use Rattle.sigstore_tuf_parts.specs.Names.{root_name, timestamp_name, snapshot_name, targets_name}
+-- The names under which documents are fetched and kept (TUF specification, sections 4.5, 5.3 to 5.7 and 6.2).
+use Rattle.std.specs.Prelude.{◌≡◌, ℕ, List, [], ◌∷◌, ◌++◌, Bool, Option, Some, None, option_map, option_and_then}
+use Rattle.std.specs.Prelude.{codes, if◌then◌else◌}
+use Rattle.std.specs.Option.{option_or}
+use Rattle.std.specs.Path.{slash, rsplit_once}
+use Rattle.sigstore_types_parts.specs.Entries.{at_name}
+use Rattle.sigstore_tuf_parts.specs.declared.targets.TargetFile.{TargetFile}
+use Rattle.sigstore_tuf_parts.specs.declared.timestamp.MetaFile.{MetaFile}
+use Rattle.sigstore_tuf_parts.specs.Document.{content_in}
+use Rattle.sigstore_tuf_parts.specs.Names.{root_name, timestamp_name, snapshot_name, targets_name, versioned_name}
 use Rattle.sigstore_tuf.specs.declared.config.UpdaterConfig.{UpdaterConfig}
+use Rattle.sigstore_tuf.specs.declared.documents.InForce.{InForce}
 use Rattle.sigstore_tuf.specs.declared.kind.Kind.{Kind}
 use Rattle.sigstore_tuf.specs.declared.kind.Kind.TheVariants.{Root, Timestamp, Snapshot, Targets}
+use Rattle.sigstore_tuf.specs.Documents.{content_of, snapshot_pin, targets_pin}
 
--- the name of a document in the repository
-abbrev pub file_name : Kind → List ℕ
-file_name (Root number) = root_name number
-file_name Timestamp = timestamp_name
-file_name Snapshot = snapshot_name
-file_name Targets = targets_name
+-- ---- documents in the repository
+
+-- Names are consistent where the root in force says so: a repository that is being changed then has old and new files side by
+-- side, so that who fetches meanwhile finds those that belong together.
+abbrev pub is_consistent : InForce → Bool
+is_consistent set = (content_in set.root).consistent_snapshot
+
+-- what the documents in force pin the snapshot and the targets document by
+abbrev pub snapshot_pin_in : InForce → Option MetaFile
+snapshot_pin_in set = option_and_then (λ held. snapshot_pin (content_of held)) set.timestamp
+
+abbrev pub targets_pin_in : InForce → Option MetaFile
+targets_pin_in set = option_and_then (λ held. targets_pin (content_of held)) set.snapshot
+
+-- the name of a document that is pinned so: under consistent names the pinned version stands before it
+abbrev pub pinned_name : Bool → Option MetaFile → List ℕ → List ℕ
+pinned_name consistent None name = name
+pinned_name consistent (Some pin) name = if consistent then versioned_name pin.version name else name
+
+-- the name of a document in the repository, by those in force
+abbrev pub file_name : InForce → Kind → List ℕ
+file_name set (Root number) = root_name number
+file_name set Timestamp = timestamp_name
+file_name set Snapshot = pinned_name (is_consistent set) (snapshot_pin_in set) snapshot_name
+file_name set Targets = pinned_name (is_consistent set) (targets_pin_in set) targets_name
+
+-- the name, as it is or with a version before it
+pub data IsVersioned (name n : List ℕ) : Type 0 where
+  plain : n ≡ name → IsVersioned name n
+  versioned : (version : ℕ) → n ≡ versioned_name version name → IsVersioned name n
+
+-- a name that a document of the kind may have there
+abbrev pub IsNameOf : Kind → List ℕ → Type 0
+IsNameOf (Root number) n = n ≡ root_name number
+IsNameOf Timestamp n = n ≡ timestamp_name
+IsNameOf Snapshot n = IsVersioned snapshot_name n
+IsNameOf Targets n = IsVersioned targets_name n
 
 -- how long it may be
 abbrev pub max_length : UpdaterConfig → Kind → ℕ
@@ -18,6 +58,8 @@ max_length config (Root number) = config.root_max_length
 max_length config Timestamp = config.timestamp_max_length
 max_length config Snapshot = config.snapshot_max_length
 max_length config Targets = config.targets_max_length
+
+-- ---- documents in the store
 
 -- A root's name in the store. Roots have a folder of their own, apart from the documents that are replaced.
 abbrev pub history_name : ℕ → List ℕ
@@ -34,12 +76,41 @@ kept_name Timestamp = timestamp_name
 kept_name Snapshot = snapshot_name
 kept_name Targets = targets_name
 
+-- under consistent names the name by which it was fetched, then its own
+abbrev pub both_names : Bool → Option MetaFile → List ℕ → List (List ℕ)
+both_names consistent None name = name ∷ []
+both_names consistent (Some pin) name = if consistent then versioned_name pin.version name ∷ name ∷ [] else name ∷ []
+
 -- the names under which it is written
-abbrev pub kept_names : Kind → List (List ℕ)
-kept_names (Root number) = history_name number ∷ root_file ∷ []
-kept_names Timestamp = timestamp_name ∷ []
-kept_names Snapshot = snapshot_name ∷ []
-kept_names Targets = targets_name ∷ []
+abbrev pub kept_names : InForce → Kind → List (List ℕ)
+kept_names set (Root number) = history_name number ∷ root_file ∷ []
+kept_names set Timestamp = timestamp_name ∷ []
+kept_names set Snapshot = both_names (is_consistent set) (snapshot_pin_in set) snapshot_name
+kept_names set Targets = targets_name ∷ []
+
+-- ---- targets
+
+abbrev pub first_of : List (List ℕ × List ℕ) → Option (List ℕ)
+first_of [] = None
+first_of (entry ∷ entries) = Some entry.1
+
+-- the digest that the name of a target has, as it is written: SHA-256, else SHA-512, else the first of them
+abbrev pub name_digest : TargetFile → Option (List ℕ)
+name_digest entry = option_or (at_name (codes "sha256") entry.hashes)
+    (option_or (at_name (codes "sha512") entry.hashes) (first_of entry.hashes))
+
+-- `DIR/NAME` with the digest before its last part: `DIR/DIGEST.NAME`
+abbrev pub name_in : List ℕ → List ℕ → Option (List ℕ × List ℕ) → List ℕ
+name_in digest path None = digest ++ codes "." ++ path
+name_in digest path (Some parts) = parts.0 ++ codes "/" ++ digest ++ codes "." ++ parts.1
+
+abbrev pub digest_name : List ℕ → List ℕ → List ℕ
+digest_name digest path = name_in digest path (rsplit_once slash path)
+
+-- the name of a target's file in the repository; under consistent names there is none without a digest
+abbrev pub target_name_of : Bool → TargetFile → List ℕ → Option (List ℕ)
+target_name_of consistent entry path =
+    if consistent then option_map (λ digest. digest_name digest path) (name_digest entry) else Some path
 
 -- the name of a target in the store
 abbrev pub kept_target : List ℕ → List ℕ

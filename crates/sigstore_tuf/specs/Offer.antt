@@ -1,8 +1,10 @@
 -- A chain that a repository offers, and a store that has nothing else (TUF specification, section 5).
-use Rattle.std.specs.Prelude.{◌≡◌, ◌⊎◌, ℕ, ◌+◌, ◌-◌, ◌^◌, ◌<◌, ◌≤◌, List, [], ◌∷◌, length, true, false}
+use Rattle.std.specs.Prelude.{◌≡◌, ◌⊎◌, ℕ, ◌+◌, ◌-◌, ◌^◌, ◌<◌, ◌≤◌, List, [], ◌∷◌, length, Bool, true}
 use Rattle.std.specs.Prelude.{Option, Some, None, codes, ⊤}
 use Rattle.std.specs.List.{AllByRecursion}
 use Rattle.jiff_core.specs.declared.timestamp.Timestamp as jiff
+use Rattle.sigstore_types_parts.specs.Entries.{at_name}
+use Rattle.sigstore_tuf_parts.specs.declared.snapshot.Snapshot.{Snapshot}
 use Rattle.sigstore_tuf_parts.specs.declared.targets.Targets.{Targets}
 use Rattle.sigstore_tuf_parts.specs.Document.{content_in}
 use Rattle.sigstore_tuf_parts.specs.Crypto.{Crypto}
@@ -12,7 +14,7 @@ use Rattle.sigstore_tuf.specs.declared.config.UpdaterConfig.{UpdaterConfig}
 use Rattle.sigstore_tuf.specs.declared.chain.RoleDoc.{RoleDoc}
 use Rattle.sigstore_tuf.specs.declared.chain.TrustChain.{TrustChain}
 use Rattle.sigstore_tuf.specs.Repository.{Folders, Files}
-use Rattle.sigstore_tuf.specs.Names.{history_name, kept_target}
+use Rattle.sigstore_tuf.specs.Names.{pinned_name, target_name_of, history_name, kept_target}
 use Rattle.sigstore_tuf.specs.Client.{delegates_none}
 use Rattle.sigstore_tuf.specs.Trusted.{Reading, TrustedAs, documents_in}
 
@@ -37,9 +39,10 @@ RootsEnd files newer max version =
     ⊎ ((newer ≤ max) × (version ≡ 2 ^ 64 - 1))
 
 -- a document that was visited stands under its name
-abbrev pub IsServedRole : Files → ℕ → RoleDoc → Option (List ℕ) → Type 0
-IsServedRole files max r None = ⊤
-IsServedRole files max r (Some bytes) = IsServed files (pin_name r.name) bytes max
+abbrev pub IsServedRole : Files → Bool → Snapshot → ℕ → RoleDoc → Option (List ℕ) → Type 0
+IsServedRole files consistent snapshot max r None = ⊤
+IsServedRole files consistent snapshot max r (Some bytes) =
+    IsServed files (pinned_name consistent (at_name (pin_name r.name) snapshot.meta) (pin_name r.name)) bytes max
 
 -- the roots after the given one
 abbrev pub later_in : List (List ℕ) → List (List ℕ)
@@ -54,15 +57,18 @@ pub record OffersAs (crypto : Crypto) (folders : Folders) (given : List ℕ) (no
   pub roots : AreServedAfter folders.metadata config.root_max_length (content_in trusted.roots.first).version (later_in chain.roots)
   pub roots_end : RootsEnd folders.metadata (length (later_in chain.roots)) config.max_root_rotations (content_in is.root).version
   pub timestamp : IsServed folders.metadata timestamp_name chain.timestamp config.timestamp_max_length
-  pub snapshot : IsServed folders.metadata snapshot_name chain.snapshot config.snapshot_max_length
+  pub snapshot : IsServed folders.metadata (pinned_name (content_in is.root).consistent_snapshot (Some is.pin) snapshot_name)
+      chain.snapshot config.snapshot_max_length
   pub snapshot_pinned : Pinned chain.snapshot (content_in is.snapshot).version is.pin
-  pub roles : AllByRecursion (λ (r : RoleDoc). IsServedRole folders.metadata config.targets_max_length r r.bytes) chain.roles
-  pub target : IsServed folders.targets path chain.file chain.target.length
+  pub roles : AllByRecursion (λ (r : RoleDoc). IsServedRole folders.metadata (content_in is.root).consistent_snapshot
+      (content_in is.snapshot) config.targets_max_length r r.bytes) chain.roles
+  pub name : List ℕ
+  pub name_is : target_name_of (content_in is.root).consistent_snapshot chain.target path ≡ Some name
+  pub target : IsServed folders.targets name chain.file chain.target.length
   pub target_short : chain.target.length ≤ config.target_max_length
 
--- forms that are built: names that aren't consistent, and a top-level targets document that delegates to no role
-pub record IsPlain (chain : TrustChain) (is : Reading) : Type 0 where
-  pub names : (content_in is.root).consistent_snapshot ≡ false
+-- the form that is built: a top-level targets document that delegates to no role
+pub record IsPlain (chain : TrustChain) : Type 0 where
   pub top : Targets
   pub top_is : documents_in chain.roles (codes "targets") ≡ Some top
   pub undelegated : delegates_none top.delegations ≡ true
@@ -71,7 +77,7 @@ pub record Offers (crypto : Crypto) (folders : Folders) (given : List ℕ) (now 
     (path : List ℕ) (chain : TrustChain) : Type 0 where
   pub is : Reading
   pub offered : OffersAs crypto folders given now config path chain is
-  pub plain : IsPlain chain is
+  pub plain : IsPlain chain
 
 -- ---- a warm store
 

@@ -82,7 +82,7 @@ roots_left set = 2 ^ 64 - 1 - version_in set
 pub record SavesRoot (old new : State) (result : Result ⊤ Error) : Type 0 where
   pub documents : new.documents ≡ old.documents
   pub repo : new.repo ≡ old.repo
-  pub written : KeepsWhere (kind.Root (version_in old.documents)) (bytes_in (kind.Root (version_in old.documents)) old.documents)
+  pub written : KeepsWhere old.documents (kind.Root (version_in old.documents)) (bytes_in (kind.Root (version_in old.documents)) old.documents)
       old.store new.store result
 
 -- Where a store is handed in, its next roots are adopted, and the root then in force is written.

@@ -1,5 +1,5 @@
 -- The search for a target and its file (TUF specification, sections 5.6.7 and 5.7).
-use Rattle.std.specs.Prelude.{◌≡◌, ◌≢◌, ℕ, ◌==◌, nat_lt, List, [], ◌∷◌, if◌then◌else◌, Option, Some}
+use Rattle.std.specs.Prelude.{◌≡◌, ◌≢◌, ℕ, ◌==◌, nat_lt, List, [], ◌∷◌, if◌then◌else◌, Bool, Option, Some, ok_or}
 use Rattle.std.specs.Prelude.{None, Result, Ok, Err, codes, ⊤}
 use Rattle.jiff_core.specs.declared.timestamp.Timestamp as jiff
 use Rattle.foundation.specs.Steps.{◌>>=◌}
@@ -7,7 +7,7 @@ use Rattle.foundation.specs.Watched.{Watched}
 use Rattle.sigstore_types_parts.specs.Entries.{at_name}
 use Rattle.sigstore_tuf_parts.specs.declared.error.Error.{Error}
 use Rattle.sigstore_tuf_parts.specs.declared.error.Error.TheVariants.{IntegrityMismatch, NotRefreshed, TargetNotFound, Transport, NoMemory}
-use Rattle.sigstore_tuf_parts.specs.declared.error.Mismatch.TheVariants.{Version, TooLong}
+use Rattle.sigstore_tuf_parts.specs.declared.error.Mismatch.TheVariants.{Version, TooLong, NoDigest}
 use Rattle.sigstore_tuf_parts.specs.declared.error.TransportFault.TheVariants.{Absent}
 use Rattle.sigstore_tuf_parts.specs.declared.timestamp.MetaFile.{MetaFile}
 use Rattle.sigstore_tuf_parts.specs.declared.timestamp.Timestamp.{Timestamp}
@@ -23,7 +23,7 @@ use Rattle.sigstore_tuf.specs.declared.documents.InForce.{InForce}
 use Rattle.sigstore_tuf.specs.declared.chain.RoleDoc.{RoleDoc}
 use Rattle.sigstore_tuf.specs.declared.chain.TrustChain.{TrustChain}
 use Rattle.sigstore_tuf.specs.Documents.{content_of, snapshot_pin, targets_pin}
-use Rattle.sigstore_tuf.specs.Names.{kept_target}
+use Rattle.sigstore_tuf.specs.Names.{is_consistent, target_name_of, kept_target}
 use Rattle.sigstore_tuf.specs.State.{Session}
 use Rattle.sigstore_tuf.specs.Adopt.{top_targets, FetchesNamed, LoadsNamed, Saves}
 use Rattle.sigstore_tuf.specs.Client.{has_version, undelegated_of}
@@ -140,27 +140,37 @@ pub data TakesFile (entry : TargetFile) (path bytes : List ℕ) (store store' : 
   given : file_of entry bytes ≡ Ok tt → Saves bytes (kept_target path) store store' (Ok tt) → result ≡ Ok bytes
       → TakesFile entry path bytes store store' result
 
--- The file of an entry is fetched, within its listed length, and taken so.
-pub data Downloads (config : UpdaterConfig) (entry : TargetFile) (path : List ℕ) (repo repo' : Watched Folders)
+-- what is asked of an entry before its file is fetched: its length, and its name in the repository, which is given
+unfoldable pub fetch_name_of : Bool → UpdaterConfig → TargetFile → List ℕ → Result (List ℕ) Error
+fetch_name_of consistent config entry path = do
+  _ ← within_of config entry
+  ok_or (target_name_of consistent entry path) (IntegrityMismatch NoDigest)
+
+-- The file of an entry is fetched by its name, within its listed length, and taken so.
+pub data Downloads (consistent : Bool) (config : UpdaterConfig) (entry : TargetFile) (path : List ℕ) (repo repo' : Watched Folders)
     (store store' : Watched Files) (result : Result (List ℕ) Error) : Type 0 where
-  too_long : (e : Error) → within_of config entry ≡ Err e → repo' ≡ repo → store' ≡ store → result ≡ Err e
-      → Downloads config entry path repo repo' store store' result
-  unfetched : (e : Error) → within_of config entry ≡ Ok tt → FetchesNamed target_files path entry.length repo repo' (Err e)
-      → store' ≡ store → result ≡ Err e → Downloads config entry path repo repo' store store' result
-  absent : within_of config entry ≡ Ok tt → FetchesNamed target_files path entry.length repo repo' (Ok None)
-      → store' ≡ store → result ≡ Err (Transport Absent) → Downloads config entry path repo repo' store store' result
-  fetched : (bytes : List ℕ) → within_of config entry ≡ Ok tt → FetchesNamed target_files path entry.length repo repo' (Ok (Some bytes))
-      → TakesFile entry path bytes store store' result → Downloads config entry path repo repo' store store' result
+  unnamed : (e : Error) → (e ≢ NoMemory → fetch_name_of consistent config entry path ≡ Err e) → repo' ≡ repo → store' ≡ store
+      → result ≡ Err e → Downloads consistent config entry path repo repo' store store' result
+  unfetched : (name : List ℕ) (e : Error) → fetch_name_of consistent config entry path ≡ Ok name
+      → FetchesNamed target_files name entry.length repo repo' (Err e)
+      → store' ≡ store → result ≡ Err e → Downloads consistent config entry path repo repo' store store' result
+  absent : (name : List ℕ) → fetch_name_of consistent config entry path ≡ Ok name
+      → FetchesNamed target_files name entry.length repo repo' (Ok None)
+      → store' ≡ store → result ≡ Err (Transport Absent) → Downloads consistent config entry path repo repo' store store' result
+  fetched : (name bytes : List ℕ) → fetch_name_of consistent config entry path ≡ Ok name
+      → FetchesNamed target_files name entry.length repo repo' (Ok (Some bytes))
+      → TakesFile entry path bytes store store' result → Downloads consistent config entry path repo repo' store store' result
 
 -- The store's file is taken where it is the entry's; else the repository's.
-pub data Obtains (config : UpdaterConfig) (entry : TargetFile) (path : List ℕ) (repo repo' : Watched Folders) (store store' : Watched Files)
-    (result : Result (List ℕ) Error) : Type 0 where
+pub data Obtains (consistent : Bool) (config : UpdaterConfig) (entry : TargetFile) (path : List ℕ) (repo repo' : Watched Folders)
+    (store store' : Watched Files) (result : Result (List ℕ) Error) : Type 0 where
   unrecalled : (e : Error) → Recalls entry path store store' (Err e) → repo' ≡ repo → result ≡ Err e
-      → Obtains config entry path repo repo' store store' result
+      → Obtains consistent config entry path repo repo' store store' result
   recalled : (bytes : List ℕ) → Recalls entry path store store' (Ok (Some bytes)) → repo' ≡ repo → result ≡ Ok bytes
-      → Obtains config entry path repo repo' store store' result
-  downloaded : (mid : Watched Files) → Recalls entry path store mid (Ok None) → Downloads config entry path repo repo' mid store' result
-      → Obtains config entry path repo repo' store store' result
+      → Obtains consistent config entry path repo repo' store store' result
+  downloaded : (mid : Watched Files) → Recalls entry path store mid (Ok None)
+      → Downloads consistent config entry path repo repo' mid store' result
+      → Obtains consistent config entry path repo repo' store store' result
 
 -- ---- the chain
 
@@ -195,11 +205,11 @@ pub data GetsTarget (session : Session) (path : List ℕ) (set : InForce) (repo 
   unlisted : (e : Error) → (e ≢ NoMemory → target_of set session.config path session.now ≡ Err e) → repo' ≡ repo → store' ≡ store
       → result ≡ Err e → GetsTarget session path set repo repo' store store' result
   unobtained : (entry : TargetFile) (e : Error) → target_of set session.config path session.now ≡ Ok entry
-      → Obtains session.config entry path repo repo' store store' (Err e) → result ≡ Err e
+      → Obtains (is_consistent set) session.config entry path repo repo' store store' (Err e) → result ≡ Err e
       → GetsTarget session path set repo repo' store store' result
   unchained : (entry : TargetFile) (file : List ℕ) (e : Error) → target_of set session.config path session.now ≡ Ok entry
-      → Obtains session.config entry path repo repo' store store' (Ok file)
+      → Obtains (is_consistent set) session.config entry path repo repo' store store' (Ok file)
       → (e ≢ NoMemory → chain_of set entry file ≡ Err e) → result ≡ Err e → GetsTarget session path set repo repo' store store' result
   found : (entry : TargetFile) (file : List ℕ) (chain : TrustChain) → target_of set session.config path session.now ≡ Ok entry
-      → Obtains session.config entry path repo repo' store store' (Ok file)
+      → Obtains (is_consistent set) session.config entry path repo repo' store store' (Ok file)
       → chain_of set entry file ≡ Ok chain → result ≡ Ok chain → GetsTarget session path set repo repo' store store' result

@@ -4,21 +4,25 @@ ghost use Rattle.foundation.specs.Watched.{Watched};
 ghost use Rattle.sigstore_tuf_parts.specs.By.{crypto_by};
 ghost use Rattle.sigstore_tuf.specs.Repository.{Folders, metadata_files};
 ghost use Rattle.sigstore_tuf.specs.State.{state_of, session_by};
-ghost use Rattle.sigstore_tuf.specs.Names.{kept_name, history_name};
+ghost use Rattle.sigstore_tuf.specs.Names.{kept_name, history_name, pinned_name, both_names};
 ghost use Rattle.sigstore_tuf.specs.Update.{Updates};
 ghost use Rattle.sigstore_tuf.specs.declared.kind.Kind.TheVariants as kind;
 ghost use Rattle.sigstore_tuf.specs.Adopt.{update_of, judged_of, Takes, bytes_in, transport_of, FetchesNamed, FetchesDocument, LoadsNamed, Saves, SavesAll, Keeps, KeepsWhere, there_of, there_unless_equal, absence_of, Adopts, passed_over, Seeds};
 
 use crate::documents::InForce;
 use crate::kind::Kind;
-use crate::names::{ROOT_FILE, history_name, max_length};
+use crate::names::{
+    ROOT_FILE, history_name, is_consistent, max_length, pinned_name, snapshot_pin_in,
+    targets_pin_in,
+};
 use crate::repository::{FetchFault, Repository};
 use crate::session::Session;
 use crate::store::{MetadataStore, StoreFault};
 use crate::update::{update_root, update_snapshot, update_targets, update_timestamp};
 use sigstore_crypto::CryptoProvider;
 use sigstore_tuf_parts::{
-    Error, SNAPSHOT_NAME, TARGETS_NAME, TIMESTAMP_NAME, TransportFault, root_name,
+    Error, MetaFile, SNAPSHOT_NAME, TARGETS_NAME, TIMESTAMP_NAME, TransportFault, root_name,
+    versioned_name,
 };
 use sigstore_types_parts::{Armor, Bytes};
 use std::alloc::Global;
@@ -157,24 +161,49 @@ fn fetch_named<R: Repository>(
     }
 }
 
-// A document's file, where it is there.
+// The file of a document that is pinned so, where it is there.
+fn fetch_pinned<R: Repository>(
+    alloc: Global,
+    repo: &mut R,
+    consistent: bool,
+    pin: Option<&MetaFile>,
+    name: &str,
+    max: u64,
+) -> Result<Option<Bytes>, Error>
+    ensures { FetchesNamed metadata_files (pinned_name consistent (option_copied pin.entry) name.now) max (R.seen repo.old) (R.seen repo.new) result }
+{
+    match pinned_name(alloc, consistent, pin, name) {
+        Ok(name) => fetch_named(alloc, repo, name.as_str(), max),
+        Err(e) => Err(Error::from(e)),
+    }
+}
+
+// A document's file, by the name that the documents in force give it, where it is there.
 fn fetch_document<C: CryptoProvider, M: Armor, R: Repository>(
     alloc: Global,
     session: &Session<'_, C, M>,
+    documents: &InForce,
     repo: &mut R,
     kind: Kind,
 ) -> Result<Option<Bytes>, Error>
-    ensures { FetchesDocument (session_by C.CryptoProvider M.Armor session.now) kind (R.seen repo.old) (R.seen repo.new) result }
+    ensures { FetchesDocument (session_by C.CryptoProvider M.Armor session.now) documents.now kind (R.seen repo.old) (R.seen repo.new) result }
 {
     let max = max_length(session.config, kind);
+    let consistent = is_consistent(documents);
     match kind {
         Kind::Root(number) => match root_name(alloc, number) {
             Ok(name) => fetch_named(alloc, repo, name.as_str(), max),
             Err(e) => Err(Error::from(e)),
         },
         Kind::Timestamp => fetch_named(alloc, repo, TIMESTAMP_NAME, max),
-        Kind::Snapshot => fetch_named(alloc, repo, SNAPSHOT_NAME, max),
-        Kind::Targets => fetch_named(alloc, repo, TARGETS_NAME, max),
+        Kind::Snapshot => {
+            let pin = snapshot_pin_in(documents);
+            fetch_pinned(alloc, repo, consistent, pin, SNAPSHOT_NAME, max)
+        }
+        Kind::Targets => {
+            let pin = targets_pin_in(documents);
+            fetch_pinned(alloc, repo, consistent, pin, TARGETS_NAME, max)
+        }
     }
 }
 
@@ -253,7 +282,7 @@ fn save_root<S: MetadataStore>(
     number: u64,
     bytes: &[u8],
 ) -> Result<(), Error>
-    ensures { Keeps (kind.Root number) bytes.now (S.seen store.old) (S.seen store.new) result }
+    ensures { (set : InForce) → Keeps set (kind.Root number) bytes.now (S.seen store.old) (S.seen store.new) result }
 {
     match save_history(alloc, store, number, bytes) {
         Ok(()) => match save(alloc, store, ROOT_FILE, bytes) {
@@ -278,19 +307,63 @@ fn save_alone<S: MetadataStore>(
     }
 }
 
-// Writes a document under the names of its kind.
+// Writes a file under one name, then under another.
+fn save_twice<S: MetadataStore>(
+    alloc: Global,
+    store: &mut S,
+    first: &str,
+    second: &str,
+    bytes: &[u8],
+) -> Result<(), Error>
+    ensures { SavesAll bytes.now (first.now ∷ second.now ∷ []) (S.seen store.old) (S.seen store.new) result }
+{
+    match save(alloc, store, first, bytes) {
+        Ok(()) => match save(alloc, store, second, bytes) {
+            Ok(()) => Ok(()),
+            Err(e) => Err(e),
+        },
+        Err(e) => Err(e),
+    }
+}
+
+// Writes a document that is pinned so: under consistent names by its version too.
+fn save_pinned<S: MetadataStore>(
+    alloc: Global,
+    store: &mut S,
+    consistent: bool,
+    pin: Option<&MetaFile>,
+    name: &str,
+    bytes: &[u8],
+) -> Result<(), Error>
+    ensures { SavesAll bytes.now (both_names consistent (option_copied pin.entry) name.now) (S.seen store.old) (S.seen store.new) result }
+{
+    match (consistent, pin) {
+        (true, Some(pin)) => match versioned_name(alloc, pin.version, name) {
+            Ok(versioned) => save_twice(alloc, store, versioned.as_str(), name, bytes),
+            Err(e) => Err(Error::from(e)),
+        },
+        _ => save_alone(alloc, store, name, bytes),
+    }
+}
+
+// Writes a document under the names that the documents in force give it.
 pub(crate) fn save_document<S: MetadataStore>(
     alloc: Global,
     store: &mut S,
+    documents: &InForce,
     kind: Kind,
     bytes: &[u8],
 ) -> Result<(), Error>
-    ensures { Keeps kind bytes.now (S.seen store.old) (S.seen store.new) result }
+    ensures { Keeps documents.now kind bytes.now (S.seen store.old) (S.seen store.new) result }
 {
     match kind {
         Kind::Root(number) => save_root(alloc, store, number, bytes),
         Kind::Timestamp => save_alone(alloc, store, TIMESTAMP_NAME, bytes),
-        Kind::Snapshot => save_alone(alloc, store, SNAPSHOT_NAME, bytes),
+        Kind::Snapshot => {
+            let consistent = is_consistent(documents);
+            let pin = snapshot_pin_in(documents);
+            save_pinned(alloc, store, consistent, pin, SNAPSHOT_NAME, bytes)
+        }
         Kind::Targets => save_alone(alloc, store, TARGETS_NAME, bytes),
     }
 }
@@ -302,10 +375,10 @@ pub(crate) fn save_in_force<S: MetadataStore>(
     documents: &InForce,
     kind: Kind,
 ) -> Result<(), Error>
-    ensures { KeepsWhere kind (bytes_in kind documents.now) (S.seen store.old) (S.seen store.new) result }
+    ensures { KeepsWhere documents.now kind (bytes_in kind documents.now) (S.seen store.old) (S.seen store.new) result }
 {
     match bytes_in(documents, kind) {
-        Some(bytes) => save_document(alloc, store, kind, bytes),
+        Some(bytes) => save_document(alloc, store, documents, kind, bytes),
         None => Ok(()),
     }
 }
@@ -333,7 +406,7 @@ pub(crate) fn adopt<C: CryptoProvider, M: Armor, R: Repository, S: MetadataStore
     ensures { Adopts (session_by C.CryptoProvider M.Armor session.now) kind (state_of documents.old (R.seen repo.old) (S.seen store.old))
         (state_of documents.new (R.seen repo.new) (S.seen store.new)) result }
 {
-    match fetch_document(alloc, session, repo, kind) {
+    match fetch_document(alloc, session, documents, repo, kind) {
         Ok(Some(bytes)) => {
             match take(
                 alloc,

@@ -130,18 +130,15 @@ pub(crate) fn attach<C: CryptoProvider, M: Armor, S: MetadataStore>(
 
 // ---- what is in force
 
-// The root in force isn't expired, and its names aren't consistent ones.
-#[tactic(auto, unfolding(crate::specs::Client::root_serves_of))]
+// The root in force isn't expired.
 fn check_root(alloc: Global, documents: &InForce, now: jiff::Timestamp) -> Result<(), Error>
     ensures ok { OnOk result (root_serves_of documents.now now ≡ Ok tt) }
     ensures err { IfErr result (λ e. e ≢ Error.NoMemory → root_serves_of documents.now now ≡ Err e) }
 {
-    let root = documents.root.signed();
-    root.check_fresh(alloc, now)?;
-    if root.consistent_snapshot {
-        return Err(Error::Unbuilt(Form::Consistent));
+    match documents.root.signed().check_fresh(alloc, now) {
+        Ok(()) => Ok(()),
+        Err(e) => Err(e),
     }
-    Ok(())
 }
 
 // The timestamp in force pins the snapshot, and isn't expired.

@@ -46,7 +46,7 @@ pub use sigstore_tuf_parts::{
     TIMESTAMP_NAME, TargetFile, Targets, Timestamp, TransportFault, canonical_text_tells,
     check_fresh, check_integrity, check_version, is_past, meets_exactly, others, pin_name,
     pins_have_causes, readings_have_causes, relations_exactly, roles_have_causes, root_name,
-    to_canonical_bytes,
+    to_canonical_bytes, versioned_name,
 };
 pub use store::{MetadataStore, StoreFault};
 pub use store_repository::StoreRepository;

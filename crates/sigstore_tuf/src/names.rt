@@ -1,12 +1,42 @@
 // The names under which documents are fetched and kept.
-ghost use Rattle.std.specs.Prelude.{◌≡◌, IfOk};
-ghost use Rattle.sigstore_tuf.specs.Names.{max_length, history_name, kept_target};
+ghost use Rattle.std.specs.Prelude.{◌≡◌, Ok, IfOk, IfErr, option_map, option_copied};
+ghost use Rattle.std.specs.Path.{slash, rsplit_once};
+ghost use Rattle.sigstore_tuf.specs.Names.{is_consistent, snapshot_pin_in, targets_pin_in, pinned_name, max_length, history_name, first_of, name_digest, digest_name, target_name_of, kept_target};
 
 use crate::config::UpdaterConfig;
+use crate::documents::InForce;
 use crate::kind::Kind;
 use foundation::NoMemory;
-use sigstore_types_parts::Text;
+use sigstore_tuf_parts::{MetaFile, TargetFile, versioned_name};
+use sigstore_types_parts::{Text, TextMap};
 use std::alloc::Global;
+
+// Whether the root in force asks for consistent names.
+pub(crate) fn is_consistent(documents: &InForce) -> bool
+    ensures { result ≡ is_consistent documents.now }
+{
+    documents.root.signed().consistent_snapshot
+}
+
+// What the documents in force pin the snapshot by.
+pub(crate) fn snapshot_pin_in(documents: &InForce) -> Option<&MetaFile>
+    ensures { option_copied result ≡ snapshot_pin_in documents.now }
+{
+    match &documents.timestamp {
+        Some(held) => held.document.signed().snapshot_meta(),
+        None => None,
+    }
+}
+
+// What the documents in force pin the targets document by.
+pub(crate) fn targets_pin_in(documents: &InForce) -> Option<&MetaFile>
+    ensures { option_copied result ≡ targets_pin_in documents.now }
+{
+    match &documents.snapshot {
+        Some(held) => held.document.signed().targets_meta(),
+        None => None,
+    }
+}
 
 // The name of the root in force in the store.
 pub(crate) const ROOT_FILE: &'static str = "root.json";
@@ -23,6 +53,85 @@ pub(crate) fn kept_target(alloc: Global, path: &str) -> Result<Text, NoMemory>
     ensures { IfOk result (λ name. name ≡ kept_target path.now) }
 {
     Ok(Text::from_string(format!(in alloc; "targets/{path}")?))
+}
+
+// The name of a document that is pinned so: under consistent names the pinned version stands before it.
+pub(crate) fn pinned_name(
+    alloc: Global,
+    consistent: bool,
+    pin: Option<&MetaFile>,
+    name: &str,
+) -> Result<Text, NoMemory>
+    ensures { IfOk result (λ out. out ≡ pinned_name consistent (option_copied pin.entry) name.now) }
+{
+    match pin {
+        Some(pin) => if consistent {
+            versioned_name(alloc, pin.version, name)
+        } else {
+            Text::new(alloc, name)
+        },
+        None => Text::new(alloc, name),
+    }
+}
+
+// The first digest.
+fn first_of(hashes: &TextMap<Text>) -> Option<&Text>
+    ensures { option_copied result ≡ first_of hashes.now }
+{
+    match hashes.iter().next() {
+        Some((_, digest)) => Some(digest),
+        None => None,
+    }
+}
+
+// The digest that the name of a target has: SHA-256, else SHA-512, else the first.
+fn name_digest(entry: &TargetFile) -> Option<&Text>
+    ensures { option_copied result ≡ name_digest entry.now }
+{
+    if let Some(digest) = entry.hashes.get("sha256") {
+        return Some(digest);
+    }
+    if let Some(digest) = entry.hashes.get("sha512") {
+        return Some(digest);
+    }
+    first_of(&entry.hashes)
+}
+
+// A path before its last slash, and its last part.
+fn last_part(path: &str) -> Option<(&str, &str)>
+    ensures { option_map (λ x. (x.0.now, x.1.now)) result ≡ rsplit_once slash path.now }
+{
+    path.rsplit_once('/')
+}
+
+// A target's name with a digest before its last part.
+fn digest_name(alloc: Global, digest: &str, path: &str) -> Result<Text, NoMemory>
+    ensures { IfOk result (λ name. name ≡ digest_name digest.now path.now) }
+{
+    match last_part(path) {
+        Some((folder, name)) => Ok(Text::from_string(format!(in alloc;
+            "{folder}/{digest}.{name}"
+        )?)),
+        None => Ok(Text::from_string(format!(in alloc; "{digest}.{path}")?)),
+    }
+}
+
+// The name of a target's file in the repository; none where names are consistent and there is no digest.
+pub(crate) fn target_name(
+    alloc: Global,
+    consistent: bool,
+    entry: &TargetFile,
+    path: &str,
+) -> Result<Option<Text>, NoMemory>
+    ensures { IfOk result (λ name. name ≡ target_name_of consistent entry.now path.now) }
+{
+    if !consistent {
+        return Ok(Some(Text::new(alloc, path)?));
+    }
+    match name_digest(entry) {
+        Some(digest) => Ok(Some(digest_name(alloc, digest.as_str(), path)?)),
+        None => Ok(None),
+    }
 }
 
 // How long a document may be.

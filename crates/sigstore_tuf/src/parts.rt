@@ -105,8 +105,9 @@ pub(crate) fn target_info<C: CryptoProvider, M: Armor>(
 /// Finds a target at a moment, and gives the chain of documents by which it is trusted, with its file: the
 /// store's where it is the listed one, else the repository's, which is then written to the store. Errors, in
 /// this order: `Expired` of root, timestamp and snapshot, `NotRefreshed`, `Expired` of the targets document,
-/// `IntegrityMismatch(Version)`, `Unbuilt(Delegations)` or `TargetNotFound`, `IntegrityMismatch(TooLong)`, then
-/// those of the fetch and of the file's length and digests.
+/// `IntegrityMismatch(Version)`, `Unbuilt(Delegations)` or `TargetNotFound`, `IntegrityMismatch(TooLong)`,
+/// `IntegrityMismatch(NoDigest)` where the file's name needs a digest and there is none, then those of the
+/// fetch and of the file's length and digests.
 pub fn get_target_parts<C: CryptoProvider, M: Armor, R: Repository, S: MetadataStore>(
     alloc: Global,
     set: &TrustedMetadataSet<'_, C, M>,

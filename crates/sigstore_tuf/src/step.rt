@@ -7,7 +7,7 @@ use crate::kind::Kind;
 pub enum Step {
     /// Next roots of the repository are adopted, until one is absent.
     WalkRoots,
-    /// The root in force isn't expired, and its names aren't consistent ones.
+    /// The root in force isn't expired.
     CheckRoot,
     /// The store's document of the kind is put in force, unless one is there or it is refused.
     Seed(Kind),

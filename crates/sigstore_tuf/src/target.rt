@@ -4,14 +4,14 @@ ghost use Rattle.sigstore_tuf.specs.Repository.{target_files};
 ghost use Rattle.sigstore_tuf.specs.Names.{kept_target};
 ghost use Rattle.sigstore_tuf.specs.Adopt.{FetchesNamed, LoadsNamed, Saves};
 ghost use Rattle.sigstore_tuf.specs.State.{session_by};
-ghost use Rattle.sigstore_tuf.specs.Target.{fresh_timestamp_of, fresh_snapshot_of, unexpired_of, pinned_version_of, pinned_by_of, all_pinned_of, search_serves_of, entry_of, entry_in, listed_in, info_of, found_of, within_of, target_of, file_of, Recalls, TakesFile, Downloads, Obtains, visit_of, chain_in, chain_of, GetsTarget};
+ghost use Rattle.sigstore_tuf.specs.Target.{fresh_timestamp_of, fresh_snapshot_of, unexpired_of, pinned_version_of, pinned_by_of, all_pinned_of, search_serves_of, entry_of, entry_in, listed_in, info_of, found_of, within_of, target_of, fetch_name_of, file_of, Recalls, TakesFile, Downloads, Obtains, visit_of, chain_in, chain_of, GetsTarget};
 
 use crate::adopt::{load_named, save, transport};
 use crate::chain::{RoleDoc, TrustChain};
 use crate::client::check_undelegated;
 use crate::config::UpdaterConfig;
 use crate::documents::{Held, InForce};
-use crate::names::kept_target;
+use crate::names::{is_consistent, kept_target, target_name};
 use crate::repository::Repository;
 use crate::session::Session;
 use crate::store::MetadataStore;
@@ -332,23 +332,43 @@ fn take_file<S: MetadataStore>(
     }
 }
 
+// The name by which the file of an entry is fetched.
+#[tactic(auto, unfolding(crate::specs::Target::fetch_name_of))]
+fn fetch_name(
+    alloc: Global,
+    consistent: bool,
+    config: &UpdaterConfig,
+    entry: &TargetFile,
+    path: &str,
+) -> Result<Text, Error>
+    ensures ok { IfOk result (λ name. fetch_name_of consistent config.now entry.now path.now ≡ Ok name) }
+    ensures err { IfErr result (λ e. e ≢ Error.NoMemory → fetch_name_of consistent config.now entry.now path.now ≡ Err e) }
+{
+    check_within(config, entry)?;
+    match target_name(alloc, consistent, entry, path)? {
+        Some(name) => Ok(name),
+        None => Err(Error::IntegrityMismatch(Mismatch::NoDigest)),
+    }
+}
+
 // The repository's file of an entry.
 pub(crate) fn download<R: Repository, S: MetadataStore>(
     alloc: Global,
+    consistent: bool,
     config: &UpdaterConfig,
     repo: &mut R,
     store: &mut S,
     entry: &TargetFile,
     path: &str,
 ) -> Result<Bytes, Error>
-    ensures { Downloads config.now entry.now path.now (R.seen repo.old) (R.seen repo.new) (S.seen store.old) (S.seen store.new) result }
+    ensures { Downloads consistent config.now entry.now path.now (R.seen repo.old) (R.seen repo.new) (S.seen store.old) (S.seen store.new) result }
 {
-    if let Err(e) = check_within(config, entry) {
-        return Err(e);
-    }
-    match fetch_file(alloc, repo, path, entry.length) {
-        Ok(Some(bytes)) => take_file(alloc, store, entry, path, bytes),
-        Ok(None) => Err(Error::Transport(TransportFault::Absent)),
+    match fetch_name(alloc, consistent, config, entry, path) {
+        Ok(name) => match fetch_file(alloc, repo, name.as_str(), entry.length) {
+            Ok(Some(bytes)) => take_file(alloc, store, entry, path, bytes),
+            Ok(None) => Err(Error::Transport(TransportFault::Absent)),
+            Err(e) => Err(e),
+        },
         Err(e) => Err(e),
     }
 }
@@ -356,17 +376,18 @@ pub(crate) fn download<R: Repository, S: MetadataStore>(
 // The file of an entry, from the store or else from the repository.
 fn obtain<R: Repository, S: MetadataStore>(
     alloc: Global,
+    consistent: bool,
     config: &UpdaterConfig,
     repo: &mut R,
     store: &mut S,
     entry: &TargetFile,
     path: &str,
 ) -> Result<Bytes, Error>
-    ensures { Obtains config.now entry.now path.now (R.seen repo.old) (R.seen repo.new) (S.seen store.old) (S.seen store.new) result }
+    ensures { Obtains consistent config.now entry.now path.now (R.seen repo.old) (R.seen repo.new) (S.seen store.old) (S.seen store.new) result }
 {
     match recall_target(alloc, store, entry, path) {
         Ok(Some(bytes)) => Ok(bytes),
-        Ok(None) => download(alloc, config, repo, store, entry, path),
+        Ok(None) => download(alloc, consistent, config, repo, store, entry, path),
         Err(e) => Err(e),
     }
 }
@@ -444,7 +465,15 @@ pub(crate) fn find_chain<C: CryptoProvider, M: Armor, R: Repository, S: Metadata
     ensures { GetsTarget (session_by C.CryptoProvider M.Armor session.now) path.now documents.now (R.seen repo.old) (R.seen repo.new) (S.seen store.old) (S.seen store.new) result }
 {
     match find_target(alloc, documents, session.config, path, session.moment) {
-        Ok(entry) => match obtain(alloc, session.config, repo, store, entry, path) {
+        Ok(entry) => match obtain(
+            alloc,
+            is_consistent(documents),
+            session.config,
+            repo,
+            store,
+            entry,
+            path,
+        ) {
             Ok(file) => match chain(alloc, documents, entry, file) {
                 Ok(chain) => Ok(chain),
                 Err(e) => Err(e),

@@ -8,6 +8,7 @@ ghost use Rattle.sigstore_tuf.specs.Update.{first_root_of};
 ghost use Rattle.sigstore_tuf.specs.State.{state_of, session_of};
 ghost use Rattle.sigstore_tuf.specs.Authorised.{IsAuthorised, crypto_in, SameJudges};
 ghost use Rattle.sigstore_tuf.specs.Promises.{Attached, Refreshed, Got};
+ghost use Rattle.sigstore_tuf.specs.Names.{is_consistent};
 ghost use Rattle.sigstore_tuf.specs.Target.{info_of, Recalls, Downloads};
 ghost use Rattle.sigstore_tuf.specs.Updater.{SameOption, option_seen, GivesFile};
 
@@ -88,6 +89,7 @@ fn recall_held<S: MetadataStore>(
 // A target's file of the repository, written to the store that is there.
 fn download_held<R: Repository, S: MetadataStore>(
     alloc: Global,
+    consistent: bool,
     repo: &mut R,
     store: &mut Option<&mut S>,
     config: &UpdaterConfig,
@@ -95,12 +97,12 @@ fn download_held<R: Repository, S: MetadataStore>(
     path: &str,
 ) -> Result<Bytes, Error>
     ensures same_store { SameOption store.old store.new }
-    ensures downloads { Downloads config.now target.now path.now (R.seen repo.old) (R.seen repo.new)
+    ensures downloads { Downloads consistent config.now target.now path.now (R.seen repo.old) (R.seen repo.new)
         (option_seen S.seen store.old) (option_seen S.seen store.new) result }
 {
     match store {
-        Some(store) => download(alloc, config, repo, *store, target, path),
-        None => download(alloc, config, repo, &mut NoStore, target, path),
+        Some(store) => download(alloc, consistent, config, repo, *store, target, path),
+        None => download(alloc, consistent, config, repo, &mut NoStore, target, path),
     }
 }
 
@@ -277,9 +279,10 @@ impl<'a, C: CryptoProvider, M: Armor, R: Repository, S: MetadataStore> Updater<'
         recall_held(alloc, &mut self.store, target, path)
     }
 
-    /// The repository's file of a target, which is then written to the store. Errors, in this order:
-    /// `IntegrityMismatch(TooLong)` where the listed length is above the limit, those of the fetch, then
-    /// `IntegrityMismatch` of the file's length and digests.
+    /// The repository's file of a target, which is then written to the store; where the root in force has
+    /// consistent names, the file's name has its digest. Errors, in this order: `IntegrityMismatch(TooLong)`
+    /// where the listed length is above the limit, `IntegrityMismatch(NoDigest)` where the name has none, those
+    /// of the fetch, then `IntegrityMismatch` of the file's length and digests.
     pub fn download_target(
         &mut self,
         alloc: Global,
@@ -288,13 +291,14 @@ impl<'a, C: CryptoProvider, M: Armor, R: Repository, S: MetadataStore> Updater<'
     ) -> Result<Bytes, Error>
         ensures same_repo { self.new.repo.ghost_name ≡ self.old.repo.ghost_name }
         ensures same_store { SameOption self.old.store self.new.store }
-        ensures downloads { Downloads self.old.config target.now path.now (R.seen self.old.repo.now) (R.seen self.new.repo.now)
+        ensures downloads { Downloads (is_consistent self.old.set.documents) self.old.config target.now path.now (R.seen self.old.repo.now) (R.seen self.new.repo.now)
             (option_seen S.seen self.old.store) (option_seen S.seen self.new.store) result }
         ensures same { (self.new.set ≡ self.old.set)
             × (self.new.config ≡ self.old.config) × (self.new.chain ≡ self.old.chain) }
     {
         download_held(
             alloc,
+            self.set.root().consistent_snapshot,
             self.repo,
             &mut self.store,
             &self.config,

@@ -42,7 +42,8 @@ pub enum Mismatch {
     Length,
     /// The file has another digest.
     Digest,
-    /// Digests are pinned, and none of them is SHA-256 or SHA-512.
+    /// Digests are pinned, and none of them is SHA-256 or SHA-512; or a target's name needs one, and none is
+    /// listed.
     NoDigest,
     /// The document has another version.
     Version,

@@ -36,7 +36,7 @@ pub use laws::{
     roles_have_causes,
 };
 pub use member::DocumentMember;
-pub use names::{SNAPSHOT_NAME, TARGETS_NAME, TIMESTAMP_NAME, pin_name, root_name};
+pub use names::{SNAPSHOT_NAME, TARGETS_NAME, TIMESTAMP_NAME, pin_name, root_name, versioned_name};
 pub use role::Role;
 pub use root::Root;
 pub use snapshot::Snapshot;

@@ -37,10 +37,15 @@ const EMPTY_MESSAGE: &str =
 const WORDS: &str =
     "verify --root=a --repository=b --store=c --bundle=d --artifact=e --policy=f --provider=g --now=2025-01-01T00:00:00Z";
 
+// The trust file's name under consistent names.
+const DIGEST_NAME: &str =
+    "44136fa355b3678a1146ad16f7e8649e94fb4fc21fe77e8310c060f61caaff8a.trusted_root.json";
+
 // The parts of the fixture that a change names; nothing is unchanged.
 const PARTS: &str = "nothing
 words
 consistent
+consistent names
 scheme
 declared key
 next root
@@ -68,8 +73,17 @@ byte fails
 sink fails
 room";
 
+// The name of a file in the repository, where the change makes names consistent, and else.
+fn name_of(change: Change, consistent: &'static str, plain: &'static str) -> &'static str {
+    if change.part == "consistent names" {
+        consistent
+    } else {
+        plain
+    }
+}
+
 fn root<X: AllocGlobal + Abort>(rt: &X, change: Change, version: &str) -> String {
-    let consistent = change.of("consistent", "false");
+    let consistent = change.of("consistent", name_of(change, "true", "false"));
     let scheme = change.of("scheme", "ecdsa-sha2-nistp256");
     let public = change.of("declared key", SPKI);
     let text = format!(in rt.alloc();
@@ -136,13 +150,17 @@ fn repository<X: AllocGlobal + Abort>(rt: &X, change: Change, targets: &str) -> 
         "timestamp.json",
         change.of("timestamp", TIMESTAMP),
     );
-    put(rt, &mut repo, "snapshot.json", SNAPSHOT);
-    put(rt, &mut repo, "targets.json", targets);
-    let trust = change.of("file", change.of("trust", "{}"));
-    good(
+    let snapshot = name_of(change, "1.snapshot.json", "snapshot.json");
+    put(rt, &mut repo, snapshot, SNAPSHOT);
+    put(
         rt,
-        repo.put_target(rt.alloc(), "trusted_root.json", trust.as_bytes()),
+        &mut repo,
+        name_of(change, "1.targets.json", "targets.json"),
+        targets,
     );
+    let trust = change.of("file", change.of("trust", "{}"));
+    let file = name_of(change, DIGEST_NAME, "trusted_root.json");
+    good(rt, repo.put_target(rt.alloc(), file, trust.as_bytes()));
     repo
 }
 

@@ -12,6 +12,7 @@ repository fails | 6 | Accepted "accepted\nroot 1\ntimestamp 1\nsnapshot 1\nrole
 inputs fail | 5 | Accepted "accepted\nroot 1\ntimestamp 1\nsnapshot 1\nrole targets 1\ntarget 2\nartifact sha256 2cf24dba5fb0a30e26e83b2ac5b9e29e1b161e5c1fa7425e73043362938b9824\nidentity none\nissuer none\ncertificate no\nsct no\ntlog no\npolicy no\nintegrated none\ntimes 0\n"
 artifact fails | 5 | Accepted "accepted\nroot 1\ntimestamp 1\nsnapshot 1\nrole targets 1\ntarget 2\nartifact sha256 2cf24dba5fb0a30e26e83b2ac5b9e29e1b161e5c1fa7425e73043362938b9824\nidentity none\nissuer none\ncertificate no\nsct no\ntlog no\npolicy no\nintegrated none\ntimes 0\n"
 sink fails | 2 | Accepted "accepted\nroot 1\ntimestamp 1\nsnapshot 1\nrole targets 1\ntarget 2\nartifact sha256 2cf24dba5fb0a30e26e83b2ac5b9e29e1b161e5c1fa7425e73043362938b9824\nidentity none\nissuer none\ncertificate no\nsct no\ntlog no\npolicy no\nintegrated none\ntimes 0\n"
+consistent names |  | Accepted "accepted\nroot 1\ntimestamp 1\nsnapshot 1\nrole targets 1\ntarget 2\nartifact sha256 2cf24dba5fb0a30e26e83b2ac5b9e29e1b161e5c1fa7425e73043362938b9824\nidentity none\nissuer none\ncertificate no\nsct no\ntlog no\npolicy no\nintegrated none\ntimes 0\n"
 second root | 2 | Accepted "accepted\nroot 2\ntimestamp 1\nsnapshot 1\nrole targets 1\ntarget 2\nartifact sha256 2cf24dba5fb0a30e26e83b2ac5b9e29e1b161e5c1fa7425e73043362938b9824\nidentity none\nissuer none\ncertificate no\nsct no\ntlog no\npolicy no\nintegrated none\ntimes 0\n"
 kept root | 2 | Accepted "accepted\nroot 2\ntimestamp 1\nsnapshot 1\nrole targets 1\ntarget 2\nartifact sha256 2cf24dba5fb0a30e26e83b2ac5b9e29e1b161e5c1fa7425e73043362938b9824\nidentity none\nissuer none\ncertificate no\nsct no\ntlog no\npolicy no\nintegrated none\ntimes 0\n""#;
 
@@ -39,7 +40,8 @@ next root | {} | Refused "refused tuf 1 Json\n"
 second root | 3 | Refused "refused tuf 11 BadRootVersion\n"
 # The store has a newer timestamp than the repository.
 kept timestamp | {"_type":"timestamp","expires":"2030-01-01T00:00:00Z","meta":{"snapshot.json":{"version":1}},"spec_version":"1.0.0","version":2} | Refused "refused tuf 9 Rollback\n"
-consistent | true | Refused "refused tuf 90 Unbuilt\n"
+# The root asks for consistent names, and the repository has the others.
+consistent | true | Refused "refused tuf 18 Transport\n"
 delegations | "delegations":{"keys":{},"roles":[{"keyids":["k"],"name":"d","paths":["x"],"terminating":false,"threshold":1}]}, | Refused "refused tuf 90 Unbuilt\n"
 scheme | ed25519 | Refused "refused tuf 8 ThresholdNotMet\n"
 declared key | MCowBQYDK2VwAyEAAAAAAAAAAAAAAAAAAAAAAAAAAAAAAAAAAAAAAAAAAAA= | Refused "refused tuf 8 ThresholdNotMet\n"
@@ -96,6 +98,11 @@ byte fails | 3 | snapshot.json | 177 c66812bd310d9ffec79d3f410f617ae12852355d19c
 byte fails | 3 | targets.json | 270 2a8b7ee8f7369b05d495ac5f27f1ff03967db37f0a856db2d8bd89c2be6ec16c
 byte fails | 3 | targets/trusted_root.json | 2 44136fa355b3678a1146ad16f7e8649e94fb4fc21fe77e8310c060f61caaff8a
 kept timestamp | {"_type":"timestamp","expires":"2030-01-01T00:00:00Z","meta":{"snapshot.json":{"version":1}},"spec_version":"1.0.0","version":2} | timestamp.json | 179 dd0fefb62366e41bde4d34f3ce92ed38a32338136fd72364dfcfce9db3058ba9
+consistent names |  | 1.snapshot.json | 177 c66812bd310d9ffec79d3f410f617ae12852355d19c533d4cc8d7ca000552352
+consistent names |  | snapshot.json | 177 c66812bd310d9ffec79d3f410f617ae12852355d19c533d4cc8d7ca000552352
+consistent names |  | 1.targets.json | none
+consistent names |  | targets.json | 270 2a8b7ee8f7369b05d495ac5f27f1ff03967db37f0a856db2d8bd89c2be6ec16c
+consistent names |  | targets/trusted_root.json | 2 44136fa355b3678a1146ad16f7e8649e94fb4fc21fe77e8310c060f61caaff8a
 words |  | root.json | none"#;
 
 #[test]
