@@ -13,3 +13,4 @@ pub mod PinCauses
 pub mod RoleCauses
 mod Examples
 pub mod KeyText
+pub mod SignedTexts

@@ -17,6 +17,7 @@ pub mod Pinned
 pub mod Pattern
 pub mod Names
 pub mod Crypto
+pub mod SignedText
 pub mod By
 pub mod Threshold
 pub mod Meets

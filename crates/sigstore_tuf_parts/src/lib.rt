@@ -18,6 +18,7 @@ mod names;
 mod role;
 mod root;
 mod root_role;
+mod signed_text;
 mod snapshot;
 mod targets;
 mod text_set;
