@@ -14,3 +14,6 @@ pub mod RoleCauses
 mod Examples
 pub mod KeyText
 pub mod SignedTexts
+pub mod Classes
+pub mod Rows
+pub mod Patterns

@@ -15,6 +15,7 @@ pub mod Targets
 pub mod Integrity
 pub mod Pinned
 pub mod Pattern
+pub mod Piece
 pub mod Names
 pub mod Crypto
 pub mod SignedText
