@@ -21,7 +21,9 @@ pub fn answer<X: AllocGlobal + Abort>(rt: &X, call: &str, given: &str) -> String
 fn role<X: AllocGlobal + Abort>(rt: &X, members: &str) -> DelegatedRole {
     let text = good(
         rt,
-        format!(in rt.alloc(); "{{\"name\":\"d\",\"keyids\":[\"k\",\"l\"],\"threshold\":2{members}}}"),
+        format!(in rt.alloc();
+            "{{\"name\":\"d\",\"keyids\":[\"k\",\"l\"],\"threshold\":2{members}}}"
+        ),
     );
     let value = good(rt, Value::from_str(rt.alloc(), text.as_str()));
     let role = good(rt, DelegatedRole::from_value(rt.alloc(), &value));
