@@ -40,53 +40,53 @@ any_below p (x ∷ xs) = cases (p x) (any_below p xs)
     cases true e = grind (arith, nat_tests)
     cases false e = e ∙ grind (arith, nat_tests)
 
-some_closed : (turned : Bool) (first : ℕ) (later : List ℕ) → list_any (λ c. c == 93) later ≡ true → position_or_len (λ c. c == 93) later ≤ length later
-    → closed_in turned (first ∷ later)
-    ≡ Some (one (λ c. turn_of turned (is_member (first ∷ take (position_or_len (λ c. c == 93) later) later) c)), drop (position_or_len (λ c. c == 93) later + 1) later)
-some_closed turned first later any short =
+some_closed : (negated : Bool) (first : ℕ) (later : List ℕ) → list_any (λ c. c == 93) later ≡ true → position_or_len (λ c. c == 93) later ≤ length later
+    → closed_in negated (first ∷ later)
+    ≡ Some (one (λ c. turn_of negated (is_member (first ∷ take (position_or_len (λ c. c == 93) later) later) c)), drop (position_or_len (λ c. c == 93) later + 1) later)
+some_closed negated first later any short =
     let n = position_or_len (λ c. c == 93) later in
     let e : 1 + n + 1 ≡ suc (n + 1) = omega arith in
     rw (any, length-take-le n later short, e)
 
-none_closed : (turned : Bool) (first : ℕ) (later : List ℕ) → list_any (λ c. c == 93) later ≡ false → closed_in turned (first ∷ later) ≡ None
-none_closed turned first later any = rw any
+none_closed : (negated : Bool) (first : ℕ) (later : List ℕ) → list_any (λ c. c == 93) later ≡ false → closed_in negated (first ∷ later) ≡ None
+none_closed negated first later any = rw any
 
 -- the class ends at the first `]`
-closed_at : (turned : Bool) (first : ℕ) (later : List ℕ) (end : ℕ) → Some end ≡ position (λ c. c == 93) later
-    → closed_in turned (first ∷ later) ≡ Some (one (λ c. turn_of turned (is_member (first ∷ take end later) c)), drop (end + 1) later)
-closed_at turned first later end is = cases (nat_lt (position_or_len (λ c. c == 93) later) (length later)) refl is
+closed_at : (negated : Bool) (first : ℕ) (later : List ℕ) (end : ℕ) → Some end ≡ position (λ c. c == 93) later
+    → closed_in negated (first ∷ later) ≡ Some (one (λ c. turn_of negated (is_member (first ∷ take end later) c)), drop (end + 1) later)
+closed_at negated first later end is = cases (nat_lt (position_or_len (λ c. c == 93) later) (length later)) refl is
   where
     cases : (b : Bool) → nat_lt (position_or_len (λ c. c == 93) later) (length later) ≡ b → Some end ≡ cond b (Some (position_or_len (λ c. c == 93) later)) None
-        → closed_in turned (first ∷ later) ≡ Some (one (λ c. turn_of turned (is_member (first ∷ take end later) c)), drop (end + 1) later)
+        → closed_in negated (first ∷ later) ≡ Some (one (λ c. turn_of negated (is_member (first ∷ take end later) c)), drop (end + 1) later)
     cases true e at =
         let same : end ≡ position_or_len (λ c. c == 93) later = some_same end (position_or_len (λ c. c == 93) later) at in
         let short : position_or_len (λ c. c == 93) later ≤ length later = grind (arith, nat_tests) in
-        rw same (some_closed turned first later (any_below (λ c. c == 93) later ∙ e) short)
+        rw same (some_closed negated first later (any_below (λ c. c == 93) later ∙ e) short)
     cases false e at = cc
 
-pub never_closed : (turned : Bool) (first : ℕ) (later : List ℕ) → None ≡ position (λ c. c == 93) later → closed_in turned (first ∷ later) ≡ None
-never_closed turned first later is = cases (nat_lt (position_or_len (λ c. c == 93) later) (length later)) refl is
+pub never_closed : (negated : Bool) (first : ℕ) (later : List ℕ) → None ≡ position (λ c. c == 93) later → closed_in negated (first ∷ later) ≡ None
+never_closed negated first later is = cases (nat_lt (position_or_len (λ c. c == 93) later) (length later)) refl is
   where
     cases : (b : Bool) → nat_lt (position_or_len (λ c. c == 93) later) (length later) ≡ b → None ≡ cond b (Some (position_or_len (λ c. c == 93) later)) None
-        → closed_in turned (first ∷ later) ≡ None
+        → closed_in negated (first ∷ later) ≡ None
     cases true e at = cc
-    cases false e at = none_closed turned first later (any_below (λ c. c == 93) later ∙ e)
+    cases false e at = none_closed negated first later (any_below (λ c. c == 93) later ∙ e)
 
 -- what is left after the first is all the rest
 pub taken_tail : (first : ℕ) (later : List ℕ) → take (length (first ∷ later) - 1) later ≡ later
 taken_tail first later = let e : length (first ∷ later) - 1 ≡ length later = omega arith in rw e (take-length later)
 
 -- a class that was read, by the parts of the text
-pub class_read : (turned : Bool) (text members rest : List ℕ) (end : ℕ) → 1 ≤ length text → Some end ≡ position (λ c. c == 93) (take (length text - 1) (drop 1 text))
+pub class_read : (negated : Bool) (text members rest : List ℕ) (end : ℕ) → 1 ≤ length text → Some end ≡ position (λ c. c == 93) (take (length text - 1) (drop 1 text))
     → members ≡ take (end + 1) text → rest ≡ drop (end + 1) (take (length text - 1) (drop 1 text))
-    → Some (one (λ c. turn_of turned (is_member members c)), rest) ≡ closed_in turned text
-class_read turned [] members rest end some at is left = absurd (omega arith)
-class_read turned (first ∷ later) members rest end some at is left =
+    → Some (one (λ c. turn_of negated (is_member members c)), rest) ≡ closed_in negated text
+class_read negated [] members rest end some at is left = absurd (omega arith)
+class_read negated (first ∷ later) members rest end some at is left =
     let here : Some end ≡ position (λ c. c == 93) later = rw (taken_tail first later) at at in
     let front : members ≡ first ∷ take end later = is ∙ rw add-one in
     let back : rest ≡ drop (end + 1) later = left ∙ rw (taken_tail first later) in
-    sym (rw (front, back) (closed_at turned first later end here))
+    sym (rw (front, back) (closed_at negated first later end here))
 
-pub class_unread : (turned : Bool) (text : List ℕ) → 1 ≤ length text → None ≡ position (λ c. c == 93) (take (length text - 1) (drop 1 text)) → None ≡ closed_in turned text
-class_unread turned [] some at = absurd (omega arith)
-class_unread turned (first ∷ later) some at = sym (never_closed turned first later (rw (taken_tail first later) at at))
+pub class_unread : (negated : Bool) (text : List ℕ) → 1 ≤ length text → None ≡ position (λ c. c == 93) (take (length text - 1) (drop 1 text)) → None ≡ closed_in negated text
+class_unread negated [] some at = absurd (omega arith)
+class_unread negated (first ∷ later) some at = sym (never_closed negated first later (rw (taken_tail first later) at at))

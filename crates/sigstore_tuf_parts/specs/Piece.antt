@@ -6,7 +6,7 @@ use Rattle.sigstore_tuf_parts.specs.declared.piece.PatternPiece.TheVariants.{Run
 use Rattle.sigstore_tuf_parts.specs.declared.piece.ReadPiece.{ReadPiece}
 use Rattle.sigstore_tuf_parts.specs.Pattern.{Piece, run, one, any_character, is_member, Taken, closed_class, fits}
 
--- a class is turned by `!`
+-- what `!` makes of the test of a class
 abbrev pub turn_of : Bool → Bool → Bool
 turn_of true = not
 turn_of false = λ b. b
@@ -16,7 +16,7 @@ abbrev pub piece_in : PatternPiece → Piece
 piece_in Run = run
 piece_in Any = one any_character
 piece_in (Same c) = one (λ x. x == c)
-piece_in (Class turned members) = one (λ c. turn_of turned (is_member members.items c))
+piece_in (Class negated members) = one (λ c. turn_of negated (is_member members.items c))
 
 -- whether a piece stands for that one character, but for a run
 abbrev pub passes_of : Piece → ℕ → Bool
@@ -32,8 +32,8 @@ left_of later taken = option_map (λ t. (t.0, drop t.1 later)) taken
 
 -- the members of a class, and what is left after its `]`
 abbrev pub closed_in : Bool → List ℕ → Option (Piece × List ℕ)
-closed_in turned [] = None
-closed_in turned (first ∷ later) = left_of (first ∷ later) (closed_class (turn_of turned) 1 first later)
+closed_in negated [] = None
+closed_in negated (first ∷ later) = left_of (first ∷ later) (closed_class (turn_of negated) 1 first later)
 
 -- whether a piece and later ones stand for the empty text, by whether the later ones do
 abbrev pub begin_of : Piece → Bool → Bool

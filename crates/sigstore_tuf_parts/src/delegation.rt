@@ -49,12 +49,9 @@ fn has_prefix(alloc: Global, path: &str, prefixes: &[Text]) -> Result<bool, NoMe
     ensures { IfOk result (λ b. b ≡ has_prefix path.now prefixes.now) }
 {
     let digest = sha256(path.as_bytes()).to_hex(alloc)?;
+    let digits = digest.as_str().as_bytes();
     for prefix in prefixes {
-        if digest
-            .as_str()
-            .as_bytes()
-            .starts_with(prefix.as_str().as_bytes())
-        {
+        if digits.starts_with(prefix.as_str().as_bytes()) {
             return Ok(true);
         }
     }

@@ -1,5 +1,5 @@
 // Whether a pattern matches a path.
-ghost use Rattle.std.specs.Prelude.{◌≡◌, ◌≢◌, ◌∷◌, [], map, option_map, Ok, Err, IfOk, IfErr};
+ghost use Rattle.std.specs.Prelude.{◌≡◌, ◌≢◌, map, option_map, Ok, Err, IfOk, IfErr};
 ghost use Rattle.sigstore_tuf_parts.specs.Pattern.{cut, all_fit, pieces_after, segment_of, segments_of, matches};
 ghost use Rattle.sigstore_tuf_parts.specs.Piece.{piece_in};
 

@@ -1,5 +1,5 @@
 // The pieces of a pattern's segment, and how they are read.
-ghost use Rattle.std.specs.Prelude.{◌≡◌, ◌≤◌, length, option_map, position, IfOk, OnOk, ◌==◌};
+ghost use Rattle.std.specs.Prelude.{◌≡◌, ◌==◌, option_map, position, IfOk};
 ghost use Rattle.sigstore_tuf_parts.specs.Pattern.{piece_of, star_of, class_of};
 ghost use Rattle.sigstore_tuf_parts.specs.Piece.{piece_in, passes_of, closed_in, left_of, read_of};
 
@@ -16,8 +16,8 @@ pub(crate) enum PatternPiece {
     Any,
     /// That character.
     Same(char),
-    /// One of these members; where it is turned, any other character.
-    Class { turned: bool, members: Vec<char> },
+    /// One of these members; negated, any other character.
+    Class { negated: bool, members: Vec<char> },
 }
 
 /// A piece that was read, and what is left of the text after it.
@@ -36,7 +36,8 @@ impl PatternPiece {
             PatternPiece::Run => false,
             PatternPiece::Any => true,
             PatternPiece::Same(own) => c == *own,
-            PatternPiece::Class { turned, members } => is_member(members.as_slice(), c) != *turned,
+            PatternPiece::Class { negated, members } => is_member(members.as_slice(), c)
+                != *negated,
         }
     }
 }
@@ -89,10 +90,10 @@ fn read_class<'t>(alloc: Global, later: &'t [char]) -> Result<Option<ReadPiece<'
 // The members of a class: at least one, and then up to the first `]`.
 fn read_members<'t>(
     alloc: Global,
-    turned: bool,
+    negated: bool,
     text: &'t [char],
 ) -> Result<Option<ReadPiece<'t>>, NoMemory>
-    ensures { IfOk result (λ read. option_map read_of read ≡ closed_in turned text.now) }
+    ensures { IfOk result (λ read. option_map read_of read ≡ closed_in negated text.now) }
 {
     let [_, later @ ..] = text else {
         return Ok(None);
@@ -102,7 +103,7 @@ fn read_members<'t>(
             let (members, _) = text.split_at(end + 1);
             let (_, rest) = later.split_at(end + 1);
             let members = Vec::from_slice(alloc, members)?;
-            let piece = PatternPiece::Class { turned, members };
+            let piece = PatternPiece::Class { negated, members };
             Ok(Some(ReadPiece { piece, rest }))
         }
         None => Ok(None),

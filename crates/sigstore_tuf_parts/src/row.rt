@@ -3,7 +3,7 @@
 // Trying each run's length and going back on a failure takes time that grows as a power of the
 // text's length. A row has one answer for each end of the text, and each piece makes the row of one
 // piece more, so that a match takes as many steps as pieces times characters.
-ghost use Rattle.std.specs.Prelude.{◌≡◌, ◌+◌, ◌<◌, ℕ, List, [], ◌∷◌, length, map, reverse, false, slice_index_or, IfOk};
+ghost use Rattle.std.specs.Prelude.{◌≡◌, ◌+◌, ◌<◌, List, [], ◌∷◌, length, map, reverse, false, slice_index_or, IfOk};
 ghost use Rattle.std.specs.Str.{chars};
 ghost use Rattle.sigstore_tuf_parts.specs.Pattern.{Piece, fits};
 ghost use Rattle.sigstore_tuf_parts.specs.Piece.{piece_in, begin_of, step_of, IsRow};
