@@ -13,3 +13,7 @@ pub mod PinCauses
 pub mod RoleCauses
 mod Examples
 pub mod KeyText
+pub mod SignedTexts
+pub mod Classes
+pub mod Rows
+pub mod Patterns

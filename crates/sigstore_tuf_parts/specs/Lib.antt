@@ -15,8 +15,10 @@ pub mod Targets
 pub mod Integrity
 pub mod Pinned
 pub mod Pattern
+pub mod Piece
 pub mod Names
 pub mod Crypto
+pub mod SignedText
 pub mod By
 pub mod Threshold
 pub mod Meets

@@ -5,6 +5,7 @@ use Rattle.foundation.specs.Steps.{◌>>=◌}
 use Rattle.sigstore_tuf_parts.specs.declared.error.Error.{Error}
 use Rattle.sigstore_tuf_parts.specs.declared.member.DocumentMember.TheVariants as m
 use Rattle.sigstore_tuf_parts.specs.Others.{others_of}
+use Rattle.sigstore_tuf_parts.specs.declared.keys.RoleKeys.{RoleKeys}
 use Rattle.sigstore_tuf_parts.specs.declared.targets.TargetFile.{TargetFile}
 use Rattle.sigstore_tuf_parts.specs.declared.targets.Grant.{Grant}
 use Rattle.sigstore_tuf_parts.specs.declared.targets.DelegatedRole.{DelegatedRole}
@@ -65,3 +66,7 @@ targets_of d = do
     delegations = delegations;
     extra = others_of (m.Type ∷ m.SpecVersion ∷ m.Version ∷ m.Expires ∷ m.Targets ∷ m.Delegations ∷ []) d;
   })
+
+-- the keys that sign for a delegated role: its ids and threshold, and no more members
+abbrev pub role_keys_in : DelegatedRole → RoleKeys
+role_keys_in d = record { keyids = d.keyids; threshold = d.threshold; extra = [] }

@@ -1,20 +1,20 @@
 // Whether a signature is accepted.
-ghost use Rattle.std.specs.Prelude.{◌≡◌, ◌++◌, ◌∷◌, codes, IfOk};
+ghost use Rattle.std.specs.Prelude.{◌≡◌, IsTrue, IfOk, length};
 ghost use Rattle.std.specs.Result.{result_ok};
-ghost use Rattle.sha2.specs.Sha512.{sha512};
 ghost use Rattle.hex.specs.Hex.{decode_of};
-ghost use Rattle.sigstore_crypto.specs.Good.{is_good};
-ghost use Rattle.sigstore_tuf_parts.specs.Crypto.{is_ml_dsa, signed_text};
+ghost use Rattle.sigstore_crypto.specs.Good.{is_good, is_good_over};
+ghost use Rattle.sigstore_crypto.specs.Scheme.{has_digest, digest_size_of};
+ghost use Rattle.sigstore_tuf_parts.specs.Crypto.{signed_text};
 ghost use Rattle.sigstore_tuf_parts.specs.By.{key_by, crypto_by};
 ghost use Rattle.sigstore_tuf_parts.specs.Threshold.{is_accepted, is_accepted_raw, is_accepted_under};
 
 use crate::document::Signature;
 use crate::keys::Key;
+use crate::signed_text::SignedText;
 use crate::verification::KeyFault;
 use foundation::NoMemory;
 use hex::FromHexError;
-use sha2::{Digest, Sha512};
-use sigstore_crypto::{CryptoProvider, SigningScheme, VerificationKey};
+use sigstore_crypto::{CryptoProvider, VerificationKey};
 use sigstore_types_parts::{Armor, Bytes, SignatureBytes, Text, TextMap};
 use std::alloc::Global;
 
@@ -35,7 +35,7 @@ pub(crate) fn is_accepted<C: CryptoProvider, M: Armor>(
     provider: &C,
     armor: &M,
     keys: &TextMap<Key>,
-    text: &[u8],
+    text: &SignedText<'_>,
     signature: &Signature,
 ) -> Result<bool, NoMemory>
     ensures { IfOk result (λ b. b ≡
@@ -53,7 +53,7 @@ fn is_accepted_by<C: CryptoProvider, M: Armor>(
     provider: &C,
     armor: &M,
     key: &Key,
-    text: &[u8],
+    text: &SignedText<'_>,
     sig: &Text,
 ) -> Result<bool, NoMemory>
     ensures { IfOk result (λ b. b ≡ is_accepted_under (C.accepts provider.now) text.now sig.now
@@ -70,63 +70,44 @@ fn is_accepted_under<C: CryptoProvider>(
     alloc: Global,
     provider: &C,
     key: &VerificationKey,
-    text: &[u8],
+    text: &SignedText<'_>,
     sig: &Text,
 ) -> Result<bool, NoMemory>
     ensures { IfOk result (λ b. b ≡ is_accepted_raw (C.accepts provider.now) text.now key.now
         (result_ok (decode_of sig.now))) }
 {
     match decoded(alloc, sig)? {
-        Some(raw) => is_good_text(alloc, provider, key, text, &raw),
+        Some(raw) => Ok(is_good_text(provider, key, text, &raw)),
         None => Ok(false),
     }
 }
 
 /// Whether the signature of a text is good under a key: as TUF signs a text under its scheme.
 pub(crate) fn is_good_text<C: CryptoProvider>(
-    alloc: Global,
     provider: &C,
     key: &VerificationKey,
-    text: &[u8],
-    raw: &SignatureBytes,
-) -> Result<bool, NoMemory>
-    ensures { IfOk result (λ b. b ≡
-        is_good (C.accepts provider.now) key.now (signed_text key.now.scheme text.now) raw.now) }
-{
-    if !is_ml_dsa(key.scheme) {
-        return Ok(is_good(provider, key, text, raw));
-    }
-    let message = digest_text(alloc, text)?;
-    Ok(is_good(provider, key, message.as_bytes(), raw))
-}
-
-fn is_good<C: CryptoProvider>(
-    provider: &C,
-    key: &VerificationKey,
-    message: &[u8],
+    text: &SignedText<'_>,
     raw: &SignatureBytes,
 ) -> bool
-    ensures { result ≡ is_good (C.accepts provider.now) key.now message.now raw.now }
+    ensures { result ≡
+        is_good (C.accepts provider.now) key.now (signed_text key.now.scheme text.now) raw.now }
 {
-    key.verify(provider, message, raw).is_ok()
+    is_good_over(provider, key, text.subject(key.scheme), raw)
 }
 
-fn is_ml_dsa(scheme: SigningScheme) -> bool
-    ensures { result ≡ is_ml_dsa scheme }
+// Whether a signature is good over its subject: a digest where the key's scheme has one.
+fn is_good_over<C: CryptoProvider>(
+    provider: &C,
+    key: &VerificationKey,
+    subject: &[u8],
+    raw: &SignatureBytes,
+) -> bool
+    requires { IsTrue (has_digest key.now.scheme) → length subject.now ≡ digest_size_of key.now.scheme }
+    ensures { result ≡ is_good_over (C.accepts provider.now) key.now subject.now raw.now }
 {
-    match scheme {
-        SigningScheme::MlDsa44 => true,
-        SigningScheme::MlDsa65 => true,
-        SigningScheme::MlDsa87 => true,
-        _ => false,
+    if key.scheme.supports_prehashed() {
+        key.verify_prehashed(provider, subject, raw).is_ok()
+    } else {
+        key.verify(provider, subject, raw).is_ok()
     }
-}
-
-// What ML-DSA signs in place of a text.
-fn digest_text(alloc: Global, text: &[u8]) -> Result<Bytes, NoMemory>
-    ensures { IfOk result (λ b. b ≡ codes "tuf" ++ 1 ∷ sha512 text.now) }
-{
-    let mut message = Vec::from_slice(alloc, b"tuf\x01")?;
-    message.extend_from_slice(&Sha512::digest(text))?;
-    Ok(Bytes::from_vec(message))
 }

@@ -8,6 +8,7 @@ use crate::accepted::is_good_text;
 use crate::canonical::write_member;
 use crate::error::Error;
 use crate::keys::Key;
+use crate::signed_text::SignedText;
 use crate::verification::{KeyFault, declared_scheme};
 use foundation::{Duplicate, NoMemory};
 use sigstore_crypto::{CryptoProvider, SigningScheme, VerificationKey, sha256};
@@ -111,7 +112,7 @@ impl Key {
             self.now message.now signature.now ≡ Err e) }
     {
         let key = self.verification_key(alloc, armor)?;
-        if is_good_text(alloc, provider, &key, message, signature)? {
+        if is_good_text(provider, &key, &SignedText::new(message), signature) {
             Ok(())
         } else {
             Err(Error::Crypto)

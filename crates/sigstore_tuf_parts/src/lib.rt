@@ -3,8 +3,10 @@
 
 mod accepted;
 mod canonical;
+mod class;
 mod counted;
 mod declared_key;
+mod delegation;
 mod document;
 mod error;
 mod extra;
@@ -15,9 +17,13 @@ mod keys;
 mod laws;
 mod member;
 mod names;
+mod pattern;
+mod piece;
 mod role;
 mod root;
 mod root_role;
+mod row;
+mod signed_text;
 mod snapshot;
 mod targets;
 mod text_set;

@@ -8,6 +8,7 @@ use crate::counted::{counted, second_id};
 use crate::document::{Metadata, Signature};
 use crate::error::{Error, Rule};
 use crate::keys::{Key, RoleKeys};
+use crate::signed_text::SignedText;
 use foundation::NoMemory;
 use sigstore_crypto::CryptoProvider;
 use sigstore_types_parts::{Armor, Text, TextMap};
@@ -35,12 +36,12 @@ impl<T> Metadata<T> {
             keys.now role_keys.now role.now self.now ≡ Err e) }
     {
         let signatures = self.signatures();
-        let text = self.signed_canonical();
+        let text = SignedText::new(self.signed_canonical());
         check_threshold(role_keys.threshold)?;
         let counting = counted(alloc, role_keys, signatures)?;
         let counting = counting.as_slice();
         check_once(alloc, role, counting)?;
-        let found = count_accepted(alloc, provider, armor, keys, counting, text)?;
+        let found = count_accepted(alloc, provider, armor, keys, counting, &text)?;
         check_enough(alloc, role, found, role_keys.threshold)?;
         Ok(())
     }
@@ -77,7 +78,7 @@ fn count_accepted<C: CryptoProvider, M: Armor>(
     armor: &M,
     keys: &TextMap<Key>,
     signatures: &[&Signature],
-    text: &[u8],
+    text: &SignedText<'_>,
 ) -> Result<u64, NoMemory>
     ensures { IfOk result (λ n. n ≡ count_by
         (is_accepted (crypto_by C.CryptoProvider M.Armor provider.now armor.now) keys.now text.now)

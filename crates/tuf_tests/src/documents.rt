@@ -1,5 +1,5 @@
 // Documents of each kind, read and refused, and the checks of pins and of expiries.
-use crate::places;
+use crate::patterns;
 use crate::words::{good, halves, hold, hold_filled, number, printed, there, word};
 use foundation::Duplicate;
 use sigstore_tuf_parts::*;
@@ -15,7 +15,7 @@ pub fn answer<X: AllocGlobal + Abort>(rt: &X, call: &str, given: &str) -> String
         "snapshot" => word(rt, document::<Snapshot>(rt.alloc(), given)),
         "targets" => word(rt, document::<Targets>(rt.alloc(), given)),
         "documents" => told(rt, given),
-        _ => places::answer(rt, call, given),
+        _ => patterns::answer(rt, call, given),
     }
 }
 

@@ -16,6 +16,8 @@ mod key_forms;
 #[cfg(test)]
 mod keys;
 #[cfg(test)]
+mod patterns;
+#[cfg(test)]
 mod places;
 #[cfg(test)]
 mod provider;
