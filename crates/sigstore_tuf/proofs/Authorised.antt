@@ -1,18 +1,21 @@
 -- The documents in force are authorised whatever was fetched and kept.
-use Rattle.std.proofs.Common.{◌≡◌, ℕ, ◌+◌, List, [], ◌∷◌, ◌++◌, length, Bool, Option, Some, None, Result, Ok, Err, codes, refl, sym, ap, ◌∙◌, subst, arith, length-append}
+use Rattle.std.proofs.Common.{◌≡◌, ◌⊎◌, inl, inr, ℕ, ◌+◌, List, [], ◌∷◌, ◌++◌, length, Bool, Option, Some, None, Result, Ok, Err, codes, refl, sym, ap, ◌∙◌, subst, arith, length-append}
 use Rattle.std.specs.Prelude.{⊤, IfSome}
 use Rattle.std.specs.List.{AllZip, last_or}
 use Rattle.jiff_core.specs.declared.timestamp.Timestamp as jiff
+use Rattle.std.specs.BTreeMap.{insert_entry}
 use Rattle.foundation.specs.Results.{step_ok, ok_same}
+use Rattle.sigstore_types_parts.specs.Entries.{text_cmp, at_name}
+use Rattle.sigstore_tuf_parts.specs.declared.targets.Targets as declared_targets
 use Rattle.sigstore_tuf_parts.specs.declared.error.Error.{Error}
 use Rattle.sigstore_tuf_parts.specs.declared.root.Root as declared
 use Rattle.sigstore_tuf_parts.specs.Document.{Document, content_in}
 use Rattle.sigstore_tuf_parts.specs.Crypto.{Crypto}
-use Rattle.sigstore_tuf_parts.specs.RootRoles.{root_document, meets_role_of, IsNextRoot, AreNextRoots, Roots}
+use Rattle.sigstore_tuf_parts.specs.RootRoles.{root_document, meets_role_of, MeetsRole, IsNextRoot, AreNextRoots, Roots}
+use Rattle.sigstore_tuf.specs.declared.documents.Held.{Held}
 use Rattle.sigstore_tuf.specs.declared.documents.InForce.{InForce}
 use Rattle.sigstore_tuf.specs.declared.kind.Kind.{Kind}
 use Rattle.sigstore_tuf.specs.declared.kind.Kind.TheVariants.{Root, Timestamp, Snapshot, Targets}
-use Rattle.sigstore_tuf.specs.Documents.{targets_document}
 use Rattle.sigstore_tuf.specs.Update.{first_root_of, Updates}
 use Rattle.sigstore_tuf.specs.State.{Session, State}
 use Rattle.sigstore_tuf.specs.Adopt.{update_of, judged_of, Adopts, unfetched, absent, refused, kept, adopted, Seeds, unloaded, unkept, unseeded, equal, seeded}
@@ -20,7 +23,8 @@ use Rattle.sigstore_tuf.specs.Client.{version_in}
 use Rattle.sigstore_tuf.specs.Run.{said, SavesRoot, Attaches, Does, refresh_steps, RunsSteps}
 use Rattle.sigstore_tuf.specs.declared.step.Step.{Step}
 use Rattle.sigstore_tuf.specs.Trusted.{BeginsWith}
-use Rattle.sigstore_tuf.specs.Authorised.{IsSigned, IsPinnedBy, AreAuthorised, first_in, given_in, StaysAuthorised, UpdatesSet}
+use Rattle.sigstore_tuf.specs.Authorised.{IsPinnedBy, AreAuthorised, first_in, given_in, StaysAuthorised, UpdatesSet}
+use Rattle.sigstore_tuf.proofs.Files.{inserted}
 use Rattle.sigstore_tuf.proofs.Updates.{role_met, Puts, update_puts, judged_puts, top_inserted}
 use Rattle.sigstore_tuf.proofs.Lift.{IsAsked, AsksNoRoot, attach_lift, does_lift, runs_lift}
 
@@ -36,6 +40,7 @@ first_root_authorised crypto bytes set h =
       timestamp = tt;
       snapshot = tt;
       targets = tt;
+      roles = λ name held h. cc;
     })
 
 pub first_root_given : (crypto : Crypto) (bytes : List ℕ) (set : InForce) → first_root_of crypto bytes ≡ Ok set → given_in set ≡ bytes
@@ -79,6 +84,16 @@ first_more : (bytes : List ℕ) (roots : List (List ℕ)) (given : List ℕ) →
 first_more bytes [] given h = absurd h
 first_more bytes (root ∷ roots) given h = refl
 
+-- ---- one role more
+
+pub roles_more : (old : InForce) (name : List ℕ) (held : Held declared_targets.Targets) → IsPinnedBy old.snapshot name held → ((q : List ℕ) (x : Held declared_targets.Targets) → at_name q old.targets ≡ Some x → IsPinnedBy old.snapshot q x)
+    → (q : List ℕ) (x : Held declared_targets.Targets) → at_name q (insert_entry text_cmp old.targets name held) ≡ Some x → IsPinnedBy old.snapshot q x
+roles_more old name held p k q x h = by_place (inserted q name held x old.targets h)
+  where
+    by_place : ((q ≡ name) × (x ≡ held)) ⊎ (at_name q old.targets ≡ Some x) → IsPinnedBy old.snapshot q x
+    by_place (inl is) = subst (λ q. IsPinnedBy old.snapshot q x) (sym is.0) (subst (IsPinnedBy old.snapshot name) (sym is.1) p)
+    by_place (inr there) = k q x there
+
 -- ---- each document that is put in force
 
 module _ (crypto : Crypto) where
@@ -114,17 +129,18 @@ module _ (crypto : Crypto) where
         timestamp = tt;
         snapshot = tt;
         targets = tt;
+        roles = λ name held h. cc;
       },
       first_more bytes old.roots (given_in old) k.roots.begins,
     );
     rises = omega (arith, p.next.number, length-append old.roots (bytes ∷ []));
   })
   puts_stay Timestamp now old new bytes p = subst (Stays old) (sym p.new_is) (record {
-    authorised = λ k. (record { roots = k.roots; timestamp = p.signed; snapshot = k.snapshot; targets = k.targets }, refl);
+    authorised = λ k. (record { roots = k.roots; timestamp = p.signed; snapshot = k.snapshot; targets = k.targets; roles = k.roles }, refl);
     rises = refl;
   })
   puts_stay Snapshot now old new bytes p = subst (Stays old) (sym p.new_is) (record {
-    authorised = λ k. (record { roots = k.roots; timestamp = k.timestamp; snapshot = p.signed; targets = tt }, refl);
+    authorised = λ k. (record { roots = k.roots; timestamp = k.timestamp; snapshot = p.signed; targets = tt; roles = λ name held h. cc }, refl);
     rises = refl;
   })
   puts_stay Targets now old new bytes p = subst (Stays old) (sym p.new_is) (record {
@@ -133,7 +149,8 @@ module _ (crypto : Crypto) where
         roots = k.roots;
         timestamp = k.timestamp;
         snapshot = k.snapshot;
-        targets = subst (λ o. IfSome o (λ t. IsSigned targets_document crypto (content_in old.root) (codes "targets") t × IsPinnedBy old.snapshot t)) (sym (top_inserted old p.held)) (p.signed, p.pinned);
+        targets = subst (λ o. IfSome o (λ (t : Held declared_targets.Targets). MeetsRole crypto (content_in old.root) (codes "targets") t.document)) (sym (top_inserted old p.held)) p.signed.met;
+        roles = roles_more old (codes "targets") p.held p.pinned k.roles;
       },
       refl,
     );

@@ -1,10 +1,11 @@
 -- The files of a map after an insertion.
-use Rattle.std.proofs.Common.{◌≡◌, ℕ, List, [], ◌∷◌, Bool, true, false, cond, bytes_eq, Option, Some, None, Ordering, Less, Equal, Greater, refl, sym, ap, ◌∙◌, Result, Ok, Err, OnOk, OnErr}
+use Rattle.std.proofs.Common.{◌≡◌, ◌⊎◌, inl, inr, ℕ, List, [], ◌∷◌, Bool, true, false, cond, bytes_eq, Option, Some, None, Ordering, Less, Equal, Greater, refl, sym, ap, ◌∙◌, Result, Ok, Err, OnOk, OnErr}
 use Rattle.std.proofs.Math.Path.{fun_ext}
 use Rattle.std.proofs.lemmas.Slice.Eq.{bytes_eq-Decides}
 use Rattle.std.proofs.lemmas.Map.Text.{is_eq-slice_cmp}
 use Rattle.std.specs.Ordering.{is_eq, match_ordering}
 use Rattle.std.specs.BTreeMap.{insert_entry}
+use Rattle.foundation.specs.Results.{some_same}
 use Rattle.sigstore_types_parts.specs.Entries.{text_cmp, at_name}
 use Rattle.sigstore_tuf.specs.Store.{with_file, is_bad_name, HoldsNoBadName}
 use Rattle.sigstore_tuf.specs.Memory.{files_of}
@@ -42,6 +43,14 @@ insert_by Greater q name bytes e es h more = rw more (swapped (is_eq (text_cmp q
 pub at_insert : {T : Type 0} (q name : List ℕ) (bytes : T) (es : List (Named T)) → at_name q (insert_entry text_cmp es name bytes) ≡ cond (is_eq (text_cmp q name)) (Some bytes) (at_name q es)
 at_insert q name bytes [] = refl
 at_insert q name bytes (e ∷ es) = insert_by (text_cmp name e.0) q name bytes e es refl (at_insert q name bytes es)
+
+-- what is at a name once this was put there under another, or the same
+pub inserted : {T : Type 0} (q name : List ℕ) (v x : T) (es : List (Named T)) → at_name q (insert_entry text_cmp es name v) ≡ Some x → ((q ≡ name) × (x ≡ v)) ⊎ (at_name q es ≡ Some x)
+inserted q name v x es h = by_test (is_eq (text_cmp q name)) refl (sym (at_insert q name v es) ∙ h)
+  where
+    by_test : (b : Bool) → is_eq (text_cmp q name) ≡ b → cond b (Some v) (at_name q es) ≡ Some x → ((q ≡ name) × (x ≡ v)) ⊎ (at_name q es ≡ Some x)
+    by_test true e k = inl ((bytes_eq-Decides q name).0 (sym (is_eq-slice_cmp q name) ∙ e), sym (some_same v x k))
+    by_test false e k = inr k
 
 pub files_of_insert : (es : List (Named (List ℕ))) (name bytes : List ℕ) → files_of (insert_entry text_cmp es name bytes) ≡ with_file name bytes (files_of es)
 files_of_insert es name bytes = fun_ext (λ q. at_insert q name bytes es ∙ ap (λ b. cond b (Some bytes) (at_name q es)) (is_eq-slice_cmp q name))

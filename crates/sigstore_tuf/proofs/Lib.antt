@@ -5,6 +5,7 @@ pub mod Lift
 pub mod LastPart
 pub mod Steps
 pub mod Authorised
+pub mod RolePuts
 pub mod Holding
 pub mod Serving
 pub mod Searching

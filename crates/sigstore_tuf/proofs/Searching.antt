@@ -155,18 +155,19 @@ module _ (crypto : Crypto) (root path : List ℕ) (config : UpdaterConfig) (now 
 
   role_trusted : (serve : Serve now set) → AreAuthorised crypto root set → IsTrustedRole crypto (content_in set.root) (content_of serve.snapshot) (documents_in (visit_of serve.targets ∷ [])) now first_visit serve.targets.bytes
   role_trusted serve k =
-      let t = where_some (top_targets set) _ serve.targets serve.targets_is k.targets in
-      let held : t.1.held ≡ serve.snapshot = some_same t.1.held serve.snapshot (sym t.1.there ∙ serve.snapshot_is) in
+      let met = where_some (top_targets set) _ serve.targets serve.targets_is k.targets in
+      let r = k.roles (codes "targets") serve.targets serve.targets_is in
+      let held : r.held ≡ serve.snapshot = some_same r.held serve.snapshot (sym r.there ∙ serve.snapshot_is) in
       record {
         doc = serve.targets.document;
-        pin = t.1.pin;
-        authority = record { keys = (content_in set.root).keys; role = t.0.met.0 };
-        read = t.0.read;
-        pin_is = ap (λ h. targets_pin (content_of h)) (sym held) ∙ t.1.pin_is;
-        pinned = t.1.pinned;
+        pin = r.pin;
+        authority = record { keys = (content_in set.root).keys; role = met.0 };
+        read = r.read;
+        pin_is = ap (λ h. targets_pin (content_of h)) (sym held) ∙ r.pin_is;
+        pinned = r.pinned;
         fresh = serve.targets_fresh;
-        authority_is = ap (λ o. option_map (λ role. record { keys = (content_in set.root).keys; role = role }) o) t.0.met.1;
-        met = t.0.met.2;
+        authority_is = ap (λ o. option_map (λ role. record { keys = (content_in set.root).keys; role = role }) o) met.1;
+        met = met.2;
       }
 
   made_trusted : (serve : Serve now set) (entry : TargetFile) (file : List ℕ) → AreAuthorised crypto root set → (m : ℕ) → config.max_delegations ≡ suc m
@@ -175,7 +176,7 @@ module _ (crypto : Crypto) (root path : List ℕ) (config : UpdaterConfig) (now 
       let time = where_some set.timestamp _ serve.timestamp serve.timestamp_is k.timestamp in
       let snap = where_some set.snapshot _ serve.snapshot serve.snapshot_is k.snapshot in
       let role = role_trusted serve k in
-      let docs : documents_in (visit_of serve.targets ∷ []) (codes "targets") ≡ Some (content_of serve.targets) = documents_one serve.targets (where_some (top_targets set) _ serve.targets serve.targets_is k.targets).0.read in (
+      let docs : documents_in (visit_of serve.targets ∷ []) (codes "targets") ≡ Some (content_of serve.targets) = documents_one serve.targets (k.roles (codes "targets") serve.targets serve.targets_is).read in (
         record { root = set.root; timestamp = serve.timestamp.document; snapshot = serve.snapshot.document; pin = serve.pin },
         record {
           roots = k.roots;

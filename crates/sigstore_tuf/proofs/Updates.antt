@@ -175,7 +175,7 @@ module _ (crypto : Crypto) (old : InForce) (bytes : List ℕ) where
     pub held : Held declared_targets.Targets
     pub bytes_is : held.bytes ≡ bytes
     pub signed : Signed targets_document (codes "targets") held
-    pub pinned : IsPinnedBy old.snapshot held
+    pub pinned : IsPinnedBy old.snapshot (codes "targets") held
     pub fresh : IfSome now (Fresh (content_of held).expires)
     pub new_is : new ≡ with_targets old held
 
@@ -202,6 +202,7 @@ module _ (crypto : Crypto) (old : InForce) (bytes : List ℕ) where
         bytes_is = refl;
         signed = record { read = c.1; met = role_met crypto (content_in old.root) (codes "targets") c.0 is.1 };
         pinned = record {
+          read = c.1;
           held = s.0;
           there = ok_some old.snapshot (tuf.Malformed rule.NoSnapshot) s.0 s.1;
           pin = p.0;

@@ -9,15 +9,17 @@ use Rattle.sigstore_tuf_parts.specs.declared.timestamp.Timestamp.{Timestamp}
 use Rattle.sigstore_tuf_parts.specs.declared.snapshot.Snapshot.{Snapshot}
 use Rattle.sigstore_tuf_parts.specs.declared.targets.Targets.{Targets}
 use Rattle.sigstore_tuf_parts.specs.Document.{Document, content_in}
+use Rattle.sigstore_types_parts.specs.Entries.{at_name}
 use Rattle.sigstore_types_parts.specs.declared.armor.Armor as armor
 use Rattle.sigstore_crypto.specs.declared.provider.CryptoProvider as provider
 use Rattle.sigstore_tuf_parts.specs.Crypto.{Crypto}
 use Rattle.sigstore_tuf_parts.specs.By.{crypto_by}
 use Rattle.sigstore_tuf_parts.specs.RootRoles.{MeetsRole}
+use Rattle.sigstore_tuf_parts.specs.Names.{pin_name}
 use Rattle.sigstore_tuf_parts.specs.Pinned.{Pinned, Fresh}
 use Rattle.sigstore_tuf.specs.declared.documents.Held.{Held}
 use Rattle.sigstore_tuf.specs.declared.documents.InForce.{InForce}
-use Rattle.sigstore_tuf.specs.Documents.{timestamp_document, snapshot_document, targets_document, content_of, snapshot_pin, targets_pin}
+use Rattle.sigstore_tuf.specs.Documents.{timestamp_document, snapshot_document, targets_document, content_of, snapshot_pin}
 use Rattle.sigstore_tuf.specs.Update.{Updates}
 use Rattle.sigstore_tuf.specs.Adopt.{top_targets}
 use Rattle.sigstore_tuf.specs.Client.{version_in}
@@ -29,22 +31,23 @@ pub record IsSigned {T : Type 0} (reads : List ℕ → Result (Document T) Error
   pub read : reads held.bytes ≡ Ok held.document
   pub met : MeetsRole crypto root role held.document
 
--- the snapshot in force pins the targets document, by its bytes and its version
-pub record IsPinnedBy (snapshot : Option (Held Snapshot)) (targets : Held Targets) : Type 0 where
+-- the document was read, and the snapshot in force pins it under the role's name, by its bytes and its version
+pub record IsPinnedBy (snapshot : Option (Held Snapshot)) (name : List ℕ) (targets : Held Targets) : Type 0 where
+  pub read : targets_document targets.bytes ≡ Ok targets.document
   pub held : Held Snapshot
   pub there : snapshot ≡ Some held
   pub pin : MetaFile
-  pub pin_is : targets_pin (content_of held) ≡ Some pin
+  pub pin_is : at_name (pin_name name) (content_of held).meta ≡ Some pin
   pub pinned : Pinned targets.bytes (content_of targets).version pin
 
--- The roots go from the given one to the root in force. Each other document that is there is signed as that root asks, and the
--- top-level targets document is the one that the snapshot in force pins.
+-- The roots go from the given one to the root in force. Each top-level document that is there is signed as that root asks, and the
+-- targets document of each role is the one that the snapshot in force pins.
 pub record AreAuthorised (crypto : Crypto) (given : List ℕ) (set : InForce) : Type 0 where
   pub roots : AreRoots crypto given set.roots set.root
   pub timestamp : IfSome set.timestamp (IsSigned timestamp_document crypto (content_in set.root) (codes "timestamp"))
   pub snapshot : IfSome set.snapshot (IsSigned snapshot_document crypto (content_in set.root) (codes "snapshot"))
-  pub targets : IfSome (top_targets set)
-      (λ held. IsSigned targets_document crypto (content_in set.root) (codes "targets") held × IsPinnedBy set.snapshot held)
+  pub targets : IfSome (top_targets set) (λ held. MeetsRole crypto (content_in set.root) (codes "targets") held.document)
+  pub roles : (name : List ℕ) (held : Held Targets) → at_name name set.targets ≡ Some held → IsPinnedBy set.snapshot name held
 
 -- the given root, which is the first
 abbrev pub first_in : List (List ℕ) → List ℕ

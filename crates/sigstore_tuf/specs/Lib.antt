@@ -13,6 +13,7 @@ pub mod Run
 pub mod Order
 pub mod Trusted
 pub mod Target
+pub mod Delegated
 pub mod Authorised
 pub mod Cause
 pub mod Kept

@@ -10,7 +10,6 @@ use Rattle.sigstore_tuf_parts.specs.declared.root.Root.{Root}
 use Rattle.sigstore_tuf_parts.specs.declared.timestamp.MetaFile.{MetaFile}
 use Rattle.sigstore_tuf_parts.specs.declared.timestamp.Timestamp.{Timestamp}
 use Rattle.sigstore_tuf_parts.specs.declared.snapshot.Snapshot.{Snapshot}
-use Rattle.sigstore_tuf_parts.specs.declared.targets.DelegatedRole.{DelegatedRole}
 use Rattle.sigstore_tuf_parts.specs.declared.targets.Delegations.{Delegations}
 use Rattle.sigstore_tuf_parts.specs.declared.targets.Targets.{Targets}
 use Rattle.sigstore_tuf_parts.specs.Document.{Document, content_in}
@@ -20,6 +19,7 @@ use Rattle.sigstore_tuf_parts.specs.Meets.{Meets}
 use Rattle.sigstore_tuf_parts.specs.RootRoles.{root_document, MeetsRole, Roots}
 use Rattle.sigstore_tuf_parts.specs.Pinned.{Pinned, PinnedFile, Fresh}
 use Rattle.sigstore_tuf_parts.specs.Names.{pin_name}
+use Rattle.sigstore_tuf_parts.specs.Targets.{role_keys_in}
 use Rattle.sigstore_tuf.specs.declared.chain.RoleDoc.{RoleDoc}
 use Rattle.sigstore_tuf.specs.declared.chain.TrustChain.{TrustChain}
 use Rattle.sigstore_tuf.specs.Documents.{timestamp_document, snapshot_document, targets_document, snapshot_pin}
@@ -48,9 +48,6 @@ last_in roles = option_and_then (λ r. documents_in roles r.name) (last_or None 
 pub record Authority : Type 0 where
   pub keys : Keys
   pub role : RoleKeys
-
-abbrev pub role_keys_in : DelegatedRole → RoleKeys
-role_keys_in d = record { keyids = d.keyids; threshold = d.threshold; extra = [] }
 
 -- the first delegation of the name, with the keys beside it
 abbrev pub authority_in : List ℕ → Delegations → Option Authority

@@ -7,6 +7,7 @@ mod adopt;
 mod chain;
 mod client;
 mod config;
+mod delegated;
 mod documents;
 mod file_repository;
 mod file_store;

@@ -6,11 +6,13 @@ ghost use Rattle.sigstore_tuf_parts.specs.Document.{content_in};
 ghost use Rattle.sigstore_types_parts.specs.Entries.{at_name};
 ghost use Rattle.sigstore_tuf.specs.Documents.{content_of};
 ghost use Rattle.sigstore_tuf.specs.Update.{first_root_of, update_root_of, update_timestamp_of, update_snapshot_of, update_targets_of};
+ghost use Rattle.sigstore_tuf.specs.Delegated.{visit_of, update_role_of, role_serves_of};
 ghost use Rattle.sigstore_tuf.specs.Target.{fresh_timestamp_of, fresh_snapshot_of};
 ghost use Rattle.sigstore_tuf_parts.specs.Integrity.{fresh_of};
 ghost use Rattle.sigstore_tuf.specs.Authorised.{IsAuthorised, crypto_in, SameJudges, UpdatesSet};
 
 use crate::adopt::update_copied;
+use crate::delegated::{serving_role, update_role_copied};
 use crate::documents::InForce;
 use crate::kind::Kind;
 use crate::target::{check_fresh_snapshot, check_fresh_timestamp};
@@ -238,5 +240,66 @@ impl<'p, C: CryptoProvider, M: Armor> TrustedMetadataSet<'p, C, M> {
             bytes,
             Some(now),
         )
+    }
+
+    /// Puts the document of a delegated role in force, by the first delegation of its name in the document of its
+    /// delegator (TUF specification, section 5.6.7). Errors: `Malformed` for a top-level name, `UnknownRole` for
+    /// the delegator, `Malformed` where it delegates to none, `UnknownRole` where not to this role; then
+    /// `Malformed` without a snapshot, `Expired` of it, `Malformed` where it doesn't pin the role,
+    /// `IntegrityMismatch`, those of a document, `IntegrityMismatch` for the version, those of a threshold, then
+    /// `Expired`; all stays as it was.
+    pub fn update_delegated_targets(
+        &mut self,
+        alloc: Global,
+        bytes: &[u8],
+        role: &str,
+        delegator: &str,
+        now: jiff::Timestamp,
+    ) -> Result<(), Error>
+        ensures updates { let crypto = crypto_in C.CryptoProvider M.Armor self.old in
+            UpdatesSet (update_role_of crypto self.old.documents (visit_of role.now delegator.now) bytes.now (Some now)) crypto
+            self.old.documents self.new.documents result }
+        ensures judges { SameJudges self.old self.new }
+    {
+        update_role_copied(
+            alloc,
+            self.provider,
+            self.armor,
+            &mut self.documents,
+            role,
+            delegator,
+            bytes,
+            Some(now),
+        )
+    }
+
+    /// The document in force of a delegated role, where it serves at a moment by what the document of its
+    /// delegator says now. Errors: those of the delegation as in `update_delegated_targets`, `UnknownRole` where
+    /// the role has no document in force, those of a threshold, then `Expired`.
+    pub fn verify_delegated_targets(
+        &self,
+        alloc: Global,
+        role: &str,
+        delegator: &str,
+        now: jiff::Timestamp,
+    ) -> Result<&Targets, Error>
+        ensures ok { IfOk result (λ targets.
+            role_serves_of (crypto_in C.CryptoProvider M.Armor self.now) self.now.documents (visit_of role.now delegator.now) now ≡ Ok tt) }
+        ensures same { IfOk result (λ targets. option_map content_of (at_name role.now self.now.documents.targets) ≡ Some targets.now) }
+        ensures err { IfErr result (λ e. e ≢ Error.NoMemory →
+            role_serves_of (crypto_in C.CryptoProvider M.Armor self.now) self.now.documents (visit_of role.now delegator.now) now ≡ Err e) }
+    {
+        match serving_role(
+            alloc,
+            self.provider,
+            self.armor,
+            &self.documents,
+            role,
+            delegator,
+            now,
+        ) {
+            Ok(held) => Ok(held.document.signed()),
+            Err(e) => Err(e),
+        }
     }
 }

@@ -184,7 +184,7 @@ pub(crate) fn update_root<C: CryptoProvider, M: Armor>(
 }
 
 // The document isn't expired at the moment that is given.
-fn check_fresh_at<T: Role>(
+pub(crate) fn check_fresh_at<T: Role>(
     alloc: Global,
     content: &T,
     now: &Option<jiff::Timestamp>,

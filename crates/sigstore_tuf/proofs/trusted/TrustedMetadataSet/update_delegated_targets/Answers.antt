@@ -1,0 +1,9 @@
+use Rattle.std.proofs.Common.{Some, sym}
+use Rattle.sigstore_tuf.proofs.RolePuts.{role_updates_set}
+use Rattle.sigstore_tuf.proofs.trusted.TrustedMetadataSet.update_delegated_targets.Goals as goal
+
+pub invariant_of-self : goal.invariant_of-self
+invariant_of-self g c = (role_updates_set _ _ _ _ (Some c.args.now) _ _ c.update_role_copied.ensures c.self.invariant).authorised
+
+pub returns-clause-updates : goal.returns-clause-updates
+returns-clause-updates g c = rw (sym c.self.view_is) (role_updates_set _ _ _ _ (Some c.args.now) _ _ c.update_role_copied.ensures c.self.invariant)
