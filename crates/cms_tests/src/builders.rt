@@ -43,6 +43,8 @@ impl CmsSigner for Told {
     }
 }
 
+const SHA256: &str = "2.16.840.1.101.3.4.2.1";
+
 fn identifier<X: Abort>(rt: &X, text: &str) -> ObjectIdentifier {
     good(rt, ObjectIdentifier::new(text))
 }
@@ -147,26 +149,45 @@ fn attributes(rt: HostRuntime) {
     );
 }
 
+/// A builder of the signer by issuer and serial number, with a signing time.
+fn by_one<'s, X: AllocGlobal + Abort>(
+    rt: &X,
+    told: &'s Told,
+    content: &'s EncapsulatedContentInfo,
+) -> SignerInfoBuilder<'s, Told> {
+    let mut one = SignerInfoBuilder::new(
+        rt.alloc(),
+        told,
+        by_issuer(rt),
+        algorithm(rt, SHA256),
+        content,
+        None,
+    );
+    let signed_at = time(rt, "2026-11-28T07:00:00Z");
+    let signed_at = good(rt, create_signing_time_attribute(rt.alloc(), signed_at));
+    good(rt, one.add_signed_attribute(signed_at));
+    one
+}
+
+/// The identifier of the signer's algorithm.
+fn signs_by<X: AllocGlobal + Abort>(rt: &X, builder: &SignerInfoBuilder<Told>) -> String {
+    debug(rt, builder.signer().algorithm().oid.as_bytes())
+}
+
 #[test]
 fn a_message_that_openssl_verifies(rt: HostRuntime) {
     let told = signer(&rt);
     let content = content(&rt, Some(b"content\n"));
-    let sha256 = "2.16.840.1.101.3.4.2.1";
-    let mut one = SignerInfoBuilder::new(
-        rt.alloc(),
-        &told,
-        by_issuer(&rt),
-        algorithm(&rt, sha256),
-        &content,
-        None,
-    );
-    let signed_at = time(&rt, "2026-11-28T07:00:00Z");
-    let signed_at = good(&rt, create_signing_time_attribute(rt.alloc(), signed_at));
-    good(&rt, one.add_signed_attribute(signed_at));
+    let one = by_one(&rt, &told, &content);
     assert!(rt; one.version() == CmsVersion::V1);
-    assert!(rt; one.signer().algorithm() == &told.algorithm);
+    check(
+        &rt,
+        "signer",
+        "[42, 134, 72, 206, 61, 4, 3, 2]",
+        signs_by(&rt, &one),
+    );
     let mut builder = SignedDataBuilder::new(rt.alloc(), &content);
-    good(&rt, builder.add_digest_algorithm(algorithm(&rt, sha256)));
+    good(&rt, builder.add_digest_algorithm(algorithm(&rt, SHA256)));
     let certificate: Certificate = read(&rt, CERTIFICATE);
     good(
         &rt,
@@ -226,14 +247,13 @@ fn refusals_of_signers(rt: HostRuntime) {
     let told = signer(&rt);
     let there = content(&rt, Some(b"content\n"));
     let elsewhere = content(&rt, None);
-    let sha256 = "2.16.840.1.101.3.4.2.1";
     let none = || -> Vec<Attribute> { Vec::new(rt.alloc()) };
-    let twice = by_key(&rt, &told, sha256, &there, Some(&[1]), none());
+    let twice = by_key(&rt, &told, SHA256, &there, Some(&[1]), none());
     check(&rt, "both", "Builder(ContentTwice)", finalized(&rt, twice));
     let sha3 = by_key(&rt, &told, "2.16.840.1.101.3.4.2.8", &there, None, none());
     check(&rt, "SHA3-256", "Builder(NoHasher)", finalized(&rt, sha3));
     let other = good(&rt, vec![in rt.alloc(); typed(&rt, "1.2.840.113549.1.7.2")]);
-    let other = by_key(&rt, &told, sha256, &there, None, other);
+    let other = by_key(&rt, &told, SHA256, &there, None, other);
     check(
         &rt,
         "another type",
@@ -247,23 +267,23 @@ fn refusals_of_signers(rt: HostRuntime) {
             typed(&rt, "1.2.840.113549.1.7.1"),
         ],
     );
-    let equal = by_key(&rt, &told, sha256, &elsewhere, None, equal);
+    let equal = by_key(&rt, &told, SHA256, &elsewhere, None, equal);
     check(
         &rt,
         "equal attributes",
         "Asn1(SetDuplicate)",
         finalized(&rt, equal),
     );
-    let nothing = by_key(&rt, &told, sha256, &elsewhere, None, none());
+    let nothing = by_key(&rt, &told, SHA256, &elsewhere, None, none());
     check(&rt, "no digest", "3100", finalized(&rt, nothing));
-    let made = by_key(&rt, &told, sha256, &elsewhere, Some(&[1, 2]), none());
+    let made = by_key(&rt, &told, SHA256, &elsewhere, Some(&[1, 2]), none());
     check(
         &rt,
         "a digest made elsewhere",
         "312d301106092a864886f70d010904310404020102301806092a864886f70d010903310b06092a864886f70d010701",
         finalized(&rt, made),
     );
-    let mut again = by_key(&rt, &told, sha256, &there, None, none());
+    let mut again = by_key(&rt, &told, SHA256, &there, None, none());
     let first = good(&rt, again.finalize(rt.alloc()));
     drop(first);
     check(
@@ -272,7 +292,7 @@ fn refusals_of_signers(rt: HostRuntime) {
         "Asn1(SetDuplicate)",
         finalized(&rt, again),
     );
-    let unknown = by_key(&rt, &told, sha256, &there, None, none());
+    let unknown = by_key(&rt, &told, SHA256, &there, None, none());
     check(
         &rt,
         "no signature",
