@@ -27,6 +27,13 @@ pub trait PrimitiveKind {
     fn allows(contents: &[u8]) -> bool
         ensures { result ≡ test contents.now };
 
+    /// The same, over memory where a kind has use for it; want of memory is the only refusal.
+    fn allows_in(_alloc: Global, contents: &[u8]) -> Result<bool, NoMemory>
+        ensures { IfOk result (λ b. b ≡ test contents.now) }
+    {
+        Ok(Self::allows(contents))
+    }
+
     ghost is_number: { is_tag number ≡ true };
 }
 
@@ -53,7 +60,7 @@ impl<K: PrimitiveKind> Primitive<K> {
         ensures ok { IfOk result (λ p. (primitive K.number K.test).value K.number bytes.now ≡ Ok p) }
         ensures err { IfErr result (λ e. e ≢ DerError.NoMemory → (primitive K.number K.test).value K.number bytes.now ≡ Err e) }
     {
-        if !K::allows(bytes) {
+        if !K::allows_in(alloc, bytes)? {
             return Err(DerError::Value);
         }
         Ok(Primitive {

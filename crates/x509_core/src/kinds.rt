@@ -3,6 +3,8 @@ ghost use Rattle.std.specs.Prelude.{◌≡◌, refl};
 ghost use Rattle.x509_core.specs.Kinds.{is_any, is_serial_number, is_certificate, is_certificate_list, three_values};
 
 use der_core::{DerError, IntKind, Primitive, PrimitiveKind, Reader, tag};
+use foundation::NoMemory;
+use std::alloc::Global;
 
 /// The kind of names.
 #[derive(Drop)]
@@ -91,6 +93,10 @@ impl PrimitiveKind for CertificateKind {
 
     fn allows(contents: &[u8]) -> bool {
         x509_core_parts::is_certificate(contents)
+    }
+
+    fn allows_in(alloc: Global, contents: &[u8]) -> Result<bool, NoMemory> {
+        x509_core_parts::is_certificate_in(alloc, contents)
     }
 
     ghost is_number = { refl };

@@ -24,6 +24,7 @@ pub use other_name::OtherName;
 pub use time::Time;
 pub use x509_core_parts::{
     CertView, ExtensionView, Extensions, NamedExtension, RsaKeyView, Sct, SpkiView, X509Error,
-    certificate_is_its_parts, extension_stands_once, is_certificate, key_is_its_parts, precert_tbs,
-    precertificate_is_there, sct_list, sct_signed_bytes, signed_part_is_its_parts,
+    certificate_is_its_parts, extension_stands_once, is_certificate, is_certificate_in,
+    key_is_its_parts, precert_tbs, precertificate_is_there, sct_list, sct_signed_bytes,
+    signed_part_is_its_parts,
 };

@@ -11,6 +11,7 @@ use crate::read;
 use crate::signed::{Front, Middle, Tail, read_front, read_middle, read_tail};
 use crate::spki::algorithm;
 use der_core::{Civil, DerError, ObjectIdentifier, tag};
+use foundation::NoMemory;
 use std::alloc::Global;
 
 /// A certificate (RFC 5280, 4.1), its parts as slices of the bytes that were read.
@@ -186,4 +187,16 @@ pub fn is_certificate(contents: &[u8]) -> bool
     ensures { result ≡ is_ok (parts_of contents.now) }
 {
     parts_in(None, contents, contents).is_ok()
+}
+
+/// The same as `is_certificate`, over memory for the extensions' identifiers: a long list of them
+/// costs little more than its reading.
+pub fn is_certificate_in(alloc: Global, contents: &[u8]) -> Result<bool, NoMemory>
+    ensures { IfOk result (λ b. b ≡ is_ok (parts_of contents.now)) }
+{
+    match parts_in(Some(alloc), contents, contents) {
+        Ok(_) => Ok(true),
+        Err(X509Error::NoMemory) => Err(NoMemory),
+        Err(_) => Ok(false),
+    }
 }

@@ -16,7 +16,7 @@ mod signed;
 mod spki;
 mod walk;
 
-pub use certificate::{CertView, is_certificate};
+pub use certificate::{CertView, is_certificate, is_certificate_in};
 pub use error::X509Error;
 pub use extension::{ExtensionView, NamedExtension};
 pub use laws::{

@@ -1,0 +1,3 @@
+//! Attributes of signers.
+
+pub use cms_parts::attr::{Countersignature, MessageDigest, SigningTime};

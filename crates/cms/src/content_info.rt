@@ -1,0 +1,3 @@
+//! Contents, and the versions of their syntax.
+
+pub use cms_parts::content_info::{CmsVersion, ContentInfo};

@@ -1,0 +1,5 @@
+//! Revocation information.
+
+pub use cms_parts::revocation::{
+    OtherRevocationInfoFormat, RevocationInfoChoice, RevocationInfoChoices,
+};

@@ -1,0 +1,12 @@
+pub mod AuthenticatedData
+pub mod CompressedData
+pub mod DigestedData
+pub mod EncryptedContent
+pub mod EncryptedData
+pub mod EnvelopedData
+pub mod EvidenceRecord
+pub mod KeyAgreement
+pub mod KeyEncryption
+pub mod KeyTransport
+pub mod TimeStampedData
+pub mod TsdVersion

@@ -1,0 +1,11 @@
+pub mod Cert
+pub mod CertificatesOnly
+pub mod ContentInfo
+pub mod Identifiers
+pub mod Mapped
+pub mod Revocation
+pub mod SignedData
+pub mod SignerInfo
+pub mod Tags
+pub mod Values
+pub mod Versions
