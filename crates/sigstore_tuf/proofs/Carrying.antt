@@ -177,7 +177,7 @@ all_had old bytes [] mid new result h k (s, r) = λ q x f. k q x (subst (λ (w :
 all_had old bytes (name ∷ names) mid new result h k (inl (e, s, r)) = saved_had old bytes name mid new (Err e) h.0 k s
 all_had old bytes (name ∷ names) mid new result h k (inr (next, s, more)) = all_had old bytes names next new result h.1 (saved_had old bytes name mid next (Ok tt) h.0 k s) more
 
-keeps_had : (old : State) (set : InForce) (k : Kind) (bytes : List ℕ) (new : Watched Files) (result : Result ⊤ Error) → Had old k bytes → Keeps set k bytes old.store new result → KeptHad old new
+keeps_had : (old : State) (set : InForce) (k : Kind) (bytes : List ℕ) (new : Watched Files) (result : Result ⊤ Error) → Had old k bytes → Keeps (kept_names set k) bytes old.store new result → KeptHad old new
 keeps_had old set k bytes new result h w = all_had old bytes (kept_names set k) old.store new result (kind_had old set k bytes h) (kept_before old old.store refl) w.saves
 
 -- ---- each step
@@ -222,7 +222,7 @@ seed_carried crypto k now old new answer asked (seeded bytes l j s r) =
 pub save_carried : (old new : State) (result : Result ⊤ Error) → SavesRoot old new result → Carried old new
 save_carried old new result s = unmoved old new (since_same old.repo new.repo s.repo) s.documents (by_bytes (bytes_in (Root (version_in old.documents)) old.documents) refl s.written)
   where
-    by_bytes : (b : Option (List ℕ)) → bytes_in (Root (version_in old.documents)) old.documents ≡ b → KeepsWhere old.documents (Root (version_in old.documents)) b old.store new.store result → KeptHad old new.store
+    by_bytes : (b : Option (List ℕ)) → bytes_in (Root (version_in old.documents)) old.documents ≡ b → KeepsWhere (kept_names old.documents (Root (version_in old.documents))) b old.store new.store result → KeptHad old new.store
     by_bytes None e (s, r) = store_same old new s
     by_bytes (Some bytes) e w = keeps_had old old.documents (Root (version_in old.documents)) bytes new.store result (in_force (e, refl)) w
 

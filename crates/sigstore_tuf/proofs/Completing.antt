@@ -108,7 +108,7 @@ after old (Some new) = new
 pub record Took (k : Kind) (bytes : List ℕ) (old new : State) (r : Option InForce) : Type 0 where
   pub documents : new.documents ≡ after old.documents r
   pub told : new.repo.told ≡ old.repo.told
-  pub stored : (new.store ≡ old.store) ⊎ ((written : Result ⊤ Error) × Keeps new.documents k bytes old.store new.store written)
+  pub stored : (new.store ≡ old.store) ⊎ ((written : Result ⊤ Error) × Keeps (kept_names new.documents k) bytes old.store new.store written)
 
 -- nothing changed
 pub record Left (old new : State) : Type 0 where
@@ -141,14 +141,14 @@ module _ (session : Session) (folders : Folders) where
         by_want (inr h) = no_both r e (sym (judged_same x (Err e) same (j h)))
 
     adopted_there : (x : List ℕ) (written : Result ⊤ Error) (answer : Result Bool Error) → Some x ≡ Some bytes → judged_of session.crypto k old.documents x (Some session.now) ≡ Ok (Some new.documents) → new.repo.told ≡ old.repo.told
-        → Keeps new.documents k x old.store new.store written → answer ≡ there_of written → There answer
+        → Keeps (kept_names new.documents k) x old.store new.store written → answer ≡ there_of written → There answer
     adopted_there x written answer same j t w a = by_write written a w (keeps_want new.documents k x old.store new.store written w)
       where
-        by_write : (written : Result ⊤ Error) → answer ≡ there_of written → Keeps new.documents k x old.store new.store written → IfErr written (λ e. e ≡ tuf.NoMemory) → There answer
+        by_write : (written : Result ⊤ Error) → answer ≡ there_of written → Keeps (kept_names new.documents k) x old.store new.store written → IfErr written (λ e. e ≡ tuf.NoMemory) → There answer
         by_write (Ok y) a w h = answers a (record {
           documents = ap (after old.documents) (ok_same (Some new.documents) r (judged_same x (Ok (Some new.documents)) same j));
           told = t;
-          stored = inr (Ok y, subst (λ x. Keeps new.documents k x old.store new.store (Ok y)) (some_same x bytes same) w);
+          stored = inr (Ok y, subst (λ x. Keeps (kept_names new.documents k) x old.store new.store (Ok y)) (some_same x bytes same) w);
         })
         by_write (Err e) a w h = wants (a ∙ ap Err h)
 
@@ -212,13 +212,13 @@ module _ (Q : Files → Type 0) where
   all_so bytes (name ∷ names) old new result h (inl (e, s, r)) t = saved_so bytes name old new (Err e) h.0 s t
   all_so bytes (name ∷ names) old new result h (inr (mid, s, more)) t = all_so bytes names mid new result h.1 more (saved_so bytes name old mid (Ok tt) h.0 s t)
 
-  pub keeps_so : (set : InForce) (k : Kind) (bytes : List ℕ) (old new : Watched Files) (result : Result ⊤ Error) → AreHarmless Q bytes (kept_names set k) → Keeps set k bytes old new result → TellsSo Q old → TellsSo Q new
+  pub keeps_so : (set : InForce) (k : Kind) (bytes : List ℕ) (old new : Watched Files) (result : Result ⊤ Error) → AreHarmless Q bytes (kept_names set k) → Keeps (kept_names set k) bytes old new result → TellsSo Q old → TellsSo Q new
   keeps_so set k bytes old new result h w t = all_so bytes (kept_names set k) old new result h w.saves t
 
   pub took_so : (k : Kind) (bytes : List ℕ) (old new : State) (r : Option InForce) → AreHarmless Q bytes (kept_names new.documents k) → Took k bytes old new r → TellsSo Q old.store → TellsSo Q new.store
   took_so k bytes old new r h took t = by_stored took.stored
     where
-      by_stored : (new.store ≡ old.store) ⊎ ((written : Result ⊤ Error) × Keeps new.documents k bytes old.store new.store written) → TellsSo Q new.store
+      by_stored : (new.store ≡ old.store) ⊎ ((written : Result ⊤ Error) × Keeps (kept_names new.documents k) bytes old.store new.store written) → TellsSo Q new.store
       by_stored (inl e) = subst (TellsSo Q) (sym e) t
       by_stored (inr (written, w)) = keeps_so new.documents k bytes old.store new.store written h w t
 

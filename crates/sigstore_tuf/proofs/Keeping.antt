@@ -445,13 +445,13 @@ last_is_there given (b ∷ bs) h = last_there b bs
 saves_root : (crypto : Crypto) (old new : State) → IsAuthorised crypto old.documents → Quiet old.store.faults new.store.faults → SavesRoot old new (Ok tt) → KeepsAdopted old → KeepsInForce new
 saves_root crypto old new a quiet s h =
     let last = last_is_there (given_in old.documents) old.documents.roots a.roots.begins in
-    let w = subst (λ b. KeepsWhere old.documents (Root (version_in old.documents)) b old.store new.store (Ok tt)) last.1 s.written in
+    let w = subst (λ b. KeepsWhere (kept_names old.documents (Root (version_in old.documents))) b old.store new.store (Ok tt)) last.1 s.written in
     let r = facts crypto old.documents a in
     subst (λ set. IfTold new.store.told (λ files. HoldsInForce files set)) (sym s.documents)
     (all_put (λ files. HoldsInForce files old.documents) last.0 (kept_names old.documents (Root (version_in old.documents))) old.store new.store (Ok tt) (good_names old.documents (Root (version_in old.documents))) (λ e. cc) quiet w.saves
     (told_map (λ files. HoldsAdopted files old.documents) (λ files. HoldsInForce (files_all last.0 (kept_names old.documents (Root (version_in old.documents))) files) old.documents) old.store.told (λ files h. again files old.documents last.0 r last.1 h) h))
 
-where_later : (set : InForce) (k : Kind) (bytes : Option (List ℕ)) (old new : Watched Files) (result : Result ⊤ Error) → KeepsWhere set k bytes old new result → old.faults ≤ new.faults
+where_later : (set : InForce) (k : Kind) (bytes : Option (List ℕ)) (old new : Watched Files) (result : Result ⊤ Error) → KeepsWhere (kept_names set k) bytes old new result → old.faults ≤ new.faults
 where_later set k None old new result (s, r) = subst (λ (w : Watched Files). old.faults ≤ w.faults) (sym s) (le_refl old.faults)
 where_later set k (Some bytes) old new result w = all_later bytes (kept_names set k) old new result w.saves
 

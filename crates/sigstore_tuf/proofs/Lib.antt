@@ -25,3 +25,5 @@ pub mod Keeping
 pub mod TargetKept
 pub mod Newest
 pub mod StoredLaws
+pub mod Walks
+pub mod Agrees

@@ -529,14 +529,14 @@ module _ (session : Session) (folders : Folders) (path : List ℕ) (chain : Trus
         number : ℕ
         number = version_in old.documents
 
-        warm : (b : Option (List ℕ)) → last_or None old.documents.roots ≡ b → KeepsWhere old.documents (Root (version_in old.documents)) b old.store new.store result → TellsSo IsWarm new.store
+        warm : (b : Option (List ℕ)) → last_or None old.documents.roots ≡ b → KeepsWhere (kept_names old.documents (Root (version_in old.documents))) b old.store new.store result → TellsSo IsWarm new.store
         warm None at (same, is) = subst (TellsSo IsWarm) (sym same) s.on.warm
         warm (Some bytes) at keeps =
             let is = number_in old s.doc s.rest s.on in
             keeps_so IsWarm old.documents (Root (version_in old.documents)) bytes old.store new.store result
             (root_harmless old.documents (version_in old.documents) bytes (subst (λ n. n < 2 ^ 64) (sym is) s.on.bound) (subst (λ n. SuitsRoots from whole n bytes) (sym is) (s.on.suits bytes at))) keeps s.on.warm
 
-        want : (b : Option (List ℕ)) (result : Result ⊤ Error) → KeepsWhere old.documents (Root (version_in old.documents)) b old.store new.store result → IfErr result (λ e. e ≡ tuf.NoMemory)
+        want : (b : Option (List ℕ)) (result : Result ⊤ Error) → KeepsWhere (kept_names old.documents (Root (version_in old.documents))) b old.store new.store result → IfErr result (λ e. e ≡ tuf.NoMemory)
         want None result (same, is) = subst (λ r. IfErr r (λ e. e ≡ tuf.NoMemory)) (sym is) tt
         want (Some bytes) result keeps = keeps_want old.documents (Root (version_in old.documents)) bytes old.store new.store result keeps
 

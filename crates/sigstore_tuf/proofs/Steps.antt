@@ -53,7 +53,7 @@ loaded_as {name} {other} {old} {new} {result} at l = subst (λ n. LoadsNamed n o
 pub saved_as : {bytes name other : List ℕ} {old new : Watched Files} {result : Result ⊤ Error} → other ≡ name → Saves bytes other old new result → Saves bytes name old new result
 saved_as {bytes} {name} {other} {old} {new} {result} at s = subst (λ n. Saves bytes n old new result) at s
 
-pub kept_as : (set : InForce) (k : Kind) {bytes : List ℕ} {names : List (List ℕ)} {old new : Watched Files} {result : Result ⊤ Error} → names ≡ kept_names set k → SavesAll bytes names old new result → Keeps set k bytes old new result
+pub kept_as : (set : InForce) (k : Kind) {bytes : List ℕ} {names : List (List ℕ)} {old new : Watched Files} {result : Result ⊤ Error} → names ≡ kept_names set k → SavesAll bytes names old new result → Keeps (kept_names set k) bytes old new result
 kept_as set k {bytes} {names} {old} {new} {result} at s = record { saves = subst (λ n. SavesAll bytes n old new result) at s }
 
 -- ---- what an update says of a document that is taken in
@@ -107,10 +107,10 @@ other_takes crypto k old new bytes now updated result n u r = subst (Takes (judg
 
 -- the bytes that are written are those that were judged
 pub kept_put : (session : Session) (k : Kind) (old new : InForce) (bytes : List ℕ) {store store' : Watched Files} {result : Result ⊤ Error} → judged_of session.crypto k old bytes (Some session.now) ≡ Ok (Some new)
-    → KeepsWhere new k (bytes_in k new) store store' result → Keeps new k bytes store store' result
+    → KeepsWhere (kept_names new k) (bytes_in k new) store store' result → Keeps (kept_names new k) bytes store store' result
 kept_put session k old new bytes {store} {store'} {result} judged w =
     let at = bytes_put session.crypto old new bytes k (Some session.now) (judged_puts session.crypto old bytes k (Some session.now) new judged) in
-    subst (λ b. KeepsWhere new k b store store' result) at w
+    subst (λ b. KeepsWhere (kept_names new k) b store store' result) at w
 
 -- a document of the store that was judged
 pub seed_taken : (crypto : Crypto) (k : Kind) (now : Option jiff.Timestamp) (old new : InForce) (repo : Watched Folders) (store store' : Watched Files) (bytes : List ℕ) (was : Bool)
@@ -252,7 +252,7 @@ all_want bytes [] old new result (s, r) = subst IsWant (sym r) tt
 all_want bytes (name ∷ names) old new result (inl (e, s, r)) = subst IsWant (sym r) (save_wants bytes name old new (Err e) s)
 all_want bytes (name ∷ names) old new result (inr (mid, s, more)) = all_want bytes names mid new result more
 
-where_wants : (set : InForce) (k : Kind) (bytes : Option (List ℕ)) (old new : Watched Files) (result : Result ⊤ Error) → KeepsWhere set k bytes old new result → IsWant result
+where_wants : (set : InForce) (k : Kind) (bytes : Option (List ℕ)) (old new : Watched Files) (result : Result ⊤ Error) → KeepsWhere (kept_names set k) bytes old new result → IsWant result
 where_wants set k None old new result (s, r) = subst IsWant (sym r) tt
 where_wants set k (Some bytes) old new result w = all_want bytes (kept_names set k) old new result w.saves
 
@@ -276,7 +276,7 @@ attach_wants crypto old new result a =
     want_cause result (attach_lift (λ old new result. IsWant result) (λ a b c result p q. q) (λ a. tt) crypto (λ k old new answer asked s. seeds_want crypto k None old new answer s)
     (λ old new result s. where_wants old.documents (Root (version_in old.documents)) (bytes_in (Root (version_in old.documents)) old.documents) old.store new.store result s.written) old new result a)
 
-pub keeps_want : (set : InForce) (k : Kind) (bytes : List ℕ) (old new : Watched Files) (result : Result ⊤ Error) → Keeps set k bytes old new result → IfErr result (λ e. e ≡ tuf.NoMemory)
+pub keeps_want : (set : InForce) (k : Kind) (bytes : List ℕ) (old new : Watched Files) (result : Result ⊤ Error) → Keeps (kept_names set k) bytes old new result → IfErr result (λ e. e ≡ tuf.NoMemory)
 keeps_want set k bytes old new result w = want_cause result (all_want bytes (kept_names set k) old new result w.saves)
 
 pub reseeds_want : (session : Session) (k : Kind) (old new : State) (result : Result ⊤ Error) → Reseeds session k old new result → IfErr result (λ e. e ≡ tuf.NoMemory)

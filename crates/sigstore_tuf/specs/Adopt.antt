@@ -123,23 +123,16 @@ SavesAll bytes (name ∷ names) old new result =
     ((e : Error) × Saves bytes name old new (Err e) × (result ≡ Err e))
     ⊎ ((mid : Watched Files) × Saves bytes name old mid (Ok tt) × SavesAll bytes names mid new result)
 
--- under all the names that the documents in force give it
-pub record Keeps (set : InForce) (kind : Kind) (bytes : List ℕ) (old new : Watched Files) (result : Result ⊤ Error) : Type 0 where
-  pub saves : SavesAll bytes (kept_names set kind) old new result
+-- under all these names
+pub record Keeps (names : List (List ℕ)) (bytes : List ℕ) (old new : Watched Files) (result : Result ⊤ Error) : Type 0 where
+  pub saves : SavesAll bytes names old new result
 
 -- where the document is in force
-abbrev pub KeepsWhere : InForce → Kind → Option (List ℕ) → Watched Files → Watched Files → Result ⊤ Error → Type 0
-KeepsWhere set kind None old new result = (new ≡ old) × (result ≡ Ok tt)
-KeepsWhere set kind (Some bytes) old new result = Keeps set kind bytes old new result
+abbrev pub KeepsWhere : List (List ℕ) → Option (List ℕ) → Watched Files → Watched Files → Result ⊤ Error → Type 0
+KeepsWhere names None old new result = (new ≡ old) × (result ≡ Ok tt)
+KeepsWhere names (Some bytes) old new result = Keeps names bytes old new result
 
 -- ---- from the repository
-
--- a next root may be absent
-abbrev pub absence_of : Kind → Result Bool Error
-absence_of (Root number) = Ok false
-absence_of Timestamp = Err (tuf.Transport transport.Absent)
-absence_of Snapshot = Err (tuf.Transport transport.Absent)
-absence_of Targets = Err (tuf.Transport transport.Absent)
 
 abbrev pub there_of : Result ⊤ Error → Result Bool Error
 there_of (Ok x) = Ok true
@@ -155,21 +148,48 @@ pub record Unmoved (old new : State) : Type 0 where
   pub documents : new.documents ≡ old.documents
   pub store : new.store ≡ old.store
 
+-- What is adopted: the name of its file and how long that may be, how its bytes are judged, the names under which it is then kept, and
+-- what is said where it isn't there.
+pub record Adoption : Type 0 where
+  pub name : List ℕ
+  pub max : ℕ
+  pub judged : List ℕ → Result (Option InForce) Error
+  pub kept : InForce → List (List ℕ)
+  pub absence : Result Bool Error
+
 -- The document is fetched, judged by what is in force, put in force and written. The answer is whether it was there.
-pub data Adopts (session : Session) (kind : Kind) (old new : State) (result : Result Bool Error) : Type 0 where
-  unfetched : (e : Error) → FetchesDocument session old.documents kind old.repo new.repo (Err e) → Unmoved old new → result ≡ Err e
-      → Adopts session kind old new result
-  absent : FetchesDocument session old.documents kind old.repo new.repo (Ok None) → Unmoved old new → result ≡ absence_of kind
-      → Adopts session kind old new result
-  refused : (bytes : List ℕ) (e : Error) → FetchesDocument session old.documents kind old.repo new.repo (Ok (Some bytes))
-      → (e ≢ tuf.NoMemory → judged_of session.crypto kind old.documents bytes (Some session.now) ≡ Err e)
-      → Unmoved old new → result ≡ Err e → Adopts session kind old new result
-  kept : (bytes : List ℕ) → FetchesDocument session old.documents kind old.repo new.repo (Ok (Some bytes))
-      → judged_of session.crypto kind old.documents bytes (Some session.now) ≡ Ok None
-      → Unmoved old new → result ≡ Ok true → Adopts session kind old new result
-  adopted : (bytes : List ℕ) (written : Result ⊤ Error) → FetchesDocument session old.documents kind old.repo new.repo (Ok (Some bytes))
-      → judged_of session.crypto kind old.documents bytes (Some session.now) ≡ Ok (Some new.documents)
-      → Keeps new.documents kind bytes old.store new.store written → result ≡ there_of written → Adopts session kind old new result
+pub data AdoptsBy (a : Adoption) (old new : State) (result : Result Bool Error) : Type 0 where
+  unfetched : (e : Error) → FetchesNamed metadata_files a.name a.max old.repo new.repo (Err e) → Unmoved old new → result ≡ Err e
+      → AdoptsBy a old new result
+  absent : FetchesNamed metadata_files a.name a.max old.repo new.repo (Ok None) → Unmoved old new → result ≡ a.absence
+      → AdoptsBy a old new result
+  refused : (bytes : List ℕ) (e : Error) → FetchesNamed metadata_files a.name a.max old.repo new.repo (Ok (Some bytes))
+      → (e ≢ tuf.NoMemory → a.judged bytes ≡ Err e) → Unmoved old new → result ≡ Err e → AdoptsBy a old new result
+  kept : (bytes : List ℕ) → FetchesNamed metadata_files a.name a.max old.repo new.repo (Ok (Some bytes))
+      → a.judged bytes ≡ Ok None → Unmoved old new → result ≡ Ok true → AdoptsBy a old new result
+  adopted : (bytes : List ℕ) (written : Result ⊤ Error) → FetchesNamed metadata_files a.name a.max old.repo new.repo (Ok (Some bytes))
+      → a.judged bytes ≡ Ok (Some new.documents)
+      → Keeps (a.kept new.documents) bytes old.store new.store written → result ≡ there_of written → AdoptsBy a old new result
+
+-- a next root may be absent
+abbrev pub absence_of : Kind → Result Bool Error
+absence_of (Root number) = Ok false
+absence_of Timestamp = Err (tuf.Transport transport.Absent)
+absence_of Snapshot = Err (tuf.Transport transport.Absent)
+absence_of Targets = Err (tuf.Transport transport.Absent)
+
+-- a top-level document, under the documents in force
+abbrev pub adoption_of : Session → Kind → InForce → Adoption
+adoption_of session kind set = record {
+  name = file_name set kind;
+  max = max_length session.config kind;
+  judged = λ bytes. judged_of session.crypto kind set bytes (Some session.now);
+  kept = λ new. kept_names new kind;
+  absence = absence_of kind;
+}
+
+abbrev pub Adopts : Session → Kind → State → State → Result Bool Error → Type 0
+Adopts session kind old new result = AdoptsBy (adoption_of session kind old.documents) old new result
 
 -- ---- from the store
 

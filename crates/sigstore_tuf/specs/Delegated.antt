@@ -24,10 +24,6 @@ use Rattle.sigstore_tuf.specs.Order.{Visit, is_top_level}
 use Rattle.sigstore_tuf.specs.Trusted.{Authority, authority_in}
 use Rattle.sigstore_tuf.specs.Update.{fresh_at_of}
 
--- a visit of that name
-abbrev pub visit_of : List ℕ → List ℕ → Visit
-visit_of name delegator = record { name = name; delegator = delegator }
-
 -- ---- the delegation
 
 -- A top-level role is the root's to name: else whoever signs a targets document would put a key of his own in the place of the root's.

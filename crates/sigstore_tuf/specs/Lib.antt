@@ -22,3 +22,4 @@ pub mod Promises
 pub mod Updater
 pub mod Offer
 pub mod Laws
+pub mod SearchLaws

@@ -1,5 +1,5 @@
 -- The search for a target: which roles are visited, in which order (TUF specification, section 5.6: pre-order, depth first).
-use Rattle.std.specs.Prelude.{ℕ, zero, suc, ◌-◌, List, [], ◌∷◌, ◌++◌, Bool, true, false, ◌||◌, ◌==◌, if◌then◌else◌}
+use Rattle.std.specs.Prelude.{ℕ, zero, suc, ◌-◌, List, [], ◌∷◌, ◌++◌, Bool, true, false, ◌||◌, ◌==◌, if◌then◌else◌, map}
 use Rattle.std.specs.Prelude.{Option, Some, None, is_some, ok_or, Result, Ok, Err, codes}
 use Rattle.std.specs.Result.{result_ok}
 use Rattle.sigstore_types_parts.specs.Entries.{at_name}
@@ -111,6 +111,16 @@ visit_of tree v w =
     else if is_pinned tree.snapshot v.name
     then (ok_or (tree.documents v.name) (missing v.name) >>= λ doc. read_of tree doc (having_read v.name (visited v w)))
     else Ok (still (visited v w))
+
+-- ---- what is pending
+
+-- a visit of that name
+abbrev pub by : List ℕ → List ℕ → Visit
+by delegator name = record { name = name; delegator = delegator }
+
+-- what is pending after a visit: what follows it, before the others, which a terminating match drops
+abbrev pub pending_after : Visit → Step → List Visit → List Visit
+pending_after v step vs = map (by v.name) step.next.names ++ (if step.next.ends then [] else vs)
 
 -- ---- the whole search
 

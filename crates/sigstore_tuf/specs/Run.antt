@@ -13,6 +13,7 @@ use Rattle.sigstore_tuf.specs.declared.step.Step.TheVariants.{WalkRoots, CheckRo
 use Rattle.sigstore_tuf.specs.declared.step.Step.TheVariants.{CheckSnapshot, CheckDelegations}
 use Rattle.sigstore_tuf_parts.specs.Crypto.{Crypto}
 use Rattle.sigstore_tuf.specs.State.{Session, State}
+use Rattle.sigstore_tuf.specs.Names.{kept_names}
 use Rattle.sigstore_tuf.specs.Adopt.{bytes_in, top_targets, KeepsWhere, Adopts, Seeds}
 use Rattle.sigstore_tuf.specs.Client.{version_in, root_serves_of, timestamp_serves_of, snapshot_serves_of, is_current, undelegated_of}
 
@@ -82,7 +83,8 @@ roots_left set = 2 ^ 64 - 1 - version_in set
 pub record SavesRoot (old new : State) (result : Result ⊤ Error) : Type 0 where
   pub documents : new.documents ≡ old.documents
   pub repo : new.repo ≡ old.repo
-  pub written : KeepsWhere old.documents (kind.Root (version_in old.documents)) (bytes_in (kind.Root (version_in old.documents)) old.documents)
+  pub written : KeepsWhere (kept_names old.documents (kind.Root (version_in old.documents)))
+      (bytes_in (kind.Root (version_in old.documents)) old.documents)
       old.store new.store result
 
 -- Where a store is handed in, its next roots are adopted, and the root then in force is written.

@@ -4,7 +4,7 @@ ghost use Rattle.foundation.specs.Watched.{Watched};
 ghost use Rattle.sigstore_tuf_parts.specs.By.{crypto_by};
 ghost use Rattle.sigstore_tuf.specs.Repository.{Folders, metadata_files};
 ghost use Rattle.sigstore_tuf.specs.State.{state_of, session_by};
-ghost use Rattle.sigstore_tuf.specs.Names.{kept_name, history_name, pinned_name, both_names};
+ghost use Rattle.sigstore_tuf.specs.Names.{kept_name, history_name, pinned_name, both_names, kept_names};
 ghost use Rattle.sigstore_tuf.specs.Update.{Updates};
 ghost use Rattle.sigstore_tuf.specs.declared.kind.Kind.TheVariants as kind;
 ghost use Rattle.sigstore_tuf.specs.Adopt.{update_of, judged_of, Takes, bytes_in, transport_of, FetchesNamed, FetchesDocument, LoadsNamed, Saves, SavesAll, Keeps, KeepsWhere, there_of, there_unless_equal, absence_of, Adopts, passed_over, Seeds};
@@ -282,7 +282,7 @@ fn save_root<S: MetadataStore>(
     number: u64,
     bytes: &[u8],
 ) -> Result<(), Error>
-    ensures { (set : InForce) → Keeps set (kind.Root number) bytes.now (S.seen store.old) (S.seen store.new) result }
+    ensures { (set : InForce) → Keeps (kept_names set (kind.Root number)) bytes.now (S.seen store.old) (S.seen store.new) result }
 {
     match save_history(alloc, store, number, bytes) {
         Ok(()) => match save(alloc, store, ROOT_FILE, bytes) {
@@ -354,7 +354,7 @@ pub(crate) fn save_document<S: MetadataStore>(
     kind: Kind,
     bytes: &[u8],
 ) -> Result<(), Error>
-    ensures { Keeps documents.now kind bytes.now (S.seen store.old) (S.seen store.new) result }
+    ensures { Keeps (kept_names documents.now kind) bytes.now (S.seen store.old) (S.seen store.new) result }
 {
     match kind {
         Kind::Root(number) => save_root(alloc, store, number, bytes),
@@ -375,7 +375,7 @@ pub(crate) fn save_in_force<S: MetadataStore>(
     documents: &InForce,
     kind: Kind,
 ) -> Result<(), Error>
-    ensures { KeepsWhere documents.now kind (bytes_in kind documents.now) (S.seen store.old) (S.seen store.new) result }
+    ensures { KeepsWhere (kept_names documents.now kind) (bytes_in kind documents.now) (S.seen store.old) (S.seen store.new) result }
 {
     match bytes_in(documents, kind) {
         Some(bytes) => save_document(alloc, store, documents, kind, bytes),

@@ -2,9 +2,9 @@
 ghost use Rattle.std.specs.Prelude.{◌≡◌, ◌≢◌, Some, Ok, Err, IfOk, IfErr, OnOk, OnErr, find, bytes_eq, option_copied};
 ghost use Rattle.sigstore_types_parts.specs.Entries.{at_name};
 ghost use Rattle.sigstore_tuf_parts.specs.By.{crypto_by};
-ghost use Rattle.sigstore_tuf.specs.Order.{is_top_level};
+ghost use Rattle.sigstore_tuf.specs.Order.{by, is_top_level};
 ghost use Rattle.sigstore_tuf.specs.Update.{fresh_at_of, Updates};
-ghost use Rattle.sigstore_tuf.specs.Delegated.{visit_of, authority_by, not_top_level_of, delegation_of, meets_delegation_of, with_role, role_pin_of, role_checks_of, role_document_of, update_role_of, role_serves_of};
+ghost use Rattle.sigstore_tuf.specs.Delegated.{authority_by, not_top_level_of, delegation_of, meets_delegation_of, with_role, role_pin_of, role_checks_of, role_document_of, update_role_of, role_serves_of};
 
 use crate::documents::{Held, InForce};
 use crate::update::check_fresh_at;
@@ -49,8 +49,8 @@ fn find_delegation<'d>(
     name: &str,
     delegator: &str,
 ) -> Result<Delegation<'d>, Error>
-    ensures ok { IfOk result (λ d. delegation_of documents.now (visit_of name.now delegator.now) ≡ Ok (authority_by d)) }
-    ensures err { IfErr result (λ e. e ≢ Error.NoMemory → delegation_of documents.now (visit_of name.now delegator.now) ≡ Err e) }
+    ensures ok { IfOk result (λ d. delegation_of documents.now (by delegator.now name.now) ≡ Ok (authority_by d)) }
+    ensures err { IfErr result (λ e. e ≢ Error.NoMemory → delegation_of documents.now (by delegator.now name.now) ≡ Err e) }
 {
     if is_top_level(name) {
         return Err(Error::Malformed(Rule::TopLevel));
@@ -205,9 +205,9 @@ fn new_role<C: CryptoProvider, M: Armor>(
     now: &Option<jiff::Timestamp>,
 ) -> Result<Held<Targets>, Error>
     ensures ok { IfOk result (λ held. update_role_of (crypto_by C.CryptoProvider M.Armor provider.now armor.now) documents.now
-        (visit_of name.now delegator.now) bytes now.now ≡ Ok (with_role documents.now name.now held)) }
+        (by delegator.now name.now) bytes now.now ≡ Ok (with_role documents.now name.now held)) }
     ensures err { IfErr result (λ e. e ≢ Error.NoMemory → update_role_of (crypto_by C.CryptoProvider M.Armor provider.now armor.now)
-        documents.now (visit_of name.now delegator.now) bytes now.now ≡ Err e) }
+        documents.now (by delegator.now name.now) bytes now.now ≡ Err e) }
 {
     let delegation = find_delegation(alloc, documents, name, delegator)?;
     let pin = role_pin(alloc, documents, name, now)?;
@@ -262,7 +262,7 @@ pub(crate) fn update_role<C: CryptoProvider, M: Armor>(
     now: Option<jiff::Timestamp>,
 ) -> Result<(), Error>
     ensures { Updates (update_role_of (crypto_by C.CryptoProvider M.Armor provider.now armor.now) documents.old
-        (visit_of name.now delegator.now) bytes now) documents.old documents.new result }
+        (by delegator.now name.now) bytes now) documents.old documents.new result }
 {
     match new_role(
         alloc, provider, armor, documents, name, delegator, bytes, &now,
@@ -287,7 +287,7 @@ pub(crate) fn update_role_copied<C: CryptoProvider, M: Armor>(
     now: Option<jiff::Timestamp>,
 ) -> Result<(), Error>
     ensures { Updates (update_role_of (crypto_by C.CryptoProvider M.Armor provider.now armor.now) documents.old
-        (visit_of name.now delegator.now) bytes.now now) documents.old documents.new result }
+        (by delegator.now name.now) bytes.now now) documents.old documents.new result }
 {
     match Bytes::new(alloc, bytes) {
         Ok(bytes) => update_role(
@@ -310,10 +310,10 @@ pub(crate) fn serving_role<'d, C: CryptoProvider, M: Armor>(
     now: jiff::Timestamp,
 ) -> Result<&'d Held<Targets>, Error>
     ensures ok { IfOk result (λ held. role_serves_of (crypto_by C.CryptoProvider M.Armor provider.now armor.now) documents.now
-        (visit_of name.now delegator.now) now ≡ Ok tt) }
+        (by delegator.now name.now) now ≡ Ok tt) }
     ensures same { IfOk result (λ held. at_name name.now documents.now.targets ≡ Some held.now) }
     ensures err { IfErr result (λ e. e ≢ Error.NoMemory → role_serves_of (crypto_by C.CryptoProvider M.Armor provider.now armor.now)
-        documents.now (visit_of name.now delegator.now) now ≡ Err e) }
+        documents.now (by delegator.now name.now) now ≡ Err e) }
 {
     let delegation = find_delegation(alloc, documents, name, delegator)?;
     let Some(held) = documents.targets.get(name) else {

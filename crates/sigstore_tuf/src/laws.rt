@@ -1,9 +1,19 @@
 // Laws of the definitions. A call does nothing.
 ghost use Rattle.sigstore_tuf.specs.Laws.{SeedsAreSigned, RecallsArePinned};
+ghost use Rattle.sigstore_tuf.specs.SearchLaws.{SearchesByList, SearchesDeepEnough, SearchesBounded, OneOrder};
 
 /// The laws of a store: a document of it is put in force only where it meets its role in the root in force,
 /// a next root also its own; and a file of it is given only with its listed length and digests.
 pub fn stored_is_signed()
     ensures documents { SeedsAreSigned }
     ensures files { RecallsArePinned }
+{}
+
+/// The laws of a search: it goes by one list of what is pending, it may go deeper than it has visits left, it
+/// makes at most as many visits as are allowed, and documents that agree give one order.
+pub fn search_laws()
+    ensures by_list { SearchesByList }
+    ensures deep_enough { SearchesDeepEnough }
+    ensures bounded { SearchesBounded }
+    ensures one { OneOrder }
 {}

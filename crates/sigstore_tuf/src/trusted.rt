@@ -6,7 +6,8 @@ ghost use Rattle.sigstore_tuf_parts.specs.Document.{content_in};
 ghost use Rattle.sigstore_types_parts.specs.Entries.{at_name};
 ghost use Rattle.sigstore_tuf.specs.Documents.{content_of};
 ghost use Rattle.sigstore_tuf.specs.Update.{first_root_of, update_root_of, update_timestamp_of, update_snapshot_of, update_targets_of};
-ghost use Rattle.sigstore_tuf.specs.Delegated.{visit_of, update_role_of, role_serves_of};
+ghost use Rattle.sigstore_tuf.specs.Order.{by};
+ghost use Rattle.sigstore_tuf.specs.Delegated.{update_role_of, role_serves_of};
 ghost use Rattle.sigstore_tuf.specs.Target.{fresh_timestamp_of, fresh_snapshot_of};
 ghost use Rattle.sigstore_tuf_parts.specs.Integrity.{fresh_of};
 ghost use Rattle.sigstore_tuf.specs.Authorised.{IsAuthorised, crypto_in, SameJudges, UpdatesSet};
@@ -257,7 +258,7 @@ impl<'p, C: CryptoProvider, M: Armor> TrustedMetadataSet<'p, C, M> {
         now: jiff::Timestamp,
     ) -> Result<(), Error>
         ensures updates { let crypto = crypto_in C.CryptoProvider M.Armor self.old in
-            UpdatesSet (update_role_of crypto self.old.documents (visit_of role.now delegator.now) bytes.now (Some now)) crypto
+            UpdatesSet (update_role_of crypto self.old.documents (by delegator.now role.now) bytes.now (Some now)) crypto
             self.old.documents self.new.documents result }
         ensures judges { SameJudges self.old self.new }
     {
@@ -284,10 +285,10 @@ impl<'p, C: CryptoProvider, M: Armor> TrustedMetadataSet<'p, C, M> {
         now: jiff::Timestamp,
     ) -> Result<&Targets, Error>
         ensures ok { IfOk result (λ targets.
-            role_serves_of (crypto_in C.CryptoProvider M.Armor self.now) self.now.documents (visit_of role.now delegator.now) now ≡ Ok tt) }
+            role_serves_of (crypto_in C.CryptoProvider M.Armor self.now) self.now.documents (by delegator.now role.now) now ≡ Ok tt) }
         ensures same { IfOk result (λ targets. option_map content_of (at_name role.now self.now.documents.targets) ≡ Some targets.now) }
         ensures err { IfErr result (λ e. e ≢ Error.NoMemory →
-            role_serves_of (crypto_in C.CryptoProvider M.Armor self.now) self.now.documents (visit_of role.now delegator.now) now ≡ Err e) }
+            role_serves_of (crypto_in C.CryptoProvider M.Armor self.now) self.now.documents (by delegator.now role.now) now ≡ Err e) }
     {
         match serving_role(
             alloc,
