@@ -1,5 +1,5 @@
 // The attributes that a signer needs.
-ghost use Rattle.std.specs.Prelude.{◌≡◌, ◌≢◌, ◌⊎◌, IfOk, IfErr, Ok, Err};
+ghost use Rattle.std.specs.Prelude.{◌≡◌, ◌≢◌, IfOk, IfErr, Ok, Err};
 ghost use Rattle.der_core_parts.specs.declared.error.DerError.TheVariants.{Value as BadValue};
 ghost use Rattle.der_core_parts.specs.Outcome.{IsTooLong as IsTooLongDer};
 ghost use Rattle.x509_core.specs.declared.time.Time.{Time as TimeType};
@@ -79,8 +79,7 @@ fn time_of(now: Timestamp) -> Result<Time, DerError>
 pub fn create_signing_time_attribute(alloc: Global, now: Timestamp) -> Result<Attribute, Error>
     ensures ok { IfOk result (λ a. (t : TimeType) × IsSigningTime now.nanosecond t
         × (of_der (attribute_of time_type.grammar signing_time_oid t) ≡ Ok a)) }
-    ensures err { IfErr result (λ e. e ≢ Error.NoMemory → ((e ≡ Asn1 BadValue) × HasNoTime now.nanosecond)
-        ⊎ ((t : TimeType) × IsSigningTime now.nanosecond t × (of_der (attribute_of time_type.grammar signing_time_oid t) ≡ Err e))) }
+    ensures err { IfErr result (λ e. e ≢ Error.NoMemory → (e ≡ Asn1 BadValue) × HasNoTime now.nanosecond) }
 {
     let time = time_of(now)?;
     let attribute = attribute_of(alloc, identifiers::signing_time(), &time)?;

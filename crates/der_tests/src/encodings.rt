@@ -3,6 +3,7 @@
 use crate::leaves;
 use crate::tables::{check_rows, compared, debug, good};
 use der_core::*;
+use der_numbers::{Number, OctetKind, U16Kind, U64Kind};
 use foundation::{Duplicate, Sequence};
 use std::process::Abort;
 use x509_core::{
@@ -35,6 +36,9 @@ pub fn answer<X: AllocGlobal + Abort>(rt: &X, name: &str, bytes: &[u8], words: &
         "Utf8" => again::<X, Utf8>(rt, bytes),
         "Ia5" => again::<X, Ia5>(rt, bytes),
         "bool" => again::<X, bool>(rt, bytes),
+        "Octet" => again::<X, Number<OctetKind>>(rt, bytes),
+        "U16" => again::<X, Number<U16Kind>>(rt, bytes),
+        "U64" => again::<X, Number<U64Kind>>(rt, bytes),
         "ObjectIdentifier" => again::<X, ObjectIdentifier>(rt, bytes),
         "SetOfVec" => again::<X, SetOfVec<Int>>(rt, bytes),
         "Sequence" => again::<X, Sequence<Int>>(rt, bytes),
@@ -148,6 +152,22 @@ ObjectIdentifier 06022b81 => Value
 ObjectIdentifier 06062b9080808000 => Value
 ObjectIdentifier 06282b010101010101010101010101010101010101010101010101010101010101010101010101010101 => Value";
 
+// Numbers of a range.
+const RANGES: &str = "\
+Octet 020100 => kept
+Octet 02017f => kept
+Octet 020200ff => kept
+Octet 020180 => Value
+Octet 02020100 => Value
+Octet 02020001 => Value
+Octet 0200 => Value
+U16 020300ffff => kept
+U16 0203010000 => Value
+U64 020900ffffffffffffffff => kept
+U64 0209010000000000000000 => Value
+U64 020a0000ffffffffffffffff => Value
+U64 040100 => Tag";
+
 // Sets and lists.
 const SETS: &str = "\
 SetOfVec 3106020101020102 => kept
@@ -212,6 +232,7 @@ Certificate 3000 => Value";
 fn encodings(rt: HostRuntime) {
     check_rows(&rt, TAGS);
     check_rows(&rt, NUMBERS);
+    check_rows(&rt, RANGES);
     check_rows(&rt, BITS);
     check_rows(&rt, TEXTS);
     check_rows(&rt, IDENTIFIERS);

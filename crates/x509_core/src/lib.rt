@@ -19,7 +19,10 @@ pub use kinds::{
     Certificate, CertificateKind, CertificateList, CertificateListKind, Name, NameKind,
     SerialNumber, SerialNumberKind, SubjectKeyIdentifier, SubjectKeyIdentifierKind,
 };
-pub use laws::certificates_alike;
+pub use laws::{
+    algorithms_alike, certificates_alike, extensions_alike, names_alike, serial_numbers_alike,
+    times_alike,
+};
 pub use other_name::OtherName;
 pub use time::Time;
 pub use x509_core_parts::{
