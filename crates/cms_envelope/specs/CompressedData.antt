@@ -10,7 +10,11 @@ use Rattle.cms_envelope.specs.declared.compressed_data.CompressedData.{Compresse
 -- SEQUENCE { version CMSVersion, compressionAlgorithm AlgorithmIdentifier, encapContentInfo EncapsulatedContentInfo } (RFC 3274, 1.1)
 abbrev pub compressed_data_type : AsnType CompressedData
 compressed_data_type =
-    sequence_type (components_as (λ x. record { version = x.0; compression_alg = x.1.0; encap_content_info = x.1.1 }) (λ a. (a.version, (a.compression_alg, a.encap_content_info)))
+    sequence_type (components_as (λ x. record {
+      version = x.0;
+      compression_alg = x.1.0;
+      encap_content_info = x.1.1;
+    }) (λ a. (a.version, (a.compression_alg, a.encap_content_info)))
     (followed_by (required_component version_type)
     (followed_by (required_component algorithm_type)
     (required_component encapsulated_content_info_type) refl) refl)

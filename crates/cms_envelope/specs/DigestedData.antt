@@ -12,7 +12,12 @@ use Rattle.cms_envelope.specs.declared.digested_data.DigestedData.{DigestedData}
 -- (RFC 5652, 7)
 abbrev pub digested_data_type : AsnType DigestedData
 digested_data_type =
-    sequence_type (components_as (λ x. record { version = x.0; digest_alg = x.1.0; encap_content_info = x.1.1.0; digest = x.1.1.1 }) (λ a. (a.version, (a.digest_alg, (a.encap_content_info, a.digest))))
+    sequence_type (components_as (λ x. record {
+      version = x.0;
+      digest_alg = x.1.0;
+      encap_content_info = x.1.1.0;
+      digest = x.1.1.1;
+    }) (λ a. (a.version, (a.digest_alg, (a.encap_content_info, a.digest))))
     (followed_by (required_component version_type)
     (followed_by (required_component algorithm_type)
     (followed_by (required_component encapsulated_content_info_type)

@@ -13,7 +13,11 @@ use Rattle.cms_envelope.specs.declared.encrypted_content.EncryptedContentInfo.{E
 -- encryptedContent [0] IMPLICIT OCTET STRING OPTIONAL } (RFC 5652, 6.1)
 abbrev pub encrypted_content_info_type : AsnType EncryptedContentInfo
 encrypted_content_info_type =
-    sequence_type (components_as (λ x. record { content_type = x.0; content_enc_alg = x.1.0; encrypted_content = x.1.1 }) (λ a. (a.content_type, (a.content_enc_alg, a.encrypted_content)))
+    sequence_type (components_as (λ x. record {
+      content_type = x.0;
+      content_enc_alg = x.1.0;
+      encrypted_content = x.1.1;
+    }) (λ a. (a.content_type, (a.content_enc_alg, a.encrypted_content)))
     (followed_by (required_component oid_type)
     (followed_by (required_component algorithm_type)
     (optional_component (implicit_type primitive_0_tag octet_string_tag octet_string_type refl refl (λ a. refl))) refl) refl)

@@ -13,7 +13,11 @@ use Rattle.cms_envelope.specs.declared.encrypted_data.EncryptedData.{EncryptedDa
 -- (RFC 5652, 8)
 abbrev pub encrypted_data_type : AsnType EncryptedData
 encrypted_data_type =
-    sequence_type (components_as (λ x. record { version = x.0; enc_content_info = x.1.0; unprotected_attrs = x.1.1 }) (λ a. (a.version, (a.enc_content_info, a.unprotected_attrs)))
+    sequence_type (components_as (λ x. record {
+      version = x.0;
+      enc_content_info = x.1.0;
+      unprotected_attrs = x.1.1;
+    }) (λ a. (a.version, (a.enc_content_info, a.unprotected_attrs)))
     (followed_by (required_component version_type)
     (followed_by (required_component encrypted_content_info_type)
     (optional_component (implicit_type constructed_1_tag set_tag (set_of_type attribute_type) refl refl (λ a. refl))) refl) refl)

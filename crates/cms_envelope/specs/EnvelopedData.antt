@@ -28,21 +28,24 @@ use Rattle.cms_envelope.specs.declared.enveloped_data.EnvelopedData.{EnvelopedDa
 -- ---- CHOICE { ktri KeyTransRecipientInfo, kari [1] IMPLICIT KeyAgreeRecipientInfo, kekri [2] IMPLICIT KEKRecipientInfo,
 -- pwri [3] IMPLICIT PasswordRecipientInfo, ori [4] IMPLICIT OtherRecipientInfo } (RFC 5652, 6.2)
 
-abbrev pub to_recipient : KeyTransRecipientInfo ⊎ (KeyAgreeRecipientInfo ⊎ (KekRecipientInfo ⊎ (PasswordRecipientInfo ⊎ OtherRecipientInfo))) → RecipientInfo
+abbrev pub to_recipient : KeyTransRecipientInfo ⊎ (KeyAgreeRecipientInfo ⊎ (KekRecipientInfo ⊎ (PasswordRecipientInfo ⊎ OtherRecipientInfo)))
+    → RecipientInfo
 to_recipient (inl value) = Ktri value
 to_recipient (inr (inl value)) = Kari value
 to_recipient (inr (inr (inl value))) = Kekri value
 to_recipient (inr (inr (inr (inl value)))) = Pwri value
 to_recipient (inr (inr (inr (inr value)))) = Ori value
 
-abbrev pub from_recipient : RecipientInfo → KeyTransRecipientInfo ⊎ (KeyAgreeRecipientInfo ⊎ (KekRecipientInfo ⊎ (PasswordRecipientInfo ⊎ OtherRecipientInfo)))
+abbrev pub from_recipient : RecipientInfo
+    → KeyTransRecipientInfo ⊎ (KeyAgreeRecipientInfo ⊎ (KekRecipientInfo ⊎ (PasswordRecipientInfo ⊎ OtherRecipientInfo)))
 from_recipient (Ktri value) = inl value
 from_recipient (Kari value) = inr (inl value)
 from_recipient (Kekri value) = inr (inr (inl value))
 from_recipient (Pwri value) = inr (inr (inr (inl value)))
 from_recipient (Ori value) = inr (inr (inr (inr value)))
 
-pub recipient-there : (x : KeyTransRecipientInfo ⊎ (KeyAgreeRecipientInfo ⊎ (KekRecipientInfo ⊎ (PasswordRecipientInfo ⊎ OtherRecipientInfo)))) → from_recipient (to_recipient x) ≡ x
+pub recipient-there : (x : KeyTransRecipientInfo ⊎ (KeyAgreeRecipientInfo ⊎ (KekRecipientInfo ⊎ (PasswordRecipientInfo ⊎ OtherRecipientInfo))))
+    → from_recipient (to_recipient x) ≡ x
 recipient-there (inl value) = refl
 recipient-there (inr (inl value)) = refl
 recipient-there (inr (inr (inl value))) = refl
@@ -59,7 +62,15 @@ recipient-again (Ori value) = refl
 abbrev pub recipient_info_type : AsnType RecipientInfo
 recipient_info_type =
     choice_type to_recipient from_recipient key_trans_recipient_info_type
-    (choice_type (λ x. x) (λ x. x) (implicit_type constructed_1_tag sequence_tag key_agree_recipient_info_type refl refl (λ a. refl)) (choice_type (λ x. x) (λ x. x) (implicit_type constructed_2_tag sequence_tag kek_recipient_info_type refl refl (λ a. refl)) (choice_type (λ x. x) (λ x. x) (implicit_type constructed_3_tag sequence_tag password_recipient_info_type refl refl (λ a. refl)) (implicit_type constructed_4_tag sequence_tag other_recipient_info_type refl refl (λ a. refl)) refl (λ x. refl) (λ x. refl)) refl (λ x. refl) (λ x. refl)) refl (λ x. refl) (λ x. refl)) refl recipient-there recipient-again
+    (choice_type (λ x. x) (λ x. x)
+    (implicit_type constructed_1_tag sequence_tag key_agree_recipient_info_type refl refl (λ a. refl))
+    (choice_type (λ x. x) (λ x. x)
+    (implicit_type constructed_2_tag sequence_tag kek_recipient_info_type refl refl (λ a. refl))
+    (choice_type (λ x. x) (λ x. x)
+    (implicit_type constructed_3_tag sequence_tag password_recipient_info_type refl refl (λ a. refl))
+    (implicit_type constructed_4_tag sequence_tag other_recipient_info_type refl refl (λ a. refl))
+    refl (λ x. refl) (λ x. refl)) refl (λ x. refl) (λ x. refl)) refl (λ x. refl) (λ x. refl))
+    refl recipient-there recipient-again
 
 -- SET OF RecipientInfo (RFC 5652, 6.1)
 abbrev pub recipient_infos_type : AsnType RecipientInfos
@@ -77,7 +88,13 @@ originator_info_type =
 -- encryptedContentInfo EncryptedContentInfo, unprotectedAttrs [1] IMPLICIT SET OF Attribute OPTIONAL } (RFC 5652, 6.1)
 abbrev pub enveloped_data_type : AsnType EnvelopedData
 enveloped_data_type =
-    sequence_type (components_as (λ x. record { version = x.0; originator_info = x.1.0; recip_infos = x.1.1.0; encrypted_content = x.1.1.1.0; unprotected_attrs = x.1.1.1.1 }) (λ a. (a.version, (a.originator_info, (a.recip_infos, (a.encrypted_content, a.unprotected_attrs)))))
+    sequence_type (components_as (λ x. record {
+      version = x.0;
+      originator_info = x.1.0;
+      recip_infos = x.1.1.0;
+      encrypted_content = x.1.1.1.0;
+      unprotected_attrs = x.1.1.1.1;
+    }) (λ a. (a.version, (a.originator_info, (a.recip_infos, (a.encrypted_content, a.unprotected_attrs)))))
     (followed_by (required_component version_type)
     (followed_by (optional_component (implicit_type constructed_0_tag sequence_tag originator_info_type refl refl (λ a. refl)))
     (followed_by (required_component recipient_infos_type)

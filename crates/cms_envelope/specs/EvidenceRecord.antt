@@ -16,7 +16,10 @@ use Rattle.cms_envelope.specs.declared.evidence_record.EvidenceRecord.{EvidenceR
 -- SEQUENCE { encryptionInfoType OBJECT IDENTIFIER, encryptionInfoValue ANY } (RFC 4998, 3.1)
 abbrev pub encryption_info_type : AsnType EncryptionInfo
 encryption_info_type =
-    sequence_type (components_as (λ x. record { encryption_info_type = x.0; encryption_info_value = x.1 }) (λ a. (a.encryption_info_type, a.encryption_info_value))
+    sequence_type (components_as (λ x. record {
+      encryption_info_type = x.0;
+      encryption_info_value = x.1;
+    }) (λ a. (a.encryption_info_type, a.encryption_info_value))
     (followed_by (required_component oid_type)
     (required_component any_type) refl)
     (λ a. refl) (λ b. refl))
@@ -25,7 +28,12 @@ encryption_info_type =
 -- reducedHashtree [2] SEQUENCE OF SEQUENCE OF OCTET STRING OPTIONAL, timeStamp ContentInfo } (RFC 4998, 4.1, the tags explicit)
 abbrev pub archive_time_stamp_type : AsnType ArchiveTimeStamp
 archive_time_stamp_type =
-    sequence_type (components_as (λ x. record { digest_algorithm = x.0; attributes = x.1.0; reduced_hashtree = x.1.1.0; time_stamp = x.1.1.1 }) (λ a. (a.digest_algorithm, (a.attributes, (a.reduced_hashtree, a.time_stamp))))
+    sequence_type (components_as (λ x. record {
+      digest_algorithm = x.0;
+      attributes = x.1.0;
+      reduced_hashtree = x.1.1.0;
+      time_stamp = x.1.1.1;
+    }) (λ a. (a.digest_algorithm, (a.attributes, (a.reduced_hashtree, a.time_stamp))))
     (followed_by (optional_component (explicit_type constructed_0_tag algorithm_type refl))
     (followed_by (optional_component (explicit_type constructed_1_tag (set_of_type attribute_type) refl))
     (followed_by (optional_component (explicit_type constructed_2_tag (sequence_of_type (sequence_of_type octet_string_type)) refl))
@@ -37,7 +45,13 @@ archive_time_stamp_type =
 -- (RFC 4998, 3.1, the tags explicit)
 abbrev pub evidence_record_type : AsnType EvidenceRecord
 evidence_record_type =
-    sequence_type (components_as (λ x. record { version = x.0; digest_algorithm = x.1.0; crypto_infos = x.1.1.0; encryption_info = x.1.1.1.0; archive_timestamp_sequence = x.1.1.1.1 }) (λ a. (a.version, (a.digest_algorithm, (a.crypto_infos, (a.encryption_info, a.archive_timestamp_sequence)))))
+    sequence_type (components_as (λ x. record {
+      version = x.0;
+      digest_algorithm = x.1.0;
+      crypto_infos = x.1.1.0;
+      encryption_info = x.1.1.1.0;
+      archive_timestamp_sequence = x.1.1.1.1;
+    }) (λ a. (a.version, (a.digest_algorithm, (a.crypto_infos, (a.encryption_info, a.archive_timestamp_sequence)))))
     (followed_by (required_component tsd_version_type)
     (followed_by (required_component (sequence_of_type algorithm_type))
     (followed_by (optional_component (explicit_type constructed_0_tag (sequence_of_type attribute_type) refl))

@@ -56,12 +56,20 @@ originator-again (named.OriginatorKey value) = refl
 abbrev pub originator_identifier_or_key_type : AsnType OriginatorIdentifierOrKey
 originator_identifier_or_key_type =
     choice_type to_originator from_originator issuer_and_serial_number_type
-    (choice_type (λ x. x) (λ x. x) (implicit_type primitive_0_tag octet_string_tag subject_key_identifier_type refl refl (λ a. refl)) (implicit_type constructed_1_tag sequence_tag originator_public_key_type refl refl (λ a. refl)) refl (λ x. refl) (λ x. refl)) refl originator-there originator-again
+    (choice_type (λ x. x) (λ x. x)
+    (implicit_type primitive_0_tag octet_string_tag subject_key_identifier_type refl refl (λ a. refl))
+    (implicit_type constructed_1_tag sequence_tag originator_public_key_type refl refl (λ a. refl))
+    refl (λ x. refl) (λ x. refl))
+    refl originator-there originator-again
 
 -- SEQUENCE { subjectKeyIdentifier OCTET STRING, date GeneralizedTime OPTIONAL, other Attribute OPTIONAL } (RFC 5652, 6.2.2, other as an Attribute)
 abbrev pub recipient_key_identifier_type : AsnType RecipientKeyIdentifier
 recipient_key_identifier_type =
-    sequence_type (components_as (λ x. record { subject_key_identifier = x.0; date = x.1.0; other = x.1.1 }) (λ a. (a.subject_key_identifier, (a.date, a.other)))
+    sequence_type (components_as (λ x. record {
+      subject_key_identifier = x.0;
+      date = x.1.0;
+      other = x.1.1;
+    }) (λ a. (a.subject_key_identifier, (a.date, a.other)))
     (followed_by (required_component subject_key_identifier_type)
     (followed_by (optional_component generalized_time_type)
     (optional_component attribute_type) refl) refl)
@@ -102,7 +110,13 @@ recipient_encrypted_key_type =
 -- keyEncryptionAlgorithm AlgorithmIdentifier, recipientEncryptedKeys SEQUENCE OF RecipientEncryptedKey } (RFC 5652, 6.2.2)
 abbrev pub key_agree_recipient_info_type : AsnType KeyAgreeRecipientInfo
 key_agree_recipient_info_type =
-    sequence_type (components_as (λ x. record { version = x.0; originator = x.1.0; ukm = x.1.1.0; key_enc_alg = x.1.1.1.0; recipient_enc_keys = x.1.1.1.1 }) (λ a. (a.version, (a.originator, (a.ukm, (a.key_enc_alg, a.recipient_enc_keys)))))
+    sequence_type (components_as (λ x. record {
+      version = x.0;
+      originator = x.1.0;
+      ukm = x.1.1.0;
+      key_enc_alg = x.1.1.1.0;
+      recipient_enc_keys = x.1.1.1.1;
+    }) (λ a. (a.version, (a.originator, (a.ukm, (a.key_enc_alg, a.recipient_enc_keys)))))
     (followed_by (required_component version_type)
     (followed_by (required_component (explicit_type constructed_0_tag originator_identifier_or_key_type refl))
     (followed_by (optional_component (explicit_type constructed_1_tag octet_string_type refl))

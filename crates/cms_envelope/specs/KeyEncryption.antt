@@ -16,7 +16,11 @@ use Rattle.cms_envelope.specs.declared.key_encryption.OtherRecipientInfo.{OtherR
 -- SEQUENCE { keyIdentifier OCTET STRING, date GeneralizedTime OPTIONAL, other Attribute OPTIONAL } (RFC 5652, 6.2.3, other as an Attribute)
 abbrev pub kek_identifier_type : AsnType KekIdentifier
 kek_identifier_type =
-    sequence_type (components_as (λ x. record { kek_identifier = x.0; date = x.1.0; other = x.1.1 }) (λ a. (a.kek_identifier, (a.date, a.other)))
+    sequence_type (components_as (λ x. record {
+      kek_identifier = x.0;
+      date = x.1.0;
+      other = x.1.1;
+    }) (λ a. (a.kek_identifier, (a.date, a.other)))
     (followed_by (required_component octet_string_type)
     (followed_by (optional_component generalized_time_type)
     (optional_component attribute_type) refl) refl)
@@ -26,7 +30,12 @@ kek_identifier_type =
 -- (RFC 5652, 6.2.3)
 abbrev pub kek_recipient_info_type : AsnType KekRecipientInfo
 kek_recipient_info_type =
-    sequence_type (components_as (λ x. record { version = x.0; kek_id = x.1.0; key_enc_alg = x.1.1.0; encrypted_key = x.1.1.1 }) (λ a. (a.version, (a.kek_id, (a.key_enc_alg, a.encrypted_key))))
+    sequence_type (components_as (λ x. record {
+      version = x.0;
+      kek_id = x.1.0;
+      key_enc_alg = x.1.1.0;
+      encrypted_key = x.1.1.1;
+    }) (λ a. (a.version, (a.kek_id, (a.key_enc_alg, a.encrypted_key))))
     (followed_by (required_component version_type)
     (followed_by (required_component kek_identifier_type)
     (followed_by (required_component algorithm_type)
@@ -37,7 +46,12 @@ kek_recipient_info_type =
 -- keyEncryptionAlgorithm AlgorithmIdentifier, encryptedKey OCTET STRING } (RFC 5652, 6.2.4)
 abbrev pub password_recipient_info_type : AsnType PasswordRecipientInfo
 password_recipient_info_type =
-    sequence_type (components_as (λ x. record { version = x.0; key_derivation_alg = x.1.0; key_enc_alg = x.1.1.0; enc_key = x.1.1.1 }) (λ a. (a.version, (a.key_derivation_alg, (a.key_enc_alg, a.enc_key))))
+    sequence_type (components_as (λ x. record {
+      version = x.0;
+      key_derivation_alg = x.1.0;
+      key_enc_alg = x.1.1.0;
+      enc_key = x.1.1.1;
+    }) (λ a. (a.version, (a.key_derivation_alg, (a.key_enc_alg, a.enc_key))))
     (followed_by (required_component version_type)
     (followed_by (optional_component (implicit_type constructed_0_tag sequence_tag algorithm_type refl refl (λ a. refl)))
     (followed_by (required_component algorithm_type)

@@ -42,7 +42,12 @@ recipient_identifier_type =
 -- (RFC 5652, 6.2.1)
 abbrev pub key_trans_recipient_info_type : AsnType KeyTransRecipientInfo
 key_trans_recipient_info_type =
-    sequence_type (components_as (λ x. record { version = x.0; rid = x.1.0; key_enc_alg = x.1.1.0; enc_key = x.1.1.1 }) (λ a. (a.version, (a.rid, (a.key_enc_alg, a.enc_key))))
+    sequence_type (components_as (λ x. record {
+      version = x.0;
+      rid = x.1.0;
+      key_enc_alg = x.1.1.0;
+      enc_key = x.1.1.1;
+    }) (λ a. (a.version, (a.rid, (a.key_enc_alg, a.enc_key))))
     (followed_by (required_component version_type)
     (followed_by (required_component recipient_identifier_type)
     (followed_by (required_component algorithm_type)

@@ -26,7 +26,12 @@ use Rattle.cms_envelope.specs.declared.timestamped_data.TimeStampedData.{TimeSta
 -- (RFC 5544, 2)
 abbrev pub meta_data_type : AsnType MetaData
 meta_data_type =
-    sequence_type (components_as (λ x. record { hash_protected = x.0; file_name = x.1.0; media_type = x.1.1.0; other_meta_data = x.1.1.1 }) (λ a. (a.hash_protected, (a.file_name, (a.media_type, a.other_meta_data))))
+    sequence_type (components_as (λ x. record {
+      hash_protected = x.0;
+      file_name = x.1.0;
+      media_type = x.1.1.0;
+      other_meta_data = x.1.1.1;
+    }) (λ a. (a.hash_protected, (a.file_name, (a.media_type, a.other_meta_data))))
     (followed_by (required_component boolean_type)
     (followed_by (optional_component utf8_type)
     (followed_by (optional_component ia5_type)
@@ -75,13 +80,23 @@ evidence-again (named.OtherEvidence value) = refl
 abbrev pub evidence_type : AsnType Evidence
 evidence_type =
     choice_type to_evidence from_evidence (explicit_type constructed_0_tag (sequence_of_type time_stamp_and_crl_type) refl)
-    (choice_type (λ x. x) (λ x. x) (explicit_type constructed_1_tag evidence_record_type refl) (explicit_type constructed_2_tag other_evidence_type refl) refl (λ x. refl) (λ x. refl)) refl evidence-there evidence-again
+    (choice_type (λ x. x) (λ x. x)
+    (explicit_type constructed_1_tag evidence_record_type refl)
+    (explicit_type constructed_2_tag other_evidence_type refl)
+    refl (λ x. refl) (λ x. refl))
+    refl evidence-there evidence-again
 
 -- SEQUENCE { version INTEGER 1, dataUri IA5String OPTIONAL, metaData MetaData OPTIONAL, content OCTET STRING OPTIONAL,
 -- temporalEvidence Evidence } (RFC 5544, 2)
 abbrev pub time_stamped_data_type : AsnType TimeStampedData
 time_stamped_data_type =
-    sequence_type (components_as (λ x. record { version = x.0; data_uri = x.1.0; meta_data = x.1.1.0; content = x.1.1.1.0; temporal_evidence = x.1.1.1.1 }) (λ a. (a.version, (a.data_uri, (a.meta_data, (a.content, a.temporal_evidence)))))
+    sequence_type (components_as (λ x. record {
+      version = x.0;
+      data_uri = x.1.0;
+      meta_data = x.1.1.0;
+      content = x.1.1.1.0;
+      temporal_evidence = x.1.1.1.1;
+    }) (λ a. (a.version, (a.data_uri, (a.meta_data, (a.content, a.temporal_evidence)))))
     (followed_by (required_component tsd_version_type)
     (followed_by (optional_component ia5_type)
     (followed_by (optional_component meta_data_type)

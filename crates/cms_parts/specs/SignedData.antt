@@ -36,7 +36,14 @@ signer_infos_type = mapped_type (λ x. record { 0 = x }) (λ s. s.0) (set_of_typ
 -- certificates [0] IMPLICIT CertificateSet OPTIONAL, crls [1] IMPLICIT RevocationInfoChoices OPTIONAL, signerInfos SET OF SignerInfo } (RFC 5652, 5.1)
 abbrev pub signed_data_type : AsnType SignedData
 signed_data_type =
-    sequence_type (components_as (λ x. record { version = x.0; digest_algorithms = x.1.0; encap_content_info = x.1.1.0; certificates = x.1.1.1.0; crls = x.1.1.1.1.0; signer_infos = x.1.1.1.1.1 }) (λ a. (a.version, (a.digest_algorithms, (a.encap_content_info, (a.certificates, (a.crls, a.signer_infos))))))
+    sequence_type (components_as (λ x. record {
+      version = x.0;
+      digest_algorithms = x.1.0;
+      encap_content_info = x.1.1.0;
+      certificates = x.1.1.1.0;
+      crls = x.1.1.1.1.0;
+      signer_infos = x.1.1.1.1.1;
+    }) (λ a. (a.version, (a.digest_algorithms, (a.encap_content_info, (a.certificates, (a.crls, a.signer_infos))))))
     (followed_by (required_component version_type)
     (followed_by (required_component (set_of_type algorithm_type))
     (followed_by (required_component encapsulated_content_info_type)

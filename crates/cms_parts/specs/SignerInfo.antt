@@ -42,7 +42,15 @@ signer_identifier_type =
 -- signatureAlgorithm AlgorithmIdentifier, signature OCTET STRING, unsignedAttrs [1] IMPLICIT SET OF Attribute OPTIONAL } (RFC 5652, 5.3)
 abbrev pub signer_info_type : AsnType SignerInfo
 signer_info_type =
-    sequence_type (components_as (λ x. record { version = x.0; sid = x.1.0; digest_alg = x.1.1.0; signed_attrs = x.1.1.1.0; signature_algorithm = x.1.1.1.1.0; signature = x.1.1.1.1.1.0; unsigned_attrs = x.1.1.1.1.1.1 }) (λ a. (a.version, (a.sid, (a.digest_alg, (a.signed_attrs, (a.signature_algorithm, (a.signature, a.unsigned_attrs)))))))
+    sequence_type (components_as (λ x. record {
+      version = x.0;
+      sid = x.1.0;
+      digest_alg = x.1.1.0;
+      signed_attrs = x.1.1.1.0;
+      signature_algorithm = x.1.1.1.1.0;
+      signature = x.1.1.1.1.1.0;
+      unsigned_attrs = x.1.1.1.1.1.1;
+    }) (λ a. (a.version, (a.sid, (a.digest_alg, (a.signed_attrs, (a.signature_algorithm, (a.signature, a.unsigned_attrs)))))))
     (followed_by (required_component version_type)
     (followed_by (required_component signer_identifier_type)
     (followed_by (required_component algorithm_type)

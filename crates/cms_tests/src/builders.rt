@@ -274,6 +274,17 @@ fn refusals_of_signers(rt: HostRuntime) {
         "Asn1(SetDuplicate)",
         finalized(&rt, equal),
     );
+    drop(there);
+    drop(elsewhere);
+    drop(told);
+}
+
+#[test]
+fn what_is_signed(rt: HostRuntime) {
+    let told = signer(&rt);
+    let there = content(&rt, Some(b"content\n"));
+    let elsewhere = content(&rt, None);
+    let none = || -> Vec<Attribute> { Vec::new(rt.alloc()) };
     let nothing = by_key(&rt, &told, SHA256, &elsewhere, None, none());
     check(&rt, "no digest", "3100", finalized(&rt, nothing));
     let made = by_key(&rt, &told, SHA256, &elsewhere, Some(&[1, 2]), none());
@@ -339,6 +350,10 @@ fn versions_and_sets(rt: HostRuntime) {
     drop(fifth);
     drop(empty);
     drop(data);
+}
+
+#[test]
+fn a_version_by_the_content(rt: HostRuntime) {
     let other = EncapsulatedContentInfo {
         econtent_type: identifiers::signed_data(),
         econtent: None,
