@@ -1,0 +1,4 @@
+pub mod LineFacts
+pub mod BlockFacts
+pub mod WrittenFacts
+pub mod Readings
