@@ -2,3 +2,4 @@ pub mod LineFacts
 pub mod BlockFacts
 pub mod WrittenFacts
 pub mod Readings
+pub mod Strict

@@ -24,11 +24,11 @@ is_plain b = not (is_line_end b) && not (b == 45)
 abbrev are_plain : List ℕ → Bool
 are_plain s = list_all is_plain s
 
-left_of : (a b : Bool) → (a && b) ≡ true → a ≡ true
+pub left_of : (a b : Bool) → (a && b) ≡ true → a ≡ true
 left_of true b h = refl
 left_of false b h = cc h
 
-right_of : (a b : Bool) → (a && b) ≡ true → b ≡ true
+pub right_of : (a b : Bool) → (a && b) ≡ true → b ≡ true
 right_of true b h = h
 right_of false b h = cc h
 

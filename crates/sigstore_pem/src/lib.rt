@@ -8,4 +8,4 @@ mod lines;
 mod written;
 
 pub use armor::PemArmor;
-pub use laws::{held_is_armored, written_is_read};
+pub use laws::{held_is_armored, read_is_strict, written_is_read};
