@@ -20,7 +20,8 @@ abbrev pub begun : ℕ → List (List ℕ) → List (List ℕ)
 begun byte [] = (byte ∷ []) ∷ []
 begun byte (line ∷ lines) = (byte ∷ line) ∷ lines
 
--- the lines of a text: a line ends with CR LF, CR or LF (section 3, eol), the last one also with the text
+-- the lines of a text: a line ends with CR LF, CR or LF (section 3, eol), the last one also with the text;
+-- a CR before a LF belongs to the end that the LF makes
 unfoldable pub lines_of : List ℕ → List (List ℕ)
 lines_of [] = []
 lines_of (byte ∷ bytes) =
@@ -43,6 +44,7 @@ unfoldable pub from_opening : List (List ℕ) → List (List ℕ)
 from_opening [] = []
 from_opening (line ∷ lines) = if is_opening line then line ∷ lines else from_opening lines
 
+-- the first line is the wanted one
 abbrev pub is_first : List ℕ → List (List ℕ) → Bool
 is_first wanted [] = false
 is_first wanted (line ∷ lines) = bytes_eq line wanted
