@@ -1,0 +1,5 @@
+//! Tests of keys and certificates as texts.
+#![tactic(auto)]
+
+#[cfg(test)]
+mod texts;

@@ -1,0 +1,5 @@
+pub mod LineFacts
+pub mod BlockFacts
+pub mod WrittenFacts
+pub mod Readings
+pub mod Strict

@@ -1,0 +1,3 @@
+pub mod Pem
+pub mod Written
+pub mod Laws
