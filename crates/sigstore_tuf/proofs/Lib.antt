@@ -2,6 +2,8 @@ pub mod Files
 pub mod Components
 pub mod Updates
 pub mod Lift
+pub mod Searched
+pub mod Matching
 pub mod LastPart
 pub mod Steps
 pub mod Authorised

@@ -1,10 +1,12 @@
 -- A delegated role's document that is put in force is the pinned one, and leaves the others as they were.
-use Rattle.std.proofs.Common.{◌≡◌, ℕ, List, Bool, true, false, cond, if◌then◌else◌, Option, Some, Result, Ok, Err, codes, refl, sym, ap, ◌∙◌, subst}
-use Rattle.std.specs.Prelude.{⊤, IfSome, ok_or}
+use Rattle.std.proofs.Common.{◌≡◌, ℕ, List, Bool, true, false, cond, if◌then◌else◌, Option, Some, None, Result, Ok, Err, codes, refl, sym, ap, ◌∙◌, subst}
+use Rattle.std.specs.Prelude.{⊤, IfSome, ok_or, option_map, option_copied, is_some}
+use Rattle.std.specs.Borrow.{Bor}
 use Rattle.std.specs.Ordering.{is_eq}
 use Rattle.std.proofs.lemmas.Slice.Eq.{bytes_eq-Decides}
 use Rattle.std.proofs.lemmas.Map.Text.{is_eq-slice_cmp}
 use Rattle.jiff_core.specs.declared.timestamp.Timestamp as jiff
+use Rattle.foundation.specs.Watched.{Watched}
 use Rattle.foundation.specs.Results.{step_ok, ok_same}
 use Rattle.sigstore_types_parts.specs.Entries.{at_name, text_cmp}
 use Rattle.sigstore_tuf_parts.specs.declared.error.Error.{Error}
@@ -23,7 +25,8 @@ use Rattle.sigstore_tuf.specs.declared.documents.Held.{Held}
 use Rattle.sigstore_tuf.specs.declared.documents.InForce.{InForce}
 use Rattle.sigstore_tuf.specs.Documents.{targets_document, content_of}
 use Rattle.sigstore_tuf.specs.Update.{fresh_at_of, Updates}
-use Rattle.sigstore_tuf.specs.Adopt.{top_targets}
+use Rattle.sigstore_tuf.specs.Repository.{Files}
+use Rattle.sigstore_tuf.specs.Adopt.{top_targets, taken_of, Takes, Keeps, KeepsWhere}
 use Rattle.sigstore_tuf.specs.Order.{Visit, is_top_level}
 use Rattle.sigstore_tuf.specs.Trusted.{Authority}
 use Rattle.sigstore_tuf.specs.Delegated.{not_top_level_of, delegation_of, with_role, role_pin_of, role_checks_of, role_document_of, update_role_of}
@@ -77,6 +80,22 @@ top_stays old name held other = at_insert (codes "targets") name held old.target
         let same : codes "targets" ≡ name = (bytes_eq-Decides (codes "targets") name).0 (sym (is_eq-slice_cmp (codes "targets") name) ∙ e) in
         let never : true ≡ false = ap is_top_level same ∙ other in cc
     by_test false e = refl
+
+-- ---- what was taken in
+
+pub taken_some : (u : Result InForce Error) (new : InForce) → taken_of u ≡ Ok (Some new) → u ≡ Ok new
+taken_some (Ok set) new h = cc
+taken_some (Err e) new h = cc
+
+pub was_taken : (u : Result InForce Error) (old new : InForce) (was : Bool) → Takes (taken_of u) old new (Ok was) → taken_of u ≡ Ok (Some new)
+was_taken u old new true t = t
+was_taken (Ok set) old new false t = cc
+was_taken (Err e) old new false t = cc
+
+-- what isn't held
+pub not_held : {A : Type 0} (o : Option (Bor A)) (x : Option A) → false ≡ is_some o → option_copied o ≡ x → is_some x ≡ false
+not_held None x n e = ap is_some (sym e)
+not_held (Some b) x n e = let never : false ≡ true = n in cc
 
 -- ---- the update
 
@@ -141,3 +160,16 @@ module _ (crypto : Crypto) (old : InForce) (v : Visit) (bytes : List ℕ) where
       record { updates = u; given = at.1; authorised = subst (λ g. AreAuthorised crypto g new) (sym at.1) at.0 }
   role_updates_set now new (Err e) u auth =
       record { updates = u; given = ap given_in u.0; authorised = subst (λ s. AreAuthorised crypto (given_in s) s) (sym u.0) auth }
+
+  -- its bytes are those that were judged
+  pub role_there : (now : Option jiff.Timestamp) (new : InForce) → taken_of (update_role_of crypto old v bytes now) ≡ Ok (Some new) → option_map (λ (held : Held Targets). held.bytes) (at_name v.name new.targets) ≡ Some bytes
+  role_there now new h =
+      let p = role_put now new (taken_some (update_role_of crypto old v bytes now) new h) in
+      ap (λ (s : InForce). option_map (λ (held : Held Targets). held.bytes) (at_name v.name s.targets)) p.new_is
+      ∙ ap (option_map (λ (held : Held Targets). held.bytes)) (at_insert v.name v.name p.held old.targets ∙ ap (λ b. cond b (Some p.held) (at_name v.name old.targets)) (is_eq-slice_cmp v.name v.name ∙ (bytes_eq-Decides v.name v.name).1 refl))
+      ∙ ap Some p.bytes_is
+
+  -- so they are written
+  pub role_kept : (now : Option jiff.Timestamp) (new : InForce) (names : List (List ℕ)) {store store' : Watched Files} {result : Result ⊤ Error} → taken_of (update_role_of crypto old v bytes now) ≡ Ok (Some new)
+      → KeepsWhere names (option_map (λ (held : Held Targets). held.bytes) (at_name v.name new.targets)) store store' result → Keeps names bytes store store' result
+  role_kept now new names {store} {store'} {result} h w = subst (λ b. KeepsWhere names b store store' result) (role_there now new h) w

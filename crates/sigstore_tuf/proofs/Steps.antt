@@ -80,7 +80,7 @@ timestamp_taken_by u old new (Err (tuf.TargetNotFound path)) h = (h.0, λ other.
 timestamp_taken_by u old new (Err (tuf.Transport fault)) h = (h.0, λ other. ap unless_equal (h.1 other))
 timestamp_taken_by u old new (Err (tuf.Unbuilt form)) h = (h.0, λ other. ap unless_equal (h.1 other))
 
-other_taken_by : (u : Result InForce Error) (old new : InForce) (updated : Result ⊤ Error) → Updates u old new updated → Takes (taken_of u) old new (there_of updated)
+pub other_taken_by : (u : Result InForce Error) (old new : InForce) (updated : Result ⊤ Error) → Updates u old new updated → Takes (taken_of u) old new (there_of updated)
 other_taken_by u old new (Ok x) h = ap taken_of h
 other_taken_by u old new (Err e) h = (h.0, λ other. ap taken_of (h.1 other))
 

@@ -14,6 +14,8 @@ pub mod Order
 pub mod Trusted
 pub mod Target
 pub mod Delegated
+pub mod Search
+pub mod Chain
 pub mod Authorised
 pub mod Cause
 pub mod Kept

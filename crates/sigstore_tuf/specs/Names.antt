@@ -1,14 +1,17 @@
 -- The names under which documents are fetched and kept (TUF specification, sections 4.5, 5.3 to 5.7 and 6.2).
 use Rattle.std.specs.Prelude.{◌≡◌, ℕ, List, [], ◌∷◌, ◌++◌, Bool, Option, Some, None, option_map, option_and_then}
-use Rattle.std.specs.Prelude.{codes, if◌then◌else◌}
+use Rattle.std.specs.Prelude.{codes, if◌then◌else◌, nat_le, ◌==◌, ◌&&◌, ◌||◌}
+use Rattle.percent_encoding.specs.Percent.{percent_encode_byte}
 use Rattle.std.specs.Option.{option_or}
 use Rattle.std.specs.Path.{slash, rsplit_once}
 use Rattle.sigstore_types_parts.specs.Entries.{at_name}
 use Rattle.sigstore_tuf_parts.specs.declared.targets.TargetFile.{TargetFile}
 use Rattle.sigstore_tuf_parts.specs.declared.timestamp.MetaFile.{MetaFile}
 use Rattle.sigstore_tuf_parts.specs.Document.{content_in}
-use Rattle.sigstore_tuf_parts.specs.Names.{root_name, timestamp_name, snapshot_name, targets_name, versioned_name}
+use Rattle.sigstore_tuf_parts.specs.Names.{root_name, timestamp_name, snapshot_name, targets_name, pin_name, versioned_name}
 use Rattle.sigstore_tuf.specs.declared.config.UpdaterConfig.{UpdaterConfig}
+use Rattle.sigstore_tuf_parts.specs.declared.snapshot.Snapshot as declared
+use Rattle.sigstore_tuf.specs.declared.documents.Held.{Held}
 use Rattle.sigstore_tuf.specs.declared.documents.InForce.{InForce}
 use Rattle.sigstore_tuf.specs.declared.kind.Kind.{Kind}
 use Rattle.sigstore_tuf.specs.declared.kind.Kind.TheVariants.{Root, Timestamp, Snapshot, Targets}
@@ -52,7 +55,39 @@ IsNameOf Timestamp n = n ≡ timestamp_name
 IsNameOf Snapshot n = IsVersioned snapshot_name n
 IsNameOf Targets n = IsVersioned targets_name n
 
--- how long it may be
+-- ---- documents of delegated roles in the repository
+
+abbrev pub is_letter : ℕ → Bool
+is_letter c = (nat_le 65 c && nat_le c 90) || (nat_le 97 c && nat_le c 122)
+
+abbrev pub is_digit : ℕ → Bool
+is_digit c = nat_le 48 c && nat_le c 57
+
+-- `-`, `.`, `_`, `~`
+abbrev pub is_among_marks : ℕ → Bool
+is_among_marks c = (c == 45) || ((c == 46) || ((c == 95) || (c == 126)))
+
+-- a byte that stands in a file name as it is: a letter, a digit, `-`, `_`, `.` or `~` (RFC 3986, section 2.3)
+abbrev pub is_unreserved : ℕ → Bool
+is_unreserved c = is_letter c || (is_digit c || is_among_marks c)
+
+-- another byte is a percent sign and its two hexadecimal digits (section 2.1): a role's name is its delegator's choice, and a slash in
+-- it would lead into another folder
+abbrev pub escaped : List ℕ → List ℕ
+escaped [] = []
+escaped (c ∷ cs) = if is_unreserved c then c ∷ escaped cs else percent_encode_byte c ++ escaped cs
+
+abbrev pub role_file : List ℕ → List ℕ
+role_file name = escaped name ++ codes ".json"
+
+-- the name of a role's document; what the snapshot pins it by is the role's name as it is
+abbrev pub role_pin_in : InForce → List ℕ → Option MetaFile
+role_pin_in set name = option_and_then (λ (held : Held declared.Snapshot). at_name (pin_name name) (content_of held).meta) set.snapshot
+
+abbrev pub role_name_in : InForce → List ℕ → List ℕ
+role_name_in set name = pinned_name (is_consistent set) (role_pin_in set name) (role_file name)
+
+-- how long a document may be
 abbrev pub max_length : UpdaterConfig → Kind → ℕ
 max_length config (Root number) = config.root_max_length
 max_length config Timestamp = config.timestamp_max_length

@@ -9,13 +9,11 @@ use Rattle.sigstore_tuf_parts.specs.declared.targets.Delegations.{Delegations}
 use Rattle.sigstore_tuf_parts.specs.declared.targets.Targets.{Targets}
 use Rattle.sigstore_tuf_parts.specs.Threshold.{is_among}
 use Rattle.foundation.specs.Steps.{◌>>=◌}
+pub use Rattle.sigstore_tuf.specs.declared.visit.Visit.{Visit}
+pub use Rattle.sigstore_tuf.specs.declared.visit.Walk.{Walk}
+pub use Rattle.sigstore_tuf.specs.declared.visit.Next.{Next}
 use Rattle.sigstore_tuf_parts.specs.Names.{pin_name}
 use Rattle.sigstore_tuf_parts.specs.Pattern.{matches_path_of}
-
--- a role and the role that delegates to it
-pub record Visit : Type 0 where
-  pub name : List ℕ
-  pub delegator : List ℕ
 
 -- what the search goes over: the document of each name, the pins, and the path that is sought
 pub record Tree : Type 0 where
@@ -28,12 +26,6 @@ pub data Gap : Type 0 where
   pattern : Gap
   missing : List ℕ → Gap
 
--- how far the search is: its visits, the names that were read, and how many visits it may still make
-pub record Walk : Type 0 where
-  pub visits : List Visit
-  pub read : List (List ℕ)
-  pub left : ℕ
-
 -- the whole search ends
 abbrev pub ended : Walk → Walk
 ended w = record w { left = 0 }
@@ -44,7 +36,7 @@ visited v w = record w { visits = w.visits ++ v ∷ []; left = w.left - 1 }
 
 -- with one more name read
 abbrev pub having_read : List ℕ → Walk → Walk
-having_read name w = record w { read = name ∷ w.read }
+having_read name w = record w { read = w.read ++ name ∷ [] }
 
 abbrev pub is_top_level : List ℕ → Bool
 is_top_level name = is_among (codes "root" ∷ codes "timestamp" ∷ codes "snapshot" ∷ codes "targets" ∷ []) name
@@ -57,11 +49,6 @@ abbrev pub lists : Targets → List ℕ → Bool
 lists doc path = is_some (at_name path doc.targets)
 
 -- ---- what follows a document
-
--- the names that are walked next, and whether the whole search ends after them
-pub record Next : Type 0 where
-  pub names : List (List ℕ)
-  pub ends : Bool
 
 abbrev pub nothing_next : Next
 nothing_next = record { names = []; ends = false }
@@ -103,13 +90,17 @@ read_of tree doc w =
     if lists doc tree.path then Ok (still (ended w))
     else matching tree.path (delegated_in doc.delegations) >>= λ next. Ok (record { walk = w; next = next })
 
+-- the document of a name, which is then read
+abbrev pub read_named : Tree → List ℕ → Walk → Result Step Gap
+read_named tree name w = ok_or (tree.documents name) (missing name) >>= λ doc. read_of tree doc (having_read name w)
+
 -- Nothing is visited after the end, nor a name that was read. A name that isn't pinned is visited and not read.
 -- A pinned one is visited and its document read.
 abbrev pub visit_of : Tree → Visit → Walk → Result Step Gap
 visit_of tree v w =
     if (w.left == 0) || is_among w.read v.name then Ok (still w)
     else if is_pinned tree.snapshot v.name
-    then (ok_or (tree.documents v.name) (missing v.name) >>= λ doc. read_of tree doc (having_read v.name (visited v w)))
+    then read_named tree v.name (visited v w)
     else Ok (still (visited v w))
 
 -- ---- what is pending
@@ -118,9 +109,13 @@ visit_of tree v w =
 abbrev pub by : List ℕ → List ℕ → Visit
 by delegator name = record { name = name; delegator = delegator }
 
--- what is pending after a visit: what follows it, before the others, which a terminating match drops
+-- what follows a document, before the others, which a terminating match drops
+abbrev pub put_before : List ℕ → Next → List Visit → List Visit
+put_before delegator next vs = map (by delegator) next.names ++ (if next.ends then [] else vs)
+
+-- what is pending after a visit
 abbrev pub pending_after : Visit → Step → List Visit → List Visit
-pending_after v step vs = map (by v.name) step.next.names ++ (if step.next.ends then [] else vs)
+pending_after v step vs = put_before v.name step.next vs
 
 -- ---- the whole search
 

@@ -7,7 +7,7 @@ use Rattle.sigstore_tuf_parts.specs.Crypto.{Crypto}
 use Rattle.sigstore_tuf.specs.declared.chain.TrustChain.{TrustChain}
 use Rattle.sigstore_tuf.specs.State.{Session, State}
 use Rattle.sigstore_tuf.specs.Run.{Attaches, refresh_steps, RunsSteps}
-use Rattle.sigstore_tuf.specs.Target.{GetsTarget}
+use Rattle.sigstore_tuf.specs.Chain.{GetsTarget}
 use Rattle.sigstore_tuf.specs.Trusted.{Trusted}
 use Rattle.sigstore_tuf.specs.Authorised.{StaysAuthorised, given_in, Serve}
 use Rattle.sigstore_tuf.specs.Cause.{RefreshCause, TargetCause}
@@ -31,12 +31,12 @@ pub record Refreshed (session : Session) (old new : State) (result : Result ⊤ 
   pub newest : OnOk result (IfTold old.repo.told (λ folders. AreNewest folders new.documents))
   pub stored : StaysKept old new result
 
--- a search for a target: the documents in force stay as they were and in the store, the chain that is given is trusted from the
--- first root and in the store, and a refusal has its cause
+-- a search for a target: what was adopted stays, the chain that is given is trusted from the first root and in the store, and a refusal
+-- has its cause
 pub record Got (session : Session) (path : List ℕ) (old new : State) (result : Result TrustChain Error) : Type 0 where
-  pub same : new.documents ≡ old.documents
-  pub gets : GetsTarget session path old.documents old.repo new.repo old.store new.store result
+  pub gets : GetsTarget session path old new result
+  pub authorised : StaysAuthorised session.crypto old.documents new.documents
   pub trusted : IfOk result (Trusted session.crypto (given_in old.documents) session.now session.config.max_delegations path)
   pub cause : IfErr result (TargetCause session path old.documents old.repo new.repo)
-  pub kept : KeepsInForce old → KeepsInForce new
+  pub kept : StaysKept old new result
   pub stored : IfOk result (KeepsChain path old new)

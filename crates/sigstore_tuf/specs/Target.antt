@@ -1,4 +1,4 @@
--- The search for a target and its file (TUF specification, sections 5.6.7 and 5.7).
+-- What a search asks of the top-level documents, and how the file of an entry is had (TUF specification, sections 5.6.7 and 5.7).
 use Rattle.std.specs.Prelude.{◌≡◌, ◌≢◌, ℕ, ◌==◌, nat_lt, List, [], ◌∷◌, if◌then◌else◌, Bool, Option, Some, ok_or}
 use Rattle.std.specs.Prelude.{None, Result, Ok, Err, codes, ⊤}
 use Rattle.jiff_core.specs.declared.timestamp.Timestamp as jiff
@@ -68,38 +68,6 @@ unfoldable pub search_serves_of : InForce → jiff.Timestamp → Result ⊤ Erro
 search_serves_of set now = do
   _ ← unexpired_of set now
   all_pinned_of set.timestamp set.snapshot (top_targets set) now
-
--- ---- the entry
-
--- the entry of a path in a targets document; a document that doesn't list it ends the search, as delegations aren't followed yet
-abbrev pub entry_in : Option (Held Targets) → Option TargetFile → Result (Option TargetFile) Error
-entry_in targets (Some entry) = Ok (Some entry)
-entry_in targets None = undelegated_of targets >>= λ _. Ok None
-
-abbrev pub listed_in : List ℕ → Option (Held Targets) → Option TargetFile
-listed_in path None = None
-listed_in path (Some targets) = at_name path (content_of targets).targets
-
--- the entry that the first visit of the search lists; with no visit allowed there is none
-abbrev pub entry_of : InForce → UpdaterConfig → List ℕ → Result (Option TargetFile) Error
-entry_of set config path =
-    if config.max_delegations == 0 then Ok None else entry_in (top_targets set) (listed_in path (top_targets set))
-
--- the entry of a path, in documents that serve the search
-unfoldable pub info_of : InForce → UpdaterConfig → List ℕ → jiff.Timestamp → Result (Option TargetFile) Error
-info_of set config path now = do
-  _ ← search_serves_of set now
-  entry_of set config path
-
-abbrev pub found_of : List ℕ → Option TargetFile → Result TargetFile Error
-found_of path None = Err (TargetNotFound path)
-found_of path (Some entry) = Ok entry
-
--- it has to be there
-unfoldable pub target_of : InForce → UpdaterConfig → List ℕ → jiff.Timestamp → Result TargetFile Error
-target_of set config path now = do
-  found ← info_of set config path now
-  found_of path found
 
 -- ---- the file
 
@@ -171,45 +139,3 @@ pub data Obtains (consistent : Bool) (config : UpdaterConfig) (entry : TargetFil
   downloaded : (mid : Watched Files) → Recalls entry path store mid (Ok None)
       → Downloads consistent config entry path repo repo' mid store' result
       → Obtains consistent config entry path repo repo' store store' result
-
--- ---- the chain
-
-abbrev pub visit_of : Held Targets → RoleDoc
-visit_of targets = record { name = codes "targets"; delegator = codes "root"; bytes = Some targets.bytes }
-
-abbrev pub chain_in : InForce → Option (Held Timestamp) → Option (Held Snapshot) → Option (Held Targets) → TargetFile
-    → List ℕ → Result TrustChain Error
-chain_in set None snapshot targets entry file = Err NotRefreshed
-chain_in set (Some timestamp) None targets entry file = Err NotRefreshed
-chain_in set (Some timestamp) (Some snapshot) None entry file = Err NotRefreshed
-chain_in set (Some timestamp) (Some snapshot) (Some targets) entry file =
-    Ok (record {
-      roots = set.roots;
-      timestamp = timestamp.bytes;
-      snapshot = snapshot.bytes;
-      roles = visit_of targets ∷ [];
-      target = entry;
-      file = file;
-    })
-
--- the documents in force, with an entry and its file
-abbrev pub chain_of : InForce → TargetFile → List ℕ → Result TrustChain Error
-chain_of set entry file = chain_in set set.timestamp set.snapshot (top_targets set) entry file
-
--- ---- the whole
-
--- A search for a target and its file: the entry is found, the file is had, and the chain is put together; the first that refuses
--- answers. The documents in force stay as they were.
-pub data GetsTarget (session : Session) (path : List ℕ) (set : InForce) (repo repo' : Watched Folders) (store store' : Watched Files)
-    (result : Result TrustChain Error) : Type 0 where
-  unlisted : (e : Error) → (e ≢ NoMemory → target_of set session.config path session.now ≡ Err e) → repo' ≡ repo → store' ≡ store
-      → result ≡ Err e → GetsTarget session path set repo repo' store store' result
-  unobtained : (entry : TargetFile) (e : Error) → target_of set session.config path session.now ≡ Ok entry
-      → Obtains (is_consistent set) session.config entry path repo repo' store store' (Err e) → result ≡ Err e
-      → GetsTarget session path set repo repo' store store' result
-  unchained : (entry : TargetFile) (file : List ℕ) (e : Error) → target_of set session.config path session.now ≡ Ok entry
-      → Obtains (is_consistent set) session.config entry path repo repo' store store' (Ok file)
-      → (e ≢ NoMemory → chain_of set entry file ≡ Err e) → result ≡ Err e → GetsTarget session path set repo repo' store store' result
-  found : (entry : TargetFile) (file : List ℕ) (chain : TrustChain) → target_of set session.config path session.now ≡ Ok entry
-      → Obtains (is_consistent set) session.config entry path repo repo' store store' (Ok file)
-      → chain_of set entry file ≡ Ok chain → result ≡ Ok chain → GetsTarget session path set repo repo' store store' result

@@ -69,7 +69,7 @@ pub(crate) fn update_copied<C: CryptoProvider, M: Armor>(
 }
 
 // What was taken in.
-fn taken(updated: Result<(), Error>) -> Result<bool, Error>
+pub(crate) fn taken(updated: Result<(), Error>) -> Result<bool, Error>
     ensures { result ≡ there_of updated }
 {
     match updated {
@@ -147,7 +147,7 @@ pub(crate) fn transport(fault: FetchFault, max: u64) -> Error
 }
 
 // A metadata file, where it is there.
-fn fetch_named<R: Repository>(
+pub(crate) fn fetch_named<R: Repository>(
     alloc: Global,
     repo: &mut R,
     name: &str,
@@ -293,7 +293,7 @@ fn save_root<S: MetadataStore>(
     }
 }
 
-fn save_alone<S: MetadataStore>(
+pub(crate) fn save_alone<S: MetadataStore>(
     alloc: Global,
     store: &mut S,
     name: &str,

@@ -24,7 +24,7 @@ pub(crate) struct Delegation<'d> {
 }
 
 // Whether the name is that of a top-level role.
-fn is_top_level(name: &str) -> bool
+pub(crate) fn is_top_level(name: &str) -> bool
     ensures { result ≡ is_top_level name.now }
 {
     "root" == name || "timestamp" == name || "snapshot" == name || "targets" == name

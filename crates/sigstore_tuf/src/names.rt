@@ -1,13 +1,14 @@
 // The names under which documents are fetched and kept.
 ghost use Rattle.std.specs.Prelude.{◌≡◌, Ok, IfOk, IfErr, option_map, option_copied};
 ghost use Rattle.std.specs.Path.{slash, rsplit_once};
-ghost use Rattle.sigstore_tuf.specs.Names.{is_consistent, snapshot_pin_in, targets_pin_in, pinned_name, max_length, history_name, first_of, name_digest, digest_name, target_name_of, kept_target};
+ghost use Rattle.sigstore_tuf.specs.Names.{is_consistent, snapshot_pin_in, targets_pin_in, pinned_name, max_length, history_name, is_unreserved, escaped, role_file, role_pin_in, role_name_in, first_of, name_digest, digest_name, target_name_of, kept_target};
 
 use crate::config::UpdaterConfig;
 use crate::documents::InForce;
 use crate::kind::Kind;
 use foundation::NoMemory;
-use sigstore_tuf_parts::{MetaFile, TargetFile, versioned_name};
+use percent_encoding::percent_encode_byte;
+use sigstore_tuf_parts::{MetaFile, TargetFile, pin_name, versioned_name};
 use sigstore_types_parts::{Text, TextMap};
 use std::alloc::Global;
 
@@ -144,4 +145,64 @@ pub(crate) fn max_length(config: &UpdaterConfig, kind: Kind) -> u64
         Kind::Snapshot => config.snapshot_max_length,
         Kind::Targets => config.targets_max_length,
     }
+}
+
+// Whether a byte stands in a file name as it is.
+fn is_unreserved(c: u8) -> bool
+    ensures { result ≡ is_unreserved c }
+{
+    c.is_ascii_alphanumeric() || c == b'-' || c == b'.' || c == b'_' || c == b'~'
+}
+
+// A role's name as it stands in a file name.
+fn escaped(alloc: Global, name: &str) -> Result<Text, NoMemory>
+    ensures { IfOk result (λ out. out ≡ escaped name.now) }
+{
+    let mut out = String::new(alloc);
+    for byte in name.bytes() {
+        if is_unreserved(byte) {
+            out.push(char::from(byte))?;
+        } else {
+            out.push_str(percent_encode_byte(byte))?;
+        }
+    }
+    Ok(Text::from_string(out))
+}
+
+// The file name of a role's document.
+pub(crate) fn role_file(alloc: Global, name: &str) -> Result<Text, NoMemory>
+    ensures { IfOk result (λ out. out ≡ role_file name.now) }
+{
+    let escaped = escaped(alloc, name)?;
+    Ok(Text::from_string(
+        format!(in alloc; "{}.json", escaped.as_str())?,
+    ))
+}
+
+// What the snapshot in force pins a role's document by.
+pub(crate) fn role_pin_in<'d>(
+    alloc: Global,
+    documents: &'d InForce,
+    name: &str,
+) -> Result<Option<&'d MetaFile>, NoMemory>
+    ensures { IfOk result (λ pin. option_copied pin ≡ role_pin_in documents.now name.now) }
+{
+    let pinned = pin_name(alloc, name)?;
+    match &documents.snapshot {
+        Some(held) => Ok(held.document.signed().meta.get(pinned.as_str())),
+        None => Ok(None),
+    }
+}
+
+// The name of a role's document in the repository.
+pub(crate) fn role_name_in(
+    alloc: Global,
+    documents: &InForce,
+    name: &str,
+) -> Result<Text, NoMemory>
+    ensures { IfOk result (λ out. out ≡ role_name_in documents.now name.now) }
+{
+    let pin = role_pin_in(alloc, documents, name)?;
+    let file = role_file(alloc, name)?;
+    pinned_name(alloc, is_consistent(documents), pin, file.as_str())
 }

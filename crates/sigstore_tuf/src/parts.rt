@@ -1,6 +1,6 @@
 // The client's calls over an owned set of documents, and a lent repository and store.
 ghost use Rattle.std.specs.Prelude.{◌≡◌, ◌≢◌, Ok, Err, IfOk, IfErr};
-ghost use Rattle.sigstore_tuf.specs.Target.{info_of};
+ghost use Rattle.sigstore_tuf.specs.Search.{GivesInfo};
 ghost use Rattle.foundation.specs.Watched.{Watched};
 ghost use Rattle.sigstore_tuf.specs.Repository.{Folders};
 ghost use Rattle.sigstore_tuf.specs.State.{state_of, session_of};
@@ -84,22 +84,28 @@ pub fn refresh_parts<C: CryptoProvider, M: Armor, R: Repository, S: MetadataStor
     )
 }
 
-// What the documents in force list of a target at a moment; none where they don't list it.
-pub(crate) fn target_info<C: CryptoProvider, M: Armor>(
+/// What the documents in force list of a target at a moment, after those of the delegated roles that the search
+/// reads were fetched; None where none lists it.
+pub(crate) fn target_info<C: CryptoProvider, M: Armor, R: Repository, S: MetadataStore>(
     alloc: Global,
-    set: &TrustedMetadataSet<'_, C, M>,
+    set: &mut TrustedMetadataSet<'_, C, M>,
+    repo: &mut R,
+    store: &mut S,
     config: &UpdaterConfig,
     path: &str,
     now: jiff::Timestamp,
 ) -> Result<Option<TargetFile>, Error>
-    ensures ok { IfOk result (λ found. info_of set.now.documents config.now path.now now ≡ Ok found) }
-    ensures err { IfErr result (λ e. e ≢ Error.NoMemory → info_of set.now.documents config.now path.now now ≡ Err e) }
+    ensures gives { GivesInfo (session_of (crypto_in C.CryptoProvider M.Armor set.old) config.now now) path.now (state_of set.old.documents (R.seen repo.old) (S.seen store.old))
+        (state_of set.new.documents (R.seen repo.new) (S.seen store.new)) result }
+    ensures judges { SameJudges set.old set.new }
 {
-    match find_info(alloc, &set.documents, config, path, now) {
-        Ok(Some(entry)) => Ok(Some(entry.duplicate(alloc)?)),
-        Ok(None) => Ok(None),
-        Err(e) => Err(e),
-    }
+    let session = Session {
+        provider: set.provider,
+        armor: set.armor,
+        config,
+        moment: now,
+    };
+    find_info(alloc, &session, &mut set.documents, repo, store, path)
 }
 
 /// Finds a target at a moment, and gives the chain of documents by which it is trusted, with its file: the
@@ -110,15 +116,17 @@ pub(crate) fn target_info<C: CryptoProvider, M: Armor>(
 /// fetch and of the file's length and digests.
 pub fn get_target_parts<C: CryptoProvider, M: Armor, R: Repository, S: MetadataStore>(
     alloc: Global,
-    set: &TrustedMetadataSet<'_, C, M>,
+    set: &mut TrustedMetadataSet<'_, C, M>,
     repo: &mut R,
     store: &mut S,
     config: &UpdaterConfig,
     path: &str,
     now: jiff::Timestamp,
 ) -> Result<TrustChain, Error>
-    ensures { Got (session_of (crypto_in C.CryptoProvider M.Armor set.now) config.now now) path.now (state_of set.now.documents (R.seen repo.old) (S.seen store.old))
-        (state_of set.now.documents (R.seen repo.new) (S.seen store.new)) result }
+    ensures got { Got (session_of (crypto_in C.CryptoProvider M.Armor set.old) config.now now) path.now (state_of set.old.documents (R.seen repo.old) (S.seen store.old))
+        (state_of set.new.documents (R.seen repo.new) (S.seen store.new)) result }
+    ensures judges { SameJudges set.old set.new }
+    ensures authorised { IsAuthorised (crypto_in C.CryptoProvider M.Armor set.new) set.new.documents }
 {
     let session = Session {
         provider: set.provider,
@@ -126,5 +134,5 @@ pub fn get_target_parts<C: CryptoProvider, M: Armor, R: Repository, S: MetadataS
         config,
         moment: now,
     };
-    find_chain(alloc, &session, &set.documents, repo, store, path)
+    find_chain(alloc, &session, &mut set.documents, repo, store, path)
 }

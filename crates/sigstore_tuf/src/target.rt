@@ -1,21 +1,24 @@
 // The search for a target, its file, and the chain of documents by which it is trusted.
-ghost use Rattle.std.specs.Prelude.{◌≡◌, ◌≢◌, [], ◌∷◌, Some, Ok, Err, IfOk, IfErr, OnOk, option_copied};
+ghost use Rattle.std.specs.Prelude.{◌≡◌, ◌≢◌, Some, Ok, Err, IfOk, IfErr, OnOk, map, option_copied};
 ghost use Rattle.sigstore_tuf.specs.Repository.{target_files};
 ghost use Rattle.sigstore_tuf.specs.Names.{kept_target};
 ghost use Rattle.sigstore_tuf.specs.Adopt.{FetchesNamed, LoadsNamed, Saves};
-ghost use Rattle.sigstore_tuf.specs.State.{session_by};
-ghost use Rattle.sigstore_tuf.specs.Target.{fresh_timestamp_of, fresh_snapshot_of, unexpired_of, pinned_version_of, pinned_by_of, all_pinned_of, search_serves_of, entry_of, entry_in, listed_in, info_of, found_of, within_of, target_of, fetch_name_of, file_of, Recalls, TakesFile, Downloads, Obtains, visit_of, chain_in, chain_of, GetsTarget};
+ghost use Rattle.sigstore_tuf.specs.State.{state_of, session_by};
+ghost use Rattle.sigstore_tuf.specs.Target.{fresh_timestamp_of, fresh_snapshot_of, unexpired_of, pinned_version_of, pinned_by_of, all_pinned_of, search_serves_of, within_of, fetch_name_of, file_of, Recalls, TakesFile, Downloads, Obtains};
+ghost use Rattle.sigstore_tuf.specs.Search.{listed_by, entry_after, GivesInfo};
+ghost use Rattle.sigstore_tuf.specs.Chain.{role_doc_in, chain_in, chain_of, found_of, GivesChain, GetsTarget};
 
 use crate::adopt::{load_named, save, transport};
 use crate::chain::{RoleDoc, TrustChain};
-use crate::client::check_undelegated;
 use crate::config::UpdaterConfig;
 use crate::documents::{Held, InForce};
 use crate::names::{is_consistent, kept_target, target_name};
 use crate::repository::Repository;
+use crate::search::find_visits;
 use crate::session::Session;
 use crate::store::MetadataStore;
-use foundation::{Duplicate, Sequence};
+use crate::visit::Visit;
+use foundation::{Duplicate, NoMemory, Sequence};
 use sigstore_crypto::CryptoProvider;
 use sigstore_tuf_parts::{
     Error, MetaFile, Mismatch, Role, Snapshot, TargetFile, Targets, Timestamp, TransportFault,
@@ -131,7 +134,7 @@ fn check_all_pinned(
 
 // The documents in force serve a search.
 #[tactic(auto, unfolding(crate::specs::Target::search_serves_of))]
-fn check_search(alloc: Global, documents: &InForce, now: jiff::Timestamp) -> Result<(), Error>
+pub(crate) fn check_search(alloc: Global, documents: &InForce, now: jiff::Timestamp) -> Result<(), Error>
     ensures ok { OnOk result (search_serves_of documents.now now ≡ Ok tt) }
     ensures err { IfErr result (λ e. e ≢ Error.NoMemory → search_serves_of documents.now now ≡ Err e) }
 {
@@ -146,92 +149,77 @@ fn check_search(alloc: Global, documents: &InForce, now: jiff::Timestamp) -> Res
     Ok(())
 }
 
-fn listed<'d>(path: &str, targets: Option<&'d Held<Targets>>) -> Option<&'d TargetFile>
-    ensures { option_copied result ≡ listed_in path.now (option_copied targets.entry) }
+// What the document of a role lists under a path.
+fn listed<'d>(documents: &'d InForce, path: &str, name: &Text) -> Option<&'d TargetFile>
+    ensures { option_copied result ≡ listed_by documents.now path.now name.now }
 {
-    match targets {
+    match documents.targets.get(name.as_str()) {
         Some(held) => held.document.signed().target(path),
         None => None,
     }
 }
 
-fn entry<'d>(
-    path: &str,
-    targets: Option<&'d Held<Targets>>,
-) -> Result<Option<&'d TargetFile>, Error>
-    ensures ok { IfOk result (λ found. let targets = option_copied targets.entry in
-        entry_in targets (listed_in path.now targets) ≡ Ok (option_copied found)) }
-    ensures err { IfErr result (λ e. let targets = option_copied targets.entry in
-        entry_in targets (listed_in path.now targets) ≡ Err e) }
+// The entry that the last visit of a search lists.
+fn last_entry<'d>(documents: &'d InForce, path: &str, visits: &[Visit]) -> Option<&'d TargetFile>
+    ensures { option_copied result ≡ entry_after documents.now path.now visits.now }
 {
-    match listed(path, targets) {
-        Some(entry) => Ok(Some(entry)),
-        None => match check_undelegated(targets) {
-            Ok(()) => Ok(None),
-            Err(e) => Err(e),
+    match visits.last() {
+        Some(visit) => listed(documents, path, &visit.name),
+        None => None,
+    }
+}
+
+// A copy of the entry that the last visit of a search lists.
+fn copied_entry(
+    alloc: Global,
+    documents: &InForce,
+    path: &str,
+    visits: &[Visit],
+) -> Result<Option<TargetFile>, NoMemory>
+    ensures { IfOk result (λ entry. entry ≡ entry_after documents.now path.now visits.now) }
+{
+    match last_entry(documents, path, visits) {
+        Some(entry) => Ok(Some(entry.duplicate(alloc)?)),
+        None => Ok(None),
+    }
+}
+
+// The entry of a path, found by a search.
+pub(crate) fn find_info<C: CryptoProvider, M: Armor, R: Repository, S: MetadataStore>(
+    alloc: Global,
+    session: &Session<'_, C, M>,
+    documents: &mut InForce,
+    repo: &mut R,
+    store: &mut S,
+    path: &str,
+) -> Result<Option<TargetFile>, Error>
+    ensures { GivesInfo (session_by C.CryptoProvider M.Armor session.now) path.now (state_of documents.old (R.seen repo.old) (S.seen store.old))
+        (state_of documents.new (R.seen repo.new) (S.seen store.new)) result }
+{
+    match find_visits(alloc, session, documents, repo, store, path) {
+        Ok(visits) => match copied_entry(alloc, documents, path, visits.as_slice()) {
+            Ok(entry) => Ok(entry),
+            Err(e) => Err(Error::from(e)),
         },
+        Err(e) => Err(e),
     }
 }
 
-// The entry that the first visit of the search lists.
+// The entry has to be there.
 fn find_entry<'d>(
-    documents: &'d InForce,
-    config: &UpdaterConfig,
-    path: &str,
-) -> Result<Option<&'d TargetFile>, Error>
-    ensures ok { IfOk result (λ found. entry_of documents.now config.now path.now ≡ Ok (option_copied found)) }
-    ensures err { IfErr result (λ e. entry_of documents.now config.now path.now ≡ Err e) }
-{
-    if config.max_delegations == 0 {
-        return Ok(None);
-    }
-    match entry(path, documents.targets.get("targets")) {
-        Ok(found) => Ok(found),
-        Err(e) => Err(e),
-    }
-}
-
-// The entry of a path, in documents that serve the search.
-#[tactic(auto, unfolding(crate::specs::Target::info_of))]
-pub(crate) fn find_info<'d>(
     alloc: Global,
     documents: &'d InForce,
-    config: &UpdaterConfig,
     path: &str,
-    now: jiff::Timestamp,
-) -> Result<Option<&'d TargetFile>, Error>
-    ensures ok { IfOk result (λ found. info_of documents.now config.now path.now now ≡ Ok (option_copied found)) }
-    ensures err { IfErr result
-        (λ e. e ≢ Error.NoMemory → info_of documents.now config.now path.now now ≡ Err e) }
-{
-    if let Err(e) = check_search(alloc, documents, now) {
-        return Err(e);
-    }
-    match find_entry(documents, config, path) {
-        Ok(found) => Ok(found),
-        Err(e) => Err(e),
-    }
-}
-
-// It has to be there.
-#[tactic(auto, unfolding(crate::specs::Target::target_of))]
-fn find_target<'d>(
-    alloc: Global,
-    documents: &'d InForce,
-    config: &UpdaterConfig,
-    path: &str,
-    now: jiff::Timestamp,
+    visits: &[Visit],
 ) -> Result<&'d TargetFile, Error>
-    ensures ok { IfOk result (λ entry. target_of documents.now config.now path.now now ≡ Ok entry.now) }
-    ensures err { IfErr result
-        (λ e. e ≢ Error.NoMemory → target_of documents.now config.now path.now now ≡ Err e) }
+    ensures ok { IfOk result (λ entry. entry_after documents.now path.now visits.now ≡ Some entry.now) }
+    ensures err { IfErr result (λ e. e ≢ Error.NoMemory → found_of path.now (entry_after documents.now path.now visits.now) ≡ Err e) }
 {
-    match find_info(alloc, documents, config, path, now) {
-        Ok(Some(entry)) => Ok(entry),
-        Ok(None) => Err(Error::TargetNotFound {
+    match last_entry(documents, path, visits) {
+        Some(entry) => Ok(entry),
+        None => Err(Error::TargetNotFound {
             path: Text::new(alloc, path)?,
         }),
-        Err(e) => Err(e),
     }
 }
 
@@ -394,18 +382,34 @@ fn obtain<R: Repository, S: MetadataStore>(
 
 // ---- the chain
 
-// The one visit of the search.
-fn visits(alloc: Global, targets: &Held<Targets>) -> Result<Sequence<RoleDoc>, Error>
-    ensures ok { IfOk result (λ roles. roles ≡ visit_of targets.now ∷ []) }
-    ensures err { IfErr result (λ e. e ≡ Error.NoMemory) }
+// A visit, with the bytes of the document that it read.
+fn role_doc(alloc: Global, documents: &InForce, visit: &Visit) -> Result<RoleDoc, NoMemory>
+    ensures { IfOk result (λ doc. doc ≡ role_doc_in documents.now visit.now) }
 {
-    let mut roles = Sequence::new(alloc);
-    roles.push(RoleDoc {
-        name: Text::new(alloc, "targets")?,
-        delegator: Text::new(alloc, "root")?,
-        bytes: Some(targets.bytes.duplicate(alloc)?),
-    })?;
-    Ok(roles)
+    let bytes = match documents.targets.get(visit.name.as_str()) {
+        Some(held) => Some(held.bytes.duplicate(alloc)?),
+        None => None,
+    };
+    Ok(RoleDoc {
+        name: visit.name.duplicate(alloc)?,
+        delegator: visit.delegator.duplicate(alloc)?,
+        bytes,
+    })
+}
+
+// The visits of a search, each with its document.
+fn role_docs(
+    alloc: Global,
+    documents: &InForce,
+    visits: &[Visit],
+) -> Result<Sequence<RoleDoc>, NoMemory>
+    ensures { IfOk result (λ docs. docs ≡ map (role_doc_in documents.now) visits.now) }
+{
+    let mut docs = Sequence::new(alloc);
+    for visit in visits {
+        docs.push(role_doc(alloc, documents, visit)?)?;
+    }
+    Ok(docs)
 }
 
 fn assembled(
@@ -413,43 +417,67 @@ fn assembled(
     documents: &InForce,
     timestamp: &Held<Timestamp>,
     snapshot: &Held<Snapshot>,
-    targets: &Held<Targets>,
+    visits: &[Visit],
     entry: &TargetFile,
     file: Bytes,
-) -> Result<TrustChain, Error>
-    ensures ok { IfOk result (λ chain.
-        chain_in documents.now (Some timestamp.now) (Some snapshot.now) (Some targets.now) entry.now file ≡ Ok chain) }
-    ensures err { IfErr result (λ e. e ≡ Error.NoMemory) }
+) -> Result<TrustChain, NoMemory>
+    ensures { IfOk result (λ chain.
+        chain_in documents.now (Some timestamp.now) (Some snapshot.now) visits.now entry.now file ≡ Ok chain) }
 {
     Ok(TrustChain {
         roots: documents.roots.duplicate(alloc)?,
         timestamp: timestamp.bytes.duplicate(alloc)?,
         snapshot: snapshot.bytes.duplicate(alloc)?,
-        roles: visits(alloc, targets)?,
+        roles: role_docs(alloc, documents, visits)?,
         target: entry.duplicate(alloc)?,
         file,
     })
 }
 
-// The documents in force, with an entry and its file.
+// The documents in force, with the visits of a search, an entry and its file.
 fn chain(
     alloc: Global,
     documents: &InForce,
+    visits: &[Visit],
     entry: &TargetFile,
     file: Bytes,
 ) -> Result<TrustChain, Error>
-    ensures ok { IfOk result (λ chain. chain_of documents.now entry.now file ≡ Ok chain) }
-    ensures err { IfErr result (λ e. e ≢ Error.NoMemory → chain_of documents.now entry.now file ≡ Err e) }
+    ensures ok { IfOk result (λ chain. chain_of documents.now visits.now entry.now file ≡ Ok chain) }
+    ensures err { IfErr result (λ e. e ≢ Error.NoMemory → chain_of documents.now visits.now entry.now file ≡ Err e) }
 {
-    let targets = documents.targets.get("targets");
-    match (&documents.timestamp, &documents.snapshot, targets) {
-        (Some(timestamp), Some(snapshot), Some(targets)) => {
-            match assembled(alloc, documents, timestamp, snapshot, targets, entry, file) {
+    match (&documents.timestamp, &documents.snapshot) {
+        (Some(timestamp), Some(snapshot)) => {
+            match assembled(alloc, documents, timestamp, snapshot, visits, entry, file) {
                 Ok(chain) => Ok(chain),
-                Err(e) => Err(e),
+                Err(e) => Err(Error::from(e)),
             }
         }
         _ => Err(Error::NotRefreshed),
+    }
+}
+
+// The file of the entry that the last visit of a search lists, and the chain of the documents by which it is trusted.
+fn chain_after<R: Repository, S: MetadataStore>(
+    alloc: Global,
+    documents: &InForce,
+    config: &UpdaterConfig,
+    repo: &mut R,
+    store: &mut S,
+    path: &str,
+    visits: &[Visit],
+) -> Result<TrustChain, Error>
+    ensures { GivesChain config.now path.now visits.now (state_of documents.now (R.seen repo.old) (S.seen store.old))
+        (state_of documents.now (R.seen repo.new) (S.seen store.new)) result }
+{
+    match find_entry(alloc, documents, path, visits) {
+        Ok(entry) => match obtain(alloc, is_consistent(documents), config, repo, store, entry, path) {
+            Ok(file) => match chain(alloc, documents, visits, entry, file) {
+                Ok(chain) => Ok(chain),
+                Err(e) => Err(e),
+            },
+            Err(e) => Err(e),
+        },
+        Err(e) => Err(e),
     }
 }
 
@@ -457,29 +485,24 @@ fn chain(
 pub(crate) fn find_chain<C: CryptoProvider, M: Armor, R: Repository, S: MetadataStore>(
     alloc: Global,
     session: &Session<'_, C, M>,
-    documents: &InForce,
+    documents: &mut InForce,
     repo: &mut R,
     store: &mut S,
     path: &str,
 ) -> Result<TrustChain, Error>
-    ensures { GetsTarget (session_by C.CryptoProvider M.Armor session.now) path.now documents.now (R.seen repo.old) (R.seen repo.new) (S.seen store.old) (S.seen store.new) result }
+    ensures { GetsTarget (session_by C.CryptoProvider M.Armor session.now) path.now (state_of documents.old (R.seen repo.old) (S.seen store.old))
+        (state_of documents.new (R.seen repo.new) (S.seen store.new)) result }
 {
-    match find_target(alloc, documents, session.config, path, session.moment) {
-        Ok(entry) => match obtain(
+    match find_visits(alloc, session, documents, repo, store, path) {
+        Ok(visits) => chain_after(
             alloc,
-            is_consistent(documents),
+            documents,
             session.config,
             repo,
             store,
-            entry,
             path,
-        ) {
-            Ok(file) => match chain(alloc, documents, entry, file) {
-                Ok(chain) => Ok(chain),
-                Err(e) => Err(e),
-            },
-            Err(e) => Err(e),
-        },
+            visits.as_slice(),
+        ),
         Err(e) => Err(e),
     }
 }

@@ -9,7 +9,8 @@ ghost use Rattle.sigstore_tuf.specs.State.{state_of, session_of};
 ghost use Rattle.sigstore_tuf.specs.Authorised.{IsAuthorised, crypto_in, SameJudges};
 ghost use Rattle.sigstore_tuf.specs.Promises.{Attached, Refreshed, Got};
 ghost use Rattle.sigstore_tuf.specs.Names.{is_consistent};
-ghost use Rattle.sigstore_tuf.specs.Target.{info_of, Recalls, Downloads};
+ghost use Rattle.sigstore_tuf.specs.Target.{Recalls, Downloads};
+ghost use Rattle.sigstore_tuf.specs.Search.{GivesInfo};
 ghost use Rattle.sigstore_tuf.specs.Updater.{SameOption, option_seen, GivesFile};
 
 use crate::chain::TrustChain;
@@ -49,10 +50,32 @@ fn refresh_held<C: CryptoProvider, M: Armor, R: Repository, S: MetadataStore>(
     }
 }
 
+// A search for an entry over the store that is there, or over none.
+fn info_held<C: CryptoProvider, M: Armor, R: Repository, S: MetadataStore>(
+    alloc: Global,
+    set: &mut TrustedMetadataSet<'_, C, M>,
+    repo: &mut R,
+    store: &mut Option<&mut S>,
+    config: &UpdaterConfig,
+    path: &str,
+    now: jiff::Timestamp,
+) -> Result<Option<TargetFile>, Error>
+    ensures same_store { SameOption store.old store.new }
+    ensures gives { GivesInfo (session_of (crypto_in C.CryptoProvider M.Armor set.old) config.now now) path.now
+        (state_of set.old.documents (R.seen repo.old) (option_seen S.seen store.old))
+        (state_of set.new.documents (R.seen repo.new) (option_seen S.seen store.new)) result }
+    ensures judges { SameJudges set.old set.new }
+{
+    match store {
+        Some(store) => target_info(alloc, set, repo, *store, config, path, now),
+        None => target_info(alloc, set, repo, &mut NoStore, config, path, now),
+    }
+}
+
 // A search over the store that is there, or over none.
 fn get_target_held<C: CryptoProvider, M: Armor, R: Repository, S: MetadataStore>(
     alloc: Global,
-    set: &TrustedMetadataSet<'_, C, M>,
+    set: &mut TrustedMetadataSet<'_, C, M>,
     repo: &mut R,
     store: &mut Option<&mut S>,
     config: &UpdaterConfig,
@@ -60,9 +83,11 @@ fn get_target_held<C: CryptoProvider, M: Armor, R: Repository, S: MetadataStore>
     now: jiff::Timestamp,
 ) -> Result<TrustChain, Error>
     ensures same_store { SameOption store.old store.new }
-    ensures got { Got (session_of (crypto_in C.CryptoProvider M.Armor set.now) config.now now) path.now
-        (state_of set.now.documents (R.seen repo.old) (option_seen S.seen store.old))
-        (state_of set.now.documents (R.seen repo.new) (option_seen S.seen store.new)) result }
+    ensures got { Got (session_of (crypto_in C.CryptoProvider M.Armor set.old) config.now now) path.now
+        (state_of set.old.documents (R.seen repo.old) (option_seen S.seen store.old))
+        (state_of set.new.documents (R.seen repo.new) (option_seen S.seen store.new)) result }
+    ensures judges { SameJudges set.old set.new }
+    ensures authorised { IsAuthorised (crypto_in C.CryptoProvider M.Armor set.new) set.new.documents }
 {
     match store {
         Some(store) => get_target_parts(alloc, set, repo, *store, config, path, now),
@@ -254,12 +279,23 @@ impl<'a, C: CryptoProvider, M: Armor, R: Repository, S: MetadataStore> Updater<'
         path: &str,
         now: jiff::Timestamp,
     ) -> Result<Option<TargetFile>, Error>
-        ensures ok { IfOk result (λ found. info_of self.old.set.documents self.old.config path.now now ≡ Ok found) }
-        ensures err { IfErr result
-            (λ e. e ≢ Error.NoMemory → info_of self.old.set.documents self.old.config path.now now ≡ Err e) }
-        ensures same { self.new ≡ self.old }
+        ensures same_repo { self.new.repo.ghost_name ≡ self.old.repo.ghost_name }
+        ensures same_store { SameOption self.old.store self.new.store }
+        ensures gives { GivesInfo (session_of (crypto_in C.CryptoProvider M.Armor self.old.set) self.old.config now) path.now
+            (state_of self.old.set.documents (R.seen self.old.repo.now) (option_seen S.seen self.old.store))
+            (state_of self.new.set.documents (R.seen self.new.repo.now) (option_seen S.seen self.new.store)) result }
+        ensures judges { SameJudges self.old.set self.new.set }
+        ensures same { (self.new.config ≡ self.old.config) × (self.new.chain ≡ self.old.chain) }
     {
-        target_info(alloc, &self.set, &self.config, path, now)
+        info_held(
+            alloc,
+            &mut self.set,
+            self.repo,
+            &mut self.store,
+            &self.config,
+            path,
+            now,
+        )
     }
 
     /// The store's file of a target, where it is the listed one by its length and digests; None too where there
@@ -322,11 +358,13 @@ impl<'a, C: CryptoProvider, M: Armor, R: Repository, S: MetadataStore> Updater<'
             (state_of self.old.set.documents (R.seen self.old.repo.now) (option_seen S.seen self.old.store))
             (state_of self.new.set.documents (R.seen self.new.repo.now) (option_seen S.seen self.new.store)) self.new.chain result }
         ensures kept { OnErr result (self.new.chain ≡ self.old.chain) }
-        ensures same { (self.new.set ≡ self.old.set) × (self.new.config ≡ self.old.config) }
+        ensures judges { SameJudges self.old.set self.new.set }
+        ensures authorised { IsAuthorised (crypto_in C.CryptoProvider M.Armor self.new.set) self.new.set.documents }
+        ensures same { self.new.config ≡ self.old.config }
     {
         match get_target_held(
             alloc,
-            &self.set,
+            &mut self.set,
             self.repo,
             &mut self.store,
             &self.config,

@@ -1,15 +1,9 @@
 use Rattle.std.proofs.Common.{refl}
-use Rattle.sigstore_tuf.specs.Target.{unlisted, unobtained, unchained, found}
+use Rattle.sigstore_tuf.specs.Chain.{unfound, visited}
 use Rattle.sigstore_tuf.proofs.target.find_chain.Goals as goal
 
-pub returns-in-Ok-chain : goal.returns-in-Ok-chain
-returns-in-Ok-chain g c = found _ _ _ c.in-Ok.ensures.ok (rw c.is_consistent.ensures at c.in-Ok-obtain.ensures) c.in-Ok-chain.ensures.ok refl
-
-pub returns-in-Err-chain : goal.returns-in-Err-chain
-returns-in-Err-chain g c = unchained _ _ _ c.in-Ok.ensures.ok (rw c.is_consistent.ensures at c.in-Ok-obtain.ensures) c.in-Err-chain.ensures.err refl
-
-pub returns-in-Err-obtain : goal.returns-in-Err-obtain
-returns-in-Err-obtain g c = unobtained _ _ c.in-Ok.ensures.ok (rw c.is_consistent.ensures at c.in-Err-obtain.ensures) refl
+pub returns-in-Ok : goal.returns-in-Ok
+returns-in-Ok g c = visited _ _ c.in-Ok.ensures (rw c.as_slice.ensures at c.chain_after.ensures)
 
 pub returns-in-Err : goal.returns-in-Err
-returns-in-Err g c = unlisted _ c.in-Err.ensures.err refl refl refl
+returns-in-Err g c = unfound _ c.in-Err.ensures refl
