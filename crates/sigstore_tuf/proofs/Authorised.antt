@@ -102,10 +102,10 @@ module _ (crypto : Crypto) where
     pub authorised : AreAuthorised crypto (given_in old) old → AreAuthorised crypto (given_in old) new × (given_in new ≡ given_in old)
     pub rises : version_in new + length old.roots ≡ version_in old + length new.roots
 
-  stays_same : (a : InForce) → Stays a a
+  pub stays_same : (a : InForce) → Stays a a
   stays_same a = record { authorised = λ k. (k, refl); rises = refl }
 
-  stays_joins : (a b c : InForce) → Stays a b → Stays b c → Stays a c
+  pub stays_joins : (a b c : InForce) → Stays a b → Stays b c → Stays a c
   stays_joins a b c p q = record {
     authorised = λ k.
         let at_b = p.authorised k in
@@ -203,7 +203,7 @@ module _ (session : Session) where
   pub refresh_stays : (old new : State) (result : Result ⊤ Error) → RunsSteps session refresh_steps old new result → Stays session.crypto old.documents new.documents
   refresh_stays old new result r =
       runs_lift (P session.crypto) (joins session.crypto) (stays session.crypto) session adopts (seeds session.crypto) (λ a e. stays_same session.crypto a.documents) refresh_steps old new result
-      (tt, (tt, (tt, (tt, (tt, (tt, (tt, (tt, (tt, (tt, (tt, tt))))))))))) r.runs
+      (tt, (tt, (tt, (tt, (tt, (tt, (tt, (tt, (tt, (tt, tt)))))))))) r.runs
 
 -- as it is promised
 pub is_stay : {crypto : Crypto} {old new : InForce} → Stays crypto old new → AreAuthorised crypto (given_in old) old → StaysAuthorised crypto old new

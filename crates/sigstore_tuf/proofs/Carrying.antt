@@ -257,4 +257,4 @@ module _ (session : Session) where
   pub refresh_carried : (old new : State) (result : Result ⊤ Error) → RunsSteps session refresh_steps old new result → Carried old new
   refresh_carried old new result r =
       runs_lift (λ old new result. Carried old new) (λ a b c result p q. carried_joins a b c p q) carried_stays session adopt_carried (seed_carried session.crypto) (λ a e. carried_stays a) refresh_steps old new result
-      (tt, (tt, (tt, (tt, (tt, (tt, (tt, (tt, (tt, (tt, (tt, tt))))))))))) r.runs
+      (tt, (tt, (tt, (tt, (tt, (tt, (tt, (tt, (tt, (tt, tt)))))))))) r.runs

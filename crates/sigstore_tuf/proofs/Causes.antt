@@ -40,12 +40,12 @@ use Rattle.sigstore_tuf.specs.Names.{file_name, max_length}
 use Rattle.sigstore_tuf.specs.Update.{fresh_at_of, newer_of, timestamp_checks_of, update_timestamp_of, targets_pin_of}
 use Rattle.sigstore_tuf.specs.State.{Session, State}
 use Rattle.sigstore_tuf.specs.Adopt.{top_targets, unless_equal, FetchesNamed, FetchesDocument, fetch_unnamed, fetch_asked, absence_of, there_of, Adopts, unfetched, absent, refused, kept, adopted}
-use Rattle.sigstore_tuf.specs.Client.{version_in, root_serves_of, timestamp_serves_of, snapshot_serves_of, delegates_none, undelegated_of}
+use Rattle.sigstore_tuf.specs.Client.{version_in, root_serves_of, timestamp_serves_of, snapshot_serves_of}
 use Rattle.sigstore_tuf.specs.Run.{said, Stops, next_root, alone, WalksRoots, Checks, Refetches, Does, refresh_steps, RunsSteps}
 use Rattle.sigstore_tuf.specs.Trusted.{BeginsWith}
 use Rattle.sigstore_tuf.specs.Authorised.{AreAuthorised, given_in}
 use Rattle.sigstore_tuf.specs.Cause as cause
-use Rattle.sigstore_tuf.specs.Cause.{Has, IsInForce, Had, in_force, WasHad, HasTimestamp, HasSnapshot, IsBefore, PinsTargets, Refusal, TransportCause, MayNotLack, RefreshCause, rotated, root_expired, snapshot_unpinned, kept_expired, targets_unpinned, delegating, wanting}
+use Rattle.sigstore_tuf.specs.Cause.{Has, IsInForce, Had, in_force, WasHad, HasTimestamp, HasSnapshot, IsBefore, PinsTargets, Refusal, TransportCause, MayNotLack, RefreshCause, rotated, root_expired, snapshot_unpinned, kept_expired, targets_unpinned, wanting}
 use Rattle.sigstore_tuf.proofs.Updates.{ok_some, judged_puts}
 use Rattle.sigstore_tuf.proofs.Authorised.{does_stays}
 use Rattle.sigstore_tuf.proofs.Holding.{stays_whole}
@@ -152,7 +152,6 @@ module _ (session : Session) where
   earlier a b c e p (snapshot_unpinned held h before at none is) = snapshot_unpinned held (had_earlier a b c _ p h) before at none is
   earlier a b c e p (kept_expired held h before at x) = kept_expired held (had_earlier a b c _ p h) before at x
   earlier a b c e p (targets_unpinned held h before at none is) = targets_unpinned held (had_earlier a b c _ p h) before at none is
-  earlier a b c e p (delegating held h before at some is) = delegating held (had_earlier a b c _ p h) before at some is
   earlier a b c e p (wanting is) = wanting is
 
   -- ---- one adoption
@@ -332,21 +331,6 @@ module _ (session : Session) where
       let f = step_ok (fresh_at_of (codes "snapshot") (content_of a.0).expires (Some session.now)) _ p.0 a.2 in
       (p.0, p.1, (a.0, ok_some state.documents.snapshot (tuf.Malformed rule.NoSnapshot) a.0 a.1, ok_some (targets_pin (content_of a.0)) (tuf.Malformed rule.Unpinned) p.0 f.2))
 
-  targets_had : (state : State) (held : Held declared_targets.Targets) → top_targets state.documents ≡ Some held → WasHad state state kind.Targets
-  targets_had state held is = let there = ap (λ o. held_bytes o) is in (held.bytes, there, in_force there)
-    where
-      held_bytes : Option (Held declared_targets.Targets) → Option (List ℕ)
-      held_bytes None = None
-      held_bytes (Some held) = Some held.bytes
-
-  delegations_cause : (state : State) (e : Error) → RootFresh session state → HasSnapshot session.now state.documents → undelegated_of (top_targets state.documents) ≡ Err e → RefreshCause session state state e
-  delegations_cause state e fresh s h = by_held (top_targets state.documents) refl h
-    where
-      by_held : (o : Option (Held declared_targets.Targets)) → top_targets state.documents ≡ o → undelegated_of o ≡ Err e → RefreshCause session state state e
-      by_held None is h = cc
-      by_held (Some held) is h =
-          refused_unless (delegates_none (content_of held).delegations) (tuf.Unbuilt form.Delegations) e h (λ some same. delegating held (targets_had state held is) (fresh, s) is some same)
-
   -- a timestamp is in force after its step
   timestamp_fetched : (old new : State) → Refetches session kind.Timestamp old new (Ok tt) → (held : Held declared_timestamp.Timestamp) × (new.documents.timestamp ≡ Some held)
   timestamp_fetched old new (inl (current, same, is)) = cc
@@ -412,18 +396,7 @@ module _ (session : Session) where
         let fresh9 = subst (RootFresh session) (sym d9.same) fresh8 in
         let pins9 = subst (λ (s : State). IsPinningTargets kind.Targets session.now s.documents) (sym d9.same) (pinning s8 snap8 d9.passed) in
         step_split G r9 (λ d h is. here s9 d c9 (refetch_cause kind.Targets s9 new d (fresh9, snap9) pins9 h) is) (λ s10 d10 r10.
-        let c10 = next (Fetch kind.Targets) s9 s10 tt c9 d10 in
-        let last = targets_fetched session s9 s10 d10 in
-        let fresh10 = root_stays session s9 s10 (refetches_root session kind.Targets s9 s10 (Ok tt) tt d10) fresh9 in
-        let snap10 : HasSnapshot session.now s10.documents = record {
-          timestamp = record { held = snap9.timestamp.held; there = last.1.timestamp ∙ snap9.timestamp.there; fresh = snap9.timestamp.fresh; pin = snap9.timestamp.pin; pin_is = snap9.timestamp.pin_is };
-          held = snap9.held;
-          there = last.1.snapshot ∙ snap9.there;
-          fresh = snap9.fresh;
-          version_is = snap9.version_is;
-        } in
-        step_split G r10 (λ d h is. here s10 d c10 (looked_cause (λ set. undelegated_of (top_targets set)) s10 new d h (λ q. delegations_cause s10 d fresh10 snap10 q)) is) (λ s11 d11 r11.
-        no_both tt e (sym r11.runs.1))))))))))))
+        no_both tt e (sym r10.runs.1)))))))))))
 
 -- as it is promised
 pub refresh_cause : (session : Session) (old new : State) (result : Result ⊤ Error) → AreAuthorised session.crypto (given_in old.documents) old.documents → RunsSteps session refresh_steps old new result → IfErr result (RefreshCause session old new)

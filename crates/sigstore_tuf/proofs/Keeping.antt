@@ -20,7 +20,7 @@ use Rattle.sigstore_tuf.specs.declared.documents.InForce.{InForce}
 use Rattle.sigstore_tuf.specs.declared.kind.Kind.{Kind}
 use Rattle.sigstore_tuf.specs.declared.kind.Kind.TheVariants.{Root, Timestamp, Snapshot, Targets}
 use Rattle.sigstore_tuf.specs.declared.step.Step.{Step}
-use Rattle.sigstore_tuf.specs.declared.step.Step.TheVariants.{WalkRoots, CheckRoot, Seed, Fetch, CheckTimestamp, CheckSnapshot, CheckDelegations}
+use Rattle.sigstore_tuf.specs.declared.step.Step.TheVariants.{WalkRoots, CheckRoot, Seed, Fetch, CheckTimestamp, CheckSnapshot}
 use Rattle.sigstore_tuf.specs.declared.store.StoreFault.{StoreFault}
 use Rattle.sigstore_tuf.specs.declared.store.StoreFault.TheVariants as store
 use Rattle.sigstore_tuf.specs.Repository.{Quiet, Files}
@@ -533,7 +533,6 @@ module _ (session : Session) where
   does_keep (Fetch k) old new result asks d = refetches_keep k old new result asks d
   does_keep CheckTimestamp old new result asks d = checks_keep _ old new result d
   does_keep CheckSnapshot old new result asks d = checks_keep _ old new result d
-  does_keep CheckDelegations old new result asks d = checks_keep _ old new result d
 
   runs_keep : (steps : List Step) (old new : State) (result : Result ⊤ Error) → AskNoRoots steps → Runs session steps old new result → P old new result
   runs_keep [] old new result asks (same, is) = same_state HoldsInForce session.crypto old new result same
@@ -541,7 +540,7 @@ module _ (session : Session) where
   runs_keep (step ∷ steps) old new result asks (inr (mid, d, r)) = joins HoldsInForce session.crypto old mid new result (does_keep step old mid (Ok tt) asks.0 d) (runs_keep steps mid new result asks.1 r)
 
   refresh_keep : (old new : State) (result : Result ⊤ Error) → RunsSteps session refresh_steps old new result → P old new result
-  refresh_keep old new result r = runs_keep refresh_steps old new result (tt, (tt, (tt, (tt, (tt, (tt, (tt, (tt, (tt, (tt, (tt, tt))))))))))) r.runs
+  refresh_keep old new result r = runs_keep refresh_steps old new result (tt, (tt, (tt, (tt, (tt, (tt, (tt, (tt, (tt, (tt, tt)))))))))) r.runs
 
   pub refresh_later : (old new : State) (result : Result ⊤ Error) → RunsSteps session refresh_steps old new result → old.store.faults ≤ new.store.faults
   refresh_later old new result r = (refresh_keep old new result r).later

@@ -8,6 +8,8 @@ pub mod LastPart
 pub mod Steps
 pub mod Authorised
 pub mod RolePuts
+pub mod Stepping
+pub mod Growing
 pub mod Holding
 pub mod Serving
 pub mod Searching

@@ -12,10 +12,10 @@ use Rattle.sigstore_tuf.specs.declared.documents.InForce.{InForce}
 use Rattle.sigstore_tuf.specs.declared.kind.Kind.{Kind}
 use Rattle.sigstore_tuf.specs.declared.kind.Kind.TheVariants.{Root, Timestamp, Snapshot, Targets}
 use Rattle.sigstore_tuf.specs.declared.step.Step.{Step}
-use Rattle.sigstore_tuf.specs.declared.step.Step.TheVariants.{WalkRoots, CheckRoot, Seed, Fetch, CheckTimestamp, CheckSnapshot, CheckDelegations}
+use Rattle.sigstore_tuf.specs.declared.step.Step.TheVariants.{WalkRoots, CheckRoot, Seed, Fetch, CheckTimestamp, CheckSnapshot}
 use Rattle.sigstore_tuf.specs.State.{Session, State}
 use Rattle.sigstore_tuf.specs.Adopt.{top_targets, Adopts, Seeds}
-use Rattle.sigstore_tuf.specs.Client.{version_in, root_serves_of, timestamp_serves_of, snapshot_serves_of, undelegated_of}
+use Rattle.sigstore_tuf.specs.Client.{version_in, root_serves_of, timestamp_serves_of, snapshot_serves_of}
 use Rattle.sigstore_tuf.specs.Run.{Turn, Loop, IsIdle, Stops, Repeats, next_root, alone, root_loop, WalksRoots, SavesRoot, Attaches, roots_unrecalled, roots_recalled, roots_left, Checks, said, Refetches, moment_of, Reseeds, Does, Runs}
 
 -- a root is asked for by the next number
@@ -39,7 +39,6 @@ AsksNoRoot WalkRoots = ⊤
 AsksNoRoot CheckRoot = ⊤
 AsksNoRoot CheckTimestamp = ⊤
 AsksNoRoot CheckSnapshot = ⊤
-AsksNoRoot CheckDelegations = ⊤
 
 abbrev pub AskNoRoots : List Step → Type 0
 AskNoRoots [] = ⊤
@@ -125,7 +124,6 @@ module _ (P : State → State → Result ⊤ Error → Type 0) (joins : (a b c :
     does_lift (Fetch k) old new result asks d = refetches_lift k old new result (asked_later k old asks) d
     does_lift CheckTimestamp old new result asks d = checks_lift (λ set. timestamp_serves_of set session.now) old new result d
     does_lift CheckSnapshot old new result asks d = checks_lift (λ set. snapshot_serves_of set session.now) old new result d
-    does_lift CheckDelegations old new result asks d = checks_lift (λ set. undelegated_of (top_targets set)) old new result d
 
     pub runs_lift : (steps : List Step) (old new : State) (result : Result ⊤ Error) → AskNoRoots steps → Runs session steps old new result → P old new result
     runs_lift [] old new result asks (same, is) = same_state old new result same (same_result old old result (Ok tt) is (stays old))

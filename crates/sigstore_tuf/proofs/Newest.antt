@@ -255,7 +255,6 @@ module _ (session : Session) where
         step_split G' r7 (λ e d is. no_both tt e is) (λ s8 d8 r8.
         step_split G' r8 (λ e d is. no_both tt e is) (λ s9 d9 r9.
         step_split G' r9 (λ e d is. no_both tt e is) (λ s10 d10 r10.
-        step_split G' r10 (λ e d is. no_both tt e is) (λ s11 d11 r11.
         let root1 = walk_ends session.config.max_root_rotations old s1 d1 in
         let root2 = root_last s1 s2 old.repo.told (ap (λ (s : State). s.documents.root) d2.same) root1 in
         let root3 = root_last s2 s3 old.repo.told (reseeds_root session kind.Timestamp s2 s3 (Ok tt) tt d3).root root2 in
@@ -269,11 +268,11 @@ module _ (session : Session) where
         let above8 = refetches_above kind.Snapshot s7 s8 tt d8 in
         let above9 = same_above s8.documents s9.documents (ap (λ (s : State). s.documents) d9.same) in
         let above10 = refetches_above kind.Targets s9 s10 tt d10 in
-        let end : new ≡ s10 = r11.runs.0 ∙ d11.same in
+        let end : new ≡ s10 = r10.runs.0 in
         newest s6 new old.repo.told (record {
           root = ap (λ (s : State). s.documents.root) end ∙ (above10.root ∙ (above9.root ∙ (above8.root ∙ above7.root)));
           timestamp = ap (λ (s : State). s.documents.timestamp) end ∙ (above10.timestamp ∙ (above9.timestamp ∙ (above8.timestamp ∙ above7.timestamp)));
-        }) root6 time6)))))))))))
+        }) root6 time6))))))))))
       where
         G' : Type 0
         G' = G old.repo.told

@@ -35,7 +35,7 @@ use Rattle.sigstore_tuf.specs.Names.{history_name, is_consistent, snapshot_pin_i
 use Rattle.sigstore_tuf.specs.State.{Session, State}
 use Rattle.sigstore_tuf.specs.Update.{with_timestamp, with_snapshot, with_targets, not_below_of, other_of, newer_than_of, newer_of, fresh_at_of, timestamp_checks_of, update_timestamp_of, snapshot_pin_of, kept_pins_of, snapshot_checks_of, update_snapshot_of, targets_pin_of, targets_checks_of, update_targets_of}
 use Rattle.sigstore_tuf.specs.Adopt.{top_targets, unless_equal, taken_of, judged_of, LoadsNamed}
-use Rattle.sigstore_tuf.specs.Client.{root_serves_of, timestamp_serves_of, snapshot_serves_of, serves, snapshot_kept_in, targets_kept_in, undelegated_of}
+use Rattle.sigstore_tuf.specs.Client.{root_serves_of, timestamp_serves_of, snapshot_serves_of, serves, snapshot_kept_in, targets_kept_in}
 use Rattle.sigstore_tuf.specs.Run.{Checks, said, Refetches, moment_of, Reseeds, Does, Runs, refresh_steps, RunsSteps}
 use Rattle.sigstore_tuf.specs.Offer.{RootsEnd, IsNoneOr}
 use Rattle.sigstore_tuf.proofs.Carrying.{since_same, since_joins, loaded_same, adopt_carried, seed_carried}
@@ -489,16 +489,14 @@ module _ (session : Session) (folders : Folders) (path : List ℕ) (chain : Trus
       → RunsSteps session refresh_steps old new result → Done (Topped new) result
   refresh_done most old new result s ends quiet run =
       let r0 : Rest session refresh_steps old new result = record { runs = run.runs } in
-      step_then Behind (tt, (tt, (tt, (tt, (tt, (tt, (tt, (tt, (tt, (tt, (tt, tt))))))))))) quiet r0 (λ mid answer q d. walked most old mid answer s ends q d) (λ s1 q1 p1 r1.
-      step_then Behind (tt, (tt, (tt, (tt, (tt, (tt, (tt, (tt, (tt, (tt, tt)))))))))) q1 r1 (λ mid answer q d. check_done Behind (λ set. root_serves_of set session.now) s1 mid answer (root_serves s1.documents p1.root) p1 d) (λ s2 q2 p2 r2.
-      step_then Behind (tt, (tt, (tt, (tt, (tt, (tt, (tt, (tt, (tt, tt))))))))) q2 r2 (λ mid answer q d. seed_done Timestamp tt s2 mid answer p2 d) (λ s3 q3 p3 r3.
-      step_then Behind (tt, (tt, (tt, (tt, (tt, (tt, (tt, (tt, tt)))))))) q3 r3 (λ mid answer q d. seed_done Snapshot tt s3 mid answer p3 d) (λ s4 q4 p4 r4.
-      step_then Behind (tt, (tt, (tt, (tt, (tt, (tt, (tt, tt))))))) q4 r4 (λ mid answer q d. seed_done Targets tt s4 mid answer p4 d) (λ s5 q5 p5 r5.
-      step_then Timed (tt, (tt, (tt, (tt, (tt, (tt, tt)))))) q5 r5 (λ mid answer q d. fetch_time_done s5 mid answer p5 q d) (λ s6 q6 p6 r6.
-      step_then Timed (tt, (tt, (tt, (tt, (tt, tt))))) q6 r6 (λ mid answer q d. check_done Timed (λ set. timestamp_serves_of set session.now) s6 mid answer (timestamp_serves s6.documents p6.time) p6 d) (λ s7 q7 p7 r7.
-      step_then Snapped (tt, (tt, (tt, (tt, tt)))) q7 r7 (λ mid answer q d. fetch_snap_done s7 mid answer p7 q d) (λ s8 q8 p8 r8.
-      step_then Snapped (tt, (tt, (tt, tt))) q8 r8 (λ mid answer q d. check_done Snapped (λ set. snapshot_serves_of set session.now) s8 mid answer (snapshot_serves s8.documents p8.snap) p8 d) (λ s9 q9 p9 r9.
-      step_then Topped (tt, (tt, tt)) q9 r9 (λ mid answer q d. fetch_top_done s9 mid answer p9 q d) (λ s10 q10 p10 r10.
-      step_then Topped (tt, tt) q10 r10
-      (λ mid answer q d. check_done Topped (λ set. undelegated_of (top_targets set)) s10 mid answer (ap undelegated_of p10.top ∙ if_true _ _ o.undelegated) p10 d) (λ s11 q11 p11 r11.
-      done r11.runs.1 (subst Topped (sym r11.runs.0) p11))))))))))))
+      step_then Behind (tt, (tt, (tt, (tt, (tt, (tt, (tt, (tt, (tt, (tt, tt)))))))))) quiet r0 (λ mid answer q d. walked most old mid answer s ends q d) (λ s1 q1 p1 r1.
+      step_then Behind (tt, (tt, (tt, (tt, (tt, (tt, (tt, (tt, (tt, tt))))))))) q1 r1 (λ mid answer q d. check_done Behind (λ set. root_serves_of set session.now) s1 mid answer (root_serves s1.documents p1.root) p1 d) (λ s2 q2 p2 r2.
+      step_then Behind (tt, (tt, (tt, (tt, (tt, (tt, (tt, (tt, tt)))))))) q2 r2 (λ mid answer q d. seed_done Timestamp tt s2 mid answer p2 d) (λ s3 q3 p3 r3.
+      step_then Behind (tt, (tt, (tt, (tt, (tt, (tt, (tt, tt))))))) q3 r3 (λ mid answer q d. seed_done Snapshot tt s3 mid answer p3 d) (λ s4 q4 p4 r4.
+      step_then Behind (tt, (tt, (tt, (tt, (tt, (tt, tt)))))) q4 r4 (λ mid answer q d. seed_done Targets tt s4 mid answer p4 d) (λ s5 q5 p5 r5.
+      step_then Timed (tt, (tt, (tt, (tt, (tt, tt))))) q5 r5 (λ mid answer q d. fetch_time_done s5 mid answer p5 q d) (λ s6 q6 p6 r6.
+      step_then Timed (tt, (tt, (tt, (tt, tt)))) q6 r6 (λ mid answer q d. check_done Timed (λ set. timestamp_serves_of set session.now) s6 mid answer (timestamp_serves s6.documents p6.time) p6 d) (λ s7 q7 p7 r7.
+      step_then Snapped (tt, (tt, (tt, tt))) q7 r7 (λ mid answer q d. fetch_snap_done s7 mid answer p7 q d) (λ s8 q8 p8 r8.
+      step_then Snapped (tt, (tt, tt)) q8 r8 (λ mid answer q d. check_done Snapped (λ set. snapshot_serves_of set session.now) s8 mid answer (snapshot_serves s8.documents p8.snap) p8 d) (λ s9 q9 p9 r9.
+      step_then Topped (tt, tt) q9 r9 (λ mid answer q d. fetch_top_done s9 mid answer p9 q d) (λ s10 q10 p10 r10.
+      done r10.runs.1 (subst Topped (sym r10.runs.0) p10)))))))))))

@@ -72,7 +72,7 @@ role_read crypto authority pin name bytes now doc h =
 
 -- ---- the top-level document stays
 
-top_stays : (old : InForce) (name : List ℕ) (held : Held Targets) → is_top_level name ≡ false → top_targets (with_role old name held) ≡ top_targets old
+pub top_stays : (old : InForce) (name : List ℕ) (held : Held Targets) → is_top_level name ≡ false → top_targets (with_role old name held) ≡ top_targets old
 top_stays old name held other = at_insert (codes "targets") name held old.targets ∙ by_test (is_eq (text_cmp (codes "targets") name)) refl
   where
     by_test : (b : Bool) → is_eq (text_cmp (codes "targets") name) ≡ b → cond b (Some held) (at_name (codes "targets") old.targets) ≡ at_name (codes "targets") old.targets

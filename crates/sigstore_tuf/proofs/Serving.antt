@@ -19,7 +19,7 @@ use Rattle.sigstore_tuf.specs.declared.documents.InForce.{InForce}
 use Rattle.sigstore_tuf.specs.declared.kind.Kind.{Kind}
 use Rattle.sigstore_tuf.specs.declared.kind.Kind.TheVariants as kind
 use Rattle.sigstore_tuf.specs.declared.step.Step.{Step}
-use Rattle.sigstore_tuf.specs.declared.step.Step.TheVariants.{WalkRoots, CheckRoot, Seed, Fetch, CheckTimestamp, CheckSnapshot, CheckDelegations}
+use Rattle.sigstore_tuf.specs.declared.step.Step.TheVariants.{WalkRoots, CheckRoot, Seed, Fetch, CheckTimestamp, CheckSnapshot}
 use Rattle.sigstore_tuf.specs.Documents.{content_of, snapshot_pin, targets_pin}
 use Rattle.sigstore_tuf.specs.Update.{fresh_at_of, snapshot_pin_of}
 use Rattle.sigstore_tuf.specs.State.{Session, State}
@@ -239,7 +239,6 @@ module _ (session : Session) (new : State) where
       step_split G r7 (no (Fetch kind.Snapshot) s7) (λ s8 d8 r8.
       step_split G r8 (no CheckSnapshot s8) (λ s9 d9 r9.
       step_split G r9 (no (Fetch kind.Targets) s9) (λ s10 d10 r10.
-      step_split G r10 (no CheckDelegations s10) (λ s11 d11 r11.
       let fresh2 = root_looked session s1 s2 d2 in
       let fresh3 = root_stays session s2 s3 (reseeds_root session kind.Timestamp s2 s3 (Ok tt) tt d3) fresh2 in
       let fresh4 = root_stays session s3 s4 (reseeds_root session kind.Snapshot s3 s4 (Ok tt) tt d4) fresh3 in
@@ -252,7 +251,7 @@ module _ (session : Session) (new : State) where
       let snap9 = subst (λ (s : State). HasSnapshot session.now s.documents) (sym d9.same) snap8 in
       let fresh9 = subst (RootFresh session) (sym d9.same) fresh8 in
       let last = targets_fetched session s9 s10 d10 in
-      let end : new ≡ s10 = r11.runs.0 ∙ d11.same in
+      let end : new ≡ s10 = r10.runs.0 in
       subst (λ (s : State). Serve session.now s.documents) (sym end) (record {
         root_fresh = subst (λ (d : Document declared.Root). Fresh (content_in d).expires session.now) (sym last.1.root) fresh9;
         timestamp = snap9.timestamp.held;
@@ -267,7 +266,7 @@ module _ (session : Session) (new : State) where
         targets = last.0.held;
         targets_is = last.0.there;
         targets_fresh = last.0.fresh;
-      }))))))))))))
+      })))))))))))
 
 pub on_refresh : (session : Session) (old new : State) (result : Result ⊤ Error) → RunsSteps session refresh_steps old new result → OnOk result (Serve session.now new.documents)
 on_refresh session old new (Ok x) r = refresh_serves session new old (record { runs = r.runs })

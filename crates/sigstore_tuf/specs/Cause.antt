@@ -4,7 +4,6 @@ use Rattle.std.specs.Prelude.{◌≡◌, ◌≢◌, ℕ, ◌+◌, ◌-◌, ◌^�
 use Rattle.jiff_core.specs.declared.timestamp.Timestamp as jiff
 use Rattle.foundation.specs.Watched.{Watched, Rose, IfTold}
 use Rattle.sigstore_types_parts.specs.Entries.{at_name}
-use Rattle.sigstore_types_parts.specs.declared.form.Form.TheVariants as form
 use Rattle.sigstore_tuf_parts.specs.declared.error.Error.{Error}
 use Rattle.sigstore_tuf_parts.specs.declared.error.Error.TheVariants as tuf
 use Rattle.sigstore_tuf_parts.specs.declared.error.Mismatch.TheVariants as mismatch
@@ -13,7 +12,6 @@ use Rattle.sigstore_tuf_parts.specs.declared.error.TransportFault.{TransportFaul
 use Rattle.sigstore_tuf_parts.specs.declared.error.TransportFault.TheVariants as transport
 use Rattle.sigstore_tuf_parts.specs.declared.root.Root as declared_root
 use Rattle.sigstore_tuf_parts.specs.declared.snapshot.Snapshot as declared_snapshot
-use Rattle.sigstore_tuf_parts.specs.declared.targets.TargetFile.{TargetFile}
 use Rattle.sigstore_tuf_parts.specs.declared.targets.Targets as declared_targets
 use Rattle.sigstore_tuf_parts.specs.declared.timestamp.MetaFile.{MetaFile}
 use Rattle.sigstore_tuf_parts.specs.declared.timestamp.Timestamp as declared_timestamp
@@ -27,17 +25,16 @@ use Rattle.sigstore_tuf_parts.specs.RootRoles.{root_document}
 use Rattle.sigstore_tuf_parts.specs.Snapshot.{snapshot_of}
 use Rattle.sigstore_tuf_parts.specs.Targets.{targets_of}
 use Rattle.sigstore_tuf_parts.specs.Timestamp.{timestamp_of}
-use Rattle.sigstore_tuf.specs.declared.config.UpdaterConfig.{UpdaterConfig}
 use Rattle.sigstore_tuf.specs.declared.documents.Held.{Held}
 use Rattle.sigstore_tuf.specs.declared.documents.InForce.{InForce}
 use Rattle.sigstore_tuf.specs.declared.kind.Kind.{Kind}
 use Rattle.sigstore_tuf.specs.declared.kind.Kind.TheVariants.{Root, Timestamp, Snapshot, Targets}
 use Rattle.sigstore_tuf.specs.Documents.{timestamp_document, snapshot_document, targets_document, content_of, snapshot_pin, targets_pin}
-use Rattle.sigstore_tuf.specs.Repository.{Folders, Files, metadata_files, target_files}
-use Rattle.sigstore_tuf.specs.Names.{is_consistent, file_name, IsNameOf, max_length, kept_name, target_name_of}
+use Rattle.sigstore_tuf.specs.Repository.{Folders, Files, metadata_files}
+use Rattle.sigstore_tuf.specs.Names.{file_name, IsNameOf, max_length, kept_name}
 use Rattle.sigstore_tuf.specs.State.{Session, State}
-use Rattle.sigstore_tuf.specs.Adopt.{top_targets, bytes_in}
-use Rattle.sigstore_tuf.specs.Client.{version_in, delegates_none}
+use Rattle.sigstore_tuf.specs.Adopt.{bytes_in}
+use Rattle.sigstore_tuf.specs.Client.{version_in}
 
 -- ---- the documents that were had
 
@@ -213,66 +210,7 @@ pub data RefreshCause (session : Session) (old new : State) (e : Error) : Type 0
   targets_unpinned : (held : Held declared_snapshot.Snapshot) → WasHad old new Snapshot → IsBefore Snapshot session.now new.documents
       → new.documents.snapshot ≡ Some held → targets_pin (content_of held) ≡ None → e ≡ tuf.Malformed rule.Unpinned
       → RefreshCause session old new e
-  delegating : (held : Held declared_targets.Targets) → WasHad old new Targets → IsBefore Targets session.now new.documents
-      → top_targets new.documents ≡ Some held → delegates_none (content_of held).delegations ≡ false
-      → e ≡ tuf.Unbuilt form.Delegations → RefreshCause session old new e
   wanting : e ≡ tuf.NoMemory → RefreshCause session old new e
-
--- ---- why a search refuses
-
--- the entry of a target is longer than the limit, or has no digest for its name, or the repository's file of it isn't had or is another
-pub data FileCause (consistent : Bool) (config : UpdaterConfig) (entry : TargetFile) (path : List ℕ) (old new : Watched Folders)
-    (e : Error) : Type 0 where
-  listed_too_long : e ≡ tuf.IntegrityMismatch mismatch.TooLong → config.target_max_length < entry.length
-      → FileCause consistent config entry path old new e
-  without_digest : target_name_of consistent entry path ≡ None → e ≡ tuf.IntegrityMismatch mismatch.NoDigest
-      → FileCause consistent config entry path old new e
-  file_unfetched : (name : List ℕ) (fault : TransportFault) → target_name_of consistent entry path ≡ Some name
-      → TransportCause target_files name entry.length old new fault → e ≡ tuf.Transport fault
-      → FileCause consistent config entry path old new e
-  file_differs : (name bytes : List ℕ) → target_name_of consistent entry path ≡ Some name → Has target_files old name bytes
-      → IntegrityCause (Some entry.length) (Some entry.hashes) bytes e → FileCause consistent config entry path old new e
-  file_wanting : e ≡ tuf.NoMemory → FileCause consistent config entry path old new e
-
--- why there is no such entry: no document may be visited, or the targets document doesn't list the path and delegates to no role
-pub data IsUnlisted (config : UpdaterConfig) (path : List ℕ) (set : InForce) : Type 0 where
-  none_visited : config.max_delegations ≡ 0 → IsUnlisted config path set
-  not_listed : (held : Held declared_targets.Targets) → top_targets set ≡ Some held → at_name path (content_of held).targets ≡ None
-      → delegates_none (content_of held).delegations ≡ true → IsUnlisted config path set
-
--- the targets document in force lists the path with this entry
-abbrev pub IsListed : InForce → List ℕ → TargetFile → Type 0
-IsListed set path entry =
-    (held : Held declared_targets.Targets) × (top_targets set ≡ Some held) × (at_name path (content_of held).targets ≡ Some entry)
-
--- a top-level document is missing
-pub data Lacks (set : InForce) : Type 0 where
-  no_timestamp : set.timestamp ≡ None → Lacks set
-  no_snapshot : set.snapshot ≡ None → Lacks set
-  no_targets : top_targets set ≡ None → Lacks set
-
--- Documents in force that don't serve, an entry that isn't there, or a file that isn't had.
-pub data TargetCause (session : Session) (path : List ℕ) (set : InForce) (old new : Watched Folders) (e : Error) : Type 0 where
-  root_past : ExpiryCause (codes "root") (content_in set.root).expires session.now e → TargetCause session path set old new e
-  timestamp_past : (held : Held declared_timestamp.Timestamp) → set.timestamp ≡ Some held
-      → ExpiryCause (codes "timestamp") (content_of held).expires session.now e → TargetCause session path set old new e
-  snapshot_past : (held : Held declared_snapshot.Snapshot) → set.snapshot ≡ Some held
-      → ExpiryCause (codes "snapshot") (content_of held).expires session.now e → TargetCause session path set old new e
-  not_refreshed : Lacks set → e ≡ tuf.NotRefreshed → TargetCause session path set old new e
-  targets_past : (held : Held declared_targets.Targets) → top_targets set ≡ Some held
-      → ExpiryCause (codes "targets") (content_of held).expires session.now e → TargetCause session path set old new e
-  snapshot_unlike : (held : Held declared_snapshot.Snapshot) → set.snapshot ≡ Some held
-      → ((pin : MetaFile) → PinsSnapshot set pin → (content_of held).version ≢ pin.version)
-      → e ≡ tuf.IntegrityMismatch mismatch.Version → TargetCause session path set old new e
-  targets_unlike : (held : Held declared_targets.Targets) → top_targets set ≡ Some held
-      → ((pin : MetaFile) → PinsTargets set pin → (content_of held).version ≢ pin.version)
-      → e ≡ tuf.IntegrityMismatch mismatch.Version → TargetCause session path set old new e
-  search_delegating : (held : Held declared_targets.Targets) → top_targets set ≡ Some held
-      → delegates_none (content_of held).delegations ≡ false → e ≡ tuf.Unbuilt form.Delegations → TargetCause session path set old new e
-  unlisted : IsUnlisted session.config path set → e ≡ tuf.TargetNotFound path → TargetCause session path set old new e
-  of_file : (entry : TargetFile) → IsListed set path entry → FileCause (is_consistent set) session.config entry path old new e
-      → TargetCause session path set old new e
-  target_wanting : e ≡ tuf.NoMemory → TargetCause session path set old new e
 
 -- ---- why a first root is refused
 

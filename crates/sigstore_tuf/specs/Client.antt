@@ -78,16 +78,3 @@ unfoldable pub snapshot_serves_of : InForce → jiff.Timestamp → Result ⊤ Er
 snapshot_serves_of set now = do
   _ ← targets_pin_of set (Some now)
   Ok tt
-
-abbrev pub no_roles : List DelegatedRole → Bool
-no_roles [] = true
-no_roles (r ∷ rs) = false
-
-abbrev pub delegates_none : Option Delegations → Bool
-delegates_none None = true
-delegates_none (Some d) = no_roles d.roles
-
--- delegations aren't followed yet
-abbrev pub undelegated_of : Option (Held declared.Targets) → Result ⊤ Error
-undelegated_of None = Ok tt
-undelegated_of (Some targets) = if delegates_none (content_of targets).delegations then Ok tt else Err (Unbuilt form.Delegations)

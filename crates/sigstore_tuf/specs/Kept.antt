@@ -7,9 +7,8 @@ use Rattle.sigstore_tuf_parts.specs.declared.error.Error.{Error}
 use Rattle.sigstore_tuf_parts.specs.declared.error.Error.TheVariants.{NoMemory}
 use Rattle.sigstore_tuf_parts.specs.declared.root.Root.{Root}
 use Rattle.sigstore_tuf_parts.specs.Document.{Document, content_in}
-use Rattle.sigstore_tuf_parts.specs.Names.{timestamp_name, snapshot_name, targets_name, pin_name}
+use Rattle.sigstore_tuf_parts.specs.Names.{timestamp_name, snapshot_name, targets_name}
 use Rattle.sigstore_tuf_parts.specs.RootRoles.{root_document}
-use Rattle.sigstore_tuf.specs.declared.chain.RoleDoc.{RoleDoc}
 use Rattle.sigstore_tuf.specs.declared.chain.TrustChain.{TrustChain}
 use Rattle.sigstore_tuf.specs.declared.documents.InForce.{InForce}
 use Rattle.sigstore_tuf.specs.declared.kind.Kind.TheVariants as kind
@@ -18,6 +17,7 @@ use Rattle.sigstore_tuf.specs.Store.{is_bad_name}
 use Rattle.sigstore_tuf.specs.Names.{history_name, root_file, kept_target}
 use Rattle.sigstore_tuf.specs.State.{State}
 use Rattle.sigstore_tuf.specs.Adopt.{bytes_in}
+use Rattle.sigstore_tuf.specs.Trusted.{targets_bytes}
 
 -- the files have these bytes under the name
 abbrev pub IsFiled : Files → List ℕ → List ℕ → Type 0
@@ -59,13 +59,13 @@ KeepsInForce state = IfTold state.store.told (λ files. HoldsInForce files state
 
 -- ---- a chain
 
--- the documents of a chain and its file, each under its name
+-- the top-level documents of a chain and its file, each under its name
 pub record HoldsChain (files : Files) (path : List ℕ) (chain : TrustChain) : Type 0 where
   pub root : HasLastRoot files chain.roots
   pub roots : HasLaterRoots files chain.roots
   pub timestamp : IsFiled files timestamp_name chain.timestamp
   pub snapshot : IsFiled files snapshot_name chain.snapshot
-  pub roles : AllByRecursion (λ (r : RoleDoc). IfSome r.bytes (IsFiled files (pin_name r.name))) chain.roles
+  pub targets : IfSome (targets_bytes chain.roles) (IsFiled files targets_name)
   pub file : IsFiled files (kept_target path) chain.file
 
 -- ---- what the calls promise of a store that counts no fault

@@ -17,7 +17,9 @@ pub mod Delegated
 pub mod Search
 pub mod Chain
 pub mod Authorised
+pub mod Found
 pub mod Cause
+pub mod SearchCause
 pub mod Kept
 pub mod Newest
 pub mod Promises

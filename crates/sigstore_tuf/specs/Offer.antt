@@ -1,11 +1,10 @@
 -- A chain that a repository offers, and a store that has nothing else (TUF specification, section 5).
-use Rattle.std.specs.Prelude.{◌≡◌, ◌⊎◌, ℕ, ◌+◌, ◌-◌, ◌^◌, ◌<◌, ◌≤◌, List, [], ◌∷◌, length, Bool, true}
-use Rattle.std.specs.Prelude.{Option, Some, None, codes, ⊤}
+use Rattle.std.specs.Prelude.{◌≡◌, ◌⊎◌, ℕ, ◌+◌, ◌-◌, ◌^◌, ◌<◌, ◌≤◌, List, [], ◌∷◌, length, Bool}
+use Rattle.std.specs.Prelude.{Option, Some, None, ⊤}
 use Rattle.std.specs.List.{AllByRecursion}
 use Rattle.jiff_core.specs.declared.timestamp.Timestamp as jiff
 use Rattle.sigstore_types_parts.specs.Entries.{at_name}
 use Rattle.sigstore_tuf_parts.specs.declared.snapshot.Snapshot.{Snapshot}
-use Rattle.sigstore_tuf_parts.specs.declared.targets.Targets.{Targets}
 use Rattle.sigstore_tuf_parts.specs.Document.{content_in}
 use Rattle.sigstore_tuf_parts.specs.Crypto.{Crypto}
 use Rattle.sigstore_tuf_parts.specs.Pinned.{Pinned}
@@ -14,9 +13,8 @@ use Rattle.sigstore_tuf.specs.declared.config.UpdaterConfig.{UpdaterConfig}
 use Rattle.sigstore_tuf.specs.declared.chain.RoleDoc.{RoleDoc}
 use Rattle.sigstore_tuf.specs.declared.chain.TrustChain.{TrustChain}
 use Rattle.sigstore_tuf.specs.Repository.{Folders, Files}
-use Rattle.sigstore_tuf.specs.Names.{pinned_name, target_name_of, history_name, kept_target}
-use Rattle.sigstore_tuf.specs.Client.{delegates_none}
-use Rattle.sigstore_tuf.specs.Trusted.{Reading, TrustedAs, documents_in}
+use Rattle.sigstore_tuf.specs.Names.{pinned_name, role_file, target_name_of, history_name, kept_target}
+use Rattle.sigstore_tuf.specs.Trusted.{Reading, TrustedAs, targets_bytes}
 
 -- ---- what is offered
 
@@ -42,7 +40,7 @@ RootsEnd files newer max version =
 abbrev pub IsServedRole : Files → Bool → Snapshot → ℕ → RoleDoc → Option (List ℕ) → Type 0
 IsServedRole files consistent snapshot max r None = ⊤
 IsServedRole files consistent snapshot max r (Some bytes) =
-    IsServed files (pinned_name consistent (at_name (pin_name r.name) snapshot.meta) (pin_name r.name)) bytes max
+    IsServed files (pinned_name consistent (at_name (pin_name r.name) snapshot.meta) (role_file r.name)) bytes max
 
 -- the roots after the given one
 abbrev pub later_in : List (List ℕ) → List (List ℕ)
@@ -67,27 +65,16 @@ pub record OffersAs (crypto : Crypto) (folders : Folders) (given : List ℕ) (no
   pub target : IsServed folders.targets name chain.file chain.target.length
   pub target_short : chain.target.length ≤ config.target_max_length
 
--- the form that is built: a top-level targets document that delegates to no role
-pub record IsPlain (chain : TrustChain) : Type 0 where
-  pub top : Targets
-  pub top_is : documents_in chain.roles (codes "targets") ≡ Some top
-  pub undelegated : delegates_none top.delegations ≡ true
-
 pub record Offers (crypto : Crypto) (folders : Folders) (given : List ℕ) (now : jiff.Timestamp) (config : UpdaterConfig)
     (path : List ℕ) (chain : TrustChain) : Type 0 where
   pub is : Reading
   pub offered : OffersAs crypto folders given now config path chain is
-  pub plain : IsPlain chain
 
 -- ---- a warm store
 
 -- nothing, or this
 abbrev pub IsNoneOr : {A : Type 0} → Option A → Option A → Type 0
 IsNoneOr found wanted = (found ≡ None) ⊎ (found ≡ wanted)
-
-abbrev pub targets_bytes : List RoleDoc → Option (List ℕ)
-targets_bytes [] = None
-targets_bytes (role ∷ roles) = role.bytes
 
 -- the store has nothing, or each of these roots, under the number after that of the one before it, and nothing under later
 -- numbers, which are of 64 bits

@@ -10,12 +10,12 @@ use Rattle.sigstore_tuf.specs.declared.kind.Kind.{Kind}
 use Rattle.sigstore_tuf.specs.declared.kind.Kind.TheVariants as kind
 use Rattle.sigstore_tuf.specs.declared.step.Step.{Step}
 use Rattle.sigstore_tuf.specs.declared.step.Step.TheVariants.{WalkRoots, CheckRoot, Seed, Fetch, CheckTimestamp}
-use Rattle.sigstore_tuf.specs.declared.step.Step.TheVariants.{CheckSnapshot, CheckDelegations}
+use Rattle.sigstore_tuf.specs.declared.step.Step.TheVariants.{CheckSnapshot}
 use Rattle.sigstore_tuf_parts.specs.Crypto.{Crypto}
 use Rattle.sigstore_tuf.specs.State.{Session, State}
 use Rattle.sigstore_tuf.specs.Names.{kept_names}
 use Rattle.sigstore_tuf.specs.Adopt.{bytes_in, top_targets, KeepsWhere, Adopts, Seeds}
-use Rattle.sigstore_tuf.specs.Client.{version_in, root_serves_of, timestamp_serves_of, snapshot_serves_of, is_current, undelegated_of}
+use Rattle.sigstore_tuf.specs.Client.{version_in, root_serves_of, timestamp_serves_of, snapshot_serves_of, is_current}
 
 -- ---- loops
 
@@ -137,7 +137,6 @@ Does session (Seed k) old new result = Reseeds session k old new result
 Does session (Fetch k) old new result = Refetches session k old new result
 Does session CheckTimestamp old new result = Checks (λ set. timestamp_serves_of set session.now) old new result
 Does session CheckSnapshot old new result = Checks (λ set. snapshot_serves_of set session.now) old new result
-Does session CheckDelegations old new result = Checks (λ set. undelegated_of (top_targets set)) old new result
 
 -- steps are run one after another, until one refuses, whose answer stands
 abbrev pub Runs : Session → List Step → State → State → Result ⊤ Error → Type 0
@@ -151,7 +150,7 @@ Runs session (step ∷ steps) old new result =
 abbrev pub refresh_steps : List Step
 refresh_steps =
     WalkRoots ∷ CheckRoot ∷ Seed kind.Timestamp ∷ Seed kind.Snapshot ∷ Seed kind.Targets ∷ Fetch kind.Timestamp ∷ CheckTimestamp
-    ∷ Fetch kind.Snapshot ∷ CheckSnapshot ∷ Fetch kind.Targets ∷ CheckDelegations ∷ []
+    ∷ Fetch kind.Snapshot ∷ CheckSnapshot ∷ Fetch kind.Targets ∷ []
 
 -- the run of these steps
 pub record RunsSteps (session : Session) (steps : List Step) (old new : State) (result : Result ⊤ Error) : Type 0 where

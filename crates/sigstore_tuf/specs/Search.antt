@@ -61,10 +61,14 @@ pub data Readies (session : Session) (v : Visit) (w : Walk) (old new : State) (r
 
 -- ---- the search
 
--- the documents of the roles in force, over which the order is
+-- the documents of the roles in force
+abbrev pub documents_of : InForce → List ℕ → Option Targets
+documents_of set name = option_map content_of (at_name name set.targets)
+
+-- what the order is over
 abbrev pub tree_in : InForce → Snapshot → List ℕ → Tree
 tree_in set snapshot path = record {
-  documents = λ name. option_map content_of (at_name name set.targets);
+  documents = documents_of set;
   snapshot = snapshot;
   path = path;
 }

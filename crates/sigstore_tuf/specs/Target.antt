@@ -26,7 +26,7 @@ use Rattle.sigstore_tuf.specs.Documents.{content_of, snapshot_pin, targets_pin}
 use Rattle.sigstore_tuf.specs.Names.{is_consistent, target_name_of, kept_target}
 use Rattle.sigstore_tuf.specs.State.{Session}
 use Rattle.sigstore_tuf.specs.Adopt.{top_targets, FetchesNamed, LoadsNamed, Saves}
-use Rattle.sigstore_tuf.specs.Client.{has_version, undelegated_of}
+use Rattle.sigstore_tuf.specs.Client.{has_version}
 
 -- ---- the top-level documents
 

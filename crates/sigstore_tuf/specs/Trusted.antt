@@ -38,6 +38,11 @@ read_in r = option_and_then (λ bytes. option_map (λ doc. (r.name, content_in d
 abbrev pub documents_in : List RoleDoc → List ℕ → Option Targets
 documents_in roles name = at_name name (filter_map read_in roles)
 
+-- the document of the first visit, which is that of `targets`
+abbrev pub targets_bytes : List RoleDoc → Option (List ℕ)
+targets_bytes [] = None
+targets_bytes (role ∷ roles) = role.bytes
+
 -- the document of the last visit
 abbrev pub last_in : List RoleDoc → Option Targets
 last_in roles = option_and_then (λ r. documents_in roles r.name) (last_or None roles)

@@ -3,7 +3,7 @@ ghost use Rattle.std.specs.Prelude.{◌≡◌, ◌≢◌, ◌<◌, ◌^◌, Ok, 
 ghost use Rattle.foundation.specs.Watched.{Watched};
 ghost use Rattle.sigstore_tuf_parts.specs.By.{crypto_by};
 ghost use Rattle.sigstore_tuf.specs.State.{state_of, session_by};
-ghost use Rattle.sigstore_tuf.specs.Client.{root_serves_of, timestamp_serves_of, snapshot_serves_of, serves, is_current, undelegated_of};
+ghost use Rattle.sigstore_tuf.specs.Client.{root_serves_of, timestamp_serves_of, snapshot_serves_of, serves, is_current};
 ghost use Rattle.sigstore_tuf.specs.Repository.{Folders};
 ghost use Rattle.sigstore_tuf.specs.declared.kind.Kind.TheVariants as kind;
 ghost use Rattle.sigstore_tuf.specs.Run.{next_root, roots_left, WalksRoots, RecallsRoots, SavesRoot, Attaches, Refetches, moment_of, Reseeds, Does, RunsSteps};
@@ -17,8 +17,8 @@ use crate::step::Step;
 use crate::store::MetadataStore;
 use crate::update::targets_pin;
 use sigstore_crypto::CryptoProvider;
-use sigstore_tuf_parts::{Error, MetaFile, Role, Rule, Targets, TransportFault, is_past};
-use sigstore_types_parts::{Armor, Form};
+use sigstore_tuf_parts::{Error, MetaFile, Role, Rule, TransportFault, is_past};
+use sigstore_types_parts::Armor;
 use std::alloc::Global;
 
 // ---- next roots
@@ -170,23 +170,6 @@ fn check_snapshot(alloc: Global, documents: &InForce, now: jiff::Timestamp) -> R
     Ok(())
 }
 
-// Delegations aren't followed yet.
-pub(crate) fn check_undelegated(targets: Option<&Held<Targets>>) -> Result<(), Error>
-    ensures { result ≡ undelegated_of (option_copied targets.entry) }
-{
-    match targets {
-        Some(held) => match &held.document.signed().delegations {
-            Some(delegations) => if delegations.roles.is_empty() {
-                Ok(())
-            } else {
-                Err(Error::Unbuilt(Form::Delegations))
-            },
-            None => Ok(()),
-        },
-        None => Ok(()),
-    }
-}
-
 // ---- one document
 
 // The pin's version, and not expired.
@@ -323,7 +306,6 @@ fn run_step<C: CryptoProvider, M: Armor, R: Repository, S: MetadataStore>(
         Step::Fetch(kind) => refetch(alloc, session, documents, repo, store, kind),
         Step::CheckTimestamp => check_timestamp(alloc, documents, session.moment),
         Step::CheckSnapshot => check_snapshot(alloc, documents, session.moment),
-        Step::CheckDelegations => check_undelegated(documents.targets.get("targets")),
     }
 }
 

@@ -1,11 +1,10 @@
 // The client's calls over an owned set of documents, and a lent repository and store.
 ghost use Rattle.std.specs.Prelude.{◌≡◌, ◌≢◌, Ok, Err, IfOk, IfErr};
-ghost use Rattle.sigstore_tuf.specs.Search.{GivesInfo};
 ghost use Rattle.foundation.specs.Watched.{Watched};
 ghost use Rattle.sigstore_tuf.specs.Repository.{Folders};
 ghost use Rattle.sigstore_tuf.specs.State.{state_of, session_of};
 ghost use Rattle.sigstore_tuf.specs.Authorised.{IsAuthorised, crypto_in, SameJudges};
-ghost use Rattle.sigstore_tuf.specs.Promises.{Attached, Refreshed, Got};
+ghost use Rattle.sigstore_tuf.specs.Promises.{Attached, Refreshed, Informed, Got};
 
 use crate::chain::TrustChain;
 use crate::client::{attach, run_steps};
@@ -79,7 +78,6 @@ pub fn refresh_parts<C: CryptoProvider, M: Armor, R: Repository, S: MetadataStor
             Step::Fetch(Kind::Snapshot),
             Step::CheckSnapshot,
             Step::Fetch(Kind::Targets),
-            Step::CheckDelegations,
         ],
     )
 }
@@ -95,9 +93,10 @@ pub(crate) fn target_info<C: CryptoProvider, M: Armor, R: Repository, S: Metadat
     path: &str,
     now: jiff::Timestamp,
 ) -> Result<Option<TargetFile>, Error>
-    ensures gives { GivesInfo (session_of (crypto_in C.CryptoProvider M.Armor set.old) config.now now) path.now (state_of set.old.documents (R.seen repo.old) (S.seen store.old))
+    ensures informed { Informed (session_of (crypto_in C.CryptoProvider M.Armor set.old) config.now now) path.now (state_of set.old.documents (R.seen repo.old) (S.seen store.old))
         (state_of set.new.documents (R.seen repo.new) (S.seen store.new)) result }
     ensures judges { SameJudges set.old set.new }
+    ensures authorised { IsAuthorised (crypto_in C.CryptoProvider M.Armor set.new) set.new.documents }
 {
     let session = Session {
         provider: set.provider,
@@ -111,7 +110,8 @@ pub(crate) fn target_info<C: CryptoProvider, M: Armor, R: Repository, S: Metadat
 /// Finds a target at a moment, and gives the chain of documents by which it is trusted, with its file: the
 /// store's where it is the listed one, else the repository's, which is then written to the store. Errors, in
 /// this order: `Expired` of root, timestamp and snapshot, `NotRefreshed`, `Expired` of the targets document,
-/// `IntegrityMismatch(Version)`, `Unbuilt(Delegations)` or `TargetNotFound`, `IntegrityMismatch(TooLong)`,
+/// `IntegrityMismatch(Version)`, those of the roles that the search comes to and `Malformed(Pattern)`,
+/// `TargetNotFound`, `IntegrityMismatch(TooLong)`,
 /// `IntegrityMismatch(NoDigest)` where the file's name needs a digest and there is none, then those of the
 /// fetch and of the file's length and digests.
 pub fn get_target_parts<C: CryptoProvider, M: Armor, R: Repository, S: MetadataStore>(

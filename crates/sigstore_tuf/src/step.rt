@@ -17,6 +17,4 @@ pub enum Step {
     CheckTimestamp,
     /// The snapshot in force isn't expired, and pins the targets document.
     CheckSnapshot,
-    /// The targets document in force delegates to no role.
-    CheckDelegations,
 }

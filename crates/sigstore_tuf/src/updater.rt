@@ -7,10 +7,9 @@ ghost use Rattle.sigstore_tuf.specs.Repository.{Folders};
 ghost use Rattle.sigstore_tuf.specs.Update.{first_root_of};
 ghost use Rattle.sigstore_tuf.specs.State.{state_of, session_of};
 ghost use Rattle.sigstore_tuf.specs.Authorised.{IsAuthorised, crypto_in, SameJudges};
-ghost use Rattle.sigstore_tuf.specs.Promises.{Attached, Refreshed, Got};
+ghost use Rattle.sigstore_tuf.specs.Promises.{Attached, Refreshed, Informed, Got};
 ghost use Rattle.sigstore_tuf.specs.Names.{is_consistent};
 ghost use Rattle.sigstore_tuf.specs.Target.{Recalls, Downloads};
-ghost use Rattle.sigstore_tuf.specs.Search.{GivesInfo};
 ghost use Rattle.sigstore_tuf.specs.Updater.{SameOption, option_seen, GivesFile};
 
 use crate::chain::TrustChain;
@@ -61,10 +60,11 @@ fn info_held<C: CryptoProvider, M: Armor, R: Repository, S: MetadataStore>(
     now: jiff::Timestamp,
 ) -> Result<Option<TargetFile>, Error>
     ensures same_store { SameOption store.old store.new }
-    ensures gives { GivesInfo (session_of (crypto_in C.CryptoProvider M.Armor set.old) config.now now) path.now
+    ensures informed { Informed (session_of (crypto_in C.CryptoProvider M.Armor set.old) config.now now) path.now
         (state_of set.old.documents (R.seen repo.old) (option_seen S.seen store.old))
         (state_of set.new.documents (R.seen repo.new) (option_seen S.seen store.new)) result }
     ensures judges { SameJudges set.old set.new }
+    ensures authorised { IsAuthorised (crypto_in C.CryptoProvider M.Armor set.new) set.new.documents }
 {
     match store {
         Some(store) => target_info(alloc, set, repo, *store, config, path, now),
@@ -270,9 +270,11 @@ impl<'a, C: CryptoProvider, M: Armor, R: Repository, S: MetadataStore> Updater<'
         )
     }
 
-    /// What the documents in force list of a target at a moment; None where they don't list it. Errors, in this
-    /// order: `Expired` of root, timestamp and snapshot, `NotRefreshed`, `Expired` of the targets document,
-    /// `IntegrityMismatch(Version)`, `Unbuilt(Delegations)`.
+    /// What is listed of a target at a moment, by the last role of the search over the delegated ones (TUF
+    /// specification, section 5.6.7), whose documents are fetched on the way; None where that one doesn't list
+    /// it. Errors, in this order: `Expired` of root, timestamp and snapshot, `NotRefreshed`, `Expired` of the
+    /// targets document, `IntegrityMismatch(Version)`; then of each role that the search comes to those of its
+    /// fetch, its pin, its signatures and its expiry, and `Malformed(Pattern)`. What was adopted before stays.
     pub fn get_target_info(
         &mut self,
         alloc: Global,
@@ -281,9 +283,10 @@ impl<'a, C: CryptoProvider, M: Armor, R: Repository, S: MetadataStore> Updater<'
     ) -> Result<Option<TargetFile>, Error>
         ensures same_repo { self.new.repo.ghost_name ≡ self.old.repo.ghost_name }
         ensures same_store { SameOption self.old.store self.new.store }
-        ensures gives { GivesInfo (session_of (crypto_in C.CryptoProvider M.Armor self.old.set) self.old.config now) path.now
+        ensures informed { Informed (session_of (crypto_in C.CryptoProvider M.Armor self.old.set) self.old.config now) path.now
             (state_of self.old.set.documents (R.seen self.old.repo.now) (option_seen S.seen self.old.store))
             (state_of self.new.set.documents (R.seen self.new.repo.now) (option_seen S.seen self.new.store)) result }
+        ensures authorised { IsAuthorised (crypto_in C.CryptoProvider M.Armor self.new.set) self.new.set.documents }
         ensures judges { SameJudges self.old.set self.new.set }
         ensures same { (self.new.config ≡ self.old.config) × (self.new.chain ≡ self.old.chain) }
     {
