@@ -48,10 +48,10 @@ pub matching_named : (path : List ℕ) (ds : List DelegatedRole) (next : Next) �
 matching_named path [] next h = subst (λ (m : Next). AllByRecursion (IsNamed []) m.names) (ok_same nothing_next next h) tt
 matching_named path (d ∷ later) next h = by_top (is_top_level d.name) refl h (λ m k. matching_named path later m k)
   where
-    abbrev Named : Next → Type 0
+    Named : Next → Type 0
     Named m = AllByRecursion (IsNamed (d ∷ later)) m.names
 
-    abbrev Later : Type 0
+    Later : Type 0
     Later = (m : Next) → matching path later ≡ Ok m → AllByRecursion (IsNamed later) m.names
 
     rest : Later → (m : Next) → matching path later ≡ Ok m → Named m

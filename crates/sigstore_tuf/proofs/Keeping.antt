@@ -85,7 +85,7 @@ saved_put bytes name old new result good most quiet (save_asked answer s r) = by
     by_answer (Err store.BadName) c k r = let no : false ≡ true = sym good ∙ c in cc
     by_answer (Err store.NoMemory) c k r = absurd (most r)
 
-all_later : (bytes : List ℕ) (names : List (List ℕ)) (old new : Watched Files) (result : Result ⊤ Error) → SavesAll bytes names old new result → old.faults ≤ new.faults
+pub all_later : (bytes : List ℕ) (names : List (List ℕ)) (old new : Watched Files) (result : Result ⊤ Error) → SavesAll bytes names old new result → old.faults ≤ new.faults
 all_later bytes [] old new result (s, r) = subst (λ (w : Watched Files). old.faults ≤ w.faults) (sym s) (le_refl old.faults)
 all_later bytes (name ∷ names) old new result (inl (e, s, r)) = saved_later bytes name old new (Err e) s
 all_later bytes (name ∷ names) old new result (inr (mid, s, more)) = le_trans (saved_later bytes name old mid (Ok tt) s) (all_later bytes names mid new result more)
@@ -198,7 +198,7 @@ apart a b n h = let no : true ≡ false = sym ((bytes_eq-Decides a b).1 h) ∙ n
 pub with_this : (name bytes : List ℕ) (files : Files) → with_file name bytes files name ≡ Some bytes
 with_this name bytes files = ap (λ b. if b then Some bytes else files name) ((bytes_eq-Decides name name).1 refl)
 
-with_other : (name bytes q : List ℕ) (files : Files) → q ≢ name → with_file name bytes files q ≡ files q
+pub with_other : (name bytes q : List ℕ) (files : Files) → q ≢ name → with_file name bytes files q ≡ files q
 with_other name bytes q files n = by_test (bytes_eq q name) refl
   where
     by_test : (b : Bool) → bytes_eq q name ≡ b → with_file name bytes files q ≡ files q
@@ -231,7 +231,7 @@ written set Timestamp bytes files = record { there = with_this timestamp_name by
 written set Snapshot bytes files = snapshot_written (is_consistent set) (snapshot_pin_in set) bytes files
 written set Targets bytes files = record { there = with_this targets_name bytes files; others = λ q x n f. with_other targets_name bytes (kept_name q) files n ∙ f }
 
-some_kept : (b : Option (List ℕ)) (files files' : Files) (name : List ℕ) → ((x : List ℕ) → files name ≡ Some x → files' name ≡ Some x) → IfSome b (IsFiled files name) → IfSome b (IsFiled files' name)
+pub some_kept : (b : Option (List ℕ)) (files files' : Files) (name : List ℕ) → ((x : List ℕ) → files name ≡ Some x → files' name ≡ Some x) → IfSome b (IsFiled files name) → IfSome b (IsFiled files' name)
 some_kept None files files' name f h = tt
 some_kept (Some x) files files' name f h = f x h
 

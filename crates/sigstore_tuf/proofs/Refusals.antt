@@ -66,13 +66,13 @@ timestamp_reads = read_cause (codes "timestamp") timestamp_of timestamp_only
 snapshot_reads : ReadsWithCause (codes "snapshot") snapshot_of
 snapshot_reads = read_cause (codes "snapshot") snapshot_of snapshot_only
 
-targets_reads : ReadsWithCause (codes "targets") targets_of
+pub targets_reads : ReadsWithCause (codes "targets") targets_of
 targets_reads = read_cause (codes "targets") targets_of targets_only
 
 lower : {C : Type 0} (role : List ℕ) (trusted new : ℕ) (e : Error) → not_below_of role trusted new ≡ Err e → (IsLower role trusted new e → C) → C
 lower role trusted new e h f = refused_if (nat_lt new trusted) (tuf.Rollback role trusted new) e h (λ is same. f (same, is_less new trusted is))
 
-another_version : (pin : MetaFile) (version : ℕ) (e : Error) → version_of pin version ≡ Err e → IsOfAnotherVersion pin version e
+pub another_version : (pin : MetaFile) (version : ℕ) (e : Error) → version_of pin version ≡ Err e → IsOfAnotherVersion pin version e
 another_version pin version e h = refused_unless (version == pin.version) (tuf.IntegrityMismatch mismatch.Version) e h (λ is same. (same, other_number version pin.version is))
 
 among_first : {A : Type 0} (x : A) (xs : List A) → Contains (x ∷ xs) x
@@ -219,7 +219,7 @@ module _ (crypto : Crypto) (set : InForce) (bytes : List ℕ) where
 
 -- ---- a judgement
 
-was_refused : (r : Result InForce Error) (e : Error) → taken_of r ≡ Err e → r ≡ Err e
+pub was_refused : (r : Result InForce Error) (e : Error) → taken_of r ≡ Err e → r ≡ Err e
 was_refused (Ok set) e h = cc
 was_refused (Err d) e h = ap Err (err_same d e h)
 

@@ -37,7 +37,7 @@ use Rattle.sigstore_tuf.proofs.Authorised.{Stays, roles_more}
 
 -- ---- what was checked
 
-not_top : (set : InForce) (v : Visit) (authority : Authority) → delegation_of set v ≡ Ok authority → is_top_level v.name ≡ false
+pub not_top : (set : InForce) (v : Visit) (authority : Authority) → delegation_of set v ≡ Ok authority → is_top_level v.name ≡ false
 unfolding delegation_of
 not_top set v authority h = let a = step_ok (not_top_level_of v.name) _ authority h in by_test (is_top_level v.name) a.1
   where
@@ -56,12 +56,12 @@ version_so : (crypto : Crypto) (authority : Authority) (pin : MetaFile) (name : 
 unfolding role_checks_of
 version_so crypto authority pin name doc now h = let a = step_ok (version_of pin (content_in doc).version) _ tt h in a.1
 
-record RoleRead (crypto : Crypto) (authority : Authority) (pin : MetaFile) (name bytes : List ℕ) (now : Option jiff.Timestamp) (doc : Document Targets) : Type 0 where
-  intact : integrity_of pin.length pin.hashes bytes ≡ Ok tt
-  read : targets_document bytes ≡ Ok doc
-  checked : role_checks_of crypto authority pin name doc now ≡ Ok tt
+pub record RoleRead (crypto : Crypto) (authority : Authority) (pin : MetaFile) (name bytes : List ℕ) (now : Option jiff.Timestamp) (doc : Document Targets) : Type 0 where
+  pub intact : integrity_of pin.length pin.hashes bytes ≡ Ok tt
+  pub read : targets_document bytes ≡ Ok doc
+  pub checked : role_checks_of crypto authority pin name doc now ≡ Ok tt
 
-role_read : (crypto : Crypto) (authority : Authority) (pin : MetaFile) (name bytes : List ℕ) (now : Option jiff.Timestamp) (doc : Document Targets) → role_document_of crypto authority pin name bytes now ≡ Ok doc → RoleRead crypto authority pin name bytes now doc
+pub role_read : (crypto : Crypto) (authority : Authority) (pin : MetaFile) (name bytes : List ℕ) (now : Option jiff.Timestamp) (doc : Document Targets) → role_document_of crypto authority pin name bytes now ≡ Ok doc → RoleRead crypto authority pin name bytes now doc
 unfolding role_document_of
 role_read crypto authority pin name bytes now doc h =
     let i = step_ok (integrity_of pin.length pin.hashes bytes) _ doc h in

@@ -43,7 +43,7 @@ pub none_named : (set : InForce) (snapshot : Snapshot) (path name : List ℕ) (w
 none_named set snapshot path name w at = (missing name, ap (λ o. ok_or (option_map content_of o) (missing name) >>= λ doc. read_of (tree_in set snapshot path) doc (having_read name w)) at, refl)
 
 -- the pin of a role in the snapshot in force
-pin_of : (o : Option (Held Snapshot)) (snapshot : Snapshot) (name : List ℕ) → option_map content_of o ≡ Some snapshot
+pub pin_of : (o : Option (Held Snapshot)) (snapshot : Snapshot) (name : List ℕ) → option_map content_of o ≡ Some snapshot
     → option_and_then (λ (held : Held Snapshot). at_name (pin_name name) (content_of held).meta) o ≡ at_name (pin_name name) snapshot.meta
 pin_of None snapshot name e = cc
 pin_of (Some held) snapshot name e = ap (λ (s : Snapshot). at_name (pin_name name) s.meta) (some_same (content_of held) snapshot e)

@@ -247,7 +247,7 @@ save_wants bytes name old new result (save_asked answer l r) = subst IsWant (sym
     by_answer (Err store.BadName) = tt
     by_answer (Err store.NoMemory) = refl
 
-all_want : (bytes : List ℕ) (names : List (List ℕ)) (old new : Watched Files) (result : Result ⊤ Error) → SavesAll bytes names old new result → IsWant result
+pub all_want : (bytes : List ℕ) (names : List (List ℕ)) (old new : Watched Files) (result : Result ⊤ Error) → SavesAll bytes names old new result → IsWant result
 all_want bytes [] old new result (s, r) = subst IsWant (sym r) tt
 all_want bytes (name ∷ names) old new result (inl (e, s, r)) = subst IsWant (sym r) (save_wants bytes name old new (Err e) s)
 all_want bytes (name ∷ names) old new result (inr (mid, s, more)) = all_want bytes names mid new result more

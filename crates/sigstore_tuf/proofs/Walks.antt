@@ -32,7 +32,7 @@ pub record Steps (w : Walk) (s : Step) : Type 0 where
   pub falls : Falls w s.walk
   pub spent : (s.next.names ≡ []) ⊎ (s.walk.left < w.left)
 
-abbrev IfStep : Walk → Result Step Gap → Type 0
+abbrev pub IfStep : Walk → Result Step Gap → Type 0
 IfStep w (Ok s) = Steps w s
 IfStep w (Err e) = Unit {0}
 
@@ -76,7 +76,7 @@ done_steps : (tree : Tree) (v : Visit) (w : Walk) (b : Bool) → ((w.left == 0) 
 done_steps tree v w true e = still_steps w
 done_steps tree v w false e = pinned_steps tree v w (is_pinned tree.snapshot v.name) (left_over w.left (or_false (w.left == 0) (is_among w.read v.name) e))
 
-visit_steps : (tree : Tree) (v : Visit) (w : Walk) → IfStep w (visit_of tree v w)
+pub visit_steps : (tree : Tree) (v : Visit) (w : Walk) → IfStep w (visit_of tree v w)
 visit_steps tree v w = done_steps tree v w ((w.left == 0) || is_among w.read v.name) refl
 
 -- ---- the whole search

@@ -1,6 +1,6 @@
 -- What a store has of the documents in force and of a search (TUF specification, section 5: each document that is adopted is
 -- written to storage).
-use Rattle.std.specs.Prelude.{◌≡◌, ◌≢◌, ℕ, List, drop, Some, None, Result, Ok, Err, IfSome, OnOk, false, ⊤}
+use Rattle.std.specs.Prelude.{◌≡◌, ◌≢◌, ℕ, List, drop, Some, None, Result, Ok, Err, IfSome, OnOk, false, codes, ⊤}
 use Rattle.std.specs.List.{AllByRecursion, last_or}
 use Rattle.foundation.specs.Watched.{IfTold}
 use Rattle.sigstore_tuf_parts.specs.declared.error.Error.{Error}
@@ -9,6 +9,7 @@ use Rattle.sigstore_tuf_parts.specs.declared.root.Root.{Root}
 use Rattle.sigstore_tuf_parts.specs.Document.{Document, content_in}
 use Rattle.sigstore_tuf_parts.specs.Names.{timestamp_name, snapshot_name, targets_name}
 use Rattle.sigstore_tuf_parts.specs.RootRoles.{root_document}
+use Rattle.sigstore_tuf.specs.declared.chain.RoleDoc.{RoleDoc}
 use Rattle.sigstore_tuf.specs.declared.chain.TrustChain.{TrustChain}
 use Rattle.sigstore_tuf.specs.declared.documents.InForce.{InForce}
 use Rattle.sigstore_tuf.specs.declared.kind.Kind.TheVariants as kind
@@ -17,7 +18,6 @@ use Rattle.sigstore_tuf.specs.Store.{is_bad_name}
 use Rattle.sigstore_tuf.specs.Names.{history_name, root_file, kept_target}
 use Rattle.sigstore_tuf.specs.State.{State}
 use Rattle.sigstore_tuf.specs.Adopt.{bytes_in}
-use Rattle.sigstore_tuf.specs.Trusted.{targets_bytes}
 
 -- the files have these bytes under the name
 abbrev pub IsFiled : Files → List ℕ → List ℕ → Type 0
@@ -65,7 +65,7 @@ pub record HoldsChain (files : Files) (path : List ℕ) (chain : TrustChain) : T
   pub roots : HasLaterRoots files chain.roots
   pub timestamp : IsFiled files timestamp_name chain.timestamp
   pub snapshot : IsFiled files snapshot_name chain.snapshot
-  pub targets : IfSome (targets_bytes chain.roles) (IsFiled files targets_name)
+  pub targets : AllByRecursion (λ (r : RoleDoc). r.name ≡ codes "targets" → IfSome r.bytes (IsFiled files targets_name)) chain.roles
   pub file : IsFiled files (kept_target path) chain.file
 
 -- ---- what the calls promise of a store that counts no fault

@@ -1,5 +1,5 @@
 -- Each refusal of the top call has its cause.
-use Rattle.std.proofs.Common.{◌≡◌, ◌≢◌, ◌⊎◌, inl, inr, Ok, Err, sym, subst}
+use Rattle.std.proofs.Common.{◌≡◌, ◌≢◌, ◌⊎◌, inl, inr, Ok, Err, refl, sym, subst}
 use Rattle.foundation.specs.Watched.{Watched}
 use Rattle.foundation.specs.Results.{err_same}
 use Rattle.sigstore_tuf_parts.specs.declared.error.Error.{Error as TufError}
@@ -11,6 +11,7 @@ use Rattle.sigstore_tuf.specs.State.{state_of}
 use Rattle.sigstore_tuf.proofs.Refusals.{first_refusal}
 use Rattle.sigstore_tuf.proofs.Carrying.{Carried, attach_carried, refresh_carried}
 use Rattle.sigstore_tuf.proofs.Causes.{is_want, earlier}
+use Rattle.sigstore_tuf.proofs.Searching.{gets_serves}
 use Rattle.sigstore_tuf.proofs.TargetCauses.{target_earlier}
 use Rattle.sigstore_verify.specs.declared.error.Error.{Error}
 use Rattle.sigstore_verify.specs.declared.error.Error.TheVariants as verify
@@ -21,7 +22,7 @@ use Rattle.sigstore_verify.specs.Given.{Anchor, Given, Outside, asked_by}
 use Rattle.sigstore_verify.specs.FromRoot as top
 use Rattle.sigstore_verify.specs.FromRoot.{trust_path, session_in, TrustsChain, GivesChain, root_of_tuf, root_of_verify, Runs}
 use Rattle.sigstore_verify.proofs.JudgeCauses.{judge_refused}
-use Rattle.sigstore_verify.proofs.RootFacts.{refreshed_authorised, chain_trusts}
+use Rattle.sigstore_verify.proofs.RootFacts.{refreshed_authorised, searched_authorised, chain_trusts}
 
 -- a chain that isn't given has its cause in the root, the repository and the store
 module _ (anchor : Anchor) (before after : Outside) where
@@ -46,12 +47,14 @@ module _ (anchor : Anchor) (before after : Outside) where
       subst Chain (err_same d e (sym r))
       (cause.refresh_refused b.first last b.first_is (refreshed_authorised anchor before.repo after.repo before.store begun after.store set last (Err d) b w)
       (earlier (session_in anchor) (state_in b.first before) (state_of set before.repo begun) (state_in last after) d (begun_carried begun set b) w.cause))
-  chain_cause e (top.target_refused set last mid begun kept d b w g r) =
+  chain_cause e (top.target_refused set last end mid begun kept d b w g r) =
       let since = (refresh_carried (session_in anchor) (state_of set before.repo begun) (state_of last mid kept) (Ok tt) w.runs).since in
+      let first = refreshed_authorised anchor before.repo mid before.store begun kept set last (Ok tt) b w in
       subst Chain (err_same d e (sym r))
-      (cause.search_refused last (refreshed_authorised anchor before.repo mid before.store begun kept set last (Ok tt) b w) w.serves
-      (target_earlier (session_in anchor) trust_path before.repo mid after.repo since last d g.cause))
-  chain_cause e (top.chain_given set last mid begun kept chain b w g r) = cc
+      (cause.search_refused last end first (searched_authorised anchor before.repo mid after.repo before.store begun kept after.store set last end (Err d) b w g)
+      (gets_serves (session_in anchor) trust_path (state_of last mid kept) (state_in end after) (Err d) g.gets w.serves)
+      (target_earlier (session_in anchor) trust_path (state_in last before) (state_of last mid kept) (state_in end after) refl since d g.cause))
+  chain_cause e (top.chain_given set last end mid begun kept chain b w g r) = cc
 
 module _ (given : Given) (before after : Outside) where
   abbrev Cause : RootFault → Type 0

@@ -11,7 +11,7 @@ use Rattle.sigstore_tuf.specs.declared.documents.InForce.{InForce}
 use Rattle.sigstore_tuf.specs.State.{state_of}
 use Rattle.sigstore_tuf.specs.Trusted.{Trusted}
 use Rattle.sigstore_tuf.specs.Authorised.{AreAuthorised, given_in}
-use Rattle.sigstore_tuf.specs.Promises.{Refreshed}
+use Rattle.sigstore_tuf.specs.Promises.{Refreshed, Got}
 use Rattle.sigstore_tuf.specs.Kept.{HoldsAdopted, HoldsChain}
 use Rattle.sigstore_tuf.proofs.Authorised.{first_root_given, first_root_is_authorised}
 use Rattle.sigstore_tuf.proofs.Completing.{quiet_first, quiet_second}
@@ -57,13 +57,21 @@ module _ (anchor : Anchor) (repo mid : Watched Folders) (store begun kept : Watc
       let begins = begins_given anchor repo store begun set b in
       subst (λ g. AreAuthorised anchor.crypto g last) begins (r.authorised.authorised (subst (λ g. AreAuthorised anchor.crypto g set) (sym begins) (begins_authorised anchor repo store begun set b)))
 
+-- and after a search
+pub searched_authorised : (anchor : Anchor) (repo mid repo' : Watched Folders) (store begun kept store' : Watched Files) (set last end : InForce) (result : Result TrustChain TufError) → Begins anchor repo store begun set
+    → Refreshed (session_in anchor) (state_of set repo begun) (state_of last mid kept) (Ok tt) → Got (session_in anchor) trust_path (state_of last mid kept) (state_of end repo' store') result → AreAuthorised anchor.crypto anchor.root end
+searched_authorised anchor repo mid repo' store begun kept store' set last end result b r g =
+    let given = refreshed_given anchor repo mid store begun kept set last (Ok tt) b r in
+    let first = refreshed_authorised anchor repo mid store begun kept set last (Ok tt) b r in
+    subst (λ x. AreAuthorised anchor.crypto x end) given (g.authorised.authorised (subst (λ x. AreAuthorised anchor.crypto x last) (sym given) first))
+
 -- a chain that is given is trusted from the root
 pub chain_trusts : (anchor : Anchor) (repo repo' : Watched Folders) (store store' : Watched Files) (chain : TrustChain) → GivesChain anchor repo repo' store store' (Ok chain) → TrustsChain anchor chain
 chain_trusts anchor repo repo' store store' chain (root_refused e h s t r) = no_both chain e r
 chain_trusts anchor repo repo' store store' chain (attach_refused first set e f a s r) = no_both chain e r
 chain_trusts anchor repo repo' store store' chain (refresh_refused set last begun e b w r) = no_both chain e r
-chain_trusts anchor repo repo' store store' chain (target_refused set last mid begun kept e b w g r) = no_both chain e r
-chain_trusts anchor repo repo' store store' chain (chain_given set last mid begun kept given b w g r) =
+chain_trusts anchor repo repo' store store' chain (target_refused set last end mid begun kept e b w g r) = no_both chain e r
+chain_trusts anchor repo repo' store store' chain (chain_given set last end mid begun kept given b w g r) =
     let same : given ≡ chain = ok_same given chain (sym r) in
     subst (TrustsChain anchor) same
     (subst (λ root. Trusted anchor.crypto root anchor.now anchor.config.max_delegations trust_path given) (refreshed_given anchor repo mid store begun kept set last (Ok tt) b w) g.trusted)
@@ -74,12 +82,12 @@ pub chain_kept : (anchor : Anchor) (repo repo' : Watched Folders) (store store' 
 chain_kept anchor repo repo' store store' chain (root_refused e h s t r) quiet = no_both chain e r
 chain_kept anchor repo repo' store store' chain (attach_refused first set e f a s r) quiet = no_both chain e r
 chain_kept anchor repo repo' store store' chain (refresh_refused set last begun e b w r) quiet = no_both chain e r
-chain_kept anchor repo repo' store store' chain (target_refused set last mid begun kept e b w g r) quiet = no_both chain e r
-chain_kept anchor repo repo' store store' chain (chain_given set last mid begun kept given b w g r) quiet =
+chain_kept anchor repo repo' store store' chain (target_refused set last end mid begun kept e b w g r) quiet = no_both chain e r
+chain_kept anchor repo repo' store store' chain (chain_given set last end mid begun kept given b w g r) quiet =
     let same : given ≡ chain = ok_same given chain (sym r) in
     let one = attach_later anchor.crypto (state_of b.first repo store) (state_of set repo begun) (Ok tt) b.attached.attaches in
     let two = refresh_later (session_in anchor) (state_of set repo begun) (state_of last mid kept) (Ok tt) w.runs in
-    let three = gets_later trust_path (session_in anchor) last mid repo' kept store' (Ok given) g.gets in
+    let three = gets_later trust_path (session_in anchor) (state_of last mid kept) (state_of end repo' store') (Ok given) g.gets in
     let rest = quiet_second store.faults begun.faults store'.faults one (le_trans two three) quiet in
     let adopted = told_each (λ files. HoldsAdopted files b.first) store.told (λ files. first_kept anchor.crypto anchor.root b.first files b.first_is) in
     let begins = b.attached.stored (quiet_first store.faults begun.faults store'.faults one (le_trans two three) quiet) adopted in

@@ -18,7 +18,8 @@ use Rattle.sigstore_crypto.specs.Key.{spki_key_of}
 use Rattle.sigstore_crypto.specs.Scheme.{has_digest}
 use Rattle.sigstore_tuf_parts.specs.declared.error.Error.TheVariants as tuf
 use Rattle.sigstore_tuf_parts.specs.declared.error.Error.{Error as TufError}
-use Rattle.sigstore_tuf.specs.Cause.{FirstCause, RefreshCause, TargetCause}
+use Rattle.sigstore_tuf.specs.Cause.{FirstCause, RefreshCause}
+use Rattle.sigstore_tuf.specs.SearchCause.{TargetCause}
 use Rattle.sigstore_tuf.specs.Authorised.{AreAuthorised, Serve}
 use Rattle.sigstore_tuf.specs.declared.documents.InForce.{InForce}
 use Rattle.sigstore_tuf.specs.State.{State, state_of}
@@ -146,15 +147,16 @@ JudgeCause asked file source source' e = CauseUnder asked.policy asked file sour
 abbrev pub state_in : InForce → Outside → State
 state_in set outside = state_of set outside.repo outside.store
 
--- The given root is refused; or a refresh from it, of documents that repository and store had at the beginning; or the search in
--- documents that are authorised from the root, and serve at this moment.
+-- The given root is refused; or a refresh from it, of documents that repository and store had at the beginning; or the search, whose
+-- documents are authorised from the root at its beginning and at its end, where they serve at this moment.
 pub data ChainCause (anchor : Anchor) (before after : Outside) (e : TufError) : Type 0 where
   root_refused : FirstCause anchor.crypto anchor.root e → ChainCause anchor before after e
   refresh_refused : (first last : InForce) → first_root_of anchor.crypto anchor.root ≡ Ok first
       → AreAuthorised anchor.crypto anchor.root last
       → RefreshCause (session_in anchor) (state_in first before) (state_in last after) e → ChainCause anchor before after e
-  search_refused : (last : InForce) → AreAuthorised anchor.crypto anchor.root last → Serve anchor.now last
-      → TargetCause (session_in anchor) trust_path last before.repo after.repo e → ChainCause anchor before after e
+  search_refused : (last end : InForce) → AreAuthorised anchor.crypto anchor.root last → AreAuthorised anchor.crypto anchor.root end
+      → Serve anchor.now end → TargetCause (session_in anchor) trust_path (state_in last before) (state_in end after) e
+      → ChainCause anchor before after e
   chain_wanting : e ≡ tuf.NoMemory → ChainCause anchor before after e
 
 -- ---- each refusal of the top call

@@ -76,15 +76,15 @@ pub data GivesChain (anchor : Anchor) (repo repo' : Watched Folders) (store stor
   refresh_refused : (set last : InForce) (begun : Watched Files) (e : TufError) → Begins anchor repo store begun set
       → Refreshed (session_in anchor) (state_of set repo begun) (state_of last repo' store') (Err e)
       → result ≡ Err e → GivesChain anchor repo repo' store store' result
-  target_refused : (set last : InForce) (mid : Watched Folders) (begun kept : Watched Files) (e : TufError)
+  target_refused : (set last end : InForce) (mid : Watched Folders) (begun kept : Watched Files) (e : TufError)
       → Begins anchor repo store begun set
       → Refreshed (session_in anchor) (state_of set repo begun) (state_of last mid kept) (Ok tt)
-      → Got (session_in anchor) trust_path (state_of last mid kept) (state_of last repo' store') (Err e) → result ≡ Err e
+      → Got (session_in anchor) trust_path (state_of last mid kept) (state_of end repo' store') (Err e) → result ≡ Err e
       → GivesChain anchor repo repo' store store' result
-  chain_given : (set last : InForce) (mid : Watched Folders) (begun kept : Watched Files) (chain : TrustChain)
+  chain_given : (set last end : InForce) (mid : Watched Folders) (begun kept : Watched Files) (chain : TrustChain)
       → Begins anchor repo store begun set
       → Refreshed (session_in anchor) (state_of set repo begun) (state_of last mid kept) (Ok tt)
-      → Got (session_in anchor) trust_path (state_of last mid kept) (state_of last repo' store') (Ok chain) → result ≡ Ok chain
+      → Got (session_in anchor) trust_path (state_of last mid kept) (state_of end repo' store') (Ok chain) → result ≡ Ok chain
       → GivesChain anchor repo repo' store store' result
 
 -- the chain is trusted from the given root at the moment, for the trust file
