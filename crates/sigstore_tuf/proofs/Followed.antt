@@ -43,35 +43,35 @@ further d ds name h = (h.0, by_first (bytes_eq d.name name))
 here : (d : DelegatedRole) (ds : List DelegatedRole) → is_top_level d.name ≡ false → IsNamed (d ∷ ds) d.name
 here d ds low = (low, ap (λ b. is_some (if b then Some d else find (λ (r : DelegatedRole). bytes_eq r.name d.name) ds)) ((bytes_eq-Decides d.name d.name).1 refl))
 
+abbrev Named : DelegatedRole → List DelegatedRole → Next → Type 0
+Named d later m = AllByRecursion (IsNamed (d ∷ later)) m.names
+
+abbrev Later : List ℕ → List DelegatedRole → Type 0
+Later path later = (m : Next) → matching path later ≡ Ok m → AllByRecursion (IsNamed later) m.names
+
 -- those that follow are named by the delegations
 pub matching_named : (path : List ℕ) (ds : List DelegatedRole) (next : Next) → matching path ds ≡ Ok next → AllByRecursion (IsNamed ds) next.names
 matching_named path [] next h = subst (λ (m : Next). AllByRecursion (IsNamed []) m.names) (ok_same nothing_next next h) tt
 matching_named path (d ∷ later) next h = by_top (is_top_level d.name) refl h (λ m k. matching_named path later m k)
   where
-    abbrev Named : Next → Type 0
-    Named m = AllByRecursion (IsNamed (d ∷ later)) m.names
-
-    abbrev Later : Type 0
-    Later = (m : Next) → matching path later ≡ Ok m → AllByRecursion (IsNamed later) m.names
-
-    rest : Later → (m : Next) → matching path later ≡ Ok m → Named m
+    rest : Later path later → (m : Next) → matching path later ≡ Ok m → Named d later m
     rest rec m k = each_map (IsNamed later) (IsNamed (d ∷ later)) m.names (further d later) (rec m k)
 
-    by_end : (b : Bool) → is_top_level d.name ≡ false → (if b then Ok (record { names = d.name ∷ []; ends = true }) else (matching path later >>= λ m. Ok (with_name d.name m))) ≡ Ok next → Later → Named next
-    by_end true low h rec = subst Named (ok_same _ next h) (here d later low, tt)
+    by_end : (b : Bool) → is_top_level d.name ≡ false → (if b then Ok (record { names = d.name ∷ []; ends = true }) else (matching path later >>= λ m. Ok (with_name d.name m))) ≡ Ok next → Later path later → Named d later next
+    by_end true low h rec = subst (Named d later) (ok_same _ next h) (here d later low, tt)
     by_end false low h rec =
         let m = step_ok (matching path later) _ next h in
-        subst Named (ok_same _ next m.2) (here d later low, rest rec m.0 m.1)
+        subst (Named d later) (ok_same _ next m.2) (here d later low, rest rec m.0 m.1)
 
     by_found : (b : Bool) → is_top_level d.name ≡ false
-        → (if b then (if d.terminating then Ok (record { names = d.name ∷ []; ends = true }) else (matching path later >>= λ m. Ok (with_name d.name m))) else matching path later) ≡ Ok next → Later → Named next
+        → (if b then (if d.terminating then Ok (record { names = d.name ∷ []; ends = true }) else (matching path later >>= λ m. Ok (with_name d.name m))) else matching path later) ≡ Ok next → Later path later → Named d later next
     by_found true low h rec = by_end d.terminating low h rec
     by_found false low h rec = rest rec next h
 
     by_top : (b : Bool) → is_top_level d.name ≡ b
         → (if b then matching path later
-            else (pattern_or (matches_path_of d path) >>= λ found. (if found then (if d.terminating then Ok (record { names = d.name ∷ []; ends = true }) else (matching path later >>= λ m. Ok (with_name d.name m))) else matching path later))) ≡ Ok next
-        → Later → Named next
+        else (pattern_or (matches_path_of d path) >>= λ found. (if found then (if d.terminating then Ok (record { names = d.name ∷ []; ends = true }) else (matching path later >>= λ m. Ok (with_name d.name m))) else matching path later))) ≡ Ok next
+        → Later path later → Named d later next
     by_top true top h rec = rest rec next h
     by_top false low h rec = let f = step_ok (pattern_or (matches_path_of d path)) _ next h in by_found f.0 low f.2 rec
 

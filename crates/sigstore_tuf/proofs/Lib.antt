@@ -10,6 +10,7 @@ pub mod Authorised
 pub mod RolePuts
 pub mod Stepping
 pub mod Growing
+pub mod Followed
 pub mod Holding
 pub mod Serving
 pub mod Searching
@@ -20,9 +21,12 @@ pub mod Carrying
 pub mod Causes
 pub mod TargetCauses
 pub mod Completing
+pub mod RoleNames
+pub mod ChainVisits
 pub mod Offered
 pub mod RootsCompleting
 pub mod RefreshCompleting
+pub mod SearchCompleting
 pub mod TargetCompleting
 pub mod OverStore
 pub mod Keeping

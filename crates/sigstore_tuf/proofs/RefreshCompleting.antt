@@ -45,7 +45,9 @@ use Rattle.sigstore_tuf.proofs.Serving.{Rest}
 use Rattle.sigstore_tuf.proofs.Updates.{judged_puts, top_inserted}
 use Rattle.sigstore_tuf.proofs.Completing.{quiet_first, quiet_second, step_to, equal, if_true, role_ok, Done, wanting, done, Answers, wants, answers, after, Took, adopts_there, TellsSo, AreHarmless, tells_same, took_so, loaded_is, found_wanted}
 use Rattle.sigstore_tuf.proofs.RootNames.{versioned_apart}
-use Rattle.sigstore_tuf.proofs.Offered.{Offered}
+use Rattle.sigstore_tuf.proofs.ChainVisits.{held_in}
+use Rattle.sigstore_tuf.proofs.Files.{inserted}
+use Rattle.sigstore_tuf.proofs.Offered.{AreOf, Offered}
 use Rattle.sigstore_tuf.proofs.RootsCompleting.{number_of, end_of_fewer, Seeded, seed_wants, seed_passed, seed_put, seeds_so, IsWarm, stays_warm, stays_elsewhere, OnRoots, walk_done, Somewhere}
 
 -- ---- tests
@@ -93,7 +95,20 @@ module _ (session : Session) (folders : Folders) (path : List ℕ) (chain : Trus
     pub time : IsNoneOr state.documents.timestamp (Some o.time)
     pub snap : IsNoneOr state.documents.snapshot (Some o.snap)
     pub top : IsNoneOr (top_targets state.documents) (Some o.top)
+    pub roles : AreOf chain.roles state.documents
     pub warm : TellsSo Warm state.store
+
+  -- where no role is in force
+  none_of : (set : InForce) → set.targets ≡ [] → AreOf chain.roles set
+  none_of set none name held at = let never : None ≡ Some held = sym (ap (at_name name) none) ∙ at in cc
+
+  -- and with the targets document
+  top_of : (set : InForce) → AreOf chain.roles set → AreOf chain.roles (with_targets set o.top)
+  top_of set roles name held at = by_name (inserted name (codes "targets") o.top held set.targets at)
+    where
+      by_name : ((name ≡ codes "targets") × (held ≡ o.top)) ⊎ (at_name name set.targets ≡ Some held) → held_in chain.roles name ≡ Some held
+      by_name (inl (is, same)) = ap (held_in chain.roles) is ∙ o.top_is ∙ ap Some (sym same)
+      by_name (inr there) = roles name held there
 
   behind_last : (state : State) → OnRoots session folders path chain o from whole whole_bound state o.root [] → Behind state
   behind_last state b = record {
@@ -103,6 +118,7 @@ module _ (session : Session) (folders : Folders) (path : List ℕ) (chain : Trus
     time = inl b.no_time;
     snap = inl b.no_snap;
     top = inl (ap (λ ts. at_name (codes "targets") ts) b.no_top);
+    roles = none_of state.documents b.no_top;
     warm = b.warm;
   }
 
@@ -114,6 +130,7 @@ module _ (session : Session) (folders : Folders) (path : List ℕ) (chain : Trus
     time = subst (λ (s : InForce). IsNoneOr s.timestamp (Some o.time)) (sym d) b.time;
     snap = subst (λ (s : InForce). IsNoneOr s.snapshot (Some o.snap)) (sym d) b.snap;
     top = subst (λ (s : InForce). IsNoneOr (top_targets s) (Some o.top)) (sym d) b.top;
+    roles = subst (AreOf chain.roles) (sym d) b.roles;
     warm = w;
   }
 
@@ -139,6 +156,7 @@ module _ (session : Session) (folders : Folders) (path : List ℕ) (chain : Trus
       time = inr (ap (λ (s : InForce). s.timestamp) d);
       snap = subst (λ (s : InForce). IsNoneOr s.snapshot (Some o.snap)) (sym d) b.snap;
       top = subst (λ (s : InForce). IsNoneOr (top_targets s) (Some o.top)) (sym d) b.top;
+      roles = subst (AreOf chain.roles) (sym d) b.roles;
       warm = w;
     };
     time = ap (λ (s : InForce). s.timestamp) d;
@@ -152,6 +170,7 @@ module _ (session : Session) (folders : Folders) (path : List ℕ) (chain : Trus
     time = subst (λ (s : InForce). IsNoneOr s.timestamp (Some o.time)) (sym d) b.time;
     snap = inr (ap (λ (s : InForce). s.snapshot) d);
     top = inl (ap (λ (s : InForce). top_targets s) d);
+    roles = none_of new.documents (ap (λ (s : InForce). s.targets) d);
     warm = w;
   }
 
@@ -163,12 +182,13 @@ module _ (session : Session) (folders : Folders) (path : List ℕ) (chain : Trus
     time = subst (λ (s : InForce). IsNoneOr s.timestamp (Some o.time)) (sym d) b.time;
     snap = subst (λ (s : InForce). IsNoneOr s.snapshot (Some o.snap)) (sym d) b.snap;
     top = inr (ap (λ (s : InForce). top_targets s) d ∙ top_inserted old.documents o.top);
+    roles = subst (AreOf chain.roles) (sym d) (top_of old.documents b.roles);
     warm = w;
   }
 
   -- ---- looks
 
-  check_done : (P : State → Type 0) (test : InForce → Result ⊤ Error) (old new : State) (result : Result ⊤ Error) → test old.documents ≡ Ok tt → P old → Checks test old new result → Done (P new) result
+  pub check_done : (P : State → Type 0) (test : InForce → Result ⊤ Error) (old new : State) (result : Result ⊤ Error) → test old.documents ≡ Ok tt → P old → Checks test old new result → Done (P new) result
   check_done P test old new (Ok x) t p c = done refl (subst P (sym c.same) p)
   check_done P test old new (Err e) t p c = by_want (is_want e) c.refused
     where
@@ -321,7 +341,7 @@ module _ (session : Session) (folders : Folders) (path : List ℕ) (chain : Trus
 
   -- ---- fetches
 
-  answered : {P : Type 0} (answer : Result Bool Error) (result : Result ⊤ Error) → result ≡ said answer → Answers P answer (Ok true) → Done P result
+  pub answered : {P : Type 0} (answer : Result Bool Error) (result : Result ⊤ Error) → result ≡ said answer → Answers P answer (Ok true) → Done P result
   answered answer result is (wants h) = wanting (is ∙ ap (λ (a : Result Bool Error). said a) h)
   answered answer result is (answers h p) = done (is ∙ ap (λ (a : Result Bool Error). said a) h) p
 

@@ -13,32 +13,32 @@ use Rattle.sigstore_tuf.specs.Order.{Visit, Tree, Gap, missing, Walk, Next, Step
 
 pub among_append : (xs : List (List ℕ)) (y name : List ℕ) → is_among xs name ≡ true → is_among (xs ++ y ∷ []) name ≡ true
 among_append [] y name h = cc
-among_append (x ∷ xs) y name h = by_first (bytes_eq x name) h
+among_append (x ∷ xs) y name h = by_first (bytes_eq x name) h (λ k. among_append xs y name k)
   where
-    by_first : (b : Bool) → (b || is_among xs name) ≡ true → (b || is_among (xs ++ y ∷ []) name) ≡ true
-    by_first true h = refl
-    by_first false h = among_append xs y name h
+    by_first : (b : Bool) → (b || is_among xs name) ≡ true → (is_among xs name ≡ true → is_among (xs ++ y ∷ []) name ≡ true) → (b || is_among (xs ++ y ∷ []) name) ≡ true
+    by_first true h rec = refl
+    by_first false h rec = rec h
 
 pub among_last : (xs : List (List ℕ)) (name : List ℕ) → is_among (xs ++ name ∷ []) name ≡ true
 among_last [] name = ap (λ b. b || false) ((bytes_eq-Decides name name).1 refl)
-among_last (x ∷ xs) name = by_first (bytes_eq x name)
+among_last (x ∷ xs) name = by_first (bytes_eq x name) (among_last xs name)
   where
-    by_first : (b : Bool) → (b || is_among (xs ++ name ∷ []) name) ≡ true
-    by_first true = refl
-    by_first false = among_last xs name
+    by_first : (b : Bool) → is_among (xs ++ name ∷ []) name ≡ true → (b || is_among (xs ++ name ∷ []) name) ≡ true
+    by_first true h = refl
+    by_first false h = h
 
 -- a name that was read now, or before
 pub among_either : {C : Type 0} (xs : List (List ℕ)) (y name : List ℕ) → is_among (xs ++ y ∷ []) name ≡ true → (is_among xs name ≡ true → C) → (name ≡ y → C) → C
-among_either [] y name h before now = by_test (bytes_eq y name) refl h
+among_either {C = C} [] y name h before now = by_test (bytes_eq y name) refl h
   where
     by_test : (b : Bool) → bytes_eq y name ≡ b → (b || false) ≡ true → C
     by_test true e h = now (sym ((bytes_eq-Decides y name).0 e))
     by_test false e h = cc
-among_either (x ∷ xs) y name h before now = by_test (bytes_eq x name) refl h
+among_either {C = C} (x ∷ xs) y name h before now = by_test (bytes_eq x name) refl h (λ k b. among_either xs y name k b now)
   where
-    by_test : (b : Bool) → bytes_eq x name ≡ b → (b || is_among (xs ++ y ∷ []) name) ≡ true → C
-    by_test true e h = before (ap (λ b. b || is_among xs name) e)
-    by_test false e h = among_either xs y name h (λ k. before (ap (λ b. b || is_among xs name) e ∙ k)) now
+    by_test : (b : Bool) → bytes_eq x name ≡ b → (b || is_among (xs ++ y ∷ []) name) ≡ true → (is_among (xs ++ y ∷ []) name ≡ true → (is_among xs name ≡ true → C) → C) → C
+    by_test true e h rec = before (ap (λ b. b || is_among xs name) e)
+    by_test false e h rec = rec h (λ k. before (ap (λ b. b || is_among xs name) e ∙ k))
 
 -- ---- the cases
 
@@ -57,24 +57,24 @@ module _ (tree : Tree) (v : Visit) (w : Walk) where
   Cases step = StepOf tree.snapshot tree.path (tree.documents v.name) v w step
 
   read_step : (doc : Targets) (step : Step) → is_over v w ≡ false → is_pinned tree.snapshot v.name ≡ true → tree.documents v.name ≡ Some doc → read_of tree doc (having_read v.name (visited v w)) ≡ Ok step → Cases step
-  read_step doc step open pinned there h = by_list (lists doc tree.path) refl h
+  read_step doc step allowed pinned there h = by_list (lists doc tree.path) refl h
     where
       by_list : (b : Bool) → lists doc tree.path ≡ b
           → (if b then Ok (still (ended (having_read v.name (visited v w)))) else matching tree.path (delegated_in doc.delegations) >>= λ next. Ok (record { walk = having_read v.name (visited v w); next = next })) ≡ Ok step → Cases step
-      by_list true e h = listing doc open pinned there e (sym (ok_same _ step h))
+      by_list true e h = listing doc allowed pinned there e (sym (ok_same _ step h))
       by_list false e h =
           let m = step_ok (matching tree.path (delegated_in doc.delegations)) _ step h in
-          followed doc m.0 open pinned there e m.1 (sym (ok_same _ step m.2))
+          followed doc m.0 allowed pinned there e m.1 (sym (ok_same _ step m.2))
 
   named_step : (o : Option Targets) → tree.documents v.name ≡ o → (step : Step) → is_over v w ≡ false → is_pinned tree.snapshot v.name ≡ true
       → (ok_or o (missing v.name) >>= λ doc. read_of tree doc (having_read v.name (visited v w))) ≡ Ok step → Cases step
-  named_step None at step open pinned h = cc
-  named_step (Some doc) at step open pinned h = read_step doc step open pinned at h
+  named_step None at step allowed pinned h = cc
+  named_step (Some doc) at step allowed pinned h = read_step doc step allowed pinned at h
 
   pinned_step : (b : Bool) → is_pinned tree.snapshot v.name ≡ b → (step : Step) → is_over v w ≡ false
       → (if b then read_named tree v.name (visited v w) else Ok (still (visited v w))) ≡ Ok step → Cases step
-  pinned_step true e step open h = named_step (tree.documents v.name) refl step open e h
-  pinned_step false e step open h = unpinned open e (sym (ok_same _ step h))
+  pinned_step true e step allowed h = named_step (tree.documents v.name) refl step allowed e h
+  pinned_step false e step allowed h = unpinned allowed e (sym (ok_same _ step h))
 
   open_step : (b : Bool) → is_over v w ≡ b → (step : Step)
       → (if b then Ok (still w) else (if is_pinned tree.snapshot v.name then read_named tree v.name (visited v w) else Ok (still (visited v w)))) ≡ Ok step → Cases step
@@ -86,24 +86,24 @@ module _ (tree : Tree) (v : Visit) (w : Walk) where
 
   pub cases_step : (step : Step) → Cases step → visit_of tree v w ≡ Ok step
   cases_step step (passed_over over is) = rw (over, is) refl
-  cases_step step (unpinned open pin is) = rw (open, pin, is) refl
-  cases_step step (listing doc open pin there l is) = rw (open, pin, there, l, is) refl
-  cases_step step (followed doc next open pin there l m is) = rw (open, pin, there, l, m, is) refl
+  cases_step step (unpinned allowed pin is) = rw (allowed, pin, is) refl
+  cases_step step (listing doc allowed pin there l is) = rw (allowed, pin, there, l, is) refl
+  cases_step step (followed doc next allowed pin there l m is) = rw (allowed, pin, there, l, m, is) refl
 
 -- ---- other documents
 
 -- what a step does to the names that were read
 pub step_reads : (snapshot : Snapshot) (path : List ℕ) (o : Option Targets) (v : Visit) (w : Walk) (step : Step) → StepOf snapshot path o v w step → (name : List ℕ) → is_among w.read name ≡ true → is_among step.walk.read name ≡ true
 step_reads snapshot path o v w step (passed_over over is) name h = ap (λ (s : Step). is_among s.walk.read name) is ∙ h
-step_reads snapshot path o v w step (unpinned open pin is) name h = ap (λ (s : Step). is_among s.walk.read name) is ∙ h
-step_reads snapshot path o v w step (listing doc open pin there l is) name h = ap (λ (s : Step). is_among s.walk.read name) is ∙ among_append w.read v.name name h
-step_reads snapshot path o v w step (followed doc next open pin there l m is) name h = ap (λ (s : Step). is_among s.walk.read name) is ∙ among_append w.read v.name name h
+step_reads snapshot path o v w step (unpinned allowed pin is) name h = ap (λ (s : Step). is_among s.walk.read name) is ∙ h
+step_reads snapshot path o v w step (listing doc allowed pin there l is) name h = ap (λ (s : Step). is_among s.walk.read name) is ∙ among_append w.read v.name name h
+step_reads snapshot path o v w step (followed doc next allowed pin there l m is) name h = ap (λ (s : Step). is_among s.walk.read name) is ∙ among_append w.read v.name name h
 
 -- a document of another map that agrees on the name, where it was read
 pub swap_step : (snapshot : Snapshot) (path : List ℕ) (o o' : Option Targets) (v : Visit) (w : Walk) (step : Step) → StepOf snapshot path o v w step → (is_among step.walk.read v.name ≡ true → o' ≡ o) → StepOf snapshot path o' v w step
 swap_step snapshot path o o' v w step (passed_over over is) same = passed_over over is
-swap_step snapshot path o o' v w step (unpinned open pin is) same = unpinned open pin is
-swap_step snapshot path o o' v w step (listing doc open pin there l is) same =
-    listing doc open pin (same (ap (λ (s : Step). is_among s.walk.read v.name) is ∙ among_last w.read v.name) ∙ there) l is
-swap_step snapshot path o o' v w step (followed doc next open pin there l m is) same =
-    followed doc next open pin (same (ap (λ (s : Step). is_among s.walk.read v.name) is ∙ among_last w.read v.name) ∙ there) l m is
+swap_step snapshot path o o' v w step (unpinned allowed pin is) same = unpinned allowed pin is
+swap_step snapshot path o o' v w step (listing doc allowed pin there l is) same =
+    listing doc allowed pin (same (ap (λ (s : Step). is_among s.walk.read v.name) is ∙ among_last w.read v.name) ∙ there) l is
+swap_step snapshot path o o' v w step (followed doc next allowed pin there l m is) same =
+    followed doc next allowed pin (same (ap (λ (s : Step). is_among s.walk.read v.name) is ∙ among_last w.read v.name) ∙ there) l m is

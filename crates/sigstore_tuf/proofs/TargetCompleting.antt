@@ -1,54 +1,55 @@
 -- A search over the documents of an offered chain gives the chain, unless memory is wanting.
-use Rattle.std.proofs.Common.{◌≡◌, ◌≢◌, ◌⊎◌, inl, inr, ℕ, suc, ◌+◌, ◌^◌, ◌≤◌, ◌<◌, ◌==◌, nat_lt, List, [], ◌∷◌, length, Bool, false, if◌then◌else◌, Option, Some, None, Result, Ok, Err, codes, refl, sym, ap, ◌∙◌, subst, arith, le_refl}
-use Rattle.std.specs.Prelude.{⊤, ok_or}
+use Rattle.std.proofs.Common.{◌≡◌, ◌≢◌, ◌⊎◌, inl, inr, ℕ, ◌+◌, ◌^◌, ◌≤◌, ◌<◌, nat_lt, List, [], ◌∷◌, map, length, Bool, true, false, if◌then◌else◌, Option, Some, None, Result, Ok, Err, codes, refl, sym, ap, ◌∙◌, subst, arith, le_refl}
+use Rattle.std.specs.Prelude.{⊤, IfSome, is_some, ok_or, option_map, option_and_then}
+use Rattle.std.specs.List.{AllByRecursion, last_or}
 use Rattle.std.proofs.lemmas.Bool.Decides.{nat_tests}
 use Rattle.jiff_core.specs.declared.timestamp.Timestamp as jiff
 use Rattle.foundation.specs.Watched.{Watched, Since}
 use Rattle.foundation.specs.Results.{ok_same, err_same, some_same, no_both}
+use Rattle.sigstore_types_parts.specs.Entries.{at_name}
 use Rattle.sigstore_tuf_parts.specs.declared.error.Error.{Error}
 use Rattle.sigstore_tuf_parts.specs.declared.error.Error.TheVariants as tuf
 use Rattle.sigstore_tuf_parts.specs.declared.error.Mismatch.TheVariants as mismatch
 use Rattle.sigstore_tuf_parts.specs.declared.root.Root as declared
 use Rattle.sigstore_tuf_parts.specs.declared.targets.TargetFile.{TargetFile}
-use Rattle.sigstore_tuf_parts.specs.declared.timestamp.MetaFile.{MetaFile}
+use Rattle.sigstore_tuf_parts.specs.declared.targets.Targets.{Targets}
 use Rattle.sigstore_tuf_parts.specs.Crypto.{Crypto}
 use Rattle.sigstore_tuf_parts.specs.Document.{Document, content_in}
-use Rattle.sigstore_tuf_parts.specs.Integrity.{fresh_of}
 use Rattle.sigstore_tuf_parts.specs.Names.{timestamp_name, snapshot_name, targets_name}
-use Rattle.sigstore_tuf_parts.specs.Pinned.{Fresh}
 use Rattle.sigstore_tuf_parts.specs.RootRoles.{root_document, meets_role_of}
 use Rattle.sigstore_tuf_parts.proofs.ReadExact.{version_bound}
-use Rattle.sigstore_tuf_parts.proofs.IntegrityLaws.{integrity_exactly, fresh_exactly}
+use Rattle.sigstore_tuf_parts.proofs.IntegrityLaws.{integrity_exactly}
+use Rattle.sigstore_tuf.specs.declared.chain.RoleDoc.{RoleDoc}
 use Rattle.sigstore_tuf.specs.declared.chain.TrustChain.{TrustChain}
 use Rattle.sigstore_tuf.specs.declared.config.UpdaterConfig.{UpdaterConfig}
+use Rattle.sigstore_tuf.specs.declared.documents.Held.{Held}
 use Rattle.sigstore_tuf.specs.declared.documents.InForce.{InForce}
-use Rattle.sigstore_tuf.specs.Documents.{content_of, snapshot_pin, targets_pin}
+use Rattle.sigstore_tuf.specs.Documents.{content_of}
 use Rattle.sigstore_tuf.specs.Repository.{Quiet, Folders, Files, target_files}
 use Rattle.sigstore_tuf.specs.Store.{with_file}
 use Rattle.sigstore_tuf.specs.Names.{is_consistent, target_name_of, kept_target}
 use Rattle.sigstore_tuf.specs.State.{Session, State, session_of, state_of}
-use Rattle.sigstore_tuf.specs.Adopt.{top_targets, FetchesNamed, LoadsNamed}
+use Rattle.sigstore_tuf.specs.Adopt.{FetchesNamed, LoadsNamed}
 use Rattle.sigstore_tuf.specs.Update.{first_root_of}
 use Rattle.sigstore_tuf.specs.Run.{Attaches, refresh_steps, RunsSteps}
-use Rattle.sigstore_tuf.specs.Target.{fresh_timestamp_of, fresh_snapshot_of, unexpired_of, pinned_version_of, pinned_by_of, all_pinned_of, search_serves_of, entry_in, listed_in, entry_of, info_of, target_of, within_of, if_pinned, recalled_of, file_of, TakesFile, differs, unsaved, given, fetch_name_of, Downloads, unnamed, unfetched, absent, fetched, Obtains, unrecalled, recalled, downloaded, visit_of, chain_of, GetsTarget, unlisted, unobtained, unchained, found}
-use Rattle.sigstore_tuf.specs.Offer.{RootsEnd, IsNoneOr, later_in, targets_bytes, AreKeptAfter, Offers, Warm}
-use Rattle.sigstore_tuf.proofs.Carrying.{since_same, fetched_since, loaded_same}
+use Rattle.sigstore_tuf.specs.Target.{within_of, if_pinned, recalled_of, file_of, TakesFile, differs, unsaved, given, fetch_name_of, Downloads, unnamed, unfetched, absent, fetched, Obtains, unrecalled, recalled, downloaded}
+use Rattle.sigstore_tuf.specs.Order.{Visit, is_pinned}
+use Rattle.sigstore_tuf.specs.Search.{is_held, listed_by, entry_after}
+use Rattle.sigstore_tuf.specs.Chain.{role_doc_in, chain_of, found_of, GivesChain, unlisted, unobtained, unchained, found, GetsTarget, unfound, visited}
+use Rattle.sigstore_tuf.specs.Offer.{RootsEnd, IsNoneOr, later_in, AreKeptAfter, Offers, Warm}
+use Rattle.sigstore_tuf.specs.Trusted.{visit_in, documents_in, IsTrustedVisit}
+use Rattle.sigstore_tuf.proofs.Carrying.{since_same, since_joins, fetched_since, loaded_same}
 use Rattle.sigstore_tuf.proofs.Causes.{is_want}
 use Rattle.sigstore_tuf.proofs.Steps.{load_wants, save_wants}
-use Rattle.sigstore_tuf.proofs.Completing.{step_to, equal, if_true, role_ok, Done, wanting, done, Given, fetch_given, of_given, of_ungiven, TellsSo, tells_same, saved_so, loaded_is, found_wanted}
-use Rattle.sigstore_tuf.proofs.Offered.{Begun, begun, Offered, OfferedAs, offered_of}
+use Rattle.sigstore_tuf.proofs.Completing.{quiet_first, quiet_second, step_to, role_ok, Done, wanting, done, Given, fetch_given, of_given, of_ungiven, TellsSo, tells_same, saved_so, loaded_is, found_wanted}
+use Rattle.sigstore_tuf.proofs.ChainVisits.{all_mapped, held_in, content_held, held_some}
+use Rattle.sigstore_tuf.proofs.Offered.{AreOf, Begun, begun, Offered, OfferedAs, offered_of}
 use Rattle.sigstore_tuf.proofs.RootsCompleting.{number_of, low_suits, way_bound, IsWarm, stays_warm, stays_elsewhere, OnRoots, Somewhere, attach_done}
 use Rattle.sigstore_tuf.proofs.RefreshCompleting.{Topped, refresh_done}
+use Rattle.sigstore_tuf.proofs.SearchCompleting.{finds_since, bytes_at, AreHeld, held_at, FoundSo, found_wanting, found_all, Ended, finds_done}
 
 not_lower : (a b : ℕ) → b ≤ a → nat_lt a b ≡ false
 not_lower a b h = grind (arith, nat_tests)
-
-not_zero : (n : ℕ) → (suc n == 0) ≡ false
-not_zero n = grind (arith, nat_tests)
-
-version_pinned : (pin : Option MetaFile) (p : MetaFile) (version : ℕ) → pin ≡ Some p → version ≡ p.version → pinned_version_of pin version ≡ Ok tt
-version_pinned pin p version at same =
-    ap (λ pin. pinned_version_of pin version) at ∙ if_true (p.version == version) (tuf.IntegrityMismatch mismatch.Version) (equal p.version version (sym same))
 
 -- the file that a load gave, where it is the entry's
 pub recalled_some : (entry : TargetFile) (loaded : Result (Option (List ℕ)) Error) (bytes : List ℕ) → Ok (Some bytes) ≡ recalled_of entry loaded → loaded ≡ Ok (Some bytes)
@@ -78,11 +79,20 @@ obtains_since consistent config entry path repo repo' store store' result (unrec
 obtains_since consistent config entry path repo repo' store store' result (recalled bytes r s is) = since_same repo repo' s
 obtains_since consistent config entry path repo repo' store store' result (downloaded mid r d) = downloads_since consistent config entry path repo repo' mid store' result d
 
-pub gets_since : (session : Session) (path : List ℕ) (set : InForce) (repo repo' : Watched Folders) (store store' : Watched Files) (result : Result TrustChain Error) → GetsTarget session path set repo repo' store store' result → Since repo repo'
-gets_since session path set repo repo' store store' result (unlisted e h r s is) = since_same repo repo' r
-gets_since session path set repo repo' store store' result (unobtained entry e t h is) = obtains_since (is_consistent set) session.config entry path repo repo' store store' (Err e) h
-gets_since session path set repo repo' store store' result (unchained entry file e t h c is) = obtains_since (is_consistent set) session.config entry path repo repo' store store' (Ok file) h
-gets_since session path set repo repo' store store' result (found entry file x t h c is) = obtains_since (is_consistent set) session.config entry path repo repo' store store' (Ok file) h
+chain_since : (config : UpdaterConfig) (path : List ℕ) (visits : List Visit) (old new : State) (result : Result TrustChain Error) → GivesChain config path visits old new result → Since old.repo new.repo
+chain_since config path visits old new result (unlisted e h same is) = since_same old.repo new.repo (ap (λ (s : State). s.repo) same)
+chain_since config path visits old new result (unobtained entry e at h d is) = obtains_since (is_consistent old.documents) config entry path old.repo new.repo old.store new.store (Err e) h
+chain_since config path visits old new result (unchained entry file e at h d c is) = obtains_since (is_consistent old.documents) config entry path old.repo new.repo old.store new.store (Ok file) h
+chain_since config path visits old new result (found entry file x at h d c is) = obtains_since (is_consistent old.documents) config entry path old.repo new.repo old.store new.store (Ok file) h
+
+pub gets_since : (session : Session) (path : List ℕ) (old new : State) (result : Result TrustChain Error) → GetsTarget session path old new result → Since old.repo new.repo
+gets_since session path old new result (unfound e f is) = finds_since session path old new (Err e) f
+gets_since session path old new result (visited visits mid f g) =
+    since_joins old.repo mid.repo new.repo (finds_since session path old mid (Ok visits) f) (chain_since session.config path visits mid new result g)
+
+last_mapped : {A B : Type 0} (f : A → B) (o : Option A) (xs : List A) → last_or (option_map f o) (map f xs) ≡ option_map f (last_or o xs)
+last_mapped f o [] = refl
+last_mapped f o (x ∷ xs) = last_mapped f (Some x) xs
 
 -- want of memory, or this chain, and P
 pub data GivenChain (P : Type 0) (chain : TrustChain) (result : Result TrustChain Error) : Type 0 where
@@ -93,43 +103,73 @@ module _ (session : Session) (folders : Folders) (path : List ℕ) (chain : Trus
   abbrev Ready : State → Type 0
   Ready state = Topped session folders path chain o from whole whole_bound state
 
-  -- ---- the entry
+  abbrev Finished : State → Type 0
+  Finished state = Ended session folders path chain o from whole whole_bound state
 
-  fresh_ok : (role : List ℕ) (expires : jiff.Timestamp) → Fresh expires session.now → fresh_of role expires session.now ≡ Ok tt
-  fresh_ok role expires f = (fresh_exactly role expires session.now).1 f
+  -- ---- the roles
 
-  unexpired : (set : InForce) → set.root ≡ o.root → set.timestamp ≡ Some o.time → set.snapshot ≡ Some o.snap → unexpired_of set session.now ≡ Ok tt
-  unfolding unexpired_of
-  unexpired set root time snap =
-      step_to (fresh_of (codes "root") (content_in {T = declared.Root} set.root).expires session.now) _ tt
-      (fresh_ok (codes "root") (content_in {T = declared.Root} set.root).expires (subst (λ (r : Document declared.Root). Fresh (content_in {T = declared.Root} r).expires session.now) (sym root) o.root_fresh))
-      ∙ step_to (fresh_timestamp_of set.timestamp session.now) _ tt (ap (λ t. fresh_timestamp_of t session.now) time ∙ fresh_ok (codes "timestamp") (content_of o.time).expires o.time_fresh)
-      ∙ ap (λ s. fresh_snapshot_of s session.now) snap ∙ fresh_ok (codes "snapshot") (content_of o.snap).expires o.snap_fresh
+  -- whose document is there is pinned
+  pinned_so : (name : List ℕ) (held : Held Targets) → held_in chain.roles name ≡ Some held → is_pinned (content_of o.snap) name ≡ true
+  pinned_so name held at = held_some name (λ name. is_pinned (content_of o.snap) name ≡ true) chain.roles held (all_mapped _ _ chain.roles (λ r t. by_bytes r r.bytes t) o.roles) at
+    where
+      by_bytes : (r : RoleDoc) (b : Option (List ℕ)) → IsTrustedVisit session.crypto (content_in {T = declared.Root} o.root) (content_of o.snap) (documents_in chain.roles) session.now (visit_in r) b
+          → IfSome b (λ b. is_pinned (content_of o.snap) r.name ≡ true)
+      by_bytes r None t = tt
+      by_bytes r (Some b) t = ap is_some t.pin_is
 
-  pinned : pinned_by_of (content_of o.time) (content_of o.snap) (content_of o.top) session.now ≡ Ok tt
-  unfolding pinned_by_of
-  pinned =
-      step_to (fresh_of (codes "targets") (content_of o.top).expires session.now) _ tt (fresh_ok (codes "targets") (content_of o.top).expires o.top_fresh)
-      ∙ step_to (pinned_version_of (snapshot_pin (content_of o.time)) (content_of o.snap).version) _ tt (version_pinned (snapshot_pin (content_of o.time)) o.pin (content_of o.snap).version o.pin_is o.pinned.version_is)
-      ∙ version_pinned (targets_pin (content_of o.snap)) o.top_pin (content_of o.top).version o.top_pin_is o.top_pinned.version_is
+  module _ (set : InForce) (are : AreOf chain.roles set) (held : AreHeld set chain.roles) where
+    -- a role's document in force is that of the chain, or neither is there
+    bytes_so : (r : RoleDoc) → IfSome r.bytes (λ b. bytes_at set r.name ≡ Some b) → IsTrustedVisit session.crypto (content_in {T = declared.Root} o.root) (content_of o.snap) (documents_in chain.roles) session.now (visit_in r) r.bytes
+        → bytes_at set r.name ≡ r.bytes
+    bytes_so r h t = by_bytes r.bytes h t
+      where
+        by_held : (x : Option (Held Targets)) → at_name r.name set.targets ≡ x → is_pinned (content_of o.snap) r.name ≡ false → option_map (λ (held : Held Targets). held.bytes) x ≡ None
+        by_held None at free = refl
+        by_held (Some x) at free = let never : true ≡ false = sym (pinned_so r.name x (are r.name x at)) ∙ free in cc
 
-  all_pinned : (set : InForce) → set.timestamp ≡ Some o.time → set.snapshot ≡ Some o.snap → top_targets set ≡ Some o.top → all_pinned_of set.timestamp set.snapshot (top_targets set) session.now ≡ Ok tt
-  all_pinned set time snap top =
-      ap (λ t. all_pinned_of t set.snapshot (top_targets set) session.now) time ∙ ap (λ s. all_pinned_of (Some o.time) s (top_targets set) session.now) snap ∙ ap (λ g. all_pinned_of (Some o.time) (Some o.snap) g session.now) top ∙ pinned
+        by_bytes : (b : Option (List ℕ)) → IfSome b (λ b. bytes_at set r.name ≡ Some b)
+            → IsTrustedVisit session.crypto (content_in {T = declared.Root} o.root) (content_of o.snap) (documents_in chain.roles) session.now (visit_in r) b → bytes_at set r.name ≡ b
+        by_bytes None h t = by_held (at_name r.name set.targets) refl t
+        by_bytes (Some b) h t = h
 
-  serves : (set : InForce) → set.root ≡ o.root → set.timestamp ≡ Some o.time → set.snapshot ≡ Some o.snap → top_targets set ≡ Some o.top → search_serves_of set session.now ≡ Ok tt
-  unfolding search_serves_of
-  serves set root time snap top = step_to (unexpired_of set session.now) _ tt (unexpired set root time snap) ∙ all_pinned set time snap top
+    role_is : (r : RoleDoc) → bytes_at set r.name ≡ r.bytes → role_doc_in set (visit_in r) ≡ r
+    role_is r e = λ i. record { name = r.name; delegator = r.delegator; bytes = e i }
 
-  entry_is : (set : InForce) → top_targets set ≡ Some o.top → entry_of set session.config path ≡ Ok (Some chain.target)
-  entry_is set top =
-      ap (λ b. if b then Ok None else entry_in (top_targets set) (listed_in path (top_targets set))) (ap (λ n. n == 0) o.max_is ∙ not_zero o.visits)
-      ∙ ap (λ g. entry_in g (listed_in path g)) top ∙ ap (λ e. entry_in (Some o.top) e) o.listed
+    roles_are : (rs : List RoleDoc) → AreHeld set rs
+        → AllByRecursion (λ (r : RoleDoc). IsTrustedVisit session.crypto (content_in {T = declared.Root} o.root) (content_of o.snap) (documents_in chain.roles) session.now (visit_in r) r.bytes) rs → map (role_doc_in set) (map visit_in rs) ≡ rs
+    roles_are [] h t = refl
+    roles_are (r ∷ rs) h t = ap (λ x. x ∷ map (role_doc_in set) (map visit_in rs)) (role_is r (bytes_so r h.0 t.0)) ∙ ap (λ xs. r ∷ xs) (roles_are rs h.1 t.1)
 
-  target_is : (set : InForce) → set.root ≡ o.root → set.timestamp ≡ Some o.time → set.snapshot ≡ Some o.snap → top_targets set ≡ Some o.top → target_of set session.config path session.now ≡ Ok chain.target
-  unfolding target_of info_of
-  target_is set root time snap top =
-      step_to (info_of set session.config path session.now) _ (Some chain.target) (step_to (search_serves_of set session.now) _ tt (serves set root time snap top) ∙ entry_is set top)
+    -- ---- the entry
+
+    role_held : (name : List ℕ) (x : Held Targets) → held_in chain.roles name ≡ Some x → at_name name set.targets ≡ Some x
+    role_held name x at = by_held (held_at set name (held_some name (λ name. is_held set name ≡ true) chain.roles x (all_mapped _ _ chain.roles (λ r h. by_bytes r.name r.bytes h) held) at))
+      where
+        by_some : (y : Option (Held Targets)) (b : List ℕ) → option_map (λ (held : Held Targets). held.bytes) y ≡ Some b → is_some y ≡ true
+        by_some None b e = cc
+        by_some (Some y) b e = refl
+
+        by_bytes : (name : List ℕ) (b : Option (List ℕ)) → IfSome b (λ b. bytes_at set name ≡ Some b) → IfSome b (λ b. is_held set name ≡ true)
+        by_bytes name None h = tt
+        by_bytes name (Some b) h = by_some (at_name name set.targets) b h
+
+        by_held : (y : Held Targets) × (at_name name set.targets ≡ Some y) → at_name name set.targets ≡ Some x
+        by_held (y, there) = there ∙ sym (are name y there) ∙ at
+
+    listed_so : (name : List ℕ) → option_and_then (λ (doc : Targets). at_name path doc.targets) (documents_in chain.roles name) ≡ Some chain.target → listed_by set path name ≡ Some chain.target
+    listed_so name h = by_held (held_in chain.roles name) refl (sym (ap (option_and_then (λ (doc : Targets). at_name path doc.targets)) (content_held name chain.roles)) ∙ h)
+      where
+        by_held : (x : Option (Held Targets)) → held_in chain.roles name ≡ x → option_and_then (λ (doc : Targets). at_name path doc.targets) (option_map content_of x) ≡ Some chain.target → listed_by set path name ≡ Some chain.target
+        by_held None at e = cc
+        by_held (Some x) at e = ap (option_and_then (λ (held : Held Targets). at_name path (content_of held).targets)) (role_held name x at) ∙ e
+
+    entry_is : entry_after set path (map visit_in chain.roles) ≡ Some chain.target
+    entry_is = ap (option_and_then (λ (v : Visit). listed_by set path v.name)) (last_mapped visit_in None chain.roles) ∙ by_last (last_or None chain.roles) o.listed
+      where
+        by_last : (r : Option RoleDoc) → option_and_then (λ (doc : Targets). at_name path doc.targets) (option_and_then (λ (r : RoleDoc). documents_in chain.roles r.name) r) ≡ Some chain.target
+            → option_and_then (λ (v : Visit). listed_by set path v.name) (option_map visit_in r) ≡ Some chain.target
+        by_last None h = cc
+        by_last (Some r) h = listed_so r.name h
 
   -- ---- the file
 
@@ -197,63 +237,76 @@ module _ (session : Session) (folders : Folders) (path : List ℕ) (chain : Trus
 
   -- ---- the chain
 
-  chain_is : (set : InForce) (file : List ℕ) → set.roots ≡ chain.roots → set.timestamp ≡ Some o.time → set.snapshot ≡ Some o.snap → top_targets set ≡ Some o.top → file ≡ chain.file → chain_of set chain.target file ≡ Ok chain
-  chain_is set file roots time snap top same = made ∙ ap Ok same_chain
+  chain_is : (set : InForce) (entry : TargetFile) (file : List ℕ) → set.roots ≡ chain.roots → set.timestamp ≡ Some o.time → set.snapshot ≡ Some o.snap → map (role_doc_in set) (map visit_in chain.roles) ≡ chain.roles → entry ≡ chain.target → file ≡ chain.file
+      → chain_of set (map visit_in chain.roles) entry file ≡ Ok chain
+  chain_is set entry file roots time snap roles listed same = made ∙ ap Ok same_chain
     where
-      made : chain_of set chain.target file ≡ Ok (record { roots = set.roots; timestamp = o.time.bytes; snapshot = o.snap.bytes; roles = visit_of o.top ∷ []; target = chain.target; file = file })
-      made = rw (time, snap, top)
+      made : chain_of set (map visit_in chain.roles) entry file
+          ≡ Ok (record { roots = set.roots; timestamp = o.time.bytes; snapshot = o.snap.bytes; roles = map (role_doc_in set) (map visit_in chain.roles); target = entry; file = file })
+      made = rw (time, snap)
 
-      same_chain : ◌≡◌ {A = TrustChain} (record { roots = set.roots; timestamp = o.time.bytes; snapshot = o.snap.bytes; roles = visit_of o.top ∷ []; target = chain.target; file = file }) chain
-      same_chain = λ i. record { roots = roots i; timestamp = o.time_is i; snapshot = o.snap_is i; roles = o.roles_are i; target = chain.target; file = same i }
+      same_chain : ◌≡◌ {A = TrustChain} (record { roots = set.roots; timestamp = o.time.bytes; snapshot = o.snap.bytes; roles = map (role_doc_in set) (map visit_in chain.roles); target = entry; file = file }) chain
+      same_chain = λ i. record { roots = roots i; timestamp = o.time_is i; snapshot = o.snap_is i; roles = roles i; target = listed i; file = same i }
 
-  pub got_done : (old : State) (repo' : Watched Folders) (store' : Watched Files) (result : Result TrustChain Error) → Ready old → Quiet old.repo.faults repo'.faults → GetsTarget session path old.documents old.repo repo' old.store store' result
-      → GivenChain (Tells store') chain result
-  got_done old repo' store' result b quiet g = by_case g
+  -- the file of the entry that the last document lists, and the chain
+  module _ (old new : State) (result : Result TrustChain Error) (ended : Finished old) (quiet : Quiet old.repo.faults new.repo.faults) where
+    listed : entry_after old.documents path (map visit_in chain.roles) ≡ Some chain.target
+    listed = entry_is old.documents ended.ready.snapped.timed.behind.roles ended.held
+
+    is_entry : (entry : TargetFile) → entry_after old.documents path (map visit_in chain.roles) ≡ Some entry → entry ≡ chain.target
+    is_entry entry at = some_same entry chain.target (sym at ∙ listed)
+
+    obtained : (entry : TargetFile) (result : Result (List ℕ) Error) → entry_after old.documents path (map visit_in chain.roles) ≡ Some entry → Obtains (is_consistent old.documents) session.config entry path old.repo new.repo old.store new.store result → GivenFile new.store result
+    obtained entry result at h =
+        obtain_done old.repo new.repo ended.ready.snapped.timed.behind.told quiet (is_consistent old.documents) (ap (λ (r : Document declared.Root). (content_in {T = declared.Root} r).consistent_snapshot) ended.ready.snapped.timed.behind.root) old.store new.store result
+        ended.ready.snapped.timed.behind.warm (subst (λ e. Obtains (is_consistent old.documents) session.config e path old.repo new.repo old.store new.store result) (is_entry entry at) h)
+
+    chained : (entry : TargetFile) (file : List ℕ) → entry_after old.documents path (map visit_in chain.roles) ≡ Some entry → GivenFile new.store (Ok file) → chain_of old.documents (map visit_in chain.roles) entry file ≡ Ok chain
+    chained entry file at (file_wanting h) = no_both file tuf.NoMemory h
+    chained entry file at (file_given h w) =
+        chain_is old.documents entry file ended.ready.snapped.timed.behind.roots ended.ready.snapped.timed.time ended.ready.snapped.snap
+        (roles_are old.documents ended.ready.snapped.timed.behind.roles ended.held chain.roles ended.held o.roles) (is_entry entry at) (ok_same file chain.file h)
+
+    tells : (file : List ℕ) → GivenFile new.store (Ok file) → Tells new.store
+    tells file (file_wanting h) = no_both file tuf.NoMemory h
+    tells file (file_given h w) = w
+
+    by_want : (e : Error) → result ≡ Err e → (e ≡ tuf.NoMemory) ⊎ (e ≢ tuf.NoMemory) → (e ≢ tuf.NoMemory → ⊥) → GivenChain (Tells new.store) chain result
+    by_want e is (inl h) never = chain_wanting (is ∙ ap Err h)
+    by_want e is (inr h) never = absurd (never h)
+
+    unobtained_so : (e : Error) → result ≡ Err e → GivenFile new.store (Err e) → GivenChain (Tells new.store) chain result
+    unobtained_so e is (file_wanting h) = chain_wanting (is ∙ ap Err (err_same e tuf.NoMemory h))
+    unobtained_so e is (file_given h w) = no_both chain.file e (sym h)
+
+    chain_done : GivesChain session.config path (map visit_in chain.roles) old new result → GivenChain (Tells new.store) chain result
+    chain_done (unlisted e h same is) = by_want e is (is_want e) (λ other. no_both chain.target e (sym (ap (found_of path) listed) ∙ h other))
+    chain_done (unobtained entry e at h d is) = unobtained_so e is (obtained entry (Err e) at h)
+    chain_done (unchained entry file e at h d c is) = by_want e is (is_want e) (λ other. no_both chain e (sym (chained entry file at (obtained entry (Ok file) at h)) ∙ c other))
+    chain_done (found entry file x at h d c is) =
+        let file_is = obtained entry (Ok file) at h in
+        chain_given (is ∙ sym c ∙ chained entry file at file_is) (tells file file_is)
+
+  pub got_done : (old new : State) (result : Result TrustChain Error) → Ready old → Quiet old.repo.faults new.repo.faults → GetsTarget session path old new result → GivenChain (Tells new.store) chain result
+  got_done old new result b quiet (unfound e f is) = by_found (finds_done session folders path chain o from whole whole_bound old new (Err e) b quiet f)
     where
-      set : InForce
-      set = old.documents
+      by_found : FoundSo (Finished new) (map visit_in chain.roles) (Err e) → GivenChain (Tells new.store) chain result
+      by_found (found_wanting h) = chain_wanting (is ∙ ap Err (err_same e tuf.NoMemory h))
+      by_found (found_all h t) = no_both (map visit_in chain.roles) e (sym h)
+  got_done old new result b quiet (visited visits mid f g) =
+      by_found (finds_done session folders path chain o from whole whole_bound old mid (Ok visits) b (quiet_first old.repo.faults mid.repo.faults new.repo.faults first.later second.later quiet) f)
+    where
+      first : Since old.repo mid.repo
+      first = finds_since session path old mid (Ok visits) f
 
-      root : old.documents.root ≡ o.root
-      root = b.snapped.timed.behind.root
+      second : Since mid.repo new.repo
+      second = chain_since session.config path visits mid new result g
 
-      time : old.documents.timestamp ≡ Some o.time
-      time = b.snapped.timed.time
-
-      snap : old.documents.snapshot ≡ Some o.snap
-      snap = b.snapped.snap
-
-      listed : target_of old.documents session.config path session.now ≡ Ok chain.target
-      listed = target_is old.documents root time snap b.top
-
-      obtained : (entry : TargetFile) (result : Result (List ℕ) Error) → target_of old.documents session.config path session.now ≡ Ok entry → Obtains (is_consistent old.documents) session.config entry path old.repo repo' old.store store' result → GivenFile store' result
-      obtained entry result t h =
-          obtain_done old.repo repo' b.snapped.timed.behind.told quiet (is_consistent old.documents) (ap (λ (r : Document declared.Root). (content_in {T = declared.Root} r).consistent_snapshot) root) old.store store' result b.snapped.timed.behind.warm
-          (subst (λ e. Obtains (is_consistent old.documents) session.config e path old.repo repo' old.store store' result) (ok_same entry chain.target (sym t ∙ listed)) h)
-
-      chained : (entry : TargetFile) (file : List ℕ) → target_of old.documents session.config path session.now ≡ Ok entry → GivenFile store' (Ok file) → chain_of old.documents entry file ≡ Ok chain
-      chained entry file t (file_wanting h) = no_both file tuf.NoMemory h
-      chained entry file t (file_given h w) =
-          ap (λ e. chain_of old.documents e file) (ok_same entry chain.target (sym t ∙ listed)) ∙ chain_is old.documents file b.snapped.timed.behind.roots time snap b.top (ok_same file chain.file h)
-
-      tells : (file : List ℕ) → GivenFile store' (Ok file) → Tells store'
-      tells file (file_wanting h) = no_both file tuf.NoMemory h
-      tells file (file_given h w) = w
-
-      by_want : (e : Error) → result ≡ Err e → (e ≡ tuf.NoMemory) ⊎ (e ≢ tuf.NoMemory) → (e ≢ tuf.NoMemory → ⊥) → GivenChain (Tells store') chain result
-      by_want e is (inl h) never = chain_wanting (is ∙ ap Err h)
-      by_want e is (inr h) never = absurd (never h)
-
-      unobtained_so : (e : Error) → result ≡ Err e → GivenFile store' (Err e) → GivenChain (Tells store') chain result
-      unobtained_so e is (file_wanting h) = chain_wanting (is ∙ ap Err (err_same e tuf.NoMemory h))
-      unobtained_so e is (file_given h w) = no_both chain.file e (sym h)
-
-      by_case : GetsTarget session path old.documents old.repo repo' old.store store' result → GivenChain (Tells store') chain result
-      by_case (unlisted e h r s is) = by_want e is (is_want e) (λ other. no_both chain.target e (sym listed ∙ h other))
-      by_case (unobtained entry e t h is) = unobtained_so e is (obtained entry (Err e) t h)
-      by_case (unchained entry file e t h c is) = by_want e is (is_want e) (λ other. no_both chain e (sym (chained entry file t (obtained entry (Ok file) t h)) ∙ c other))
-      by_case (found entry file x t h c is) =
-          let file_is = obtained entry (Ok file) t h in
-          chain_given (is ∙ sym c ∙ chained entry file t file_is) (tells file file_is)
+      by_found : FoundSo (Finished mid) (map visit_in chain.roles) (Ok visits) → GivenChain (Tells new.store) chain result
+      by_found (found_wanting h) = no_both visits tuf.NoMemory h
+      by_found (found_all h t) =
+          chain_done mid new result t (quiet_second old.repo.faults mid.repo.faults new.repo.faults first.later second.later quiet)
+          (subst (λ vs. GivesChain session.config path vs mid new result) (ok_same visits (map visit_in chain.roles) h) g)
 
 -- ---- the beginning
 
@@ -294,7 +347,7 @@ module _ (crypto : Crypto) (folders : Folders) (root : List ℕ) (now : jiff.Tim
     roots = subst (λ rest. AreKeptAfter files (number_of offer.offered.trusted.roots.first) rest) rest_is w.roots;
     time = subst (λ b. IsNoneOr (files timestamp_name) (Some b)) (sym offered.so.time_is) w.timestamp;
     snap = subst (λ b. IsNoneOr (files snapshot_name) (Some b)) (sym offered.so.snap_is) w.snapshot;
-    top = subst (λ rs. IsNoneOr (files targets_name) (targets_bytes rs)) (sym offered.so.roles_are) w.targets;
+    top = subst (IsNoneOr (files targets_name)) offered.so.top_bytes w.targets;
     file = w.target;
   }
 
@@ -303,7 +356,7 @@ module _ (crypto : Crypto) (folders : Folders) (root : List ℕ) (now : jiff.Tim
     roots = subst (λ rest. AreKeptAfter files (number_of offer.offered.trusted.roots.first) rest) (sym rest_is) w.roots;
     timestamp = subst (λ b. IsNoneOr (files timestamp_name) (Some b)) offered.so.time_is w.time;
     snapshot = subst (λ b. IsNoneOr (files snapshot_name) (Some b)) offered.so.snap_is w.snap;
-    targets = subst (λ rs. IsNoneOr (files targets_name) (targets_bytes rs)) offered.so.roles_are w.top;
+    targets = subst (IsNoneOr (files targets_name)) (sym offered.so.top_bytes) w.top;
     target = w.file;
   }
 
@@ -357,10 +410,9 @@ module _ (crypto : Crypto) (folders : Folders) (root : List ℕ) (now : jiff.Tim
           subst (λ (r : Document declared.Root). RootsEnd folders.metadata (length start.rest) config.max_root_rotations (number_of r)) (sym offered.root_is)
           (subst (λ rest. RootsEnd folders.metadata (length rest) config.max_root_rotations (number_of offer.is.root)) rest_is offer.offered.roots_end)
 
-  pub target_done : (old : State) (repo' : Watched Folders) (store' : Watched Files) (result : Result TrustChain Error) → Arrived old → Quiet old.repo.faults repo'.faults
-      → GetsTarget session path old.documents old.repo repo' old.store store' result → GivenChain (StaysWarm store') chain result
-  target_done old repo' store' result a quiet g = by_given (got_done session folders path chain offered.so (number_of offer.offered.trusted.roots.first) start.rest rest_bound old repo' store' result a.topped quiet g)
+  pub target_done : (old new : State) (result : Result TrustChain Error) → Arrived old → Quiet old.repo.faults new.repo.faults → GetsTarget session path old new result → GivenChain (StaysWarm new.store) chain result
+  target_done old new result a quiet g = by_given (got_done session folders path chain offered.so (number_of offer.offered.trusted.roots.first) start.rest rest_bound old new result a.topped quiet g)
     where
-      by_given : GivenChain (TellsSo (IsWarm session folders path chain offered.so (number_of offer.offered.trusted.roots.first) start.rest rest_bound) store') chain result → GivenChain (StaysWarm store') chain result
+      by_given : GivenChain (TellsSo (IsWarm session folders path chain offered.so (number_of offer.offered.trusted.roots.first) start.rest rest_bound) new.store) chain result → GivenChain (StaysWarm new.store) chain result
       by_given (chain_wanting h) = chain_wanting h
       by_given (chain_given h t) = chain_given h (record { files = t.files; told = t.told; so = so_warm t.files t.so })
