@@ -1,8 +1,9 @@
 -- The file of a delegated role is under another name than every document that isn't one.
-use Rattle.std.proofs.Common.{◌≡◌, ℕ, ◌+◌, ◌/◌, ◌%◌, ◌==◌, ◌||◌, nat_lt, nat_le, if◌then◌else◌, List, [], ◌∷◌, ◌++◌, Bool, true, false, codes, refl, sym, ap, ◌∙◌, subst, arith}
+use Rattle.std.proofs.Common.{◌≡◌, ℕ, ◌+◌, ◌/◌, ◌%◌, ◌==◌, ◌||◌, nat_lt, if◌then◌else◌, List, [], ◌∷◌, ◌++◌, Bool, true, false, bytes_eq, codes, refl, sym, ap, ◌∙◌, arith}
 use Rattle.std.specs.List.{list_any, AllByRecursion}
 use Rattle.std.proofs.lemmas.Bool.Decides.{nat_tests}
 use Rattle.std.proofs.lemmas.List.{append_cancel_right}
+use Rattle.std.proofs.lemmas.Slice.Eq.{bytes_eq-Decides}
 use Rattle.std.specs.Fmt.{digit_glyph}
 use Rattle.percent_encoding.specs.Percent.{percent_encode_byte}
 use Rattle.sigstore_tuf_parts.specs.Names.{timestamp_name, snapshot_name, targets_name}
@@ -95,3 +96,33 @@ not_history name number e = slashed name (history_name number) refl e
 
 pub not_target : (name path : List ℕ) → role_file name ≡ kept_target path → ⊥
 not_target name path e = slashed name (kept_target path) refl e
+
+-- ---- as tests
+
+unlike : (q name : List ℕ) → (role_file name ≡ q → ⊥) → bytes_eq q (role_file name) ≡ false
+unlike q name never = by_test (bytes_eq q (role_file name)) refl
+  where
+    by_test : (b : Bool) → bytes_eq q (role_file name) ≡ b → b ≡ false
+    by_test true e = absurd (never (sym ((bytes_eq-Decides q (role_file name)).0 e)))
+    by_test false e = refl
+
+any_inside : (folder rest : List ℕ) → list_any (λ x. x == 47) (folder ++ 47 ∷ rest) ≡ true
+any_inside [] rest = refl
+any_inside (x ∷ xs) rest = by_first (x == 47) (any_inside xs rest)
+  where
+    by_first : (b : Bool) → list_any (λ x. x == 47) (xs ++ 47 ∷ rest) ≡ true → (b || list_any (λ x. x == 47) (xs ++ 47 ∷ rest)) ≡ true
+    by_first true h = refl
+    by_first false h = h
+
+-- a name in a folder is another one
+pub in_folder : (folder rest name : List ℕ) → bytes_eq (folder ++ 47 ∷ rest) (role_file name) ≡ false
+in_folder folder rest name = unlike (folder ++ 47 ∷ rest) name (λ e. slashed name (folder ++ 47 ∷ rest) (any_inside folder rest) e)
+
+pub unlike_timestamp : (name : List ℕ) → is_top_level name ≡ false → bytes_eq timestamp_name (role_file name) ≡ false
+unlike_timestamp name low = unlike timestamp_name name (not_timestamp name low)
+
+pub unlike_snapshot : (name : List ℕ) → is_top_level name ≡ false → bytes_eq snapshot_name (role_file name) ≡ false
+unlike_snapshot name low = unlike snapshot_name name (not_snapshot name low)
+
+pub unlike_targets : (name : List ℕ) → is_top_level name ≡ false → bytes_eq targets_name (role_file name) ≡ false
+unlike_targets name low = unlike targets_name name (not_targets name low)
