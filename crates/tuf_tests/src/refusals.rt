@@ -30,7 +30,7 @@ fn plain(number: u8) -> Error {
         15 => Error::NotRefreshed,
         18 => Error::Transport(TransportFault::Rotations { max: 0 }),
         19 => Error::NoMemory,
-        _ => Error::Unbuilt(Form::Delegations),
+        _ => Error::Unbuilt(Form::Trust),
     }
 }
 
