@@ -10,7 +10,7 @@ use Rattle.sigstore_tuf_parts.specs.declared.error.Error.TheVariants.{Unsupporte
 use Rattle.sigstore_tuf_parts.specs.declared.error.Error.TheVariants.{DuplicateSignature, ThresholdNotMet, Rollback}
 use Rattle.sigstore_tuf_parts.specs.declared.error.Error.TheVariants.{EqualVersion, BadRootVersion, Expired}
 use Rattle.sigstore_tuf_parts.specs.declared.error.Error.TheVariants.{IntegrityMismatch, Crypto, NotRefreshed}
-use Rattle.sigstore_tuf_parts.specs.declared.error.Error.TheVariants.{TargetNotFound, Transport, NoMemory, Unbuilt}
+use Rattle.sigstore_tuf_parts.specs.declared.error.Error.TheVariants.{TargetNotFound, Transport, NoMemory}
 
 -- a misreading as a refusal: whatever isn't read is Json
 abbrev pub error_of : Misread → Error
@@ -45,7 +45,6 @@ number_of NotRefreshed = 15
 number_of (TargetNotFound path) = 16
 number_of (Transport fault) = 18
 number_of NoMemory = 19
-number_of (Unbuilt form) = 90
 
 abbrev pub name_of : Error → List ℕ
 name_of Json = codes "Json"
@@ -66,4 +65,3 @@ name_of NotRefreshed = codes "NotRefreshed"
 name_of (TargetNotFound path) = codes "TargetNotFound"
 name_of (Transport fault) = codes "Transport"
 name_of NoMemory = codes "NoMemory"
-name_of (Unbuilt form) = codes "Unbuilt"

@@ -4,7 +4,7 @@ ghost use Rattle.sigstore_tuf_parts.specs.Error.{error_of, error_of_fault, numbe
 ghost use Rattle.sigstore_tuf_parts.specs.declared.error.Error.TheVariants.{NoMemory};
 
 use foundation::NoMemory;
-use sigstore_types_parts::{Form, JsonFault, Misread, Refusal, Text};
+use sigstore_types_parts::{JsonFault, Misread, Refusal, Text};
 use std::alloc::{AllocError, AllocFailed};
 use std::{error, fmt};
 
@@ -135,8 +135,6 @@ pub enum Error {
     Transport(TransportFault),
     /// An allocation was refused.
     NoMemory,
-    /// The document or a key is of a form that is known and isn't built yet.
-    Unbuilt(Form),
 }
 
 impl Error {
@@ -163,7 +161,6 @@ impl Error {
             Error::TargetNotFound { .. } => 16,
             Error::Transport(_) => 18,
             Error::NoMemory => 19,
-            Error::Unbuilt(_) => 90,
         }
     }
 
@@ -190,7 +187,6 @@ impl Error {
             Error::TargetNotFound { .. } => "TargetNotFound",
             Error::Transport(_) => "Transport",
             Error::NoMemory => "NoMemory",
-            Error::Unbuilt(_) => "Unbuilt",
         }
     }
 }

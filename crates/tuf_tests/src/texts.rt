@@ -85,7 +85,7 @@ fn named<X: AllocGlobal + Abort>(rt: &X, name: &str) -> String {
         "NoEntry" => shown(rt, TypesError::NoEntry),
         "NoProof" => shown(rt, TypesError::NoProof),
         "NoMemory" => shown(rt, TypesError::NoMemory),
-        _ => shown(rt, TypesError::Unbuilt(Form::Trust)),
+        _ => shown(rt, TypesError::Unbuilt(Form::Tokens)),
     }
 }
 
