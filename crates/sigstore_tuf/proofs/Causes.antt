@@ -5,7 +5,6 @@ use Rattle.std.specs.List.{last_or}
 use Rattle.jiff_core.specs.declared.timestamp.Timestamp as jiff
 use Rattle.foundation.specs.Watched.{Watched, Rose, IfTold, Since}
 use Rattle.foundation.specs.Results.{step_ok, err_same, some_same, no_both, refused_at}
-use Rattle.sigstore_types_parts.specs.declared.form.Form.TheVariants as form
 use Rattle.sigstore_tuf_parts.specs.declared.error.Error.{Error}
 use Rattle.sigstore_tuf_parts.specs.declared.error.Error.TheVariants as tuf
 use Rattle.sigstore_tuf_parts.specs.declared.error.Rule.TheVariants as rule
@@ -76,7 +75,6 @@ is_want tuf.Crypto = inr (λ h. cc)
 is_want tuf.NotRefreshed = inr (λ h. cc)
 is_want (tuf.TargetNotFound path) = inr (λ h. cc)
 is_want (tuf.Transport fault) = inr (λ h. cc)
-is_want (tuf.Unbuilt form) = inr (λ h. cc)
 
 rose_earlier : (a b c : ℕ) → a ≤ b → Rose b c → Rose a c
 rose_earlier a b c p h = omega arith
@@ -102,7 +100,6 @@ was_equal (Err tuf.Crypto) h = cc
 was_equal (Err tuf.NotRefreshed) h = cc
 was_equal (Err (tuf.TargetNotFound path)) h = cc
 was_equal (Err (tuf.Transport fault)) h = cc
-was_equal (Err (tuf.Unbuilt form)) h = cc
 
 pub timestamp_reads : ReadsWithCause (codes "timestamp") timestamp_of
 timestamp_reads = read_cause (codes "timestamp") timestamp_of timestamp_only

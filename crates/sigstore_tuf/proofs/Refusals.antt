@@ -243,7 +243,6 @@ unequal_refused (Err tuf.NotRefreshed) e h = let is = err_same tuf.NotRefreshed 
 unequal_refused (Err (tuf.TargetNotFound path)) e h = let is = err_same (tuf.TargetNotFound path) e h in (ap Err is, λ x. let never = is ∙ x.1.1 in cc)
 unequal_refused (Err (tuf.Transport fault)) e h = let is = err_same (tuf.Transport fault) e h in (ap Err is, λ x. let never = is ∙ x.1.1 in cc)
 unequal_refused (Err tuf.NoMemory) e h = let is = err_same tuf.NoMemory e h in (ap Err is, λ x. let never = is ∙ x.1.1 in cc)
-unequal_refused (Err (tuf.Unbuilt form)) e h = let is = err_same (tuf.Unbuilt form) e h in (ap Err is, λ x. let never = is ∙ x.1.1 in cc)
 
 -- where the targets document is asked for, the snapshot pins it
 abbrev pub IsPinningTargets : Kind → jiff.Timestamp → InForce → Type 0

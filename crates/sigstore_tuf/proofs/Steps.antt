@@ -78,7 +78,6 @@ timestamp_taken_by u old new (Err tuf.Crypto) h = (h.0, λ other. ap unless_equa
 timestamp_taken_by u old new (Err tuf.NotRefreshed) h = (h.0, λ other. ap unless_equal (h.1 other))
 timestamp_taken_by u old new (Err (tuf.TargetNotFound path)) h = (h.0, λ other. ap unless_equal (h.1 other))
 timestamp_taken_by u old new (Err (tuf.Transport fault)) h = (h.0, λ other. ap unless_equal (h.1 other))
-timestamp_taken_by u old new (Err (tuf.Unbuilt form)) h = (h.0, λ other. ap unless_equal (h.1 other))
 
 pub other_taken_by : (u : Result InForce Error) (old new : InForce) (updated : Result ⊤ Error) → Updates u old new updated → Takes (taken_of u) old new (there_of updated)
 other_taken_by u old new (Ok x) h = ap taken_of h
@@ -139,7 +138,6 @@ passes tuf.Crypto = inl refl
 passes tuf.NotRefreshed = inl refl
 passes (tuf.TargetNotFound path) = inl refl
 passes (tuf.Transport fault) = inl refl
-passes (tuf.Unbuilt form) = inl refl
 
 pub not_passed : {C : Type 0} (e : Error) → ◌≡◌ {A = Result Bool Error} (Ok true) (passed_over e) → C
 not_passed {C} e h = by_answer (passes e)

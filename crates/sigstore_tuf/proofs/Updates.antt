@@ -247,7 +247,6 @@ module _ (crypto : Crypto) (old : InForce) (bytes : List ℕ) where
   was_ok (Err (tuf.TargetNotFound path)) new h = cc
   was_ok (Err (tuf.Transport fault)) new h = cc
   was_ok (Err tuf.NoMemory) new h = cc
-  was_ok (Err (tuf.Unbuilt form)) new h = cc
 
   was_taken : (r : Result InForce Error) (new : InForce) → taken_of r ≡ Ok (Some new) → r ≡ Ok new
   was_taken (Ok set) new h = ap Ok (some_same set new (ok_same _ _ h))

@@ -3,7 +3,7 @@ use crate::thresholds;
 use crate::words::{copied, good, halves, hold, number, printed, string, text, text_of};
 use serde_json::Value;
 use sigstore_tuf_parts::*;
-use sigstore_types_parts::{Form, FromValue, Json, Text, TextMap, parse_json};
+use sigstore_types_parts::{FromValue, Json, Text, TextMap, parse_json};
 use std::fmt::Debug;
 use std::process::Abort;
 
@@ -29,8 +29,7 @@ fn plain(number: u8) -> Error {
         14 => Error::Crypto,
         15 => Error::NotRefreshed,
         18 => Error::Transport(TransportFault::Rotations { max: 0 }),
-        19 => Error::NoMemory,
-        _ => Error::Unbuilt(Form::Trust),
+        _ => Error::NoMemory,
     }
 }
 
@@ -110,8 +109,7 @@ const REFUSALS: &str = "1 => 1 Json Json
 15 => 15 NotRefreshed NotRefreshed
 16 => 16 TargetNotFound TargetNotFound
 18 => 18 Transport Transport
-19 => 19 NoMemory NoMemory
-90 => 90 Unbuilt Unbuilt";
+19 => 19 NoMemory NoMemory";
 
 fn canonical<X: AllocGlobal + Abort>(rt: &X, text: &str) -> String {
     let value = good(rt, Value::from_str(rt.alloc(), text));
