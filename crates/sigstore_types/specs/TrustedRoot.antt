@@ -1,20 +1,114 @@
--- A trust file as JSON (Sigstore protobuf specs, sigstore_trustroot.proto), as far as it is built: four lists, each empty.
-use Rattle.std.specs.Prelude.{ℕ, List, Result, Ok}
+-- A trust file as JSON (Sigstore protobuf specs, sigstore_trustroot.proto and sigstore_common.proto).
+use Rattle.std.specs.Prelude.{ℕ, List, [], pos, neg_ℤ, Option, Some, None, Result, Ok}
 use Rattle.serde_json.specs.Data.{Data}
 use Rattle.foundation.specs.Steps.{◌>>=◌}
-use Rattle.sigstore_types_parts.specs.declared.form.Form.TheVariants as form
+use Rattle.jiff_core.specs.declared.timestamp.Timestamp.{Timestamp}
+use Rattle.sigstore_types_parts.specs.Instant.{at_nanosecond}
+use Rattle.sigstore_types_parts.specs.Read as read
+use Rattle.sigstore_types_parts.specs.Error.{types_of}
+use Rattle.sigstore_types_parts.specs.declared.time_range.TimeRange.{TimeRange}
+use Rattle.sigstore_types_parts.specs.declared.member.TypesMember.{TypesMember}
 use Rattle.sigstore_types_parts.specs.declared.member.TypesMember.TheVariants as m
 use Rattle.sigstore_types_parts.specs.declared.error.TypesError.{TypesError}
+use Rattle.sigstore_types.specs.declared.authority.Authority.{Authority}
+use Rattle.sigstore_types.specs.declared.authority.Certificates.{Certificates}
+use Rattle.sigstore_types.specs.declared.authority.Chain.{Chain}
+use Rattle.sigstore_types.specs.declared.trusted_root.KeyOfLog.{KeyOfLog}
+use Rattle.sigstore_types.specs.declared.trusted_root.LogId.{LogId}
+use Rattle.sigstore_types.specs.declared.trusted_root.TrustedLog.{TrustedLog}
 use Rattle.sigstore_types.specs.declared.trusted_root.TrustedRoot.{TrustedRoot}
-use Rattle.sigstore_types.specs.Members.{without_items, json}
+use Rattle.sigstore_types.specs.declared.valid_for.ValidFor.{ValidFor}
+use Rattle.sigstore_types.specs.Members.{required, optional, bytes, json}
 
+-- ---- spans of time
+
+-- without a start, from the earliest instant on
+abbrev pub or_earliest : Option Timestamp → Timestamp
+or_earliest (Some start) = start
+or_earliest None = at_nanosecond (neg_ℤ (pos 377_705_023_201_000_000_000))
+
+unfoldable pub valid_for_of : Data → Result ValidFor TypesError
+valid_for_of d = do
+  start ← optional (read.moment_of types_of) m.Start d
+  end ← optional (read.moment_of types_of) m.End d
+  Ok (record { range = record { start = or_earliest start; end = end } })
+
+abbrev pub window_of : Option ValidFor → Option TimeRange
+window_of None = None
+window_of (Some valid_for) = Some valid_for.range
+
+-- ---- lists
+
+abbrev pub or_empty : {T : Type 0} → Option (List T) → List T
+or_empty None = []
+or_empty (Some items) = items
+
+-- a list; absent or null, it is empty
+abbrev pub list_of : {T : Type 0} → (Data → Result T TypesError) → TypesMember → Data → Result (List T) TypesError
+list_of reads m d = optional (read.sequence_of types_of reads) m d >>= λ items. Ok (or_empty items)
+
+-- ---- logs
+
+unfoldable pub log_id_of : Data → Result LogId TypesError
+log_id_of d = do
+  key_id ← required bytes m.KeyId d
+  Ok (record { key_id = key_id })
+
+-- PublicKey, of which the key in DER and its span count
+unfoldable pub key_of_log : Data → Result KeyOfLog TypesError
+key_of_log d = do
+  raw_bytes ← required bytes m.RawBytes d
+  valid_for ← optional valid_for_of m.ValidFor d
+  Ok (record { raw_bytes = raw_bytes; valid_for = window_of valid_for })
+
+-- TransparencyLogInstance
+unfoldable pub log_of : Data → Result TrustedLog TypesError
+log_of d = do
+  key ← required key_of_log m.PublicKey d
+  log_id ← required log_id_of m.LogId d
+  Ok (record { log_id = log_id; raw_bytes = key.raw_bytes; valid_for = key.valid_for })
+
+-- ---- authorities
+
+-- X509Certificate
+unfoldable pub certificate_of : Data → Result (List ℕ) TypesError
+certificate_of d = required bytes m.RawBytes d
+
+unfoldable pub certificates_of : Data → Result Certificates TypesError
+certificates_of d = read.sequence_of types_of certificate_of d >>= λ list. Ok (record { list = list })
+
+abbrev pub or_no_certificates : Option Certificates → List (List ℕ)
+or_no_certificates None = []
+or_no_certificates (Some certificates) = certificates.list
+
+-- X509CertificateChain: the leaf first, the root last
+unfoldable pub chain_of : Data → Result Chain TypesError
+chain_of d = do
+  certificates ← optional certificates_of m.Certificates d
+  Ok (record { certificates = or_no_certificates certificates })
+
+-- CertificateAuthority
+unfoldable pub authority_of : Data → Result Authority TypesError
+authority_of d = do
+  chain ← required chain_of m.CertChain d
+  valid_for ← optional valid_for_of m.ValidFor d
+  Ok (record { certificates = chain.certificates; valid_for = window_of valid_for })
+
+-- ---- the whole
+
+-- TrustedRoot; other members are passed over
 unfoldable pub trusted_root_of : Data → Result TrustedRoot TypesError
 trusted_root_of d = do
-  _ ← without_items form.Trust m.Tlogs d
-  _ ← without_items form.Trust m.Ctlogs d
-  _ ← without_items form.Trust m.CertificateAuthorities d
-  _ ← without_items form.Trust m.TimestampAuthorities d
-  Ok (record {})
+  tlogs ← list_of log_of m.Tlogs d
+  ctlogs ← list_of log_of m.Ctlogs d
+  certificate_authorities ← list_of authority_of m.CertificateAuthorities d
+  timestamp_authorities ← list_of authority_of m.TimestampAuthorities d
+  Ok (record {
+    tlogs = tlogs;
+    ctlogs = ctlogs;
+    certificate_authorities = certificate_authorities;
+    timestamp_authorities = timestamp_authorities;
+  })
 
 unfoldable pub trusted_root_of_bytes : List ℕ → Result TrustedRoot TypesError
 trusted_root_of_bytes bytes = json bytes >>= trusted_root_of

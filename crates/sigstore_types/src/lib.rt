@@ -2,12 +2,15 @@
 //! `sigstore_types_parts`.
 #![tactic(auto)]
 
+mod authority;
 mod bundle;
 mod content;
 mod material;
 mod members;
 mod trusted_root;
+mod valid_for;
 
+pub use authority::Authority;
 pub use bundle::{Bundle, validate_structure};
 pub use content::{MessageDigest, MessageSignature, SignatureContent};
 pub use material::{VerificationMaterial, VerificationMaterialContent};
@@ -20,4 +23,4 @@ pub use sigstore_types_parts::{
     TimestampToken, Token, TypesError, TypesMember, contains_float, defaulted, instant, optional,
     parse_json, required,
 };
-pub use trusted_root::TrustedRoot;
+pub use trusted_root::{LogId, TrustedLog, TrustedRoot};

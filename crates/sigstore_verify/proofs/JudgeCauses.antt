@@ -27,6 +27,9 @@ use Rattle.sigstore_crypto.specs.Scheme.{has_digest}
 use Rattle.sigstore_verify.specs.declared.judge.Ready.{Ready}
 use Rattle.sigstore_verify.specs.Accepts.{signature_in, digest_in}
 use Rattle.sigstore_verify.specs.Artifact.{Artifact, Read, read_kind, digest_of}
+use Rattle.sigstore_types.specs.declared.trusted_root.TrustedRoot.{TrustedRoot}
+use Rattle.sigstore_verify.specs.Trust.{usable_of}
+use Rattle.sigstore_verify.proofs.UsableCauses.{IsFault, usable_fault}
 use Rattle.sigstore_verify.specs.Cause.{IsRefusedAs, IsRead, HasScheme, HasBundle, LacksScheme, key_unread, no_scheme, no_hasher}
 use Rattle.sigstore_verify.specs.Cause.{trust_unbuilt, bundle_unbuilt, KeyCause, CauseUnder, JudgeCause}
 use Rattle.sigstore_verify.specs.FromRoot.{or_fault, trust_fault, bundle_fault, JudgesBundle, trust_refused, verifier_refused, bundle_refused, judged}
@@ -126,6 +129,28 @@ module _ (accepts : Judge) (policy : PublicKeyVerificationPolicy) (asked : Asked
   wants verify.NoMemory f = tt
   wants (verify.Unbuilt a) f = f (λ h. cc)
 
+  -- a verifier's making, by what it may refuse
+  by_usable : (trust : TrustedRoot) (e : Error) → trusted_root_of_bytes file ≡ Ok trust → usable_of trust ≡ Err e → IsFault e → Cause e
+  by_usable trust (verify.IdentityMismatch a b) t h f = absurd f
+  by_usable trust (verify.IssuerMismatch a b) t h f = absurd f
+  by_usable trust verify.SignatureInvalid t h f = absurd f
+  by_usable trust verify.ArtifactMismatch t h f = absurd f
+  by_usable trust verify.UnsupportedArtifact t h f = absurd f
+  by_usable trust (verify.Certificate a) t h f = absurd f
+  by_usable trust (verify.TransparencyLog a) t h f = absurd f
+  by_usable trust (verify.Timestamp a) t h f = absurd f
+  by_usable trust verify.InvalidBundle t h f = absurd f
+  by_usable trust verify.UnsupportedBundle t h f = absurd f
+  by_usable trust verify.InvalidTrustRoot t h f = (trust, t, h)
+  by_usable trust verify.Types t h f = (trust, t, h)
+  by_usable trust verify.Crypto t h f = inr (trust, t, h)
+  by_usable trust verify.Bundle t h f = absurd f
+  by_usable trust verify.TrustRoot t h f = absurd f
+  by_usable trust verify.TrustedCertificate t h f = (trust, t, h)
+  by_usable trust (verify.ArtifactRead a) t h f = absurd f
+  by_usable trust verify.NoMemory t h f = tt
+  by_usable trust (verify.Unbuilt a) t h f = absurd f
+
   -- the refusal of a lower call, by what it is here
   by_kind : (d e : Error) → d ≡ e → IsKind d → LacksScheme policy asked.bundle e → Cause e
   by_kind d e same (inl is) l = subst Cause (sym (sym same ∙ is)) (inl (subst (LacksScheme policy asked.bundle) (sym same ∙ is) l))
@@ -189,6 +214,10 @@ module _ (accepts : Judge) (policy : PublicKeyVerificationPolicy) (asked : Asked
   before_reading : (reading : Bundle) → IsRead asked.bundle reading → (e : Error) → ready_of read_kind (PublicKey policy) reading ≡ Err e → Cause e
   before_reading reading read e h = refused_at (prepared_of read_kind policy reading) _ e h (unprepared reading read e) (λ ready p k. cc)
 
+file_of : (r : Result TrustedRoot TypesError) (x : TrustedRoot) → or_fault trust_fault r ≡ Ok x → r ≡ Ok x
+file_of (Ok y) x h = cc
+file_of (Err t) x h = cc
+
 -- the judgement's refusal under a key, with the parts of what is asked named
 key_refused : (asked : Asked) (policy : PublicKeyVerificationPolicy) (file : List ℕ) (source source' : Watched (List ℕ)) (e : Error) → asked.policy ≡ PublicKey policy
     → JudgesBundle asked file source source' (Err e) → KeyCause asked.crypto.accepts policy asked file source source' e
@@ -198,7 +227,8 @@ key_refused asked policy file source source' e under (trust_refused d h s n) =
     by_trust asked.crypto.accepts policy asked file source source' d r.0 r.1 r.2 (as_lowered verify.TrustRoot r.0)))
 key_refused asked policy file source source' e under (verifier_refused trust d t h s n) =
     subst (Cause asked.crypto.accepts policy asked file source source') (err_same d e (sym n))
-    (wants asked.crypto.accepts policy asked file source source' d (λ other. let r = h other in cc))
+    (wants asked.crypto.accepts policy asked file source source' d (λ other.
+    by_usable asked.crypto.accepts policy asked file source source' trust d (file_of (trusted_root_of_bytes file) trust t) (h other) (usable_fault trust d (h other))))
 key_refused asked policy file source source' e under (bundle_refused trust d t u h s n) =
     subst (Cause asked.crypto.accepts policy asked file source source') (err_same d e (sym n))
     (wants asked.crypto.accepts policy asked file source source' d (λ other. let r = by_fault bundle_fault (bundle_of_bytes asked.bundle) d (h other) in

@@ -1,6 +1,7 @@
 pub mod Stages
 pub mod Accepts
 pub mod RootFacts
+pub mod UsableCauses
 pub mod JudgeCauses
 pub mod RootCauses
 pub mod Had
@@ -8,3 +9,4 @@ pub mod Signed
 pub mod Agree
 pub mod Taken
 pub mod RootCompleting
+pub mod Usable

@@ -13,3 +13,4 @@ pub mod Taken
 pub mod Taking
 pub mod Trust
 pub mod Complete
+pub mod Usable

@@ -1,6 +1,7 @@
 // Laws of the definitions. A call does nothing.
 ghost use Rattle.sigstore_verify.specs.Accepts.{AcceptsExactly};
 ghost use Rattle.sigstore_verify.specs.Agree.{BlobAgrees};
+ghost use Rattle.sigstore_verify.specs.Usable.{UsableExactly};
 
 /// The judgement under a managed key accepts exactly the bundles that are to be accepted.
 pub fn accepts_exactly()
@@ -11,4 +12,11 @@ pub fn accepts_exactly()
 /// the scheme signs the bytes themselves.
 pub fn blob_and_reader_agree()
     ensures { BlobAgrees }
+{}
+
+/// A verifier is made of exactly the trust files that are usable, told without any order of checks: each
+/// log's id has 32 bytes and stands once among the logs of its kind, no window is reversed, each log's key is
+/// read, no authority's chain is empty, and each certificate in it is read and has no name constraints.
+pub fn usable_exactly()
+    ensures { UsableExactly }
 {}

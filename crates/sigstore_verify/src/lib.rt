@@ -8,11 +8,12 @@ mod laws;
 mod policy;
 mod report;
 mod taking;
+mod trust;
 mod verifier;
 
 pub use error::{CertificateError, Error, TimestampError, TransparencyLogError};
 pub use from_root::{RootFault, Rooted, verify_from_root};
-pub use laws::{accepts_exactly, blob_and_reader_agree};
+pub use laws::{accepts_exactly, blob_and_reader_agree, usable_exactly};
 pub use policy::{Policy, PolicyKind, PublicKeyVerificationPolicy};
 pub use report::{Kept, VerificationResult};
 pub use verifier::{Verifier, verify};

@@ -4,7 +4,7 @@ ghost use Rattle.sigstore_tuf_parts.specs.By.{crypto_by};
 ghost use Rattle.sigstore_verify.specs.Artifact.{Blob, Digest, artifact_of, had_digest};
 ghost use Rattle.sigstore_verify.specs.Judged.{Terms, judged_had};
 ghost use Rattle.sigstore_verify.specs.Policy.{PublicKey};
-ghost use Rattle.sigstore_verify.specs.Trust.{usable_of};
+ghost use Rattle.sigstore_verify.specs.Trust.{material_of, usable_of};
 ghost use Rattle.sigstore_verify.specs.Promise.{Verifies, VerifiesKept, VerifiesHanded, VerifiesUnder};
 
 use crate::error::Error;
@@ -12,6 +12,7 @@ use crate::judge::{Handed, judge_content, key_report, prepare};
 use crate::policy::{Policy, PolicyKind, PublicKeyVerificationPolicy};
 use crate::report::{Kept, VerificationResult};
 use crate::taking::{digests_in, read_digests};
+use crate::trust::{Material, material_in};
 use foundation::{Duplicate, Sequence};
 use jiff::Timestamp;
 use sigstore_crypto::{ArtifactSource, CryptoProvider, VerificationKey};
@@ -26,6 +27,7 @@ pub struct Verifier<'p, C: CryptoProvider, M: Armor> {
     provider: &'p C,
     armor: &'p M,
     trust: TrustedRoot,
+    material: Material,
 }
 
 // The judgement over digests that were taken, and the bytes where they are kept.
@@ -76,8 +78,11 @@ fn keep<C: CryptoProvider>(
 }
 
 impl<'p, C: CryptoProvider, M: Armor> Verifier<'p, C, M> {
-    /// A verifier over a trust file. Errors: none but want of memory, as no trust file that is read can't
-    /// be used yet.
+    /// A verifier over a trust file. Errors, in order: for each log of entries and then of certificates
+    /// `InvalidTrustRoot` for a reversed window, `Types` for an id that isn't of 32 bytes, `InvalidTrustRoot`
+    /// for an id that an earlier one has, `Crypto` for its key; for each certificate authority and then
+    /// time-stamp authority `InvalidTrustRoot` for a reversed window and for an empty chain,
+    /// `TrustedCertificate` for a certificate that isn't read or has name constraints.
     pub fn new(
         alloc: Global,
         provider: &'p C,
@@ -87,13 +92,16 @@ impl<'p, C: CryptoProvider, M: Armor> Verifier<'p, C, M> {
         ensures provider { IfOk result (λ verifier. verifier.provider.now ≡ provider.now) }
         ensures armor { IfOk result (λ verifier. verifier.armor.now ≡ armor.now) }
         ensures trust { IfOk result (λ verifier. verifier.trust ≡ trusted_root.now) }
+        ensures kept { IfOk result (λ verifier. material_of trusted_root.now ≡ Ok verifier.material) }
         ensures ok { IfOk result (λ verifier. usable_of trusted_root.now ≡ Ok tt) }
         ensures err { IfErr result (λ e. e ≢ Error.NoMemory → usable_of trusted_root.now ≡ Err e) }
     {
+        let material = material_in(alloc, trusted_root)?;
         Ok(Verifier {
             provider,
             armor,
             trust: trusted_root.duplicate(alloc)?,
+            material,
         })
     }
 

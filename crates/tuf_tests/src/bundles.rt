@@ -10,8 +10,6 @@ pub fn answer<X: AllocGlobal + Abort>(rt: &X, call: &str, given: &str) -> String
         "bundle" => word(rt, Bundle::from_json(rt.alloc(), given.as_bytes())),
         "bundle of byte ff" => word(rt, Bundle::from_json(rt.alloc(), &[0xff])),
         "bundle over hello" => over_hello(rt, given),
-        "trust file" => word(rt, TrustedRoot::from_json(rt.alloc(), given.as_bytes())),
-        "copied trust file" => trust_copied(rt, given),
         _ => keys::answer(rt, call, given),
     }
 }
@@ -108,32 +106,6 @@ const OVER_HELLO: &str =
 no log => Ok(())
 log => Err(NoEntry)"#;
 
-// Whether a copy of a trust file is the empty one.
-fn trust_copied<X: AllocGlobal + Abort>(rt: &X, text: &str) -> String {
-    let file = good(rt, TrustedRoot::from_json(rt.alloc(), text.as_bytes()));
-    printed(rt, copied(rt, file) == TrustedRoot {})
-}
-
-const TRUST_FILES: &str = r#"{} => Ok
-[] => Json
-{ => Json
-{"tlogs":[]} => Ok
-{"tlogs":null} => Ok
-{"tlogs":{}} => Field { member: Tlogs }
-{"tlogs":[0]} => Unbuilt(Trust)
-{"ctlogs":[]} => Ok
-{"ctlogs":null} => Ok
-{"ctlogs":{}} => Field { member: Ctlogs }
-{"ctlogs":[0]} => Unbuilt(Trust)
-{"certificateAuthorities":[]} => Ok
-{"certificateAuthorities":null} => Ok
-{"certificateAuthorities":{}} => Field { member: CertificateAuthorities }
-{"certificateAuthorities":[0]} => Unbuilt(Trust)
-{"timestampAuthorities":[]} => Ok
-{"timestampAuthorities":null} => Ok
-{"timestampAuthorities":{}} => Field { member: TimestampAuthorities }
-{"timestampAuthorities":[0]} => Unbuilt(Trust)"#;
-
 #[test]
 fn bundles(rt: HostRuntime) {
     hold(&rt, "bundle", MEDIA_TYPES);
@@ -141,6 +113,4 @@ fn bundles(rt: HostRuntime) {
     hold_filled(&rt, "bundle", MATERIAL, MATERIALS);
     hold_filled(&rt, "bundle", CONTENT, CONTENTS);
     hold(&rt, "bundle over hello", OVER_HELLO);
-    hold(&rt, "trust file", TRUST_FILES);
-    hold(&rt, "copied trust file", "{} => true");
 }

@@ -298,12 +298,18 @@ fn bundle<X: AllocGlobal + Abort>(rt: &X, change: Change) -> Bundle {
     }
 }
 
+// A trust file that names nobody.
+fn no_trust<X: AllocGlobal + Abort>(rt: &X) -> TrustedRoot {
+    good(rt, TrustedRoot::from_json(rt.alloc(), b"{}"))
+}
+
 // What the verifier keeps of the changed bundle over the artifact `hello`, or its refusal.
 fn verified<X: AllocGlobal + Abort>(rt: &X, change: Change) -> Result<VerificationResult, Error> {
     let max = number(rt, change.of("greatest length", "5"));
     let mut source = source(rt, "hello", 2, change.of("failing read", ""));
     let (policy, bundle) = (policy(rt, change), bundle(rt, change));
-    let verifier = good(rt, Verifier::new(rt.alloc(), &Echo, &Bare, &TrustedRoot {}));
+    let trust = no_trust(rt);
+    let verifier = good(rt, Verifier::new(rt.alloc(), &Echo, &Bare, &trust));
     let now = Timestamp::UNIX_EPOCH;
     let answer = verifier.verify_reader(rt.alloc(), &mut source, max, &bundle, &policy, now);
     drop(verifier);
@@ -347,7 +353,8 @@ const UNCHANGED: Change = Change {
 fn kept<X: AllocGlobal + Abort>(rt: &X) -> Kept {
     let mut source = source(rt, "hello", 2, "");
     let (policy, bundle) = (policy(rt, UNCHANGED), bundle(rt, UNCHANGED));
-    let verifier = good(rt, Verifier::new(rt.alloc(), &Echo, &Bare, &TrustedRoot {}));
+    let trust = no_trust(rt);
+    let verifier = good(rt, Verifier::new(rt.alloc(), &Echo, &Bare, &trust));
     let now = Timestamp::UNIX_EPOCH;
     let kept = verifier.verify_reader_kept(rt.alloc(), &mut source, 5, &bundle, &policy, now);
     drop(verifier);
@@ -441,7 +448,8 @@ fn handed<X: AllocGlobal + Abort>(rt: &X, row: &str) -> String {
     let (how, text) = halves(rt, given, " ");
     let (of_key, of_bundle) = changes_for(key);
     let (policy, bundle) = (policy(rt, of_key), bundle(rt, of_bundle));
-    let verifier = good(rt, Verifier::new(rt.alloc(), &Echo, &Bare, &TrustedRoot {}));
+    let trust = no_trust(rt);
+    let verifier = good(rt, Verifier::new(rt.alloc(), &Echo, &Bare, &trust));
     let (first, second) = (artifact(rt, how, text), artifact(rt, how, text));
     let (alloc, now) = (rt.alloc(), Timestamp::UNIX_EPOCH);
     let by_it = word(
@@ -449,16 +457,7 @@ fn handed<X: AllocGlobal + Abort>(rt: &X, row: &str) -> String {
         "accepted",
         verifier.verify(alloc, first, &bundle, &policy, now),
     );
-    let alone = verify(
-        alloc,
-        &Echo,
-        &Bare,
-        second,
-        &bundle,
-        &policy,
-        &TrustedRoot {},
-        now,
-    );
+    let alone = verify(alloc, &Echo, &Bare, second, &bundle, &policy, &trust, now);
     let alone = word(rt, "accepted", alone);
     assert!(rt; alone == by_it);
     drop(alone);

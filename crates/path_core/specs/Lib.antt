@@ -1,0 +1,13 @@
+pub mod Anchors
+pub mod Authority
+pub mod Error
+pub mod Extensions
+pub mod Judged
+pub mod Level
+pub mod Links
+pub mod Paths
+pub mod Refusal
+pub mod Search
+pub mod Seen
+pub mod Traits
+pub mod Usage

@@ -1,0 +1,174 @@
+// The search for the first path.
+ghost use Rattle.std.specs.Prelude.{◌≡◌, ◌≢◌, ℕ, ◌+◌, ◌*◌, ◌≤◌, [], ◌∷◌, IfOk, IfErr, Ok, Err, length, option_copied};
+ghost use Rattle.path_core.specs.declared.error.PathError.TheVariants as paths;
+ghost use Rattle.path_core.specs.declared.error.LeafFault.{LeafFault};
+ghost use Rattle.path_core.specs.declared.route.Route.{Route};
+ghost use Rattle.path_core.specs.Judged.{AreRight, Keeps};
+ghost use Rattle.path_core.specs.Level.{IsLevel};
+ghost use Rattle.path_core.specs.Paths.{IsPath, First, IsFound, setting, follows_leaf, spki_at};
+ghost use Rattle.path_core.specs.Refusal.{Refuses};
+ghost use Rattle.path_core.specs.Search.{setting_of};
+ghost use Rattle.path_core.specs.Traits.{leaf_of};
+
+use crate::anchor::Anchor;
+use crate::error::PathError;
+use crate::given::Given;
+use crate::judgements::Judgements;
+use crate::level::{Level, first_end, next_level};
+use crate::purpose::Purpose;
+use crate::route::{FoundPath, Route};
+use crate::seen::{Seen, read, read_anchors, read_each};
+use crate::steps::Steps;
+use crate::way::Way;
+use foundation::{NoMemory, Sequence};
+use jiff::Timestamp;
+use sigstore_crypto::CryptoProvider;
+use sigstore_types_parts::{Bytes, DerCertificate};
+use std::alloc::Global;
+
+// The level of the leaf alone.
+fn first_level(alloc: Global, positions: usize) -> Result<Level, NoMemory>
+    ensures level { IfOk result (IsLevel positions) }
+    ensures way { IfOk result (λ level. level.ways.items ≡ record { source = positions; positions = [] } ∷ []) }
+{
+    let mut level = Level::new(alloc, positions)?;
+    level.ways.push(Way {
+        source: positions,
+        positions: Sequence::new(alloc),
+    })?;
+    Ok(level)
+}
+
+// The search, over judgements that are kept.
+fn search<C: CryptoProvider>(
+    alloc: Global,
+    given: &Given<C>,
+    made: &mut Judgements,
+) -> Result<Route, PathError>
+    requires right { AreRight (setting_of C.accepts given.now) made.old }
+    requires leaf { leaf_of given.now.purpose given.now.leaf.now ≡ Ok tt }
+    ensures first { IfOk result (First (setting_of C.accepts given.now)) }
+    ensures refused { IfErr result (Refuses (setting_of C.accepts given.now)) }
+    ensures keeps { Keeps (setting_of C.accepts given.now) made.old made.new }
+{
+    let mut level = first_level(alloc, given.intermediates.len())?;
+    'levels: for below in 0..6u8 {
+        if let Some(found) = first_end(alloc, given, made, &level)? {
+            return Ok(found);
+        }
+        let next = next_level(alloc, given, made, below, &level)?;
+        level = next;
+    }
+    match first_end(alloc, given, made, &level)? {
+        Some(found) => Ok(found),
+        None => Err(PathError::NoPath),
+    }
+}
+
+// The first intermediate of a route, or else its anchor.
+fn issuer<'a, C: CryptoProvider>(given: &Given<'a, C>, route: &Route) -> Option<&'a Seen<'a>>
+    ensures { option_copied result ≡ follows_leaf (setting_of C.accepts given.now) route.now.positions route.now.anchor }
+{
+    match route.positions.as_slice() {
+        [] => match given.anchors.get(route.anchor as usize) {
+            Some(anchor) => Some(anchor.certificate()),
+            None => None,
+        },
+        [position, ..] => given.intermediates.get(*position as usize),
+    }
+}
+
+// The key of the certificate that follows the leaf.
+fn issuer_spki<C: CryptoProvider>(
+    alloc: Global,
+    given: &Given<C>,
+    route: &Route,
+) -> Result<Bytes, NoMemory>
+    ensures { IfOk result (λ key. key ≡ spki_at (follows_leaf (setting_of C.accepts given.now) route.now.positions route.now.anchor)) }
+{
+    match issuer(given, route) {
+        Some(issuer) => Ok(Bytes::new(alloc, issuer.spki())?),
+        None => Ok(Bytes::new(alloc, &[])?),
+    }
+}
+
+// The path of a route.
+fn found<C: CryptoProvider>(
+    alloc: Global,
+    given: &Given<C>,
+    route: Route,
+) -> Result<FoundPath, PathError>
+    requires first { First (setting_of C.accepts given.now) route }
+    ensures ok { IfOk result (IsFound (setting_of C.accepts given.now)) }
+    ensures err { IfErr result (λ e. e ≡ paths.NoMemory) }
+{
+    let issuer_spki = issuer_spki(alloc, given, &route)?;
+    let Route { positions, anchor } = route;
+    Ok(FoundPath {
+        positions,
+        anchor,
+        issuer_spki,
+    })
+}
+
+// The search from no judgement on.
+fn search_anew<C: CryptoProvider>(
+    alloc: Global,
+    given: &Given<C>,
+    steps: &mut Steps,
+) -> Result<Route, PathError>
+    requires leaf { leaf_of given.now.purpose given.now.leaf.now ≡ Ok tt }
+    ensures first { IfOk result (First (setting_of C.accepts given.now)) }
+    ensures refused { IfErr result (Refuses (setting_of C.accepts given.now)) }
+    ensures cost { steps.new ≤ steps.old + (length given.now.intermediates.now + 1) * (length given.now.intermediates.now + length given.now.anchors.now) }
+{
+    let mut made = Judgements::new(alloc, steps.copied());
+    let found = search(alloc, given, &mut made);
+    *steps = made.steps.copied();
+    found
+}
+
+// A leaf's own properties come first: without them no path is sought.
+fn check_leaf(leaf: &Seen, purpose: Purpose) -> Result<(), PathError>
+    ensures ok { IfOk result (λ x. leaf_of purpose leaf.now ≡ Ok tt) }
+    ensures err { IfErr result (λ e. (fault : LeafFault) × (e ≡ paths.Leaf fault) × (leaf_of purpose leaf.now ≡ Err fault)) }
+{
+    match leaf.judge_leaf(purpose) {
+        Ok(()) => Ok(()),
+        Err(fault) => Err(PathError::Leaf(fault)),
+    }
+}
+
+/// The first path from the leaf over intermediates to an anchor (RFC 5280, section 6), for a purpose at a
+/// moment: the least by the number of intermediates, then by their positions, then by the anchor's. Each
+/// certificate is read once, and each pair of certificates is judged at most once, which `steps` counts.
+/// Errors, in order: `Leaf` with the first property that the leaf lacks; `NoPath` where there is none.
+pub fn find_path<C: CryptoProvider>(
+    alloc: Global,
+    provider: &C,
+    leaf: &DerCertificate,
+    intermediates: &[DerCertificate],
+    anchors: &[Anchor],
+    purpose: Purpose,
+    at: Timestamp,
+    steps: &mut Steps,
+) -> Result<FoundPath, PathError>
+    ensures ok { IfOk result (IsFound (setting (C.accepts provider.now) leaf.now intermediates.now anchors.now purpose at)) }
+    ensures err { IfErr result (Refuses (setting (C.accepts provider.now) leaf.now intermediates.now anchors.now purpose at)) }
+    ensures cost { steps.new ≤ steps.old + (length intermediates.now + 1) * (length intermediates.now + length anchors.now) }
+{
+    let leaf = read(alloc, leaf.as_bytes())?;
+    check_leaf(&leaf, purpose)?;
+    let intermediates = read_each(alloc, intermediates)?;
+    let anchors = read_anchors(alloc, anchors)?;
+    let given = Given {
+        provider,
+        leaf: &leaf,
+        intermediates: intermediates.as_slice(),
+        anchors: anchors.as_slice(),
+        purpose,
+        at,
+    };
+    let route = search_anew(alloc, &given, steps)?;
+    Ok(found(alloc, &given, route)?)
+}

@@ -1,0 +1,11 @@
+//! Tests of certificate paths.
+#![tactic(auto)]
+
+#[cfg(test)]
+mod certificates;
+#[cfg(test)]
+mod paths;
+#[cfg(test)]
+mod signatures;
+#[cfg(test)]
+mod words;

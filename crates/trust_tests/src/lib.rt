@@ -1,0 +1,7 @@
+//! Tests of trust files.
+#![tactic(auto)]
+
+#[cfg(test)]
+mod data;
+#[cfg(test)]
+mod files;
