@@ -12,7 +12,6 @@ use Rattle.sigstore_tuf_parts.specs.declared.error.TransportFault.{TransportFaul
 use Rattle.sigstore_tuf_parts.specs.declared.error.TransportFault.TheVariants as transport
 use Rattle.sigstore_tuf_parts.specs.declared.root.Root as declared_root
 use Rattle.sigstore_tuf_parts.specs.declared.snapshot.Snapshot as declared_snapshot
-use Rattle.sigstore_tuf_parts.specs.declared.targets.Targets as declared_targets
 use Rattle.sigstore_tuf_parts.specs.declared.timestamp.MetaFile.{MetaFile}
 use Rattle.sigstore_tuf_parts.specs.declared.timestamp.Timestamp as declared_timestamp
 use Rattle.sigstore_tuf_parts.specs.Crypto.{Crypto}
@@ -38,7 +37,7 @@ use Rattle.sigstore_tuf.specs.Repository.{Folders, Files, metadata_files}
 use Rattle.sigstore_tuf.specs.Names.{file_name, max_length}
 use Rattle.sigstore_tuf.specs.Update.{fresh_at_of, newer_of, timestamp_checks_of, update_timestamp_of, targets_pin_of}
 use Rattle.sigstore_tuf.specs.State.{Session, State}
-use Rattle.sigstore_tuf.specs.Adopt.{top_targets, unless_equal, FetchesNamed, FetchesDocument, fetch_unnamed, fetch_asked, absence_of, there_of, Adopts, unfetched, absent, refused, kept, adopted}
+use Rattle.sigstore_tuf.specs.Adopt.{unless_equal, FetchesNamed, FetchesDocument, fetch_unnamed, fetch_asked, absence_of, there_of, Adopts, unfetched, absent, refused, kept, adopted}
 use Rattle.sigstore_tuf.specs.Client.{version_in, root_serves_of, timestamp_serves_of, snapshot_serves_of}
 use Rattle.sigstore_tuf.specs.Run.{said, Stops, next_root, alone, WalksRoots, Checks, Refetches, Does, refresh_steps, RunsSteps}
 use Rattle.sigstore_tuf.specs.Trusted.{BeginsWith}
@@ -51,8 +50,8 @@ use Rattle.sigstore_tuf.proofs.Holding.{stays_whole}
 use Rattle.sigstore_tuf.proofs.Lift.{IsAsked, AsksNoRoot, next_root_is}
 use Rattle.sigstore_tuf.proofs.Steps.{keeps_want, reseeds_want, adopt_rises}
 use Rattle.sigstore_tuf.proofs.Carrying.{fetched_had, Carried, carried_joins, carried_stays, adopt_carried, does_carried}
-use Rattle.sigstore_tuf.proofs.Refusals.{missing, refused_unless, IsPinningTargets, refusal_cause}
-use Rattle.sigstore_tuf.proofs.Serving.{RootFresh, root_looked, root_stays, reseeds_root, refetches_root, timestamp_looked, snapshot_fetched, targets_fetched, Rest, step_split}
+use Rattle.sigstore_tuf.proofs.Refusals.{missing, IsPinningTargets, refusal_cause}
+use Rattle.sigstore_tuf.proofs.Serving.{RootFresh, root_looked, root_stays, reseeds_root, refetches_root, timestamp_looked, snapshot_fetched, Rest, step_split}
 
 -- ---- want of memory
 

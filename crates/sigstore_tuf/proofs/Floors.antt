@@ -6,21 +6,19 @@ use Rattle.std.specs.Ordering.{is_eq}
 use Rattle.std.proofs.lemmas.Bool.Decides.{nat_tests}
 use Rattle.std.proofs.lemmas.Slice.Eq.{bytes_eq-Decides}
 use Rattle.std.proofs.lemmas.Map.Text.{is_eq-slice_cmp}
-use Rattle.foundation.specs.Steps.{◌>>=◌}
 use Rattle.foundation.specs.Results.{step_ok, some_same}
 use Rattle.sigstore_types_parts.specs.Entries.{at_name, text_cmp}
 use Rattle.sigstore_tuf_parts.specs.declared.error.Error.{Error}
 use Rattle.sigstore_tuf_parts.specs.declared.error.Error.TheVariants as tuf
-use Rattle.sigstore_tuf_parts.specs.declared.error.Mismatch.TheVariants as mismatch
 use Rattle.sigstore_tuf_parts.specs.declared.snapshot.Snapshot.{Snapshot}
 use Rattle.sigstore_tuf_parts.specs.declared.timestamp.MetaFile.{MetaFile}
 use Rattle.sigstore_tuf_parts.specs.declared.timestamp.Timestamp.{Timestamp}
 use Rattle.sigstore_tuf.specs.declared.documents.Held.{Held}
 use Rattle.sigstore_tuf.specs.declared.documents.InForce.{InForce}
-use Rattle.sigstore_tuf.specs.Documents.{content_of, snapshot_pin}
+use Rattle.sigstore_tuf.specs.Documents.{content_of}
 use Rattle.sigstore_tuf.specs.Client.{version_in}
-use Rattle.sigstore_tuf.specs.Update.{not_below_of, other_of, pins_not_below_of, newer_than_of, newer_of, kept_pin_of, kept_pins_in, kept_pins_of}
-use Rattle.sigstore_tuf.specs.Floor.{Floor, floor_of, NoLower, NotBelow, Standing, standing_of, KeepsFloor, KeepFloors, FloorsHold}
+use Rattle.sigstore_tuf.specs.Update.{not_below_of, newer_than_of, newer_of, kept_pin_of, kept_pins_in, kept_pins_of}
+use Rattle.sigstore_tuf.specs.Floor.{Floor, floor_of, NoLower, NotBelow, Standing, standing_of, KeepsFloor, FloorsHold}
 
 -- ---- versions
 

@@ -1,12 +1,11 @@
 -- The delegations that follow a document.
-use Rattle.std.proofs.Common.{◌≡◌, ℕ, if◌then◌else◌, List, [], ◌∷◌, Bool, true, false, Option, Some, None, Result, Ok, Err, bytes_eq, refl, sym, ap, ◌∙◌, subst}
-use Rattle.std.specs.Prelude.{⊤, find, is_some, ok_or, option_map}
+use Rattle.std.proofs.Common.{◌≡◌, ℕ, if◌then◌else◌, List, [], ◌∷◌, Bool, true, false, Option, Some, None, Ok, bytes_eq, refl, sym, ap, ◌∙◌, subst}
+use Rattle.std.specs.Prelude.{find, is_some, ok_or}
 use Rattle.std.specs.List.{AllByRecursion}
 use Rattle.std.proofs.lemmas.Slice.Eq.{bytes_eq-Decides}
 use Rattle.foundation.specs.Steps.{◌>>=◌}
 use Rattle.foundation.specs.Results.{step_ok, ok_same}
 use Rattle.sigstore_types_parts.specs.Entries.{at_name}
-use Rattle.sigstore_tuf_parts.specs.declared.error.Error.{Error}
 use Rattle.sigstore_tuf_parts.specs.declared.error.Error.TheVariants as tuf
 use Rattle.sigstore_tuf_parts.specs.declared.error.Rule.TheVariants as rule
 use Rattle.sigstore_tuf_parts.specs.declared.targets.DelegatedRole.{DelegatedRole}
@@ -17,7 +16,7 @@ use Rattle.sigstore_tuf_parts.specs.Targets.{role_keys_in}
 use Rattle.sigstore_tuf.specs.declared.documents.Held.{Held}
 use Rattle.sigstore_tuf.specs.declared.documents.InForce.{InForce}
 use Rattle.sigstore_tuf.specs.Documents.{content_of}
-use Rattle.sigstore_tuf.specs.Order.{Visit, Gap, Next, is_top_level, nothing_next, with_name, pattern_or, matching, delegated_in, by}
+use Rattle.sigstore_tuf.specs.Order.{Visit, Next, is_top_level, nothing_next, with_name, pattern_or, matching, delegated_in, by}
 use Rattle.sigstore_tuf.specs.Trusted.{Authority, authority_in}
 use Rattle.sigstore_tuf.specs.Delegated.{not_top_level_of, delegation_of}
 use Rattle.sigstore_tuf.proofs.Updates.{ok_some}

@@ -1,5 +1,5 @@
 -- What a search leaves of the documents in force: more roles, and the rest as it was.
-use Rattle.std.proofs.Common.{◌≡◌, ℕ, List, [], ◌∷◌, Bool, true, false, cond, Option, Some, None, Result, Ok, Err, codes, refl, sym, ap, ◌∙◌, subst}
+use Rattle.std.proofs.Common.{◌≡◌, ℕ, List, Bool, true, false, cond, Some, Result, Ok, Err, refl, sym, ap, ◌∙◌, subst}
 use Rattle.std.specs.Prelude.{⊤, is_some}
 use Rattle.std.specs.Ordering.{is_eq}
 use Rattle.std.proofs.lemmas.Slice.Eq.{bytes_eq-Decides}
@@ -8,7 +8,6 @@ use Rattle.sigstore_types_parts.specs.Entries.{at_name, text_cmp}
 use Rattle.sigstore_tuf_parts.specs.declared.error.Error.{Error}
 use Rattle.sigstore_tuf_parts.specs.declared.snapshot.Snapshot.{Snapshot}
 use Rattle.sigstore_tuf_parts.specs.declared.targets.Targets.{Targets}
-use Rattle.foundation.specs.Results.{ok_same, some_same, no_both}
 use Rattle.sigstore_tuf.specs.declared.documents.Held.{Held}
 use Rattle.sigstore_tuf.specs.declared.documents.InForce.{InForce}
 use Rattle.sigstore_tuf.specs.State.{Session, State}

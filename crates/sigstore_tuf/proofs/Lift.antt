@@ -14,7 +14,7 @@ use Rattle.sigstore_tuf.specs.declared.kind.Kind.TheVariants.{Root, Timestamp, S
 use Rattle.sigstore_tuf.specs.declared.step.Step.{Step}
 use Rattle.sigstore_tuf.specs.declared.step.Step.TheVariants.{WalkRoots, CheckRoot, Seed, Fetch, CheckTimestamp, CheckSnapshot}
 use Rattle.sigstore_tuf.specs.State.{Session, State}
-use Rattle.sigstore_tuf.specs.Adopt.{top_targets, Adopts, Seeds}
+use Rattle.sigstore_tuf.specs.Adopt.{Adopts, Seeds}
 use Rattle.sigstore_tuf.specs.Client.{version_in, root_serves_of, timestamp_serves_of, snapshot_serves_of}
 use Rattle.sigstore_tuf.specs.Run.{Turn, Loop, IsIdle, Stops, Repeats, next_root, alone, root_loop, WalksRoots, SavesRoot, Attaches, roots_unrecalled, roots_recalled, roots_left, Checks, said, Refetches, moment_of, Reseeds, Does, Runs}
 

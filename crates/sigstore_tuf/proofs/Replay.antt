@@ -2,8 +2,8 @@
 use Rattle.std.proofs.Common.{◌≡◌, ◌≢◌, ◌⊎◌, inl, inr, ℕ, ◌≤◌, ◌==◌, ◌||◌, ◌&&◌, not, if◌then◌else◌, List, [], ◌∷◌, Bool, true, false, Option, Some, None, Result, Ok, Err, refl, sym, ap, ◌∙◌, subst, le_trans}
 use Rattle.std.specs.Prelude.{⊤, is_some, option_map, ok_or}
 use Rattle.foundation.specs.Steps.{◌>>=◌}
-use Rattle.foundation.specs.Watched.{Watched, Since}
-use Rattle.foundation.specs.Results.{ok_same, err_same, some_same, no_both, refused_at}
+use Rattle.foundation.specs.Watched.{Since}
+use Rattle.foundation.specs.Results.{err_same, refused_at}
 use Rattle.sigstore_types_parts.specs.Entries.{at_name}
 use Rattle.sigstore_tuf_parts.specs.declared.error.Error.{Error}
 use Rattle.sigstore_tuf_parts.specs.declared.error.Error.TheVariants as tuf
@@ -16,23 +16,22 @@ use Rattle.sigstore_tuf.specs.declared.documents.Held.{Held}
 use Rattle.sigstore_tuf.specs.declared.documents.InForce.{InForce}
 use Rattle.sigstore_tuf.specs.Documents.{content_of}
 use Rattle.sigstore_tuf.specs.Names.{role_pin_in}
-use Rattle.sigstore_tuf.specs.Repository.{Folders, metadata_files}
+use Rattle.sigstore_tuf.specs.Repository.{metadata_files}
 use Rattle.sigstore_tuf.specs.State.{Session, State}
-use Rattle.sigstore_tuf.specs.Run.{said}
-use Rattle.sigstore_tuf.specs.Adopt.{taken_of, unfetched, absent, refused, kept, adopted}
-use Rattle.sigstore_tuf.specs.Order.{Visit, Tree, Gap, pattern, missing, Walk, Next, Step, is_top_level, is_pinned, lists, pattern_or, matching, with_name, delegated_in, visited as one_more, having_read, read_of, read_named, still, visit_of, pending_after}
+use Rattle.sigstore_tuf.specs.Adopt.{unfetched, absent, refused, kept, adopted}
+use Rattle.sigstore_tuf.specs.Order.{Visit, Tree, Gap, pattern, missing, Walk, Step, is_top_level, is_pinned, lists, pattern_or, matching, with_name, delegated_in, visited as one_more, having_read, read_of, read_named, still, visit_of, pending_after}
 use Rattle.sigstore_tuf.specs.SearchLaws.{walk_all, visits_of, tree_of}
-use Rattle.sigstore_tuf.specs.Delegated.{update_role_of, with_role}
-use Rattle.sigstore_tuf.specs.Search.{documents_of, tree_in, AdoptsRole, reads, is_held, IsSnapshot, IsGap, Readies, wanting, untouched, looked_at, had, Searches, ended, short, unready, gapped, visited, FindsVisits, unserved, searched}
+use Rattle.sigstore_tuf.specs.Delegated.{update_role_of}
+use Rattle.sigstore_tuf.specs.Search.{documents_of, tree_in, AdoptsRole, reads, IsSnapshot, IsGap, Readies, wanting, untouched, looked_at, had, Searches, ended, short, unready, gapped, visited, FindsVisits, unserved, searched}
 use Rattle.sigstore_tuf.specs.SearchCause.{Reaches, first, later}
 use Rattle.sigstore_tuf.proofs.Files.{inserted}
 use Rattle.sigstore_tuf.proofs.Carrying.{since_same, since_joins, fetched_since}
 use Rattle.sigstore_tuf.proofs.RolePuts.{taken_some}
 use Rattle.sigstore_tuf.proofs.Searched.{snapshot_stays}
-use Rattle.sigstore_tuf.proofs.Walks.{IfStep, Steps, visit_steps, by_list}
+use Rattle.sigstore_tuf.proofs.Walks.{IfStep, visit_steps, by_list}
 use Rattle.sigstore_tuf.proofs.Stepping.{among_last, is_over, StepOf, passed_over, unpinned, listing, followed, step_cases, cases_step, step_reads, swap_step}
 use Rattle.sigstore_tuf.proofs.Growing.{Grows, grows_stays, grows_joins, ready_grows, search_grows}
-use Rattle.sigstore_tuf.proofs.Visits.{RoleTaken, role_taken, at_role, reads_pinned, IsRead, Onward, steps_onward}
+use Rattle.sigstore_tuf.proofs.Visits.{RoleTaken, role_taken, reads_pinned, IsRead, Onward, steps_onward}
 
 -- ---- what a visit leaves
 

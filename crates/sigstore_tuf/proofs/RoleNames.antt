@@ -7,7 +7,7 @@ use Rattle.std.proofs.lemmas.Slice.Eq.{bytes_eq-Decides}
 use Rattle.std.specs.Fmt.{digit_glyph}
 use Rattle.percent_encoding.specs.Percent.{percent_encode_byte}
 use Rattle.sigstore_tuf_parts.specs.Names.{timestamp_name, snapshot_name, targets_name}
-use Rattle.sigstore_tuf.specs.Names.{is_letter, is_digit, is_among_marks, is_unreserved, escaped, role_file, history_name, root_file, kept_target}
+use Rattle.sigstore_tuf.specs.Names.{is_unreserved, escaped, role_file, history_name, root_file, kept_target}
 use Rattle.sigstore_tuf.specs.Order.{is_top_level}
 
 -- ---- a text that stands as it is

@@ -1,8 +1,8 @@
 -- Why the document of a delegated role is refused.
-use Rattle.std.proofs.Common.{◌≡◌, ℕ, List, Bool, true, false, Option, Some, None, Result, Ok, Err, codes, refl, sym, ap, ◌∙◌, subst}
-use Rattle.std.specs.Prelude.{⊤, is_some, ok_or, option_and_then}
+use Rattle.std.proofs.Common.{◌≡◌, ℕ, List, true, Option, Some, None, Ok, Err, codes, refl, sym, ap, ◌∙◌}
+use Rattle.std.specs.Prelude.{is_some, option_and_then}
 use Rattle.jiff_core.specs.declared.timestamp.Timestamp as jiff
-use Rattle.foundation.specs.Results.{ok_same, some_same, no_both, refused_at}
+use Rattle.foundation.specs.Results.{ok_same, no_both, refused_at}
 use Rattle.sigstore_types_parts.specs.Entries.{at_name}
 use Rattle.sigstore_tuf_parts.specs.declared.error.Error.{Error}
 use Rattle.sigstore_tuf_parts.specs.declared.snapshot.Snapshot.{Snapshot}

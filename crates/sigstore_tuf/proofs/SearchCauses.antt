@@ -1,8 +1,8 @@
 -- Each refusal of a search has its cause.
-use Rattle.std.proofs.Common.{◌≡◌, ◌≢◌, ◌⊎◌, inl, inr, ℕ, ◌==◌, ◌||◌, ◌&&◌, not, if◌then◌else◌, List, [], ◌∷◌, length, Bool, true, false, Option, Some, None, Result, Ok, Err, bytes_eq, codes, refl, sym, ap, ◌∙◌, subst}
+use Rattle.std.proofs.Common.{◌≡◌, ◌≢◌, ◌⊎◌, inl, inr, ℕ, ◌==◌, ◌||◌, ◌&&◌, not, if◌then◌else◌, List, [], ◌∷◌, Bool, true, false, Option, Some, None, Result, Ok, Err, refl, sym, ap, ◌∙◌, subst}
 use Rattle.std.specs.Prelude.{⊤, is_some, ok_or, option_map, option_and_then, IfErr}
-use Rattle.foundation.specs.Watched.{Watched, IfTold, Since}
-use Rattle.foundation.specs.Results.{ok_same, err_same, some_same, no_both, refused_at}
+use Rattle.foundation.specs.Watched.{Watched, IfTold}
+use Rattle.foundation.specs.Results.{err_same, some_same, no_both, refused_at}
 use Rattle.sigstore_types_parts.specs.Entries.{at_name}
 use Rattle.sigstore_tuf_parts.specs.declared.error.Error.{Error}
 use Rattle.sigstore_tuf_parts.specs.declared.error.Error.TheVariants as tuf
@@ -23,23 +23,22 @@ use Rattle.sigstore_tuf.specs.Names.{role_pin_in, role_name_in, role_file}
 use Rattle.sigstore_tuf.specs.State.{Session, State}
 use Rattle.sigstore_tuf.specs.Run.{said}
 use Rattle.sigstore_tuf.specs.Adopt.{taken_of, FetchesNamed, fetch_unnamed, fetch_asked, there_of, SavesAll, unfetched, absent, refused, kept, adopted}
-use Rattle.sigstore_tuf.specs.Order.{Visit, Gap, pattern, Walk, Step, first_visit, first_walk, is_top_level, is_pinned, visit_of}
+use Rattle.sigstore_tuf.specs.Order.{Visit, Gap, pattern, Walk, first_visit, first_walk, visit_of}
 use Rattle.sigstore_tuf.specs.Trusted.{Authority}
 use Rattle.sigstore_tuf.specs.Delegated.{delegation_of, meets_delegation_of, role_serves_of, update_role_of}
-use Rattle.sigstore_tuf.specs.Target.{search_serves_of}
-use Rattle.sigstore_tuf.specs.Search.{documents_of, tree_in, AdoptsRole, visit_serves_of, reads, is_held, IsSnapshot, IsGap, gap_error, Readies, wanting, untouched, looked_at, had, Searches, visits_in, FindsVisits, unserved, searched}
+use Rattle.sigstore_tuf.specs.Search.{documents_of, tree_in, AdoptsRole, visit_serves_of, reads, is_held, gap_error, Readies, wanting, untouched, looked_at, had, Searches, visits_in, FindsVisits, unserved, searched}
 use Rattle.sigstore_tuf.specs.Cause.{Has, TransportCause}
 use Rattle.sigstore_tuf.specs.Authorised.{Serve}
 use Rattle.sigstore_tuf.specs.SearchCause as cause
 use Rattle.sigstore_tuf.specs.SearchCause.{RoleRefusal, ComesTo, SearchCause, role_refused, role_unfetched, kept_role_unmet, kept_role_expired, malformed, search_wanting}
-use Rattle.sigstore_tuf.proofs.Updates.{ok_some, fresh_from}
+use Rattle.sigstore_tuf.proofs.Updates.{ok_some}
 use Rattle.sigstore_tuf.proofs.Steps.{all_want}
 use Rattle.sigstore_tuf.proofs.Refusals.{was_refused}
 use Rattle.sigstore_tuf.proofs.RoleRefusals.{role_refusal, some_pin}
 use Rattle.sigstore_tuf.proofs.Carrying.{fetched_had}
 use Rattle.sigstore_tuf.proofs.Causes.{is_want, transport_earlier}
 use Rattle.sigstore_tuf.proofs.RolePuts.{taken_some}
-use Rattle.sigstore_tuf.proofs.Growing.{Grows, grows_joins}
+use Rattle.sigstore_tuf.proofs.Growing.{grows_joins}
 use Rattle.sigstore_tuf.proofs.Followed.{delegation_grows}
 use Rattle.sigstore_tuf.proofs.Visits.{IsDue, begins, delegated, role_taken, at_role, low_name, is_reading, onward_begins}
 use Rattle.sigstore_tuf.proofs.Replay.{reading_open, Why, not_ready, no_step, Fails, wants, fails, Refuses, search_refuses, Gapped, visit_gap}

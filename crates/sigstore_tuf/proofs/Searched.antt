@@ -22,7 +22,7 @@ use Rattle.sigstore_tuf.specs.Adopt.{top_targets, unfetched, absent, refused, ke
 use Rattle.sigstore_tuf.specs.Delegated.{update_role_of}
 use Rattle.sigstore_tuf.proofs.RolePuts.{role_put, taken_some}
 use Rattle.sigstore_tuf.specs.Documents.{content_of}
-use Rattle.sigstore_tuf.specs.Order.{Visit, Tree, Gap, missing, Walk, Step, is_pinned, visited as one_more, still, having_read, read_of, read_named, visit_of}
+use Rattle.sigstore_tuf.specs.Order.{Visit, Tree, missing, Walk, is_pinned, visited as one_more, still, having_read, read_of, read_named, visit_of}
 use Rattle.sigstore_tuf.specs.Search.{tree_in, IsSnapshot, IsOpen, IsGap, gap_error, unread_of, WalksOne, AdoptsRole, Readies, wanting, untouched, looked_at, had, Searches, ended, visited}
 
 pub if_ok_map : {T E : Type 0} {P Q : T → Type 0} (r : Result T E) → ((x : T) → P x → Q x) → IfOk r P → IfOk r Q

@@ -1,7 +1,7 @@
 -- A search that is Ok is over documents that serve, and what it finds is trusted.
-use Rattle.std.proofs.Common.{◌≡◌, ◌≢◌, ℕ, zero, suc, ◌==◌, ◌||◌, cond, if◌then◌else◌, List, [], ◌∷◌, map, Bool, true, false, Option, Some, None, Result, Ok, Err, bytes_eq, codes, refl, sym, ap, ◌∙◌, subst, arith, le_refl}
-use Rattle.std.specs.Prelude.{⊤, is_some, ok_or, find, option_map, option_and_then, IfOk}
-use Rattle.std.specs.List.{AllByRecursion, last_or, filter_map}
+use Rattle.std.proofs.Common.{◌≡◌, ℕ, ◌==◌, ◌||◌, if◌then◌else◌, List, [], ◌∷◌, map, Bool, true, false, Option, Some, None, Result, Ok, Err, bytes_eq, codes, refl, sym, ap, ◌∙◌, subst, arith, le_refl}
+use Rattle.std.specs.Prelude.{⊤, is_some, ok_or, option_map, option_and_then, IfOk}
+use Rattle.std.specs.List.{AllByRecursion, last_or}
 use Rattle.std.specs.Result.{result_ok}
 use Rattle.std.specs.Ordering.{is_eq}
 use Rattle.std.proofs.lemmas.Bool.Decides.{nat_tests}
@@ -23,7 +23,6 @@ use Rattle.sigstore_tuf_parts.specs.declared.targets.TargetFile.{TargetFile}
 use Rattle.sigstore_tuf_parts.specs.declared.targets.Targets.{Targets}
 use Rattle.sigstore_tuf_parts.specs.declared.root.Root.{Root}
 use Rattle.sigstore_tuf_parts.specs.Document.{content_in}
-use Rattle.sigstore_tuf_parts.specs.Crypto.{Crypto}
 use Rattle.sigstore_tuf_parts.specs.Integrity.{fresh_of}
 use Rattle.sigstore_tuf_parts.specs.Meets.{Meets}
 use Rattle.sigstore_tuf_parts.specs.Names.{pin_name}
@@ -37,7 +36,7 @@ use Rattle.sigstore_tuf.specs.declared.documents.Held.{Held}
 use Rattle.sigstore_tuf.specs.declared.documents.InForce.{InForce}
 use Rattle.sigstore_tuf.specs.declared.chain.RoleDoc.{RoleDoc}
 use Rattle.sigstore_tuf.specs.declared.chain.TrustChain.{TrustChain}
-use Rattle.sigstore_tuf.specs.Documents.{targets_document, content_of, snapshot_pin, targets_pin}
+use Rattle.sigstore_tuf.specs.Documents.{targets_document, content_of, snapshot_pin}
 use Rattle.sigstore_tuf.specs.Names.{is_consistent}
 use Rattle.sigstore_tuf.specs.State.{Session, State}
 use Rattle.sigstore_tuf.specs.Adopt.{top_targets}
@@ -46,7 +45,7 @@ use Rattle.sigstore_tuf.specs.Order.{Visit, Gap, Walk, is_pinned, first_visit, f
 use Rattle.sigstore_tuf.specs.SearchLaws.{walk_all, visits_of, tree_of}
 use Rattle.sigstore_tuf.specs.Search.{documents_of, listed_by, entry_after, Searches, visits_in, FindsVisits, unserved, searched, GivesInfo}
 use Rattle.sigstore_tuf.specs.Search as search
-use Rattle.sigstore_tuf.specs.Chain.{role_doc_in, chain_in, chain_of, found_of, GivesChain, unlisted, unobtained, unchained, found, GetsTarget, unfound, visited}
+use Rattle.sigstore_tuf.specs.Chain.{role_doc_in, chain_of, GivesChain, unlisted, unobtained, unchained, found, GetsTarget, unfound, visited}
 use Rattle.sigstore_tuf.specs.Trusted.{visit_in, read_in, documents_in, last_in, Authority, authority_in, delegated_authority, root_authority, authority_of, IsTrustedRole, IsTrustedVisit, Trusted}
 use Rattle.sigstore_tuf.specs.Delegated.{not_top_level_of, delegation_of}
 use Rattle.sigstore_tuf.specs.Authorised.{AreAuthorised, IsAuthorised, given_in, Serve}
@@ -56,8 +55,8 @@ use Rattle.sigstore_tuf.proofs.Holding.{stays_whole}
 use Rattle.sigstore_tuf.proofs.Updates.{where_some, ok_some, fresh_from}
 use Rattle.sigstore_tuf.proofs.Growing.{Grows, finds_grows, finds_stays, search_grows}
 use Rattle.sigstore_tuf.proofs.Followed.{each_map}
-use Rattle.sigstore_tuf.proofs.Visits.{RoleServes, IsRead, IsMade, reads_none, reads_top, reads_role, Onward, onward_begins, low_name}
-use Rattle.sigstore_tuf.proofs.Replay.{AgreesOn, Arrives, search_arrives}
+use Rattle.sigstore_tuf.proofs.Visits.{IsMade, reads_none, reads_top, reads_role, Onward, onward_begins, low_name}
+use Rattle.sigstore_tuf.proofs.Replay.{AgreesOn, search_arrives}
 
 -- ---- a search that is Ok
 

@@ -1,5 +1,5 @@
 -- The cases of a visit that is made.
-use Rattle.std.proofs.Common.{◌≡◌, ℕ, ◌==◌, ◌||◌, if◌then◌else◌, List, [], ◌∷◌, ◌++◌, Bool, true, false, Option, Some, None, Result, Ok, Err, bytes_eq, refl, sym, ap, ◌∙◌, subst}
+use Rattle.std.proofs.Common.{◌≡◌, ℕ, ◌==◌, ◌||◌, if◌then◌else◌, List, [], ◌∷◌, ◌++◌, Bool, true, false, Option, Some, None, Ok, bytes_eq, refl, sym, ap, ◌∙◌}
 use Rattle.std.specs.Prelude.{ok_or}
 use Rattle.std.proofs.lemmas.Slice.Eq.{bytes_eq-Decides}
 use Rattle.foundation.specs.Steps.{◌>>=◌}
@@ -7,7 +7,7 @@ use Rattle.foundation.specs.Results.{step_ok, ok_same}
 use Rattle.sigstore_tuf_parts.specs.declared.snapshot.Snapshot.{Snapshot}
 use Rattle.sigstore_tuf_parts.specs.declared.targets.Targets.{Targets}
 use Rattle.sigstore_tuf_parts.specs.Threshold.{is_among}
-use Rattle.sigstore_tuf.specs.Order.{Visit, Tree, Gap, missing, Walk, Next, Step, ended, visited, having_read, is_pinned, lists, matching, delegated_in, still, read_of, read_named, visit_of}
+use Rattle.sigstore_tuf.specs.Order.{Visit, Tree, missing, Walk, Next, Step, ended, visited, having_read, is_pinned, lists, matching, delegated_in, still, read_of, read_named, visit_of}
 
 -- ---- names that were read
 

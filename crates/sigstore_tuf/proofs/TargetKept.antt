@@ -1,5 +1,5 @@
 -- After a search the store has the documents in force, and the chain that is given.
-use Rattle.std.proofs.Common.{◌≡◌, ◌⊎◌, inl, inr, ℕ, ◌≤◌, List, [], ◌∷◌, map, drop, Bool, false, Option, Some, None, Result, Ok, Err, codes, refl, sym, ap, ◌∙◌, subst, le_refl, le_trans}
+use Rattle.std.proofs.Common.{◌≡◌, inl, inr, ℕ, ◌≤◌, List, [], ◌∷◌, map, drop, Bool, false, Option, Some, None, Result, Ok, Err, codes, refl, sym, ap, ◌∙◌, subst, le_refl, le_trans}
 use Rattle.std.specs.Prelude.{⊤, option_map, IfSome, IfOk}
 use Rattle.std.specs.List.{AllByRecursion, last_or}
 use Rattle.foundation.specs.Watched.{Watched, IfTold}
@@ -21,7 +21,7 @@ use Rattle.sigstore_tuf.specs.declared.store.StoreFault.TheVariants as store
 use Rattle.sigstore_tuf.specs.Repository.{Quiet, Folders, Files}
 use Rattle.sigstore_tuf.specs.Store.{is_bad_name, with_file, Keeps as KeepsTold}
 use Rattle.sigstore_tuf.specs.Names.{is_consistent, role_file, history_name, root_file, kept_target}
-use Rattle.sigstore_tuf.specs.State.{Session, State, state_of}
+use Rattle.sigstore_tuf.specs.State.{Session, State}
 use Rattle.sigstore_tuf.specs.Run.{said}
 use Rattle.sigstore_tuf.specs.Adopt.{top_targets, LoadsNamed, Saves, save_unnamed, save_asked, SavesAll, unfetched, absent, refused, kept, adopted}
 use Rattle.sigstore_tuf.specs.Order.{Visit, Walk, is_top_level}
@@ -32,13 +32,13 @@ use Rattle.sigstore_tuf.specs.Search as search
 use Rattle.sigstore_tuf.specs.Search.{AdoptsRole, Readies, wanting, untouched, looked_at, had, Searches, ended, short, unready, gapped, visited, FindsVisits, unserved, searched, GivesInfo}
 use Rattle.sigstore_tuf.specs.Chain as chain
 use Rattle.sigstore_tuf.specs.Chain.{role_doc_in, chain_in, chain_of, GivesChain, GetsTarget}
-use Rattle.sigstore_tuf.specs.Kept.{IsFiled, HasRoot, HoldsInForce, HoldsChain, KeepsInForce, StaysKept, KeepsChain}
+use Rattle.sigstore_tuf.specs.Kept.{IsFiled, HasRoot, HoldsInForce, HoldsChain, StaysKept, KeepsChain}
 use Rattle.sigstore_tuf.proofs.Carrying.{loaded_had}
 use Rattle.sigstore_tuf.proofs.Completing.{quiet_second}
 use Rattle.sigstore_tuf.proofs.Keeping.{told_moved, told_map, told_each, told_both, loaded_told, saved_later, saved_put, all_later, roots_kept, some_kept, with_this, with_other}
 use Rattle.sigstore_tuf.proofs.RolePuts.{not_top, taken_some}
 use Rattle.sigstore_tuf.proofs.RoleNames.{not_timestamp, not_snapshot, not_targets, not_root, not_history}
-use Rattle.sigstore_tuf.proofs.Growing.{Grows, grows_same, ready_grows}
+use Rattle.sigstore_tuf.proofs.Growing.{Grows, ready_grows}
 use Rattle.sigstore_tuf.proofs.Visits.{role_taken}
 
 -- ---- what a store has of the documents in force

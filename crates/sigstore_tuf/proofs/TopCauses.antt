@@ -1,6 +1,5 @@
 -- Each refusal of the top-level documents that are to serve a search has its cause.
-use Rattle.std.proofs.Common.{◌≡◌, ◌≢◌, ℕ, List, Bool, true, false, Option, Some, None, Result, Ok, Err, codes, refl, sym, ap, ◌∙◌}
-use Rattle.std.specs.Prelude.{⊤}
+use Rattle.std.proofs.Common.{◌≡◌, ◌≢◌, ℕ, false, Option, Some, None, Err, codes, refl, sym, ap, ◌∙◌}
 use Rattle.jiff_core.specs.declared.timestamp.Timestamp as jiff
 use Rattle.foundation.specs.Results.{err_same, some_same, refused_at}
 use Rattle.sigstore_tuf_parts.specs.declared.error.Error.{Error}

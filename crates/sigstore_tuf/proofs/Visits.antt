@@ -1,13 +1,12 @@
 -- What holds of a search on its way: of the visits that are due, of the names that were read, and of the visits that were made.
-use Rattle.std.proofs.Common.{◌≡◌, ◌≢◌, ℕ, ◌==◌, ◌||◌, ◌&&◌, not, if◌then◌else◌, List, [], ◌∷◌, ◌++◌, map, Bool, true, false, cond, Option, Some, None, Result, Ok, Err, bytes_eq, codes, refl, sym, ap, ◌∙◌, subst}
+use Rattle.std.proofs.Common.{◌≡◌, ℕ, ◌==◌, ◌||◌, ◌&&◌, not, if◌then◌else◌, List, [], ◌∷◌, ◌++◌, map, Bool, true, false, cond, Option, Some, None, Result, Ok, Err, bytes_eq, codes, refl, sym, ap, ◌∙◌, subst}
 use Rattle.std.specs.Prelude.{⊤, is_some, ok_or, option_map}
 use Rattle.std.specs.List.{AllByRecursion}
-use Rattle.std.specs.Ordering.{is_eq}
 use Rattle.std.proofs.lemmas.Slice.Eq.{bytes_eq-Decides}
 use Rattle.std.proofs.lemmas.Map.Text.{is_eq-slice_cmp}
 use Rattle.jiff_core.specs.declared.timestamp.Timestamp as jiff
 use Rattle.foundation.specs.Results.{step_ok, ok_same, some_same, no_both}
-use Rattle.sigstore_types_parts.specs.Entries.{at_name, text_cmp}
+use Rattle.sigstore_types_parts.specs.Entries.{at_name}
 use Rattle.sigstore_tuf_parts.specs.declared.error.Error.{Error}
 use Rattle.sigstore_tuf_parts.specs.declared.error.Error.TheVariants as tuf
 use Rattle.sigstore_tuf_parts.specs.declared.snapshot.Snapshot.{Snapshot}
@@ -16,21 +15,19 @@ use Rattle.sigstore_tuf_parts.specs.declared.timestamp.MetaFile.{MetaFile}
 use Rattle.sigstore_tuf_parts.specs.Crypto.{Crypto}
 use Rattle.sigstore_tuf_parts.specs.Document.{Document, content_in}
 use Rattle.sigstore_tuf_parts.specs.Integrity.{version_of}
-use Rattle.sigstore_tuf_parts.specs.Names.{pin_name}
 use Rattle.sigstore_tuf_parts.specs.Pinned.{Fresh}
 use Rattle.sigstore_tuf_parts.specs.Threshold.{is_among}
 use Rattle.sigstore_tuf.specs.declared.documents.Held.{Held}
 use Rattle.sigstore_tuf.specs.declared.documents.InForce.{InForce}
 use Rattle.sigstore_tuf.specs.Documents.{content_of}
 use Rattle.sigstore_tuf.specs.Names.{role_pin_in}
-use Rattle.sigstore_tuf.specs.Update.{fresh_at_of}
 use Rattle.sigstore_tuf.specs.State.{Session, State}
 use Rattle.sigstore_tuf.specs.Run.{said}
 use Rattle.sigstore_tuf.specs.Adopt.{taken_of, unfetched, absent, refused, kept, adopted}
-use Rattle.sigstore_tuf.specs.Order.{Visit, Walk, Next, Step, by, first_visit, is_top_level, is_pinned, ended as walk_ended, still, visited as one_more, having_read, put_before, pending_after, delegated_in}
+use Rattle.sigstore_tuf.specs.Order.{Visit, Walk, Next, Step, by, first_visit, is_top_level, is_pinned, ended as walk_ended, visited as one_more, having_read, put_before, pending_after, delegated_in}
 use Rattle.sigstore_tuf.specs.Trusted.{Authority}
 use Rattle.sigstore_tuf.specs.Delegated.{delegation_of, meets_delegation_of, role_serves_of, role_checks_of, role_pin_of, role_document_of, update_role_of, with_role}
-use Rattle.sigstore_tuf.specs.Search.{documents_of, AdoptsRole, visit_serves_of, reads, is_held, IsSnapshot, Readies, wanting, untouched, looked_at, had}
+use Rattle.sigstore_tuf.specs.Search.{documents_of, AdoptsRole, visit_serves_of, reads, IsSnapshot, Readies, wanting, untouched, looked_at, had}
 use Rattle.sigstore_tuf.proofs.Files.{at_insert}
 use Rattle.sigstore_tuf.proofs.Updates.{ok_some, fresh_from}
 use Rattle.sigstore_tuf.proofs.RolePuts.{not_top, role_read, taken_some}

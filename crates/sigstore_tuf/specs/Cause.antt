@@ -1,6 +1,6 @@
 -- What each refusal of the client tells: of the documents that were had, and of those in force at the call's end
 -- (TUF specification, section 5).
-use Rattle.std.specs.Prelude.{◌≡◌, ◌≢◌, ℕ, ◌+◌, ◌-◌, ◌^◌, ◌<◌, ◌≤◌, List, length, Bool, true, false, Some, None, Ok, Contains, codes, ⊤}
+use Rattle.std.specs.Prelude.{◌≡◌, ◌≢◌, ℕ, ◌+◌, ◌-◌, ◌^◌, ◌<◌, ◌≤◌, List, length, Some, None, Ok, Contains, codes, ⊤}
 use Rattle.jiff_core.specs.declared.timestamp.Timestamp as jiff
 use Rattle.foundation.specs.Watched.{Watched, Rose, IfTold}
 use Rattle.sigstore_types_parts.specs.Entries.{at_name}

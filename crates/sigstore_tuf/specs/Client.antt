@@ -1,6 +1,6 @@
 -- What the client asks of the documents in force (TUF specification, section 5).
-use Rattle.std.specs.Prelude.{ℕ, ◌==◌, ◌&&◌, not, List, [], ◌∷◌, Bool, true, false, if◌then◌else◌, Option, Some, None, ok_or}
-use Rattle.std.specs.Prelude.{Result, Ok, Err, codes, ⊤}
+use Rattle.std.specs.Prelude.{ℕ, ◌==◌, ◌&&◌, not, Bool, false, Option, Some, None, ok_or}
+use Rattle.std.specs.Prelude.{Result, Ok, codes, ⊤}
 use Rattle.jiff_core.specs.declared.timestamp.Timestamp as jiff
 use Rattle.foundation.specs.Steps.{◌>>=◌}
 use Rattle.sigstore_tuf_parts.specs.declared.error.Error.{Error}
@@ -8,8 +8,6 @@ use Rattle.sigstore_tuf_parts.specs.declared.error.Error.TheVariants.{Malformed}
 use Rattle.sigstore_tuf_parts.specs.declared.error.Rule.TheVariants as rule
 use Rattle.sigstore_tuf_parts.specs.declared.timestamp.MetaFile.{MetaFile}
 use Rattle.sigstore_tuf_parts.specs.declared.targets.Targets as declared
-use Rattle.sigstore_tuf_parts.specs.declared.targets.Delegations.{Delegations}
-use Rattle.sigstore_tuf_parts.specs.declared.targets.DelegatedRole.{DelegatedRole}
 use Rattle.sigstore_tuf_parts.specs.declared.timestamp.Timestamp as declared_timestamp
 use Rattle.sigstore_tuf_parts.specs.declared.snapshot.Snapshot as declared_snapshot
 use Rattle.sigstore_tuf_parts.specs.Document.{content_in}

@@ -14,7 +14,7 @@ use Rattle.sigstore_tuf.specs.declared.step.Step.TheVariants.{CheckSnapshot}
 use Rattle.sigstore_tuf_parts.specs.Crypto.{Crypto}
 use Rattle.sigstore_tuf.specs.State.{Session, State}
 use Rattle.sigstore_tuf.specs.Names.{kept_names}
-use Rattle.sigstore_tuf.specs.Adopt.{bytes_in, top_targets, KeepsWhere, Adopts, Seeds}
+use Rattle.sigstore_tuf.specs.Adopt.{bytes_in, KeepsWhere, Adopts, Seeds}
 use Rattle.sigstore_tuf.specs.Client.{version_in, root_serves_of, timestamp_serves_of, snapshot_serves_of, is_current}
 
 -- ---- loops

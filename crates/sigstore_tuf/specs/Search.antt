@@ -1,6 +1,6 @@
 -- The search for a target over delegated roles, whose documents are fetched on the way (TUF specification, section 5.6.7).
 use Rattle.std.specs.Prelude.{◌≡◌, ◌≢◌, ℕ, ◌==◌, ◌&&◌, not, List, [], ◌∷◌, Bool, true, false, if◌then◌else◌, bytes_eq}
-use Rattle.std.specs.Prelude.{Option, Some, None, option_map, option_and_then, is_some, reverse, Result, Ok, Err, codes, ⊤}
+use Rattle.std.specs.Prelude.{Option, Some, None, option_map, option_and_then, is_some, Result, Ok, Err, codes, ⊤}
 use Rattle.std.specs.List.{last_or}
 use Rattle.jiff_core.specs.declared.timestamp.Timestamp as jiff
 use Rattle.sigstore_types_parts.specs.Entries.{at_name}

@@ -1,12 +1,11 @@
 -- What a search asks of the top-level documents, and how the file of an entry is had (TUF specification, sections 5.6.7 and 5.7).
-use Rattle.std.specs.Prelude.{◌≡◌, ◌≢◌, ℕ, ◌==◌, nat_lt, List, [], ◌∷◌, if◌then◌else◌, Bool, Option, Some, ok_or}
+use Rattle.std.specs.Prelude.{◌≡◌, ◌≢◌, ℕ, nat_lt, List, if◌then◌else◌, Bool, Option, Some, ok_or}
 use Rattle.std.specs.Prelude.{None, Result, Ok, Err, codes, ⊤}
 use Rattle.jiff_core.specs.declared.timestamp.Timestamp as jiff
 use Rattle.foundation.specs.Steps.{◌>>=◌}
 use Rattle.foundation.specs.Watched.{Watched}
-use Rattle.sigstore_types_parts.specs.Entries.{at_name}
 use Rattle.sigstore_tuf_parts.specs.declared.error.Error.{Error}
-use Rattle.sigstore_tuf_parts.specs.declared.error.Error.TheVariants.{IntegrityMismatch, NotRefreshed, TargetNotFound, Transport, NoMemory}
+use Rattle.sigstore_tuf_parts.specs.declared.error.Error.TheVariants.{IntegrityMismatch, NotRefreshed, Transport, NoMemory}
 use Rattle.sigstore_tuf_parts.specs.declared.error.Mismatch.TheVariants.{Version, TooLong, NoDigest}
 use Rattle.sigstore_tuf_parts.specs.declared.error.TransportFault.TheVariants.{Absent}
 use Rattle.sigstore_tuf_parts.specs.declared.timestamp.MetaFile.{MetaFile}
@@ -20,11 +19,8 @@ use Rattle.sigstore_tuf.specs.Repository.{Folders, Files, target_files}
 use Rattle.sigstore_tuf.specs.declared.config.UpdaterConfig.{UpdaterConfig}
 use Rattle.sigstore_tuf.specs.declared.documents.Held.{Held}
 use Rattle.sigstore_tuf.specs.declared.documents.InForce.{InForce}
-use Rattle.sigstore_tuf.specs.declared.chain.RoleDoc.{RoleDoc}
-use Rattle.sigstore_tuf.specs.declared.chain.TrustChain.{TrustChain}
 use Rattle.sigstore_tuf.specs.Documents.{content_of, snapshot_pin, targets_pin}
-use Rattle.sigstore_tuf.specs.Names.{is_consistent, target_name_of, kept_target}
-use Rattle.sigstore_tuf.specs.State.{Session}
+use Rattle.sigstore_tuf.specs.Names.{target_name_of, kept_target}
 use Rattle.sigstore_tuf.specs.Adopt.{top_targets, FetchesNamed, LoadsNamed, Saves}
 use Rattle.sigstore_tuf.specs.Client.{has_version}
 
