@@ -97,14 +97,14 @@ module _ (anchor : Anchor) (folders : Folders) (files : Files) (chain : TrustCha
     begun : (set : InForce) (kept : Watched Files) → Begins anchor repo store kept set → Goes (state_of set repo kept)
     begun set kept b = must_go (state_of set repo kept) (attached_so b.first repo store (state_of set repo kept) (Ok tt) b.first_is told stored b.attached.attaches)
 
-    searched : (set last : InForce) (mid : Watched Folders) (kept held : Watched Files) (result : Result TrustChain TufError) → Begins anchor repo store kept set → Refreshed (session_in anchor) (state_of set repo kept) (state_of last mid held) (Ok tt)
-        → Got (session_in anchor) trust_path (state_of last mid held) (state_of last repo' store') result → GivenChain (StoreWarm store') chain result
-    searched set last mid kept held result b r g =
+    searched : (set last end : InForce) (mid : Watched Folders) (kept held : Watched Files) (result : Result TrustChain TufError) → Begins anchor repo store kept set → Refreshed (session_in anchor) (state_of set repo kept) (state_of last mid held) (Ok tt)
+        → Got (session_in anchor) trust_path (state_of last mid held) (state_of end repo' store') result → GivenChain (StoreWarm store') chain result
+    searched set last end mid kept held result b r g =
         let first = (refresh_carried (session_in anchor) (state_of set repo kept) (state_of last mid held) (Ok tt) r.runs).since in
-        let second = gets_since (session_in anchor) trust_path last mid repo' held store' result g.gets in
+        let second = gets_since (session_in anchor) trust_path (state_of last mid held) (state_of end repo' store') result g.gets in
         let arrived = must_arrive (state_of last mid held)
         (refreshed_done anchor.crypto folders anchor.root anchor.now anchor.config trust_path chain offer (state_of set repo kept) (state_of last mid held) (Ok tt) (begun set kept b) (quiet_first repo.faults mid.faults repo'.faults first.later second.later quiet) r.runs) in
-        target_done anchor.crypto folders anchor.root anchor.now anchor.config trust_path chain offer (state_of last mid held) repo' store' result arrived (quiet_second repo.faults mid.faults repo'.faults first.later second.later quiet) g.gets
+        target_done anchor.crypto folders anchor.root anchor.now anchor.config trust_path chain offer (state_of last mid held) (state_of end repo' store') result arrived (quiet_second repo.faults mid.faults repo'.faults first.later second.later quiet) g.gets
 
     chain_completes : (result : Result TrustChain TufError) → GivesChain anchor repo repo' store store' result → GivenChain (StoreWarm store') chain result
     chain_completes result (root_refused e h r s is) = chain_wanting (is ∙ ap Err (first_wants anchor.crypto folders anchor.root anchor.now anchor.config trust_path chain offer e h))
@@ -112,12 +112,12 @@ module _ (anchor : Anchor) (folders : Folders) (files : Files) (chain : TrustCha
         chain_wanting (is ∙ ap Err (wants_only e (attached_so first repo store (state_of set repo store') (Err e) made told stored a.attaches)))
     chain_completes result (refresh_refused set last kept e b r is) =
         chain_wanting (is ∙ ap Err (wants_only e (refreshed_done anchor.crypto folders anchor.root anchor.now anchor.config trust_path chain offer (state_of set repo kept) (state_of last repo' store') (Err e) (begun set kept b) quiet r.runs)))
-    chain_completes result (target_refused set last mid kept held e b r g is) = by_given (searched set last mid kept held (Err e) b r g)
+    chain_completes result (target_refused set last end mid kept held e b r g is) = by_given (searched set last end mid kept held (Err e) b r g)
       where
         by_given : GivenChain (StoreWarm store') chain (Err e) → GivenChain (StoreWarm store') chain result
         by_given (chain_wanting h) = chain_wanting (is ∙ ap Err (err_same e tuf.NoMemory h))
         by_given (is_given h w) = no_both chain e (sym h)
-    chain_completes result (chain_given set last mid kept held c b r g is) = by_given (searched set last mid kept held (Ok c) b r g)
+    chain_completes result (chain_given set last end mid kept held c b r g is) = by_given (searched set last end mid kept held (Ok c) b r g)
       where
         by_given : GivenChain (StoreWarm store') chain (Ok c) → GivenChain (StoreWarm store') chain result
         by_given (chain_wanting h) = no_both c tuf.NoMemory h
