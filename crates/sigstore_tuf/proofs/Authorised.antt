@@ -16,7 +16,8 @@ use Rattle.sigstore_tuf.specs.declared.documents.Held.{Held}
 use Rattle.sigstore_tuf.specs.declared.documents.InForce.{InForce}
 use Rattle.sigstore_tuf.specs.declared.kind.Kind.{Kind}
 use Rattle.sigstore_tuf.specs.declared.kind.Kind.TheVariants.{Root, Timestamp, Snapshot, Targets}
-use Rattle.sigstore_tuf.specs.Update.{first_root_of, Updates}
+use Rattle.sigstore_tuf.specs.Update.{with_root, with_targets, first_root_of, Updates}
+use Rattle.sigstore_tuf.specs.Floor.{standing_of, KeepsFloor}
 use Rattle.sigstore_tuf.specs.State.{Session, State}
 use Rattle.sigstore_tuf.specs.Adopt.{update_of, judged_of, Adopts, unfetched, absent, refused, kept, adopted, Seeds, unloaded, unkept, unseeded, equal, seeded}
 use Rattle.sigstore_tuf.specs.Client.{version_in}
@@ -25,6 +26,7 @@ use Rattle.sigstore_tuf.specs.declared.step.Step.{Step}
 use Rattle.sigstore_tuf.specs.Trusted.{BeginsWith}
 use Rattle.sigstore_tuf.specs.Authorised.{IsPinnedBy, AreAuthorised, first_in, given_in, StaysAuthorised, UpdatesSet}
 use Rattle.sigstore_tuf.proofs.Files.{inserted}
+use Rattle.sigstore_tuf.proofs.Floors.{floor_stays, floor_joins, floor_above, floor_same, timestamp_floor, snapshot_floor}
 use Rattle.sigstore_tuf.proofs.Updates.{role_met, Puts, update_puts, judged_puts, top_inserted}
 use Rattle.sigstore_tuf.proofs.Lift.{IsAsked, AsksNoRoot, attach_lift, does_lift, runs_lift}
 
@@ -101,9 +103,10 @@ module _ (crypto : Crypto) where
   pub record Stays (old new : InForce) : Type 0 where
     pub authorised : AreAuthorised crypto (given_in old) old → AreAuthorised crypto (given_in old) new × (given_in new ≡ given_in old)
     pub rises : version_in new + length old.roots ≡ version_in old + length new.roots
+    pub floor : KeepsFloor (standing_of old) (standing_of new)
 
   pub stays_same : (a : InForce) → Stays a a
-  stays_same a = record { authorised = λ k. (k, refl); rises = refl }
+  stays_same a = record { authorised = λ k. (k, refl); rises = refl; floor = floor_stays (standing_of a) }
 
   pub stays_joins : (a b c : InForce) → Stays a b → Stays b c → Stays a c
   stays_joins a b c p q = record {
@@ -112,6 +115,7 @@ module _ (crypto : Crypto) where
         let at_c = q.authorised (subst (λ g. AreAuthorised crypto g b) (sym at_b.1) at_b.0) in
         (subst (λ g. AreAuthorised crypto g c) at_b.1 at_c.0, at_c.1 ∙ at_b.1);
     rises = omega (arith, p.rises, q.rises);
+    floor = floor_joins (standing_of a) (standing_of b) (standing_of c) p.floor q.floor;
   }
 
   puts_stay : (k : Kind) (now : Option jiff.Timestamp) (old new : InForce) (bytes : List ℕ) → Puts crypto old bytes k now new → Stays old new
@@ -134,14 +138,17 @@ module _ (crypto : Crypto) where
       first_more bytes old.roots (given_in old) k.roots.begins,
     );
     rises = omega (arith, p.next.number, length-append old.roots (bytes ∷ []));
+    floor = floor_above old (with_root old bytes p.doc) p.next.number;
   })
   puts_stay Timestamp now old new bytes p = subst (Stays old) (sym p.new_is) (record {
     authorised = λ k. (record { roots = k.roots; timestamp = p.signed; snapshot = k.snapshot; targets = k.targets; roles = k.roles }, refl);
     rises = refl;
+    floor = timestamp_floor old p.held p.newer;
   })
   puts_stay Snapshot now old new bytes p = subst (Stays old) (sym p.new_is) (record {
     authorised = λ k. (record { roots = k.roots; timestamp = k.timestamp; snapshot = p.signed; targets = tt; roles = λ name held h. cc }, refl);
     rises = refl;
+    floor = snapshot_floor old p.held p.kept;
   })
   puts_stay Targets now old new bytes p = subst (Stays old) (sym p.new_is) (record {
     authorised = λ k. (
@@ -155,6 +162,7 @@ module _ (crypto : Crypto) where
       refl,
     );
     rises = refl;
+    floor = floor_same old (with_targets old p.held) refl refl refl;
   })
 
   pub update_stays : (k : Kind) (now : Option jiff.Timestamp) (old new : InForce) (bytes : List ℕ) → update_of crypto k old bytes now ≡ Ok new → Stays old new
@@ -163,7 +171,7 @@ module _ (crypto : Crypto) where
   pub judged_stays : (k : Kind) (now : Option jiff.Timestamp) (old new : InForce) (bytes : List ℕ) → judged_of crypto k old bytes now ≡ Ok (Some new) → Stays old new
   judged_stays k now old new bytes h = puts_stay k now old new bytes (judged_puts crypto old bytes k now new h)
 
-  same : (old new : InForce) → new ≡ old → Stays old new
+  pub same : (old new : InForce) → new ≡ old → Stays old new
   same old new e = subst (Stays old) (sym e) (stays_same old)
 
   abbrev P : State → State → Result ⊤ Error → Type 0
@@ -207,7 +215,7 @@ module _ (session : Session) where
 
 -- as it is promised
 pub is_stay : {crypto : Crypto} {old new : InForce} → Stays crypto old new → AreAuthorised crypto (given_in old) old → StaysAuthorised crypto old new
-is_stay s k = let a = s.authorised k in record { given = a.1; authorised = λ k. a.0; rises = s.rises }
+is_stay s k = let a = s.authorised k in record { given = a.1; authorised = λ k. a.0; rises = s.rises; floor = s.floor }
 
 -- an update of a set
 pub updates_set : (crypto : Crypto) (k : Kind) (now : Option jiff.Timestamp) (bytes : List ℕ) (old new : InForce) (result : Result ⊤ Error)
@@ -215,6 +223,6 @@ pub updates_set : (crypto : Crypto) (k : Kind) (now : Option jiff.Timestamp) (by
 updates_set crypto k now bytes old new (Ok x) u auth =
     let s = update_stays crypto k now old new bytes u in
     let at = s.authorised auth in
-    record { updates = u; given = at.1; authorised = subst (λ g. AreAuthorised crypto g new) (sym at.1) at.0 }
+    record { updates = u; given = at.1; authorised = subst (λ g. AreAuthorised crypto g new) (sym at.1) at.0; floor = s.floor }
 updates_set crypto k now bytes old new (Err e) u auth =
-    record { updates = u; given = ap given_in u.0; authorised = subst (λ s. AreAuthorised crypto (given_in s) s) (sym u.0) auth }
+    record { updates = u; given = ap given_in u.0; authorised = subst (λ s. AreAuthorised crypto (given_in s) s) (sym u.0) auth; floor = (same crypto old new u.0).floor }

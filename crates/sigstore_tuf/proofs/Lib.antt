@@ -6,6 +6,7 @@ pub mod Searched
 pub mod Matching
 pub mod LastPart
 pub mod Steps
+pub mod Floors
 pub mod Authorised
 pub mod RolePuts
 pub mod Stepping

@@ -33,7 +33,8 @@ use Rattle.sigstore_tuf.specs.Delegated.{not_top_level_of, delegation_of, with_r
 use Rattle.sigstore_tuf.specs.Authorised.{IsPinnedBy, AreAuthorised, given_in, UpdatesSet}
 use Rattle.sigstore_tuf.proofs.Files.{at_insert}
 use Rattle.sigstore_tuf.proofs.Updates.{ok_some, same_version}
-use Rattle.sigstore_tuf.proofs.Authorised.{Stays, roles_more}
+use Rattle.sigstore_tuf.proofs.Floors.{floor_same}
+use Rattle.sigstore_tuf.proofs.Authorised.{Stays, same, roles_more}
 
 -- ---- what was checked
 
@@ -149,6 +150,7 @@ module _ (crypto : Crypto) (old : InForce) (v : Visit) (bytes : List ℕ) where
           refl,
         );
         rises = refl;
+        floor = floor_same old (with_role old v.name p.held) refl refl refl;
       })
 
   -- as it is promised
@@ -157,9 +159,9 @@ module _ (crypto : Crypto) (old : InForce) (v : Visit) (bytes : List ℕ) where
   role_updates_set now new (Ok x) u auth =
       let s = role_stays now new u in
       let at = s.authorised auth in
-      record { updates = u; given = at.1; authorised = subst (λ g. AreAuthorised crypto g new) (sym at.1) at.0 }
+      record { updates = u; given = at.1; authorised = subst (λ g. AreAuthorised crypto g new) (sym at.1) at.0; floor = s.floor }
   role_updates_set now new (Err e) u auth =
-      record { updates = u; given = ap given_in u.0; authorised = subst (λ s. AreAuthorised crypto (given_in s) s) (sym u.0) auth }
+      record { updates = u; given = ap given_in u.0; authorised = subst (λ s. AreAuthorised crypto (given_in s) s) (sym u.0) auth; floor = (same crypto old new u.0).floor }
 
   -- its bytes are those that were judged
   pub role_there : (now : Option jiff.Timestamp) (new : InForce) → taken_of (update_role_of crypto old v bytes now) ≡ Ok (Some new) → option_map (λ (held : Held Targets). held.bytes) (at_name v.name new.targets) ≡ Some bytes

@@ -23,6 +23,7 @@ use Rattle.sigstore_tuf.specs.Documents.{timestamp_document, snapshot_document, 
 use Rattle.sigstore_tuf.specs.Update.{Updates}
 use Rattle.sigstore_tuf.specs.Adopt.{top_targets}
 use Rattle.sigstore_tuf.specs.Client.{version_in}
+use Rattle.sigstore_tuf.specs.Floor.{standing_of, KeepsFloor}
 use Rattle.sigstore_tuf.specs.Trusted.{AreRoots}
 
 -- the bytes read as the document that is held, and that meets the root's role of this name
@@ -92,16 +93,18 @@ pub record Serve (now : jiff.Timestamp) (set : InForce) : Type 0 where
 
 -- ---- what the calls promise
 
--- what holds of a change of the documents in force, whatever was fetched and kept: they stay authorised from the same root, and
--- the root's number rises by one with each root that is adopted
+-- what holds of a change of the documents in force, whatever was fetched and kept: they stay authorised from the same root, the
+-- root's number rises by one with each root that is adopted, and while the root stays nothing goes below the floor
 pub record StaysAuthorised (crypto : Crypto) (old new : InForce) : Type 0 where
   pub given : given_in new ≡ given_in old
   pub authorised : AreAuthorised crypto (given_in old) old → AreAuthorised crypto (given_in old) new
   pub rises : version_in new + length old.roots ≡ version_in old + length new.roots
+  pub floor : KeepsFloor (standing_of old) (standing_of new)
 
--- the answer of an update is the definition's, want of memory aside; a refused one changes nothing, and the documents stay
--- authorised
+-- the answer of an update is the definition's, want of memory aside; a refused one changes nothing, the documents stay authorised,
+-- and nothing goes below the floor
 pub record UpdatesSet (judged : Result InForce Error) (crypto : Crypto) (old new : InForce) (result : Result ⊤ Error) : Type 0 where
   pub updates : Updates judged old new result
   pub given : given_in new ≡ given_in old
   pub authorised : IsAuthorised crypto new
+  pub floor : KeepsFloor (standing_of old) (standing_of new)

@@ -9,6 +9,7 @@ pub mod Names
 pub mod Update
 pub mod Adopt
 pub mod Client
+pub mod Floor
 pub mod Run
 pub mod Order
 pub mod Trusted

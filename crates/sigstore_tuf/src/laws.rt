@@ -1,5 +1,6 @@
 // Laws of the definitions. A call does nothing.
 ghost use Rattle.sigstore_tuf.specs.Laws.{SeedsAreSigned, RecallsArePinned};
+ghost use Rattle.sigstore_tuf.specs.Floor.{FloorsHold};
 ghost use Rattle.sigstore_tuf.specs.SearchLaws.{SearchesByList, SearchesDeepEnough, SearchesBounded, OneOrder};
 
 /// The laws of a store: a document of it is put in force only where it meets its role in the root in force,
@@ -16,4 +17,11 @@ pub fn search_laws()
     ensures deep_enough { SearchesDeepEnough }
     ensures bounded { SearchesBounded }
     ensures one { OneOrder }
+{}
+
+/// The law of floors: calls join. Where the documents in force after each call keep the floor of those before it
+/// (`StaysAuthorised`, `UpdatesSet`), all later ones keep that of the first: while the root stays, the
+/// timestamp's version and the version by which the snapshot pins each name don't fall.
+pub fn floors_hold()
+    ensures { FloorsHold }
 {}

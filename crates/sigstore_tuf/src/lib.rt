@@ -37,7 +37,7 @@ pub use config::UpdaterConfig;
 pub use documents::{Held, InForce};
 pub use file_repository::FileRepository;
 pub use file_store::FileStore;
-pub use laws::{search_laws, stored_is_signed};
+pub use laws::{floors_hold, search_laws, stored_is_signed};
 pub use memory_repository::MemoryRepository;
 pub use memory_store::MemoryStore;
 pub use no_store::NoStore;
