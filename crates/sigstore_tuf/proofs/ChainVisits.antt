@@ -24,6 +24,7 @@ use Rattle.sigstore_tuf.specs.Order.{Visit, Tree, Gap, Walk, Step, Next, ended, 
 use Rattle.sigstore_tuf.specs.SearchLaws.{walk_all, visits_of}
 use Rattle.sigstore_tuf.specs.Trusted.{visit_in, read_in, documents_in, last_in, IsTrustedRole, IsTrustedVisit}
 use Rattle.sigstore_tuf.proofs.Stepping.{among_last, is_over, StepOf, passed_over, unpinned, listing, followed, step_cases, step_reads}
+use Rattle.sigstore_tuf.proofs.Followed.{each_map}
 use Rattle.sigstore_tuf.proofs.Walks.{by_list}
 
 -- ---- lists
@@ -31,10 +32,6 @@ use Rattle.sigstore_tuf.proofs.Walks.{by_list}
 pub all_append : {A : Type 0} (P : A → Type 0) (xs : List A) (x : A) → AllByRecursion P xs → P x → AllByRecursion P (xs ++ x ∷ [])
 all_append P [] x h p = (p, tt)
 all_append P (y ∷ ys) x h p = (h.0, all_append P ys x h.1 p)
-
-pub all_mapped : {A : Type 0} (P Q : A → Type 0) (xs : List A) → ((x : A) → P x → Q x) → AllByRecursion P xs → AllByRecursion Q xs
-all_mapped P Q [] f h = tt
-all_mapped P Q (x ∷ xs) f h = (f x h.0, all_mapped P Q xs f h.1)
 
 pub all_in : {A : Type 0} (P : A → Type 0) (xs : List A) (x : A) (ys : List A) → AllByRecursion P (xs ++ x ∷ ys) → P x
 all_in P [] x ys h = h.0
@@ -288,7 +285,7 @@ module _ (crypto : Crypto) (root : Root) (snapshot : Snapshot) (now : jiff.Times
     goes_along step s leads n more read = record {
       roles_are = append_assoc done (n.role ∷ []) n.later ∙ one_further done rest v n a.roles_are;
       visits_are = visits_more done rest v w step.walk n a.visits_are more;
-      was_read = all_append _ done n.role (all_mapped _ _ done still_read a.was_read) read;
+      was_read = all_append _ done n.role (each_map _ _ done still_read a.was_read) read;
       fits = le_trans (step_left snapshot path (documents_in roles v.name) v w step s) a.fits;
       leads = leads;
     }
@@ -302,7 +299,7 @@ module _ (crypto : Crypto) (root : Root) (snapshot : Snapshot) (now : jiff.Times
 
     -- none of those that were read has its name
     unread_before : is_over v w ≡ false → AllByRecursion (λ (r : RoleDoc). IfSome r.bytes (λ b. r.name ≡ v.name → ⊥)) done
-    unread_before allowed = all_mapped _ _ done (λ r h. by_bytes r.name r.bytes h) a.was_read
+    unread_before allowed = each_map _ _ done (λ r h. by_bytes r.name r.bytes h) a.was_read
       where
         by_bytes : (name : List ℕ) (o : Option (List ℕ)) → IfSome o (λ b. is_among w.read name ≡ true) → IfSome o (λ b. name ≡ v.name → ⊥)
         by_bytes name None h = tt

@@ -1,9 +1,8 @@
 -- A search over an offered chain makes the visits of its roles, whose documents are then in force, unless memory is wanting.
-use Rattle.std.proofs.Common.{◌≡◌, ◌≢◌, ◌⊎◌, inl, inr, ℕ, ◌+◌, ◌^◌, ◌<◌, ◌==◌, ◌||◌, ◌&&◌, not, List, [], ◌∷◌, ◌++◌, map, length, Bool, true, false, cond, if◌then◌else◌, bytes_eq, Option, Some, None, Result, Ok, Err, codes, refl, sym, ap, ◌∙◌, subst}
+use Rattle.std.proofs.Common.{◌≡◌, ◌≢◌, ◌⊎◌, inl, inr, ℕ, ◌+◌, ◌^◌, ◌<◌, ◌==◌, ◌||◌, ◌&&◌, not, List, [], ◌∷◌, ◌++◌, map, length, Bool, true, false, if◌then◌else◌, bytes_eq, Option, Some, None, Result, Ok, Err, codes, refl, sym, ap, ◌∙◌, subst}
 use Rattle.std.specs.Prelude.{⊤, IfSome, IfErr, is_some, ok_or, option_map, option_and_then}
 use Rattle.std.specs.List.{AllByRecursion}
 use Rattle.std.proofs.lemmas.Slice.Eq.{bytes_eq-Decides}
-use Rattle.std.proofs.lemmas.Map.Text.{is_eq-slice_cmp}
 use Rattle.jiff_core.specs.declared.timestamp.Timestamp as jiff
 use Rattle.foundation.specs.Watched.{Watched, Since}
 use Rattle.foundation.specs.Results.{ok_same, err_same, some_same, no_both}
@@ -42,50 +41,23 @@ use Rattle.sigstore_tuf.specs.Trusted.{visit_in, documents_in, authority_in, del
 use Rattle.sigstore_tuf.specs.Delegated.{delegation_of, meets_delegation_of, with_role, role_pin_of, role_checks_of, role_document_of, update_role_of, role_serves_of}
 use Rattle.sigstore_tuf.specs.Target.{fresh_timestamp_of, fresh_snapshot_of, unexpired_of, pinned_version_of, pinned_by_of, all_pinned_of, search_serves_of}
 use Rattle.sigstore_tuf.specs.Search.{AdoptsRole, visit_serves_of, reads, is_held, Readies, wanting as ready_wanting, untouched, looked_at, had, documents_of, tree_in, IsGap, Searches, ended, short, unready, gapped, visited, visits_in, FindsVisits, unserved, searched}
-use Rattle.sigstore_tuf.proofs.Carrying.{since_same, since_joins, fetched_since}
+use Rattle.sigstore_tuf.proofs.Carrying.{fetched_since}
 use Rattle.sigstore_tuf.proofs.Causes.{is_want}
 use Rattle.sigstore_tuf.proofs.Steps.{save_wants}
-use Rattle.sigstore_tuf.proofs.Files.{at_insert, inserted}
+use Rattle.sigstore_tuf.proofs.Files.{inserted}
 use Rattle.sigstore_tuf.proofs.Updates.{never_equal}
 use Rattle.sigstore_tuf.proofs.RolePuts.{top_stays}
 use Rattle.sigstore_tuf.proofs.Stepping.{is_over, StepOf, passed_over, unpinned, listing, followed, cases_step}
 use Rattle.sigstore_tuf.proofs.Growing.{Grows, ready_grows}
-use Rattle.sigstore_tuf.proofs.Followed.{matching_named}
+use Rattle.sigstore_tuf.proofs.Followed.{each_map, matching_named}
+use Rattle.sigstore_tuf.proofs.Visits.{at_role}
+use Rattle.sigstore_tuf.proofs.Replay.{ready_since, searches_since}
 use Rattle.sigstore_tuf.proofs.RoleNames.{in_folder, unlike_timestamp, unlike_snapshot, unlike_targets}
-use Rattle.sigstore_tuf.proofs.ChainVisits.{all_append, all_mapped, all_in, held_in, content_held, Along, Visits, none_more, without, with_document, Goes, goes, begins, all_done, all_visited}
+use Rattle.sigstore_tuf.proofs.ChainVisits.{all_append, all_in, held_in, content_held, Along, Visits, none_more, without, with_document, Goes, goes, begins, all_done, all_visited}
 use Rattle.sigstore_tuf.proofs.Completing.{quiet_first, quiet_second, step_to, equal, if_true, Done, wanting, done, Answers, wants, answers, Given, fetch_given, of_given, of_ungiven, TellsSo, saved_so}
 use Rattle.sigstore_tuf.proofs.Offered.{AreOf, Offered}
 use Rattle.sigstore_tuf.proofs.RootsCompleting.{IsWarm, stays_warm, stays_elsewhere}
 use Rattle.sigstore_tuf.proofs.RefreshCompleting.{Topped, check_done}
-
--- ---- what a search leaves of the repository
-
-role_since : (session : Session) (v : Visit) (old new : State) (answer : Result Bool Error) → AdoptsRole session v old new answer → Since old.repo new.repo
-role_since session v old new answer (unfetched e f u r) = fetched_since metadata_files (role_name_in old.documents v.name) session.config.targets_max_length old.repo new.repo (Err e) f
-role_since session v old new answer (absent f u r) = fetched_since metadata_files (role_name_in old.documents v.name) session.config.targets_max_length old.repo new.repo (Ok None) f
-role_since session v old new answer (refused bytes e f j u r) = fetched_since metadata_files (role_name_in old.documents v.name) session.config.targets_max_length old.repo new.repo (Ok (Some bytes)) f
-role_since session v old new answer (kept bytes f j u r) = fetched_since metadata_files (role_name_in old.documents v.name) session.config.targets_max_length old.repo new.repo (Ok (Some bytes)) f
-role_since session v old new answer (adopted bytes written f j w r) = fetched_since metadata_files (role_name_in old.documents v.name) session.config.targets_max_length old.repo new.repo (Ok (Some bytes)) f
-
-same_since : (old new : State) → new ≡ old → Since old.repo new.repo
-same_since old new e = since_same old.repo new.repo (ap (λ (s : State). s.repo) e)
-
-ready_since : (session : Session) (v : Visit) (w : Walk) (old new : State) (result : Result ⊤ Error) → Readies session v w old new result → Since old.repo new.repo
-ready_since session v w old new result (ready_wanting s r) = same_since old new s
-ready_since session v w old new result (untouched n s r) = same_since old new s
-ready_since session v w old new result (looked_at n h c) = same_since old new c.same
-ready_since session v w old new result (had answer n h a is) = role_since session v old new answer a
-
-searches_since : {session : Session} {snapshot : Snapshot} {path : List ℕ} {vs : List Visit} {w : Walk} {old new : State} {result : Result Walk Error} → Searches session snapshot path vs w old new result → Since old.repo new.repo
-searches_since (ended w state) = same_since state state refl
-searches_since (short vs w state) = same_since state state refl
-searches_since {session = session} (unready v vs w old new e r) = ready_since session v w old new (Err e) r
-searches_since {session = session} (gapped v vs w old new e r g) = ready_since session v w old new (Ok tt) r
-searches_since {session = session} (visited v vs w step old mid new result r s more) = since_joins old.repo mid.repo new.repo (ready_since session v w old mid (Ok tt) r) (searches_since more)
-
-pub finds_since : (session : Session) (path : List ℕ) (old new : State) (result : Result (List Visit) Error) → FindsVisits session path old new result → Since old.repo new.repo
-finds_since session path old new result (unserved e h same is) = same_since old new same
-finds_since session path old new result (searched snapshot answer ok there s is) = searches_since s
 
 -- ---- the roles in force
 
@@ -122,14 +94,14 @@ held_still : (old new : InForce) → Grows old new → (name : List ℕ) → is_
 held_still old new g name h = let at = held_at old name h in ap is_some (g.held name at.0 at.1)
 
 roles_still : (old new : InForce) → Grows old new → (roles : List RoleDoc) → AreHeld old roles → AreHeld new roles
-roles_still old new g roles h = all_mapped _ _ roles (λ r h. by_bytes r.name r.bytes h) h
+roles_still old new g roles h = each_map _ _ roles (λ r h. by_bytes r.name r.bytes h) h
   where
     by_bytes : (name : List ℕ) (o : Option (List ℕ)) → IfSome o (λ b. bytes_at old name ≡ Some b) → IfSome o (λ b. bytes_at new name ≡ Some b)
     by_bytes name None h = tt
     by_bytes name (Some b) h = bytes_still old new g name b h
 
 pending_still : (old new : InForce) → Grows old new → (vs : List Visit) → ArePending old vs → ArePending new vs
-pending_still old new g vs p = all_mapped (IsPending old) (IsPending new) vs (λ v h other. ((h other).0, held_still old new g v.delegator (h other).1)) p
+pending_still old new g vs p = each_map (IsPending old) (IsPending new) vs (λ v h other. ((h other).0, held_still old new g v.delegator (h other).1)) p
 
 -- ---- what follows a visit
 
@@ -153,7 +125,7 @@ module _ (set : InForce) (snapshot : Snapshot) (path : List ℕ) (v : Visit) (w 
   next_pending o step vs (followed doc next allowed pinned there l m is) held p =
       subst (λ (s : Step). ArePending set (pending_after v s vs)) (sym is)
       (both_all (IsPending set) (map (by v.name) next.names) (if next.ends then [] else vs)
-      (delegated_pending set v.name next.names (held allowed pinned) (all_mapped _ _ next.names (λ name h. h.0) (matching_named path (delegated_in doc.delegations) next m)))
+      (delegated_pending set v.name next.names (held allowed pinned) (each_map _ _ next.names (λ name h. h.0) (matching_named path (delegated_in doc.delegations) next m)))
       (unless_ended set next.ends vs p))
 
   -- where the document that is read is the same, so is the step
@@ -196,12 +168,6 @@ module _ (session : Session) (folders : Folders) (path : List ℕ) (chain : Trus
   -- the top-level documents of the chain are in force, and of its roles those that were visited
   abbrev Ready : State → Type 0
   Ready state = Topped session folders path chain o from whole whole_bound state
-
-  abbrev snapshot : Snapshot
-  snapshot = content_of o.snap
-
-  abbrev documents : List ℕ → Option Targets
-  documents = documents_in chain.roles
 
   abbrev IsRole : Visit → List ℕ → Type 0
   IsRole v bytes = IsTrustedRole session.crypto (content_in {T = declared.Root} o.root) (content_of o.snap) (documents_in chain.roles) session.now v bytes
@@ -384,9 +350,6 @@ module _ (session : Session) (folders : Folders) (path : List ℕ) (chain : Trus
     top = ap (λ (s : InForce). top_targets s) p.documents_are ∙ top_stays old.documents name held low ∙ b.top;
   }
 
-  put_at : (set : InForce) (name : List ℕ) (held : Held Targets) → at_name name (with_role set name held).targets ≡ Some held
-  put_at set name held = at_insert name name held set.targets ∙ ap (λ b. cond b (Some held) (at_name name set.targets)) (is_eq-slice_cmp name name ∙ (bytes_eq-Decides name name).1 refl)
-
   -- ---- a visit is made ready
 
   reads_so : (set : InForce) (v : Visit) (w : Walk) → set.snapshot ≡ Some o.snap → reads set v w ≡ (not (is_over v w) && is_pinned (content_of o.snap) v.name)
@@ -454,7 +417,7 @@ module _ (session : Session) (folders : Folders) (path : List ℕ) (chain : Trus
         by_answer (answers e put) =
             done (said_is ∙ ap (λ (a : Result Bool Error). said a) e) (
               ready_role old new v.name (record { bytes = bytes; document = t.doc }) (p other).0 is b put,
-              ap (λ (s : InForce). bytes_at s v.name) put.documents_are ∙ ap (option_map (λ (held : Held Targets). held.bytes)) (put_at old.documents v.name (record { bytes = bytes; document = t.doc })),
+              ap (λ (s : InForce). bytes_at s v.name) put.documents_are ∙ ap (option_map (λ (held : Held Targets). held.bytes)) (at_role old.documents v.name (record { bytes = bytes; document = t.doc })),
             )
 
   -- each visit
@@ -480,9 +443,6 @@ module _ (session : Session) (folders : Folders) (path : List ℕ) (chain : Trus
   visit_ready before after v w old new result (with_document role later bytes allowed pin v_is there t held place is) b h p quiet r =
       by_done (role_ready v w bytes t held old new result served b p (reads_so old.documents v w b.snapped.snap ∙ ap (λ x. not x && is_pinned (content_of o.snap) v.name) allowed ∙ pin) quiet r)
     where
-      consistent : Bool
-      consistent = (content_in {T = declared.Root} o.root).consistent_snapshot
-
       named : role.name ≡ v.name
       named = ap (λ (x : Visit). x.name) v_is
 
@@ -521,14 +481,14 @@ module _ (session : Session) (folders : Folders) (path : List ℕ) (chain : Trus
   abbrev Found : State → Result (List Visit) Error → Type 0
   Found state result = FoundSo (Ended state) (map visit_in chain.roles) result
 
-  abbrev Goes_on : List RoleDoc → Visit → List Visit → Walk → Type 0
-  Goes_on before v vs w = Goes session.crypto (content_in {T = declared.Root} o.root) (content_of o.snap) session.now path session.config.max_delegations chain.roles before v vs w
+  abbrev IsGoing : List RoleDoc → Visit → List Visit → Walk → Type 0
+  IsGoing before v vs w = Goes session.crypto (content_in {T = declared.Root} o.root) (content_of o.snap) session.now path session.config.max_delegations chain.roles before v vs w
 
-  gone : (before rest : List RoleDoc) (v : Visit) (vs : List Visit) (w : Walk) → IsAlong before rest (v ∷ vs) w → Goes_on before v vs w
+  gone : (before rest : List RoleDoc) (v : Visit) (vs : List Visit) (w : Walk) → IsAlong before rest (v ∷ vs) w → IsGoing before v vs w
   gone before rest v vs w a = goes session.crypto (content_in {T = declared.Root} o.root) (content_of o.snap) session.now path session.config.max_delegations chain.roles o.roles before rest v vs w a
 
   -- the step over the documents in force is that over the chain's
-  step_so : (before : List RoleDoc) (v : Visit) (vs : List Visit) (w : Walk) (g : Goes_on before v vs w) (state : State) → Made v w g.done' state → visit_of (tree_in state.documents (content_of o.snap) path) v w ≡ Ok g.step
+  step_so : (before : List RoleDoc) (v : Visit) (vs : List Visit) (w : Walk) (g : IsGoing before v vs w) (state : State) → Made v w g.done' state → visit_of (tree_in state.documents (content_of o.snap) path) v w ≡ Ok g.step
   step_so before v vs w g state m =
       cases_step (tree_in state.documents (content_of o.snap) path) v w g.step (same_step state.documents (content_of o.snap) path v w (documents_in chain.roles v.name) (documents_of state.documents v.name) g.step g.cases same)
     where
@@ -541,7 +501,7 @@ module _ (session : Session) (folders : Folders) (path : List ℕ) (chain : Trus
       → Quiet old.repo.faults new.repo.faults → Readies session v w old new (Err e) → Found new (Err e)
   unready_done before rest v vs w old new e a b h p q r = by_done (visit_ready before g.done' v w old new (Err e) g.visits b h p.0 q r)
     where
-      g : Goes_on before v vs w
+      g : IsGoing before v vs w
       g = gone before rest v vs w a
 
       by_done : Done (Made v w g.done' new) (Err e) → Found new (Err e)
@@ -552,7 +512,7 @@ module _ (session : Session) (folders : Folders) (path : List ℕ) (chain : Trus
       → Quiet old.repo.faults new.repo.faults → Readies session v w old new (Ok tt) → (e ≢ tuf.NoMemory → IsGap (visit_of (tree_in new.documents (content_of o.snap) path) v w) e) → Found new (Err e)
   gapped_done before rest v vs w old new e a b h p q r gap = by_done (visit_ready before g.done' v w old new (Ok tt) g.visits b h p.0 q r)
     where
-      g : Goes_on before v vs w
+      g : IsGoing before v vs w
       g = gone before rest v vs w a
 
       by_want : Made v w g.done' new → (e ≡ tuf.NoMemory) ⊎ (e ≢ tuf.NoMemory) → Found new (Err e)
@@ -571,7 +531,7 @@ module _ (session : Session) (folders : Folders) (path : List ℕ) (chain : Trus
       → GoesOn (pending_after v step vs) step.walk mid new result → Found new result
   visited_done before rest v vs w step old mid new result a b h p q r s since more = by_done (visit_ready before g.done' v w old mid (Ok tt) g.visits b h p.0 (quiet_first old.repo.faults mid.repo.faults new.repo.faults first.later since.later q) r)
     where
-      g : Goes_on before v vs w
+      g : IsGoing before v vs w
       g = gone before rest v vs w a
 
       first : Since old.repo mid.repo

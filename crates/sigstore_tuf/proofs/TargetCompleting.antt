@@ -42,11 +42,13 @@ use Rattle.sigstore_tuf.proofs.Carrying.{since_same, since_joins, fetched_since,
 use Rattle.sigstore_tuf.proofs.Causes.{is_want}
 use Rattle.sigstore_tuf.proofs.Steps.{load_wants, save_wants}
 use Rattle.sigstore_tuf.proofs.Completing.{quiet_first, quiet_second, step_to, role_ok, Done, wanting, done, Given, fetch_given, of_given, of_ungiven, TellsSo, tells_same, saved_so, loaded_is, found_wanted}
-use Rattle.sigstore_tuf.proofs.ChainVisits.{all_mapped, held_in, content_held, held_some}
+use Rattle.sigstore_tuf.proofs.Followed.{each_map}
+use Rattle.sigstore_tuf.proofs.Replay.{finds_since}
+use Rattle.sigstore_tuf.proofs.ChainVisits.{held_in, content_held, held_some}
 use Rattle.sigstore_tuf.proofs.Offered.{AreOf, Begun, begun, Offered, OfferedAs, offered_of}
 use Rattle.sigstore_tuf.proofs.RootsCompleting.{number_of, low_suits, way_bound, IsWarm, stays_warm, stays_elsewhere, OnRoots, Somewhere, attach_done}
 use Rattle.sigstore_tuf.proofs.RefreshCompleting.{Topped, refresh_done}
-use Rattle.sigstore_tuf.proofs.SearchCompleting.{finds_since, bytes_at, AreHeld, held_at, FoundSo, found_wanting, found_all, Ended, finds_done}
+use Rattle.sigstore_tuf.proofs.SearchCompleting.{bytes_at, AreHeld, held_at, FoundSo, found_wanting, found_all, Ended, finds_done}
 
 not_lower : (a b : ℕ) → b ≤ a → nat_lt a b ≡ false
 not_lower a b h = grind (arith, nat_tests)
@@ -110,7 +112,7 @@ module _ (session : Session) (folders : Folders) (path : List ℕ) (chain : Trus
 
   -- whose document is there is pinned
   pinned_so : (name : List ℕ) (held : Held Targets) → held_in chain.roles name ≡ Some held → is_pinned (content_of o.snap) name ≡ true
-  pinned_so name held at = held_some name (λ name. is_pinned (content_of o.snap) name ≡ true) chain.roles held (all_mapped _ _ chain.roles (λ r t. by_bytes r r.bytes t) o.roles) at
+  pinned_so name held at = held_some name (λ name. is_pinned (content_of o.snap) name ≡ true) chain.roles held (each_map _ _ chain.roles (λ r t. by_bytes r r.bytes t) o.roles) at
     where
       by_bytes : (r : RoleDoc) (b : Option (List ℕ)) → IsTrustedVisit session.crypto (content_in {T = declared.Root} o.root) (content_of o.snap) (documents_in chain.roles) session.now (visit_in r) b
           → IfSome b (λ b. is_pinned (content_of o.snap) r.name ≡ true)
@@ -143,7 +145,7 @@ module _ (session : Session) (folders : Folders) (path : List ℕ) (chain : Trus
     -- ---- the entry
 
     role_held : (name : List ℕ) (x : Held Targets) → held_in chain.roles name ≡ Some x → at_name name set.targets ≡ Some x
-    role_held name x at = by_held (held_at set name (held_some name (λ name. is_held set name ≡ true) chain.roles x (all_mapped _ _ chain.roles (λ r h. by_bytes r.name r.bytes h) held) at))
+    role_held name x at = by_held (held_at set name (held_some name (λ name. is_held set name ≡ true) chain.roles x (each_map _ _ chain.roles (λ r h. by_bytes r.name r.bytes h) held) at))
       where
         by_some : (y : Option (Held Targets)) (b : List ℕ) → option_map (λ (held : Held Targets). held.bytes) y ≡ Some b → is_some y ≡ true
         by_some None b e = cc

@@ -279,6 +279,3 @@ module _ (given : Given) (before after : Outside) (chain : TrustChain) (bytes : 
 
 pub runs_complete : (given : Given) (before after : Outside) (result : Result Rooted RootFault) → Runs given before after result → Completes given before after result
 runs_complete given before after result runs chain bytes f = run_complete given before after chain bytes f result runs
-
-bogus : (x : ℕ) → x ≡ 2
-bogus x = refl
