@@ -1,55 +1,22 @@
 // The client over a repository in memory.
-ghost use Rattle.std.specs.Prelude.{Some, true};
-
-use crate::provider::{One, p256};
+use crate::provider::{One, OneKey, armor};
+use crate::searches;
 use crate::thresholds::signatures;
-use crate::words::{check, filled, good, halves, hold, key_bytes, printed, string, there, word};
-use foundation::{Duplicate, NoMemory};
+use crate::words::{check, filled, good, halves, hold, printed, string, there, word};
 use jiff::Timestamp;
 use sigstore_crypto::CryptoProvider;
 use sigstore_tuf::*;
 use sigstore_tuf_parts::{Role, TargetFile};
-use sigstore_types_parts::{Armor, Bytes, FailList};
-use std::alloc::Global;
+use sigstore_types_parts::{Armor, FailList};
 use std::process::Abort;
 
-/// The answer of a call by this name.
+/// The answer of a call by this name; for any other name that of a search.
 pub fn answer<X: AllocGlobal + Abort>(rt: &X, call: &str, given: &str) -> String {
     match call {
         "limits by default" => printed(rt, UpdaterConfig::default()),
         "set of documents" => versions_of_a_set(rt),
         "next root of another key" => next_root(rt, given),
-        _ => panic!(rt; "no call {call}"),
-    }
-}
-
-// Every text holds the same key.
-#[derive(Drop)]
-struct OneKey {
-    key: Bytes,
-}
-
-impl Armor for OneKey {
-    ghost armored = { λ _ _. true };
-
-    ghost key_in = { λ a _. Some a.key };
-
-    ghost certificate_in = { λ _ text. Some text };
-
-    fn is_armored(&self, _text: &[u8]) -> bool {
-        true
-    }
-
-    fn read_key(&self, alloc: Global, _text: &[u8]) -> Result<Option<Bytes>, NoMemory> {
-        Ok(Some(self.key.duplicate(alloc)?))
-    }
-
-    fn read_certificate(&self, alloc: Global, text: &[u8]) -> Result<Option<Bytes>, NoMemory> {
-        Ok(Some(Bytes::new(alloc, text)?))
-    }
-
-    fn write_certificate(&self, alloc: Global, der: &[u8]) -> Result<Bytes, NoMemory> {
-        Bytes::new(alloc, der)
+        _ => searches::answer(rt, call, given),
     }
 }
 
@@ -71,12 +38,6 @@ const SNAPSHOT: &str =
 
 const TARGETS: &str =
     r#"{"signatures":[{"keyid":"k","sig":"01"}],"signed":{"_type":"targets","spec_version":"1.0.0","version":4,"expires":"2031-01-01T00:00:00Z","targets":{"a":{"length":2,"hashes":{"sha256":"44136fa355b3678a1146ad16f7e8649e94fb4fc21fe77e8310c060f61caaff8a"}}}}}"#;
-
-fn armor<X: AllocGlobal + Abort>(rt: &X) -> OneKey {
-    OneKey {
-        key: key_bytes(rt, p256()),
-    }
-}
 
 // The root of this version.
 fn root<X: AllocGlobal + Abort>(rt: &X, version: &str) -> String {
@@ -157,7 +118,8 @@ fn store<X: AllocGlobal + Abort>(rt: &X, kept: &str) -> MemoryStore {
 const LIMITS: &str =
     " => UpdaterConfig { root_max_length: 512000, timestamp_max_length: 16384, snapshot_max_length: 2000000, targets_max_length: 5000000, target_max_length: 50000000, max_root_rotations: 32, max_delegations: 32 }";
 
-fn version<T: Role>(document: Option<&T>) -> Option<u64> {
+/// The version of a document that is there.
+pub fn version<T: Role>(document: Option<&T>) -> Option<u64> {
     match document {
         Some(document) => Some(document.version()),
         None => None,

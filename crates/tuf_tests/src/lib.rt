@@ -4,6 +4,8 @@
 #[cfg(test)]
 mod bundles;
 #[cfg(test)]
+mod calls;
+#[cfg(test)]
 mod claim_data;
 #[cfg(test)]
 mod claims;
@@ -16,6 +18,8 @@ mod key_forms;
 #[cfg(test)]
 mod keys;
 #[cfg(test)]
+mod names;
+#[cfg(test)]
 mod patterns;
 #[cfg(test)]
 mod places;
@@ -26,8 +30,16 @@ mod refusals;
 #[cfg(test)]
 mod rings;
 #[cfg(test)]
+mod searches;
+#[cfg(test)]
+mod sets;
+#[cfg(test)]
+mod sigstore;
+#[cfg(test)]
 mod texts;
 #[cfg(test)]
 mod thresholds;
+#[cfg(test)]
+mod trees;
 #[cfg(test)]
 mod words;

@@ -1,7 +1,12 @@
-// A provider that accepts the signature 01 of everything, and a key for it.
-ghost use Rattle.std.specs.Prelude.{[], ◌∷◌, bytes_eq};
+// A provider that accepts the signature 01 of everything, a key for it, and an armour that holds the key.
+ghost use Rattle.std.specs.Prelude.{[], ◌∷◌, Some, bytes_eq, true};
 
+use crate::words::key_bytes;
+use foundation::{Duplicate, NoMemory};
 use sigstore_crypto::{CryptoProvider, SigningScheme};
+use sigstore_types_parts::{Armor, Bytes};
+use std::alloc::Global;
+use std::process::Abort;
 
 // A P-256 key whose raw key is 04 and 64 zero bytes.
 pub fn p256() -> &'static str {
@@ -32,5 +37,41 @@ impl CryptoProvider for One {
         signature: &[u8],
     ) -> bool {
         signature == [1].as_slice()
+    }
+}
+
+// Every text holds the same key.
+#[derive(Drop)]
+pub struct OneKey {
+    key: Bytes,
+}
+
+impl Armor for OneKey {
+    ghost armored = { λ _ _. true };
+
+    ghost key_in = { λ a _. Some a.key };
+
+    ghost certificate_in = { λ _ text. Some text };
+
+    fn is_armored(&self, _text: &[u8]) -> bool {
+        true
+    }
+
+    fn read_key(&self, alloc: Global, _text: &[u8]) -> Result<Option<Bytes>, NoMemory> {
+        Ok(Some(self.key.duplicate(alloc)?))
+    }
+
+    fn read_certificate(&self, alloc: Global, text: &[u8]) -> Result<Option<Bytes>, NoMemory> {
+        Ok(Some(Bytes::new(alloc, text)?))
+    }
+
+    fn write_certificate(&self, alloc: Global, der: &[u8]) -> Result<Bytes, NoMemory> {
+        Bytes::new(alloc, der)
+    }
+}
+
+pub fn armor<X: AllocGlobal + Abort>(rt: &X) -> OneKey {
+    OneKey {
+        key: key_bytes(rt, p256()),
     }
 }

@@ -1,4 +1,5 @@
 // A run of the program over objects in memory: the fixture, with one of its parts changed.
+use crate::delegated;
 use crate::tables::{
     Change, bytes, change_in, failures, good, source, string, text_of, there, words,
 };
@@ -57,6 +58,7 @@ unsigned
 trust
 listed
 delegations
+delegated
 file
 key
 skip
@@ -109,6 +111,9 @@ fn listed<X: AllocGlobal + Abort>(rt: &X, trust: &str) -> String {
 }
 
 fn targets<X: AllocGlobal + Abort>(rt: &X, change: Change) -> String {
+    if change.part == "delegated" {
+        return delegated::delegating(rt, change.text, SPKI);
+    }
     let entry = listed(rt, change.of("trust", "{}"));
     let listed = change.of("listed", entry.as_str());
     let delegations = change.of("delegations", "");
@@ -117,6 +122,14 @@ fn targets<X: AllocGlobal + Abort>(rt: &X, change: Change) -> String {
     );
     drop(entry);
     good(rt, text)
+}
+
+fn snapshot(change: Change) -> &'static str {
+    if change.part == "delegated" {
+        delegated::SNAPSHOT
+    } else {
+        SNAPSHOT
+    }
 }
 
 fn document<X: AllocGlobal + Abort>(rt: &X, signed: &str) -> String {
@@ -135,6 +148,13 @@ fn put<X: AllocGlobal + Abort>(rt: &X, repo: &mut MemoryRepository, name: &str, 
     }
 }
 
+fn put_delegated<X: AllocGlobal + Abort>(rt: &X, repo: &mut MemoryRepository, change: Change) {
+    if change.part == "delegated" {
+        put(rt, repo, "d.json", delegated::LISTING);
+        put(rt, repo, "e.json", delegated::EMPTY);
+    }
+}
+
 fn repository<X: AllocGlobal + Abort>(rt: &X, change: Change, targets: &str) -> MemoryRepository {
     let failures = failures(rt, change.of("repository fails", ""));
     let mut repo = MemoryRepository::new(rt.alloc(), failures);
@@ -150,14 +170,15 @@ fn repository<X: AllocGlobal + Abort>(rt: &X, change: Change, targets: &str) -> 
         "timestamp.json",
         change.of("timestamp", TIMESTAMP),
     );
-    let snapshot = name_of(change, "1.snapshot.json", "snapshot.json");
-    put(rt, &mut repo, snapshot, SNAPSHOT);
+    let name = name_of(change, "1.snapshot.json", "snapshot.json");
+    put(rt, &mut repo, name, snapshot(change));
     put(
         rt,
         &mut repo,
         name_of(change, "1.targets.json", "targets.json"),
         targets,
     );
+    put_delegated(rt, &mut repo, change);
     let trust = change.of("file", change.of("trust", "{}"));
     let file = name_of(change, DIGEST_NAME, "trusted_root.json");
     good(rt, repo.put_target(rt.alloc(), file, trust.as_bytes()));
@@ -207,14 +228,22 @@ fn sign_kept<X: AllocGlobal + Abort>(rt: &X, change: Change, rows: &mut String) 
     }
 }
 
+fn sign_delegated<X: AllocGlobal + Abort>(rt: &X, change: Change, rows: &mut String) {
+    if change.part == "delegated" {
+        sign(rt, change, rows, "d", delegated::LISTING);
+        sign(rt, change, rows, "e", delegated::EMPTY);
+    }
+}
+
 fn provider<X: AllocGlobal + Abort>(rt: &X, change: Change, root: &str, targets: &str) -> Bytes {
     let mut rows = String::new(rt.alloc());
     sign(rt, change, &mut rows, "root", root);
     sign_second(rt, change, &mut rows);
     sign(rt, change, &mut rows, "timestamp", TIMESTAMP);
     sign_kept(rt, change, &mut rows);
-    sign(rt, change, &mut rows, "snapshot", SNAPSHOT);
+    sign(rt, change, &mut rows, "snapshot", snapshot(change));
     sign(rt, change, &mut rows, "targets", targets);
+    sign_delegated(rt, change, &mut rows);
     sign(
         rt,
         change,

@@ -2,6 +2,8 @@
 #![tactic(auto)]
 
 #[cfg(test)]
+mod delegated;
+#[cfg(test)]
 mod fixture;
 #[cfg(test)]
 mod inputs;

@@ -3,7 +3,8 @@ use crate::tables::hold;
 
 // A row: the part, the text in its place, and the status with what is written. The second of the
 // timestamp's expiry is in time; of each object, the call after the last one that is made fails. A second root
-// is adopted from the repository, and in a later run from the store alone.
+// is adopted from the repository, and in a later run from the store alone. The trust file is listed by a role
+// that it is delegated to; a role that isn't pinned is passed over, and one that is pinned is told.
 const ACCEPTED: &str =
     r#"nothing |  | Accepted "accepted\nroot 1\ntimestamp 1\nsnapshot 1\nrole targets 1\ntarget 2\nartifact sha256 2cf24dba5fb0a30e26e83b2ac5b9e29e1b161e5c1fa7425e73043362938b9824\nidentity none\nissuer none\ncertificate no\nsct no\ntlog no\npolicy no\nintegrated none\ntimes 0\n"
 signed artifact |  | Accepted "accepted\nroot 1\ntimestamp 1\nsnapshot 1\nrole targets 1\ntarget 2\nartifact sha256 e3b0c44298fc1c149afbf4c8996fb92427ae41e4649b934ca495991b7852b855\nidentity none\nissuer none\ncertificate no\nsct no\ntlog no\npolicy no\nintegrated none\ntimes 0\n"
@@ -14,7 +15,11 @@ artifact fails | 5 | Accepted "accepted\nroot 1\ntimestamp 1\nsnapshot 1\nrole t
 sink fails | 2 | Accepted "accepted\nroot 1\ntimestamp 1\nsnapshot 1\nrole targets 1\ntarget 2\nartifact sha256 2cf24dba5fb0a30e26e83b2ac5b9e29e1b161e5c1fa7425e73043362938b9824\nidentity none\nissuer none\ncertificate no\nsct no\ntlog no\npolicy no\nintegrated none\ntimes 0\n"
 consistent names |  | Accepted "accepted\nroot 1\ntimestamp 1\nsnapshot 1\nrole targets 1\ntarget 2\nartifact sha256 2cf24dba5fb0a30e26e83b2ac5b9e29e1b161e5c1fa7425e73043362938b9824\nidentity none\nissuer none\ncertificate no\nsct no\ntlog no\npolicy no\nintegrated none\ntimes 0\n"
 second root | 2 | Accepted "accepted\nroot 2\ntimestamp 1\nsnapshot 1\nrole targets 1\ntarget 2\nartifact sha256 2cf24dba5fb0a30e26e83b2ac5b9e29e1b161e5c1fa7425e73043362938b9824\nidentity none\nissuer none\ncertificate no\nsct no\ntlog no\npolicy no\nintegrated none\ntimes 0\n"
-kept root | 2 | Accepted "accepted\nroot 2\ntimestamp 1\nsnapshot 1\nrole targets 1\ntarget 2\nartifact sha256 2cf24dba5fb0a30e26e83b2ac5b9e29e1b161e5c1fa7425e73043362938b9824\nidentity none\nissuer none\ncertificate no\nsct no\ntlog no\npolicy no\nintegrated none\ntimes 0\n""#;
+kept root | 2 | Accepted "accepted\nroot 2\ntimestamp 1\nsnapshot 1\nrole targets 1\ntarget 2\nartifact sha256 2cf24dba5fb0a30e26e83b2ac5b9e29e1b161e5c1fa7425e73043362938b9824\nidentity none\nissuer none\ncertificate no\nsct no\ntlog no\npolicy no\nintegrated none\ntimes 0\n"
+delegations | "delegations":{"keys":{},"roles":[{"keyids":["k"],"name":"d","paths":["x"],"terminating":false,"threshold":1}]}, | Accepted "accepted\nroot 1\ntimestamp 1\nsnapshot 1\nrole targets 1\ntarget 2\nartifact sha256 2cf24dba5fb0a30e26e83b2ac5b9e29e1b161e5c1fa7425e73043362938b9824\nidentity none\nissuer none\ncertificate no\nsct no\ntlog no\npolicy no\nintegrated none\ntimes 0\n"
+delegated | d | Accepted "accepted\nroot 1\ntimestamp 1\nsnapshot 1\nrole targets 1\nrole d 3\ntarget 2\nartifact sha256 2cf24dba5fb0a30e26e83b2ac5b9e29e1b161e5c1fa7425e73043362938b9824\nidentity none\nissuer none\ncertificate no\nsct no\ntlog no\npolicy no\nintegrated none\ntimes 0\n"
+delegated | u d | Accepted "accepted\nroot 1\ntimestamp 1\nsnapshot 1\nrole targets 1\nrole d 3\ntarget 2\nartifact sha256 2cf24dba5fb0a30e26e83b2ac5b9e29e1b161e5c1fa7425e73043362938b9824\nidentity none\nissuer none\ncertificate no\nsct no\ntlog no\npolicy no\nintegrated none\ntimes 0\n"
+delegated | e d | Accepted "accepted\nroot 1\ntimestamp 1\nsnapshot 1\nrole targets 1\nrole e 1\nrole d 3\ntarget 2\nartifact sha256 2cf24dba5fb0a30e26e83b2ac5b9e29e1b161e5c1fa7425e73043362938b9824\nidentity none\nissuer none\ncertificate no\nsct no\ntlog no\npolicy no\nintegrated none\ntimes 0\n""#;
 
 #[test]
 fn the_fixture_is_accepted(rt: HostRuntime) {
@@ -35,6 +40,9 @@ unsigned | snapshot | Refused "refused tuf 8 ThresholdNotMet\n"
 unsigned | targets | Refused "refused tuf 8 ThresholdNotMet\n"
 file | {] | Refused "refused tuf 13 IntegrityMismatch\n"
 listed |  | Refused "refused tuf 16 TargetNotFound\n"
+delegated | e | Refused "refused tuf 16 TargetNotFound\n"
+delegated | e! d | Refused "refused tuf 16 TargetNotFound\n"
+delegated | u! d | Refused "refused tuf 16 TargetNotFound\n"
 timestamp |  | Refused "refused tuf 18 Transport\n"
 next root | {} | Refused "refused tuf 1 Json\n"
 second root | 3 | Refused "refused tuf 11 BadRootVersion\n"
@@ -42,7 +50,6 @@ second root | 3 | Refused "refused tuf 11 BadRootVersion\n"
 kept timestamp | {"_type":"timestamp","expires":"2030-01-01T00:00:00Z","meta":{"snapshot.json":{"version":1}},"spec_version":"1.0.0","version":2} | Refused "refused tuf 9 Rollback\n"
 # The root asks for consistent names, and the repository has the others.
 consistent | true | Refused "refused tuf 18 Transport\n"
-delegations | "delegations":{"keys":{},"roles":[{"keyids":["k"],"name":"d","paths":["x"],"terminating":false,"threshold":1}]}, | Refused "refused tuf 90 Unbuilt\n"
 scheme | ed25519 | Refused "refused tuf 8 ThresholdNotMet\n"
 declared key | MCowBQYDK2VwAyEAAAAAAAAAAAAAAAAAAAAAAAAAAAAAAAAAAAAAAAAAAAA= | Refused "refused tuf 8 ThresholdNotMet\n"
 # The bundle, the policy's key and the trust file.
@@ -108,6 +115,9 @@ consistent names |  | snapshot.json | 177 c66812bd310d9ffec79d3f410f617ae1285235
 consistent names |  | 1.targets.json | none
 consistent names |  | targets.json | 270 2a8b7ee8f7369b05d495ac5f27f1ff03967db37f0a856db2d8bd89c2be6ec16c
 consistent names |  | targets/trusted_root.json | 2 44136fa355b3678a1146ad16f7e8649e94fb4fc21fe77e8310c060f61caaff8a
+delegated | u d | d.json | 270 aac04b8954ac388d1f460d5127e23c8ade14a589661b1bc7e41aa2dadf0734f1
+delegated | u d | e.json | none
+delegated | e! d | d.json | none
 words |  | root.json | none"#;
 
 #[test]
