@@ -1,5 +1,6 @@
 mod Cuts
-mod Folds
+pub mod Folds
+mod Keyed
 mod Pieces
 mod Printing
 mod Readings

@@ -2,6 +2,7 @@ pub mod Inputs
 pub mod Sink
 pub mod Lines
 pub mod Fields
+pub mod ByteMap
 pub mod Policy
 pub mod Rows
 pub mod Tables
