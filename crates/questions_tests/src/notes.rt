@@ -7,9 +7,9 @@ use std::process::Abort;
 
 fn scheme_of(name: &str) -> SigningScheme {
     match name {
-        "EcdsaP256Sha256" => SigningScheme::EcdsaP256Sha256,;
-        "RsaPssSha256" => SigningScheme::RsaPssSha256,;
-        _ => SigningScheme::Ed25519,;
+        "EcdsaP256Sha256" => SigningScheme::EcdsaP256Sha256,
+        "RsaPssSha256" => SigningScheme::RsaPssSha256,
+        _ => SigningScheme::Ed25519,
     }
 }
 
@@ -53,8 +53,8 @@ fn noted<X: AllocGlobal + Abort>(rt: &X, calls: &str) -> String {
     for call in calls.split(", ") {
         let (call, text) = halves(rt, call, " ");
         match call {
-            "key" | "certificate" => read(rt, &notes, call, text),;
-            _ => ask(rt, &notes, call, text),;
+            "key" | "certificate" => read(rt, &notes, call, text),
+            _ => ask(rt, &notes, call, text),
         }
     }
     let noted = there(rt, notes.into_noted());
@@ -68,8 +68,7 @@ fn noted<X: AllocGlobal + Abort>(rt: &X, calls: &str) -> String {
 }
 
 // A row: the calls, and what is noted of them.
-const CALLS: &str =
-    "Ed25519 a/b/c => accept ED25519 YQ== Yg== Yw==;
+const CALLS: &str = "Ed25519 a/b/c => accept ED25519 YQ== Yg== Yw==;
 Ed25519 // => accept ED25519 - - -;
 Ed25519 a/b/c, Ed25519 a/b/c => accept ED25519 YQ== Yg== Yw==;
 Ed25519 a/b/c, Ed25519 a/c/c, Ed25519 a/b/c => accept ED25519 YQ== Yg== Yw==;accept ED25519 YQ== Yw== Yw==;

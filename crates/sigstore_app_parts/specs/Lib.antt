@@ -5,6 +5,7 @@ pub mod Fields
 pub mod ByteMap
 pub mod Policy
 pub mod Rows
+pub mod RowLaws
 pub mod Tables
 pub mod Layout
 pub mod Printed
