@@ -1,5 +1,5 @@
 -- What status 0 means.
-use Rattle.std.proofs.Common.{◌≡◌, ℕ, List, Some, None, Ok, Err, refl, sym, ap, ◌∙◌, Result, ⊥}
+use Rattle.std.proofs.Common.{◌≡◌, ℕ, List, Some, Ok, Err, sym, ap, ◌∙◌, Result}
 use Rattle.std.specs.Result.{result_ok}
 use Rattle.foundation.specs.Watched.{Watched}
 use Rattle.foundation.specs.Results.{some_same}
@@ -10,13 +10,13 @@ use Rattle.sigstore_app_parts.specs.declared.gather.Stop.{Stop}
 use Rattle.sigstore_app_parts.specs.declared.gather.Stop.TheVariants as stop
 use Rattle.sigstore_app_parts.specs.declared.usage_fault.UsageFault.{UsageFault}
 use Rattle.sigstore_questions.specs.declared.answers.Ended.{Ended}
-use Rattle.sigstore_questions.specs.declared.answers.Ended.TheVariants.{Asked, Usage, Input, Output, Memory}
+use Rattle.sigstore_questions.specs.declared.answers.Ended.TheVariants.{Asked, Usage, Input}
 use Rattle.sigstore_questions.specs.declared.answers.Said.{Said}
 use Rattle.sigstore_questions.specs.Said.{said_of_stop}
-use Rattle.sigstore_questions.specs.Means.{TakesAll, Proceeds, rows, stopped, Decides, misworded, worded, RunsTo, unwritten, cut, written, WritesRows}
+use Rattle.sigstore_questions.specs.Means.{TakesAll, rows, stopped, Decides, misworded, worded, RunsTo, unwritten, cut, written, WritesRows}
 
 -- what is said of a stop doesn't end as questions do
-ended_of : Said → Ended
+abbrev ended_of : Said → Ended
 ended_of said = said.ended
 
 not_asked : (why : Stop) (said : Said) → said_of_stop why ≡ Some said → said.ended ≡ Asked → ⊥
