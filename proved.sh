@@ -1,18 +1,22 @@
-# Read by ./ratmanganese and ./example, which set `top`: the proved program, and whether it is current.
+# Read by ./ratmanganese, ./example and ./verify-real, which set `top`: the proved programs, and whether
+# they are current. The first verifies, the second writes the questions of a verification.
 app=$top/crates/sigstore_app
 program=$app/out/sigstore_app
+asking=$top/crates/sigstore_questions_app
+questions=$asking/out/sigstore_questions_app
 
-# The program's crates, lowest first: those of this repository in its line of crates.txt, and itself.
+# A program's crates, lowest first: those of this repository in its line of crates.txt, and itself.
 crates() {
-    for name in $(sed -n 's/^sigstore_app://p' "$top/crates.txt") sigstore_app; do
+    for name in $(sed -n "s/^$1://p" "$top/crates.txt") "$1"; do
         [ ! -d "$top/crates/$name" ] || echo "$name"
     done
 }
 
-# Whether the proved program is there and no source of its crates is newer.
+# Whether a proved program is there and no source of its crates is newer.
 is_current() {
-    [ -x "$program" ] || return
-    sources=$(crates | sed "s|.*|$top/crates/&/src $top/crates/&/specs $top/crates/&/proofs|")
+    built=$top/crates/$1/out/$1
+    [ -x "$built" ] || return
+    sources=$(crates "$1" | sed "s|.*|$top/crates/&/src $top/crates/&/specs $top/crates/&/proofs|")
     # shellcheck disable=SC2086
-    [ -z "$(find "$top/crates.txt" $sources -newer "$program" 2>/dev/null | head -n 1)" ]
+    [ -z "$(find "$top/crates.txt" $sources -newer "$built" 2>/dev/null | head -n 1)" ]
 }

@@ -1,5 +1,7 @@
 mod Cuts
-mod Folds
+pub mod Folds
+mod Keyed
 mod Pieces
 mod Printing
 mod Readings
+mod RowFacts

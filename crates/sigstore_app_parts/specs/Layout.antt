@@ -1,5 +1,5 @@
 -- The words of the command.
-use Rattle.std.specs.Prelude.{ℕ, List, [], ◌∷◌, bytes_eq, codes, if◌then◌else◌, Option, Some, None, Result, Ok, Err, ok_or}
+use Rattle.std.specs.Prelude.{ℕ, List, [], ◌∷◌, bytes_eq, codes, if◌then◌else◌, is_some, Option, Some, None, Result, Ok, Err, ok_or}
 use Rattle.jiff_core.specs.declared.timestamp.Timestamp.{Timestamp}
 use Rattle.foundation.specs.Steps.{◌>>=◌}
 use Rattle.sigstore_types_parts.specs.Instant.{instant_of}
@@ -71,3 +71,13 @@ nothing_found =
 unfoldable pub layout_of : List (List ℕ) → Result Layout UsageFault
 layout_of [] = Err Usage
 layout_of (word ∷ words) = if bytes_eq word (codes "verify") then (options_of nothing_found words >>= complete_of) else Err Usage
+
+-- no provider stands among the options; its path is empty
+abbrev pub unprovided_of : Found → Result Layout UsageFault
+unprovided_of found = if is_some found.provider then Err Usage else complete_of (record found { provider = Some [] })
+
+-- the layout of the words after the first, which is `questions`
+unfoldable pub asked_layout_of : List (List ℕ) → Result Layout UsageFault
+asked_layout_of [] = Err Usage
+asked_layout_of (word ∷ words) =
+    if bytes_eq word (codes "questions") then (options_of nothing_found words >>= unprovided_of) else Err Usage

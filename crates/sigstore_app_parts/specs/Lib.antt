@@ -2,8 +2,10 @@ pub mod Inputs
 pub mod Sink
 pub mod Lines
 pub mod Fields
+pub mod ByteMap
 pub mod Policy
 pub mod Rows
+pub mod RowLaws
 pub mod Tables
 pub mod Layout
 pub mod Printed

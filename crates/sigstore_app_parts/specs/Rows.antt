@@ -1,8 +1,10 @@
 -- The rows of the provider file.
-use Rattle.std.specs.Prelude.{ℕ, List, length, take, bytes_eq, codes, not, nat_eq, Bool, ◌&&◌, ◌||◌, if◌then◌else◌}
-use Rattle.std.specs.Prelude.{Option, option_map, Result, Ok, Err, ok_or}
-use Rattle.std.specs.List.{list_any, find}
+use Rattle.std.specs.Prelude.{ℕ, List, [], ◌∷◌, ◌++◌, length, take, bytes_eq, codes, not, nat_eq, Bool, ◌&&◌, ◌||◌, if◌then◌else◌}
+use Rattle.std.specs.Prelude.{unwrap_or, Result, Ok, Err, ok_or}
+use Rattle.std.specs.List.{list_any}
+use Rattle.std.specs.BTreeMap.{insert_entry}
 use Rattle.foundation.specs.Steps.{◌>>=◌}
+use Rattle.sigstore_types_parts.specs.Entries.{text_cmp, at_name}
 use Rattle.sigstore_crypto.specs.declared.scheme.SigningScheme.{SigningScheme}
 use Rattle.sigstore_crypto.specs.Scheme.{scheme_name_of, scheme_named, has_digest, digest_size_of}
 use Rattle.sigstore_app_parts.specs.Lines.{cut_of}
@@ -55,10 +57,22 @@ is_row scheme key subject signature row =
     bytes_eq (scheme_name_of row.scheme) (scheme_name_of scheme) && bytes_eq row.key key && bytes_eq row.subject subject
     && bytes_eq row.signature signature
 
--- some row is that of these
-abbrev pub accepts_of : List AcceptRow → SigningScheme → List ℕ → List ℕ → List ℕ → Bool
-accepts_of rows scheme key subject signature = list_any (is_row scheme key subject signature) rows
+-- the rows that are accepted, by their signatures
+abbrev pub AcceptRows : Type 0
+AcceptRows = List (List ℕ × List AcceptRow)
 
--- what the row of that text holds
-abbrev pub held_of : List ArmorRow → List ℕ → Option (List ℕ)
-held_of rows text = option_map (λ row. row.der) (find (λ row. bytes_eq row.text text) rows)
+-- the rows of a signature
+abbrev pub rows_under : List ℕ → AcceptRows → List AcceptRow
+rows_under signature rows = unwrap_or (at_name signature rows) []
+
+-- one more row
+abbrev pub with_accept_row : AcceptRows → AcceptRow → AcceptRows
+with_accept_row rows row = insert_entry text_cmp rows row.signature (rows_under row.signature rows ++ row ∷ [])
+
+-- some row is that of these
+abbrev pub accepts_of : AcceptRows → SigningScheme → List ℕ → List ℕ → List ℕ → Bool
+accepts_of rows scheme key subject signature = list_any (is_row scheme key subject signature) (rows_under signature rows)
+
+-- what armoured texts hold, by the texts
+abbrev pub ArmorRows : Type 0
+ArmorRows = List (List ℕ × List ℕ)

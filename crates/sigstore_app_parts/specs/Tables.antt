@@ -1,11 +1,13 @@
 -- The provider file, and what its tables answer.
-use Rattle.std.specs.Prelude.{ℕ, List, [], ◌∷◌, ◌++◌, drop, bytes_eq, codes, is_some, Bool, ◌||◌, if◌then◌else◌, Option, Result, Ok, Err}
+use Rattle.std.specs.Prelude.{ℕ, List, [], drop, bytes_eq, codes, is_some, Bool, ◌||◌, if◌then◌else◌, Option, Result, Ok, Err}
+use Rattle.std.specs.BTreeMap.{insert_entry}
 use Rattle.std.specs.Result.{result_ok}
 use Rattle.base64.specs.Engines.{standard}
 use Rattle.base64.specs.GeneralPurpose.{decode_of}
 use Rattle.foundation.specs.Steps.{◌>>=◌}
+use Rattle.sigstore_types_parts.specs.Entries.{text_cmp, at_name}
 use Rattle.sigstore_app_parts.specs.Lines.{file_folded_of}
-use Rattle.sigstore_app_parts.specs.Rows.{parted_of, accept_row_of, is_der, armor_row_of, held_of}
+use Rattle.sigstore_app_parts.specs.Rows.{parted_of, with_accept_row, accept_row_of, is_der, ArmorRows, armor_row_of}
 use Rattle.sigstore_app_parts.specs.declared.usage_fault.UsageFault.{UsageFault}
 use Rattle.sigstore_app_parts.specs.declared.usage_fault.UsageFault.TheVariants.{Usage}
 use Rattle.sigstore_app_parts.specs.declared.rows.ArmorRow.{ArmorRow}
@@ -14,8 +16,9 @@ use Rattle.sigstore_app_parts.specs.declared.tables.TableProvider.{TableProvider
 use Rattle.sigstore_app_parts.specs.declared.tables.Tables.{Tables}
 
 -- no text stands twice for one sort
-abbrev pub with_armor_row : List ArmorRow → ArmorRow → Result (List ArmorRow) UsageFault
-with_armor_row rows row = if is_some (held_of rows row.text) then Err Usage else Ok (rows ++ row ∷ [])
+abbrev pub with_armor_row : ArmorRows → ArmorRow → Result ArmorRows UsageFault
+with_armor_row rows row =
+    if is_some (at_name row.text rows) then Err Usage else Ok (insert_entry text_cmp rows row.text row.der)
 
 -- `key TEXT DER` or `certificate TEXT DER`
 abbrev pub armor_line_of : TableArmor → List ℕ → Result TableArmor UsageFault
@@ -31,7 +34,7 @@ armor_line_of armor text = do
 abbrev pub accept_line_of : TableProvider → List ℕ → Result TableProvider UsageFault
 accept_line_of provider text = do
   row ← accept_row_of text
-  Ok (record { rows = provider.rows ++ row ∷ [] })
+  Ok (record { rows = with_accept_row provider.rows row })
 
 -- a line that begins with `accept` or `armor`
 abbrev pub table_line_of : Tables → List ℕ → Result Tables UsageFault
@@ -52,8 +55,8 @@ tables_of bytes = file_folded_of table_line_of no_rows bytes
 
 -- a text is armoured that begins with `der:` or is a row's
 abbrev pub is_armored_by : TableArmor → List ℕ → Bool
-is_armored_by armor text = is_der text || is_some (held_of armor.keys text) || is_some (held_of armor.certificates text)
+is_armored_by armor text = is_der text || is_some (at_name text armor.keys) || is_some (at_name text armor.certificates)
 
 -- what a text holds: the bytes that stand in base64 behind `der:`, or what its row says
-abbrev pub armor_content : List ArmorRow → List ℕ → Option (List ℕ)
-armor_content rows text = if is_der text then result_ok (decode_of standard (drop 4 text)) else held_of rows text
+abbrev pub armor_content : ArmorRows → List ℕ → Option (List ℕ)
+armor_content rows text = if is_der text then result_ok (decode_of standard (drop 4 text)) else at_name text rows

@@ -1,7 +1,7 @@
 // The words of the command.
 ghost use Rattle.std.specs.Prelude.{◌≡◌, ◌≢◌, Ok, Err, IfOk, IfErr, OnOk};
 ghost use Rattle.std.specs.Result.{result_ok};
-ghost use Rattle.sigstore_app_parts.specs.Layout.{placed, instant_placed, named_of, option_of, options_of, complete_of, layout_of, nothing_found};
+ghost use Rattle.sigstore_app_parts.specs.Layout.{placed, instant_placed, named_of, option_of, options_of, complete_of, layout_of, unprovided_of, asked_layout_of, nothing_found};
 
 use crate::lines::cut;
 use crate::usage_fault::UsageFault;
@@ -175,6 +175,68 @@ fn read_words(alloc: Global, words: &[Text]) -> Result<Layout, UsageFault>
             }
         }
         [] => Err(UsageFault::Usage),
+    }
+}
+
+// The layout of options among which there is no provider.
+fn unprovided(alloc: Global, found: Found) -> Result<Layout, UsageFault>
+    ensures { result ≡ unprovided_of found }
+{
+    if found.provider.is_some() {
+        drop(found);
+        return Err(UsageFault::Usage);
+    }
+    let Found {
+        root,
+        repository,
+        store,
+        bundle,
+        artifact,
+        policy,
+        now,
+        ..
+    } = found;
+    complete(Found {
+        root,
+        repository,
+        store,
+        bundle,
+        artifact,
+        policy,
+        provider: Some(Text::from_string(String::new(alloc))),
+        now,
+    })
+}
+
+#[tactic(auto, unfolding(crate::specs::Layout::asked_layout_of))]
+fn read_asked_words(alloc: Global, words: &[Text]) -> Result<Layout, UsageFault>
+    ensures ok { IfOk result (λ l. asked_layout_of words.now ≡ Ok l) }
+    ensures err { IfErr result (λ e. e ≢ UsageFault.NoMemory → asked_layout_of words.now ≡ Err e) }
+{
+    match words {
+        [word, options @ ..] => {
+            if word.as_str() != "questions" {
+                return Err(UsageFault::Usage);
+            }
+            let mut found = nothing_found();
+            match take_options(alloc, &mut found, options) {
+                Ok(()) => unprovided(alloc, found),
+                Err(e) => Err(e),
+            }
+        }
+        [] => Err(UsageFault::Usage),
+    }
+}
+
+/// The layout that the words of a run without a table give: `questions`, then `--name=value` at most once
+/// each, all names of `read_layout` but `now` wanted, and no `provider`; none for other words.
+pub fn read_asked_layout(alloc: Global, words: &[Text]) -> Result<Option<Layout>, NoMemory>
+    ensures { IfOk result (λ found. found ≡ result_ok (asked_layout_of words.now)) }
+{
+    match read_asked_words(alloc, words) {
+        Ok(layout) => Ok(Some(layout)),
+        Err(UsageFault::Usage) => Ok(None),
+        Err(UsageFault::NoMemory) => Err(NoMemory),
     }
 }
 

@@ -2,10 +2,12 @@
 //! files, and the lines that it writes.
 #![tactic(auto)]
 
+mod byte_map;
 mod fields;
 mod file_inputs;
 mod gather;
 mod inputs;
+mod laws;
 mod layout;
 mod lines;
 mod memory_inputs;
@@ -20,10 +22,12 @@ mod tables;
 mod usage_fault;
 mod writing;
 
+pub use byte_map::ByteMap;
 pub use file_inputs::FileInputs;
-pub use gather::{Gathered, Stop, gather_inputs};
+pub use gather::{Gathered, Stop, gather_asked, gather_inputs};
 pub use inputs::{InputFault, Inputs, Which};
-pub use layout::{Layout, read_layout};
+pub use laws::rows_are_found;
+pub use layout::{Layout, read_asked_layout, read_layout};
 pub use lines::{ByLine, take_file};
 pub use memory_inputs::MemoryInputs;
 pub use memory_sink::MemorySink;
@@ -32,7 +36,7 @@ pub use printed::{
     push_answer_line, push_decimal, push_hex_line, push_line, push_named_line, push_number_line,
     push_pair_line, push_printed, push_refused_line, push_text_line,
 };
-pub use rows::{AcceptRow, ArmorRow};
+pub use rows::{AcceptRow, ArmorRow, is_der, is_subject};
 pub use sink::{Sink, SinkFault};
 pub use stdout_sink::StdoutSink;
 pub use tables::{TableArmor, TableProvider, Tables, read_provider};

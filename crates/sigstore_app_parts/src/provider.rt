@@ -7,7 +7,8 @@ ghost use Rattle.base64.specs.Engines.{standard};
 ghost use Rattle.base64.specs.GeneralPurpose.{decode_of};
 ghost use Rattle.std.specs.Prelude.{IfOk};
 
-use crate::rows::{ArmorRow, held, is_der};
+use crate::byte_map::ByteMap;
+use crate::rows::is_der;
 use crate::tables::{TableArmor, TableProvider};
 use base64::DecodeAllocError;
 use base64::engine::general_purpose::STANDARD;
@@ -17,14 +18,23 @@ use sigstore_types_parts::{Armor, Bytes, HashAlgorithm};
 use std::alloc::Global;
 
 impl TableProvider {
-    // Some row is that of these.
-    fn accepts(&self, scheme: SigningScheme, key: &[u8], subject: &[u8], signature: &[u8]) -> bool
+    /// Whether some row is that of a scheme, a raw key, a subject and a signature.
+    pub fn accepts(
+        &self,
+        scheme: SigningScheme,
+        key: &[u8],
+        subject: &[u8],
+        signature: &[u8],
+    ) -> bool
         ensures { result ≡ accepts_of self.now.rows scheme key.now subject.now signature.now }
     {
-        self.rows
-            .as_slice()
-            .iter()
-            .any(|row| row.is_of(scheme, key, subject, signature))
+        match self.rows.get(signature) {
+            Some(rows) => rows
+                .as_slice()
+                .iter()
+                .any(|row| row.is_of(scheme, key, subject, signature)),
+            None => false,
+        }
     }
 }
 
@@ -73,14 +83,14 @@ fn decoded(alloc: Global, text: &[u8]) -> Result<Option<Bytes>, NoMemory>
 }
 
 // What a text holds by these rows.
-fn content(alloc: Global, rows: &[ArmorRow], text: &[u8]) -> Result<Option<Bytes>, NoMemory>
+fn content(alloc: Global, rows: &ByteMap<Bytes>, text: &[u8]) -> Result<Option<Bytes>, NoMemory>
     ensures { IfOk result (λ b. b ≡ armor_content rows.now text.now) }
 {
     if is_der(text) {
         let (_, rest) = text.split_at(4);
         return decoded(alloc, rest);
     }
-    match held(rows, text) {
+    match rows.get(text) {
         Some(der) => Ok(Some(der.duplicate(alloc)?)),
         None => Ok(None),
     }
@@ -94,17 +104,15 @@ impl Armor for TableArmor {
     ghost certificate_in = { λ a. armor_content a.certificates };
 
     fn is_armored(&self, text: &[u8]) -> bool {
-        is_der(text)
-            || held(self.keys.as_slice(), text).is_some()
-            || held(self.certificates.as_slice(), text).is_some()
+        is_der(text) || self.keys.get(text).is_some() || self.certificates.get(text).is_some()
     }
 
     fn read_key(&self, alloc: Global, text: &[u8]) -> Result<Option<Bytes>, NoMemory> {
-        content(alloc, self.keys.as_slice(), text)
+        content(alloc, &self.keys, text)
     }
 
     fn read_certificate(&self, alloc: Global, text: &[u8]) -> Result<Option<Bytes>, NoMemory> {
-        content(alloc, self.certificates.as_slice(), text)
+        content(alloc, &self.certificates, text)
     }
 
     fn write_certificate(&self, alloc: Global, der: &[u8]) -> Result<Bytes, NoMemory> {

@@ -1,7 +1,6 @@
 // The rows of the provider file.
-ghost use Rattle.std.specs.Prelude.{◌≡◌, ◌≢◌, Ok, Err, Some, IfOk, IfErr, MatchResult, option_map};
-ghost use Rattle.sigstore_app_parts.specs.Rows.{parted_of, is_subject, accepted_row_of, accept_row_of, is_der, armor_row_of, is_row, held_of};
-ghost use Rattle.std.specs.Option.{option_copied};
+ghost use Rattle.std.specs.Prelude.{◌≡◌, ◌≢◌, Ok, Err, IfOk, IfErr, MatchResult};
+ghost use Rattle.sigstore_app_parts.specs.Rows.{parted_of, is_subject, accepted_row_of, accept_row_of, is_der, armor_row_of, is_row};
 
 use crate::fields::field;
 use crate::lines::cut;
@@ -48,8 +47,8 @@ pub(crate) fn parted(text: &str) -> Result<(&str, &str), UsageFault>
     }
 }
 
-// Whether a scheme can have the subject: one of its digest's length, where it has a digest.
-fn is_subject(scheme: SigningScheme, subject: &[u8]) -> bool
+/// Whether a scheme can have the subject: one of its digest's length, where it has a digest.
+pub fn is_subject(scheme: SigningScheme, subject: &[u8]) -> bool
     ensures { result ≡ is_subject scheme subject.now }
 {
     match scheme.hash_algorithm() {
@@ -93,8 +92,8 @@ pub(crate) fn accept_row(alloc: Global, text: &str) -> Result<AcceptRow, UsageFa
     }
 }
 
-// Whether the text begins with `der:`.
-pub(crate) fn is_der(text: &[u8]) -> bool
+/// Whether the text begins with `der:`.
+pub fn is_der(text: &[u8]) -> bool
     ensures { result ≡ is_der text.now }
 {
     text.starts_with(b"der:")
@@ -115,14 +114,4 @@ pub(crate) fn armor_row(alloc: Global, fields: &str) -> Result<ArmorRow, UsageFa
         return Err(UsageFault::Usage);
     }
     Ok(row)
-}
-
-// What the row of that text holds.
-pub(crate) fn held<'a>(rows: &'a [ArmorRow], text: &[u8]) -> Option<&'a Bytes>
-    ensures { option_copied result ≡ held_of rows.now text.now }
-{
-    match rows.iter().find(|row| row.text.as_bytes() == text) {
-        Some(row) => Some(&row.der),
-        None => None,
-    }
 }

@@ -1,56 +1,97 @@
 // The provider file.
 ghost use Rattle.std.specs.Prelude.{◌≡◌, ◌≢◌, Ok, Err, IfOk, IfErr, OnOk};
+ghost use Rattle.std.specs.BTreeMap.{is_at};
+ghost use Rattle.std.specs.List.Sorted.{IsStrictlySortedBy};
+ghost use Rattle.std.specs.Map.{keys_of, remove_entry};
+ghost use Rattle.sigstore_types_parts.specs.Entries.{text_cmp};
+ghost use Rattle.sigstore_app_parts.specs.Rows.{rows_under, with_accept_row};
 ghost use Rattle.sigstore_app_parts.specs.Tables.{with_armor_row, armor_line_of, accept_line_of, table_line_of, no_rows, tables_of};
 
+use crate::byte_map::ByteMap;
 use crate::lines::{ByLine, take_file};
-use crate::rows::{AcceptRow, ArmorRow, accept_row, armor_row, held, parted};
+use crate::rows::{AcceptRow, ArmorRow, accept_row, armor_row, parted};
 use crate::usage_fault::UsageFault;
-use foundation::Sequence;
+use foundation::{Duplicate, NoMemory, Sequence};
+use sigstore_types_parts::Bytes;
 use std::alloc::Global;
 
-/// Judges signatures: accepts exactly its rows.
-#[derive(PartialEq, Drop)]
+/// Judges signatures: accepts exactly its rows, which stand by their signatures.
+#[derive(Drop)]
 pub struct TableProvider {
-    pub rows: Sequence<AcceptRow>,
+    pub rows: ByteMap<Sequence<AcceptRow>>,
 }
 
-/// Reads armoured texts: `der:` with base64, and its rows' texts.
-#[derive(PartialEq, Drop)]
+/// Reads armoured texts: `der:` with base64, and its rows' texts, with what each holds.
+#[derive(Drop)]
 pub struct TableArmor {
-    pub keys: Sequence<ArmorRow>,
-    pub certificates: Sequence<ArmorRow>,
+    pub keys: ByteMap<Bytes>,
+    pub certificates: ByteMap<Bytes>,
 }
 
 /// The tables of a provider file.
-#[derive(PartialEq, Drop)]
+#[derive(Drop)]
 pub struct Tables {
     pub provider: TableProvider,
     pub armor: TableArmor,
 }
 
-fn empty(alloc: Global) -> Tables
-    ensures { result ≡ no_rows }
+impl Tables {
+    /// Tables without rows; takes no memory.
+    pub fn new(alloc: Global) -> Tables
+        ensures { result ≡ no_rows }
+    {
+        Tables {
+            provider: TableProvider {
+                rows: ByteMap::new(alloc),
+            },
+            armor: TableArmor {
+                keys: ByteMap::new(alloc),
+                certificates: ByteMap::new(alloc),
+            },
+        }
+    }
+}
+
+// The rows of a signature, taken out.
+fn taken_rows(
+    alloc: Global,
+    rows: &mut ByteMap<Sequence<AcceptRow>>,
+    signature: &[u8],
+) -> Sequence<AcceptRow>
+    ensures taken { result ≡ rows_under signature.now rows.old }
+    ensures others { rows.new ≡ remove_entry (is_at (text_cmp signature.now)) rows.old }
+    ensures ordered { IsStrictlySortedBy text_cmp (keys_of rows.old) }
 {
-    Tables {
-        provider: TableProvider {
-            rows: Sequence::new(alloc),
-        },
-        armor: TableArmor {
-            keys: Sequence::new(alloc),
-            certificates: Sequence::new(alloc),
-        },
+    match rows.take(signature) {
+        Some(taken) => taken,
+        None => Sequence::new(alloc),
+    }
+}
+
+impl TableProvider {
+    /// Adds a row.
+    pub fn add(&mut self, alloc: Global, row: AcceptRow) -> Result<(), NoMemory>
+        ensures { OnOk result (self.new.rows ≡ with_accept_row self.old.rows row) }
+    {
+        let signature = row.signature.duplicate(alloc)?;
+        let mut others = taken_rows(alloc, &mut self.rows, signature.as_bytes());
+        others.push(row)?;
+        self.rows.insert(signature, others)?;
+        Ok(())
     }
 }
 
 // Adds a row whose text no row has.
-fn add_armor_row(rows: &mut Sequence<ArmorRow>, row: ArmorRow) -> Result<(), UsageFault>
+fn add_armor_row(rows: &mut ByteMap<Bytes>, row: ArmorRow) -> Result<(), UsageFault>
     ensures ok { OnOk result (with_armor_row rows.old row ≡ Ok rows.new) }
     ensures err { IfErr result (λ e. e ≢ UsageFault.NoMemory → with_armor_row rows.old row ≡ Err e) }
 {
-    if held(rows.as_slice(), row.text.as_bytes()).is_some() {
+    if rows.get(row.text.as_bytes()).is_some() {
+        drop(row);
         return Err(UsageFault::Usage);
     }
-    rows.push(row)?;
+    let ArmorRow { text, der } = row;
+    rows.insert(text, der)?;
     Ok(())
 }
 
@@ -73,7 +114,7 @@ fn accept_line(alloc: Global, provider: &mut TableProvider, text: &str) -> Resul
     ensures err { IfErr result (λ e. e ≢ UsageFault.NoMemory → accept_line_of provider.old text.now ≡ Err e) }
 {
     let row = accept_row(alloc, text)?;
-    provider.rows.push(row)?;
+    provider.add(alloc, row)?;
     Ok(())
 }
 
@@ -97,7 +138,7 @@ pub fn read_provider(alloc: Global, bytes: &[u8]) -> Result<Tables, UsageFault>
     ensures ok { IfOk result (λ t. tables_of bytes.now ≡ Ok t) }
     ensures err { IfErr result (λ e. e ≢ UsageFault.NoMemory → tables_of bytes.now ≡ Err e) }
 {
-    let mut tables = empty(alloc);
+    let mut tables = Tables::new(alloc);
     match take_file(alloc, &mut tables, bytes) {
         Ok(()) => Ok(tables),
         Err(e) => Err(e),

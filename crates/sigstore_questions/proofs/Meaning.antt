@@ -1,0 +1,54 @@
+-- What status 0 means.
+use Rattle.std.proofs.Common.{◌≡◌, ℕ, List, Some, Ok, Err, sym, ap, ◌∙◌, Result}
+use Rattle.std.specs.Result.{result_ok}
+use Rattle.foundation.specs.Watched.{Watched}
+use Rattle.foundation.specs.Results.{some_same}
+use Rattle.sigstore_app_parts.specs.Inputs.{Held}
+use Rattle.sigstore_app_parts.specs.Layout.{asked_layout_of}
+use Rattle.sigstore_app_parts.specs.declared.layout.Layout.{Layout}
+use Rattle.sigstore_app_parts.specs.declared.gather.Stop.{Stop}
+use Rattle.sigstore_app_parts.specs.declared.gather.Stop.TheVariants as stop
+use Rattle.sigstore_app_parts.specs.declared.usage_fault.UsageFault.{UsageFault}
+use Rattle.sigstore_questions.specs.declared.answers.Ended.{Ended}
+use Rattle.sigstore_questions.specs.declared.answers.Ended.TheVariants.{Asked, Usage, Input}
+use Rattle.sigstore_questions.specs.declared.answers.Said.{Said}
+use Rattle.sigstore_questions.specs.Said.{said_of_stop}
+use Rattle.sigstore_questions.specs.Means.{TakesAll, rows, stopped, Decides, misworded, worded, RunsTo, unwritten, cut, written, WritesRows}
+
+-- what is said of a stop doesn't end as questions do
+abbrev ended_of : Said → Ended
+ended_of said = said.ended
+
+not_asked : (why : Stop) (said : Said) → said_of_stop why ≡ Some said → said.ended ≡ Asked → ⊥
+not_asked stop.Words said h e = let same : Usage ≡ said.ended = ap ended_of (some_same _ said h) in cc
+not_asked (stop.Malformed which) said h e = let same : Usage ≡ said.ended = ap ended_of (some_same _ said h) in cc
+not_asked (stop.Input which) said h e = let same : Input ≡ said.ended = ap ended_of (some_same _ said h) in cc
+not_asked stop.Memory said h e = cc
+
+pub found_layout : (words : List (List ℕ)) (layout : Layout) → Some layout ≡ result_ok (asked_layout_of words) → asked_layout_of words ≡ Ok layout
+found_layout words layout h = by (asked_layout_of words) h
+  where
+    by : (r : Result Layout UsageFault) → Some layout ≡ result_ok r → r ≡ Ok layout
+    by (Ok x) h = ap Ok (sym (some_same layout x h))
+    by (Err e) h = cc
+
+module _ (words : List (List ℕ)) (before after : Watched Held) (out out' : Watched (List ℕ)) where
+  wrote : (said : Said) → Decides words before after said → TakesAll out out' said.text → said.ended ≡ Asked → WritesRows words before after out out'
+  wrote said (misworded none same line) takes e = absurd (not_asked stop.Words said line e)
+  wrote said (worded layout is (stopped why read line)) takes e = absurd (not_asked why said line e)
+  wrote said (worded layout is (rows gathered tables read reads ended)) takes e = record {
+    layout = layout;
+    worded = is;
+    gathered = gathered;
+    inputs = read;
+    tables = tables;
+    text = said.text;
+    rows = reads;
+    written = takes;
+  }
+
+  -- where questions are asked, the rows were written
+  pub asked_rows : (ended : Ended) → RunsTo words before after out out' ended → ended ≡ Asked → WritesRows words before after out out'
+  asked_rows ended (unwritten same is) e = cc
+  asked_rows ended (cut said fault d w is) e = cc
+  asked_rows ended (written said d takes is) e = wrote said d takes (sym is ∙ e)

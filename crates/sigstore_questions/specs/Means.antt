@@ -1,0 +1,57 @@
+-- What a run writes: the rows that were noted and nothing else, or the line of a stop.
+use Rattle.std.specs.Prelude.{◌≡◌, ℕ, List, Some, None, Ok, Err}
+use Rattle.std.specs.Result.{result_ok}
+use Rattle.foundation.specs.Watched.{Watched}
+use Rattle.sigstore_app_parts.specs.Inputs.{Held}
+use Rattle.sigstore_app_parts.specs.Sink.{WritesText}
+use Rattle.sigstore_app_parts.specs.Layout.{asked_layout_of}
+use Rattle.sigstore_app_parts.specs.Tables.{tables_of}
+use Rattle.sigstore_app_parts.specs.Gather.{asked_of, ReadsAs}
+use Rattle.sigstore_app_parts.specs.declared.layout.Layout.{Layout}
+use Rattle.sigstore_app_parts.specs.declared.gather.Gathered.{Gathered}
+use Rattle.sigstore_app_parts.specs.declared.gather.Stop.{Stop}
+use Rattle.sigstore_app_parts.specs.declared.gather.Stop.TheVariants.{Words}
+use Rattle.sigstore_app_parts.specs.declared.sink.SinkFault.{SinkFault}
+use Rattle.sigstore_app_parts.specs.declared.tables.Tables.{Tables}
+use Rattle.sigstore_questions.specs.declared.answers.Ended.{Ended}
+use Rattle.sigstore_questions.specs.declared.answers.Ended.TheVariants.{Asked, Output, Memory}
+use Rattle.sigstore_questions.specs.declared.answers.Said.{Said}
+use Rattle.sigstore_questions.specs.Said.{said_of_stop}
+
+-- the sink took exactly the text
+abbrev pub TakesAll : Watched (List ℕ) → Watched (List ℕ) → List ℕ → Type 0
+TakesAll out out' text = WritesText {E = SinkFault} out out' text (Ok tt)
+
+-- what is said once the words are read: the rows that were noted, as a provider file; or the line of the input that is refused
+pub data Proceeds (before after : Watched Held) (said : Said) : Type 0 where
+  rows : (gathered : Gathered) (tables : Tables) → ReadsAs asked_of before after (Ok gathered)
+      → tables_of said.text ≡ Ok tables → said.ended ≡ Asked → Proceeds before after said
+  stopped : (stop : Stop) → ReadsAs asked_of before after (Err stop) → said_of_stop stop ≡ Some said
+      → Proceeds before after said
+
+-- what is said: the words first, then the inputs and the questions
+pub data Decides (words : List (List ℕ)) (before after : Watched Held) (said : Said) : Type 0 where
+  misworded : result_ok (asked_layout_of words) ≡ None → after ≡ before → said_of_stop Words ≡ Some said
+      → Decides words before after said
+  worded : (layout : Layout) → asked_layout_of words ≡ Ok layout → Proceeds before after said
+      → Decides words before after said
+
+-- a run: what is said is written; nothing is where memory is wanting, and a part of the text where a write failed
+pub data RunsTo (words : List (List ℕ)) (before after : Watched Held) (out out' : Watched (List ℕ)) (ended : Ended) : Type 0 where
+  unwritten : out' ≡ out → ended ≡ Memory → RunsTo words before after out out' ended
+  cut : (said : Said) (fault : SinkFault) → Decides words before after said → WritesText out out' said.text (Err fault)
+      → ended ≡ Output → RunsTo words before after out out' ended
+  written : (said : Said) → Decides words before after said → TakesAll out out' said.text → ended ≡ said.ended
+      → RunsTo words before after out out' ended
+
+-- what status 0 means: the words and the inputs were read, and the sink took exactly a text that is a provider file with these
+-- tables
+pub record WritesRows (words : List (List ℕ)) (before after : Watched Held) (out out' : Watched (List ℕ)) : Type 0 where
+  pub layout : Layout
+  pub worded : asked_layout_of words ≡ Ok layout
+  pub gathered : Gathered
+  pub inputs : ReadsAs asked_of before after (Ok gathered)
+  pub tables : Tables
+  pub text : List ℕ
+  pub rows : tables_of text ≡ Ok tables
+  pub written : TakesAll out out' text

@@ -1,0 +1,179 @@
+// A run that notes what a verification asks.
+ghost use Rattle.std.specs.Prelude.{◌≡◌, Ok, IfOk, string_bytes};
+ghost use Rattle.sigstore_app_parts.specs.Tables.{tables_of};
+ghost use Rattle.sigstore_questions.specs.Means.{Proceeds, Decides, RunsTo, WritesRows};
+ghost use Rattle.sigstore_questions.specs.declared.answers.Ended.TheVariants.{Asked};
+
+use crate::answers::{Ended, Said, stopped};
+use crate::reading_store::ReadingStore;
+use foundation::NoMemory;
+use jiff::Timestamp;
+use sigstore_app_parts::{
+    Gathered, Inputs, PolicyFile, Sink, Stop, gather_asked, read_asked_layout, write_all,
+};
+use sigstore_crypto::ArtifactSource;
+use sigstore_questions_parts::{Noted, Notes, NotingArmor, NotingProvider};
+use sigstore_tuf::{MetadataStore, Repository, UpdaterConfig};
+use sigstore_types_parts::Text;
+use sigstore_verify::{PublicKeyVerificationPolicy, RootFault, verify_from_root};
+use std::alloc::Global;
+
+// The greatest length of the artifact in bytes, as the verification's program has it.
+const MAX_ARTIFACT: u64 = 1_099_511_627_776;
+
+fn policy_meant(file: PolicyFile) -> PublicKeyVerificationPolicy {
+    let PolicyFile { key, skip_tlog } = file;
+    PublicKeyVerificationPolicy {
+        key,
+        verify_tlog: !skip_tlog,
+    }
+}
+
+// Runs the verification, notes what it asks, and throws its verdict away.
+fn verify_noting<R: Repository, S: MetadataStore, A: ArtifactSource>(
+    alloc: Global,
+    notes: &Notes,
+    gathered: Gathered,
+    now: Timestamp,
+    repo: &mut R,
+    store: &mut S,
+    artifact: &mut A,
+) -> Result<(), NoMemory> {
+    let Gathered {
+        policy,
+        tables,
+        root,
+        bundle,
+    } = gathered;
+    drop(tables);
+    let policy = policy_meant(policy);
+    let judged = verify_from_root(
+        alloc,
+        &NotingProvider::new(notes),
+        &NotingArmor::new(notes),
+        root.as_bytes(),
+        repo,
+        store,
+        UpdaterConfig::default(),
+        now,
+        bundle.as_bytes(),
+        artifact,
+        MAX_ARTIFACT,
+        &policy,
+    );
+    let wants_memory = matches!(&judged, Err(RootFault::NoMemory));
+    drop(judged);
+    if wants_memory { Err(NoMemory) } else { Ok(()) }
+}
+
+// What a verification asks.
+fn asked<R: Repository, S: MetadataStore, A: ArtifactSource>(
+    alloc: Global,
+    gathered: Gathered,
+    now: Timestamp,
+    repo: &mut R,
+    store: &mut S,
+    artifact: &mut A,
+) -> Result<Noted, NoMemory> {
+    let notes = Notes::new(alloc);
+    verify_noting(alloc, &notes, gathered, now, repo, store, artifact)?;
+    match notes.into_noted() {
+        Some(noted) => Ok(noted),
+        None => Err(NoMemory),
+    }
+}
+
+// The text of what was noted.
+fn said(noted: Noted) -> Said
+    ensures text { result.text ≡ string_bytes noted.text }
+    ensures ended { result.ended ≡ Asked }
+    ensures rows { tables_of result.text ≡ Ok noted.tables }
+{
+    let Noted { tables, text } = noted;
+    drop(tables);
+    Said {
+        ended: Ended::Asked,
+        text: Text::from_string(text),
+    }
+}
+
+// The inputs, then the questions.
+fn proceed<I: Inputs, R: Repository, S: MetadataStore, A: ArtifactSource>(
+    alloc: Global,
+    now: Timestamp,
+    inputs: &mut I,
+    repo: &mut R,
+    store: &mut S,
+    artifact: &mut A,
+) -> Result<Said, NoMemory>
+    ensures { IfOk result (Proceeds (I.seen inputs.old) (I.seen inputs.new)) }
+{
+    match gather_asked(alloc, inputs) {
+        Ok(gathered) => match asked(alloc, gathered, now, repo, store, artifact) {
+            Ok(noted) => Ok(said(noted)),
+            Err(e) => Err(e),
+        },
+        Err(stop) => match stopped(alloc, stop) {
+            Ok(said) => Ok(said),
+            Err(e) => Err(e),
+        },
+    }
+}
+
+// The words, then the inputs and the questions.
+fn decide<I: Inputs, R: Repository, S: MetadataStore, A: ArtifactSource>(
+    alloc: Global,
+    words: &[Text],
+    clock: Timestamp,
+    inputs: &mut I,
+    repo: &mut R,
+    store: &mut S,
+    artifact: &mut A,
+) -> Result<Said, NoMemory>
+    ensures { IfOk result (Decides words.now (I.seen inputs.old) (I.seen inputs.new)) }
+{
+    let found = match read_asked_layout(alloc, words) {
+        Ok(found) => found,
+        Err(e) => return Err(e),
+    };
+    match found {
+        Some(layout) => {
+            let now = layout.now.unwrap_or(clock);
+            drop(layout);
+            match proceed(alloc, now, inputs, repo, store, artifact) {
+                Ok(said) => Ok(said),
+                Err(e) => Err(e),
+            }
+        }
+        None => match stopped(alloc, Stop::Words) {
+            Ok(said) => Ok(said),
+            Err(e) => Err(e),
+        },
+    }
+}
+
+/// Notes what a verification over these words, inputs and objects of the outside asks, and writes it as a
+/// provider file: each question once, in the order in which they were asked. Nothing is judged. Status 4
+/// where a write failed, 5 where memory was wanting; then nothing was written.
+pub fn run_questions<I: Inputs, R: Repository, S: MetadataStore, A: ArtifactSource, K: Sink>(
+    alloc: Global,
+    words: &[Text],
+    clock: Timestamp,
+    inputs: &mut I,
+    repo: &mut R,
+    store: &mut ReadingStore<S>,
+    artifact: &mut A,
+    out: &mut K,
+) -> Ended
+    ensures runs { RunsTo words.now (I.seen inputs.old) (I.seen inputs.new) (K.seen out.old) (K.seen out.new) result }
+    ensures rows { result ≡ Asked → WritesRows words.now (I.seen inputs.old) (I.seen inputs.new) (K.seen out.old) (K.seen out.new) }
+{
+    let said = match decide(alloc, words, clock, inputs, repo, store, artifact) {
+        Ok(said) => said,
+        Err(_) => return Ended::Memory,
+    };
+    match write_all(out, said.text.as_str().as_bytes()) {
+        Ok(()) => said.ended,
+        Err(_) => Ended::Output,
+    }
+}

@@ -1,0 +1,59 @@
+-- What a line more makes of what was noted.
+use Rattle.std.proofs.Common.{◌≡◌, ℕ, List, [], ◌++◌, true, false, is_some, Option, Some, None, option_copied, Bor, codes, refl, sym, ap, ◌∙◌, subst}
+use Rattle.std.proofs.lemmas.Str.Ascii.{IsAscii-nil}
+use Rattle.std.specs.BTreeMap.{insert_entry}
+use Rattle.base64.specs.GeneralPurpose.{IsBytes}
+use Rattle.sigstore_types_parts.specs.Entries.{text_cmp, at_name}
+use Rattle.sigstore_crypto.specs.declared.scheme.SigningScheme.{SigningScheme}
+use Rattle.sigstore_app_parts.specs.Rows.{ArmorRows, is_der, is_subject, with_accept_row}
+use Rattle.sigstore_app_parts.specs.Tables.{no_rows}
+use Rattle.sigstore_app_parts.specs.declared.rows.AcceptRow.{AcceptRow}
+use Rattle.sigstore_app_parts.specs.declared.tables.Tables.{Tables}
+use Rattle.sigstore_app_parts.specs.declared.tables.TableProvider.{TableProvider}
+use Rattle.sigstore_questions_parts.specs.Lines.{armor_line, accept_line}
+use Rattle.sigstore_questions_parts.specs.Reads.{IsReadAs}
+use Rattle.sigstore_questions_parts.specs.Notes.{row_of}
+use Rattle.sigstore_questions_parts.proofs.ReadFacts.{ascii_is_file, key_read, certificate_read, signature_read}
+
+-- no line yet
+pub nothing_read : (text : List ℕ) (tables : Tables) → text ≡ [] → tables ≡ no_rows → IsReadAs text tables
+nothing_read text tables e f =
+    let empty : IsReadAs [] no_rows = record { plain = IsAscii-nil; read = ascii_is_file [] IsAscii-nil } in
+    subst (λ t. IsReadAs t tables) (sym e) (subst (IsReadAs []) (sym f) empty)
+
+pub copied_some : {A : Type 0} (r : Option (Bor A)) → is_some (option_copied r) ≡ is_some r
+copied_some None = refl
+copied_some (Some x) = refl
+
+same_put : (rows more : ArmorRows) (text der k v : List ℕ) → more ≡ insert_entry text_cmp rows k v → k ≡ text → v ≡ der → more ≡ insert_entry text_cmp rows text der
+same_put rows more text der k v put is holds = put ∙ ap (λ q. insert_entry text_cmp rows q v) is ∙ ap (insert_entry text_cmp rows text) holds
+
+-- a key more
+pub key_more : (before after text der : List ℕ) (tables : Tables) (rows : ArmorRows) (k v : List ℕ) → IsReadAs before tables → after ≡ before ++ armor_line (codes "key") text der
+    → rows ≡ insert_entry text_cmp tables.armor.keys k v → k ≡ text → v ≡ der → is_der text ≡ false → is_some (at_name text tables.armor.keys) ≡ false → IsBytes text → IsBytes der
+    → IsReadAs after (record { provider = tables.provider; armor = record { keys = rows; certificates = tables.armor.certificates } })
+key_more before after text der tables rows k v r e put is holds other new t d =
+    let same : rows ≡ insert_entry text_cmp tables.armor.keys text der = same_put tables.armor.keys rows text der k v put is holds in
+    subst (λ a. IsReadAs a (record { provider = tables.provider; armor = record { keys = rows; certificates = tables.armor.certificates } })) (sym e)
+    (subst (λ ks. IsReadAs (before ++ armor_line (codes "key") text der) (record { provider = tables.provider; armor = record { keys = ks; certificates = tables.armor.certificates } })) (sym same)
+    (key_read before (armor_line (codes "key") text der) text der tables refl other new t d r))
+
+-- a certificate more
+pub certificate_more : (before after text der : List ℕ) (tables : Tables) (rows : ArmorRows) (k v : List ℕ) → IsReadAs before tables → after ≡ before ++ armor_line (codes "certificate") text der
+    → rows ≡ insert_entry text_cmp tables.armor.certificates k v → k ≡ text → v ≡ der → is_der text ≡ false → is_some (at_name text tables.armor.certificates) ≡ false → IsBytes text → IsBytes der
+    → IsReadAs after (record { provider = tables.provider; armor = record { keys = tables.armor.keys; certificates = rows } })
+certificate_more before after text der tables rows k v r e put is holds other new t d =
+    let same : rows ≡ insert_entry text_cmp tables.armor.certificates text der = same_put tables.armor.certificates rows text der k v put is holds in
+    subst (λ a. IsReadAs a (record { provider = tables.provider; armor = record { keys = tables.armor.keys; certificates = rows } })) (sym e)
+    (subst (λ ks. IsReadAs (before ++ armor_line (codes "certificate") text der) (record { provider = tables.provider; armor = record { keys = tables.armor.keys; certificates = ks } })) (sym same)
+    (certificate_read before (armor_line (codes "certificate") text der) text der tables refl other new t d r))
+
+-- a signature more
+pub signature_more : (before after : List ℕ) (s : SigningScheme) (key subject signature : List ℕ) (tables : Tables) (provider : TableProvider) (row : AcceptRow) → IsReadAs before tables
+    → after ≡ before ++ accept_line s key subject signature → provider.rows ≡ with_accept_row tables.provider.rows row → row ≡ row_of s key subject signature
+    → is_subject s subject ≡ true → IsBytes key → IsBytes subject → IsBytes signature → IsReadAs after (record { provider = provider; armor = tables.armor })
+signature_more before after s key subject signature tables provider row r e put is fits k m g =
+    let same : provider.rows ≡ with_accept_row tables.provider.rows (row_of s key subject signature) = put ∙ ap (with_accept_row tables.provider.rows) is in
+    subst (λ a. IsReadAs a (record { provider = provider; armor = tables.armor })) (sym e)
+    (subst (λ rows. IsReadAs (before ++ accept_line s key subject signature) (record { provider = record { rows = rows }; armor = tables.armor })) (sym same)
+    (signature_read before (accept_line s key subject signature) s key subject signature tables refl fits k m g r))

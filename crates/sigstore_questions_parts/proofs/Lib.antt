@@ -1,0 +1,4 @@
+mod AddFacts
+mod FieldFacts
+mod LineFacts
+mod ReadFacts

@@ -1,0 +1,60 @@
+-- What a question adds to what was noted: a row and its line, where it isn't noted yet and can be a row.
+use Rattle.std.specs.Prelude.{ℕ, List, ◌++◌, codes, not, ◌||◌, if◌then◌else◌, is_some, string_bytes}
+use Rattle.std.specs.BTreeMap.{insert_entry}
+use Rattle.sigstore_types_parts.specs.Entries.{text_cmp, at_name}
+use Rattle.sigstore_crypto.specs.declared.scheme.SigningScheme.{SigningScheme}
+use Rattle.sigstore_app_parts.specs.Rows.{is_der, is_subject, accepts_of, with_accept_row}
+use Rattle.sigstore_app_parts.specs.declared.rows.AcceptRow.{AcceptRow}
+use Rattle.sigstore_app_parts.specs.declared.tables.Tables.{Tables}
+use Rattle.sigstore_questions_parts.specs.Lines.{armor_line, accept_line}
+use Rattle.sigstore_questions_parts.specs.declared.noted.Noted.{Noted}
+
+-- the rows, and the text of their lines in the order in which they were asked
+pub record Seen : Type 0 where
+  pub tables : Tables
+  pub text : List ℕ
+
+abbrev pub seen_of : Noted → Seen
+seen_of noted = record { tables = noted.tables; text = string_bytes noted.text }
+
+-- a key row more
+abbrev pub keys_with : List ℕ → List ℕ → Tables → Tables
+keys_with text der tables = record {
+  provider = tables.provider;
+  armor = record { keys = insert_entry text_cmp tables.armor.keys text der; certificates = tables.armor.certificates };
+}
+
+-- a certificate row more
+abbrev pub certificates_with : List ℕ → List ℕ → Tables → Tables
+certificates_with text der tables = record {
+  provider = tables.provider;
+  armor = record { keys = tables.armor.keys; certificates = insert_entry text_cmp tables.armor.certificates text der };
+}
+
+abbrev pub row_of : SigningScheme → List ℕ → List ℕ → List ℕ → AcceptRow
+row_of scheme key subject signature = record { scheme = scheme; key = key; subject = subject; signature = signature }
+
+-- a row of a signature more
+abbrev pub rows_with : AcceptRow → Tables → Tables
+rows_with row tables = record { provider = record { rows = with_accept_row tables.provider.rows row }; armor = tables.armor }
+
+-- an armoured text that holds a key
+abbrev pub key_noted : List ℕ → List ℕ → Seen → Seen
+key_noted text der seen =
+    if is_der text || is_some (at_name text seen.tables.armor.keys) then seen else
+    record { tables = keys_with text der seen.tables; text = seen.text ++ armor_line (codes "key") text der }
+
+-- an armoured text that holds a certificate
+abbrev pub certificate_noted : List ℕ → List ℕ → Seen → Seen
+certificate_noted text der seen =
+    if is_der text || is_some (at_name text seen.tables.armor.certificates) then seen else
+    record { tables = certificates_with text der seen.tables; text = seen.text ++ armor_line (codes "certificate") text der }
+
+-- the question whether a signature is good
+abbrev pub signature_noted : SigningScheme → List ℕ → List ℕ → List ℕ → Seen → Seen
+signature_noted scheme key subject signature seen =
+    if not (is_subject scheme subject) || accepts_of seen.tables.provider.rows scheme key subject signature then seen else
+    record {
+      tables = rows_with (row_of scheme key subject signature) seen.tables;
+      text = seen.text ++ accept_line scheme key subject signature;
+    }
