@@ -44,14 +44,19 @@ fn repeated<'a, X: Abort>(rt: &X, word: &'a str) -> (&'a str, usize) {
     }
 }
 
+// Adds the certificate of a word, as often as it says.
+fn push_each<X: AllocGlobal + Abort>(rt: &X, word: &str, all: &mut Vec<DerCertificate>) {
+    let (name, count) = repeated(rt, word);
+    for _ in 0..count {
+        good(rt, all.push(certificate(rt, name)));
+    }
+}
+
 // The certificates of names.
 fn certificates<X: AllocGlobal + Abort>(rt: &X, names: &str) -> Vec<DerCertificate> {
     let mut all = Vec::new(rt.alloc());
     for word in names.split_ascii_whitespace() {
-        let (name, count) = repeated(rt, word);
-        for _ in 0..count {
-            good(rt, all.push(certificate(rt, name)));
-        }
+        push_each(rt, word, &mut all);
     }
     all
 }
