@@ -345,7 +345,7 @@ fn push(alloc: Global, text: &mut String, call: &str) -> Result<(), NoMemory> {
         "yes" => push_answer_line(text, "tlog", true),
         "no" => push_answer_line(text, "sct", false),
         "pair" => push_pair_line(text, "input", "root"),
-        "refused" => push_refused_line(text, "tuf", 90, "Unbuilt"),
+        "refused" => push_refused_line(text, "tuf", 16, "TargetNotFound"),
         "printed" => push_printed(text, b"a"),
         "decimal" => push_decimal(text, 0),
         _ => Ok(()),
@@ -368,7 +368,7 @@ text | "> issuer \\x1f \\x7f\n"
 yes | "> tlog yes\n"
 no | "> sct no\n"
 pair | "> input root\n"
-refused | "> refused tuf 90 Unbuilt\n"
+refused | "> refused tuf 16 TargetNotFound\n"
 printed | "> a"
 decimal | "> 0""#;
 
