@@ -5,8 +5,11 @@ use sigstore_crypto::SigningScheme;
 use std::alloc::Global;
 use std::cell::RefCell;
 
-/// The questions that were asked so far; none at all once memory was wanting at one. No contract sees
-/// what is noted here, but for what holds of every `Noted`.
+// The greatest length of a provider file in bytes.
+const LIMIT: usize = 16_777_216;
+
+/// The questions that were asked so far, as many as a provider file may be long; none at all once memory
+/// was wanting at one. No contract sees what is noted here, but for what holds of every `Noted`.
 #[derive(Drop)]
 pub struct Notes {
     alloc: Global,
@@ -29,6 +32,18 @@ impl Notes {
         }
     }
 
+    // What was noted, where a line of fields with so many octets would make no provider file too long. A
+    // stranger's document may have thousands of signatures, each of which asks for all of it once more.
+    fn take_for(&self, octets: usize) -> Option<Noted> {
+        let noted = self.take()?;
+        let line = octets.saturating_mul(2).saturating_add(64);
+        if noted.text.len().saturating_add(line) > LIMIT {
+            self.put(Ok(noted));
+            return None;
+        }
+        Some(noted)
+    }
+
     fn put(&self, noted: Result<Noted, NoMemory>) {
         if let Ok(noted) = noted {
             let _ = self.held.try_replace(Some(noted));
@@ -37,14 +52,14 @@ impl Notes {
 
     /// Notes that an armoured text holds a key.
     pub fn note_key(&self, text: &[u8], der: &[u8]) {
-        if let Some(noted) = self.take() {
+        if let Some(noted) = self.take_for(text.len().saturating_add(der.len())) {
             self.put(noted.with_key(self.alloc, text, der));
         }
     }
 
     /// Notes that an armoured text holds a certificate.
     pub fn note_certificate(&self, text: &[u8], der: &[u8]) {
-        if let Some(noted) = self.take() {
+        if let Some(noted) = self.take_for(text.len().saturating_add(der.len())) {
             self.put(noted.with_certificate(self.alloc, text, der));
         }
     }
@@ -57,7 +72,11 @@ impl Notes {
         subject: &[u8],
         signature: &[u8],
     ) {
-        if let Some(noted) = self.take() {
+        let octets = key
+            .len()
+            .saturating_add(subject.len())
+            .saturating_add(signature.len());
+        if let Some(noted) = self.take_for(octets) {
             self.put(noted.with_signature(self.alloc, scheme, key, subject, signature));
         }
     }

@@ -75,10 +75,13 @@ floor_above old new next = (omega (arith, next), λ same. absurd (higher (versio
 
 -- the same timestamp and snapshot under the same root
 pub floor_same : (old new : InForce) → version_in new ≡ version_in old → new.timestamp ≡ old.timestamp → new.snapshot ≡ old.snapshot → KeepsFloor (standing_of old) (standing_of new)
-floor_same old new v t s = (subst (λ n. version_in old ≤ n) (sym v) (le_refl (version_in old)), λ same. record {
-  timestamp = subst (λ (o : Option (Held Timestamp)). NoLower (option_map (λ (held : Held Timestamp). (content_of held).version) old.timestamp) (option_map (λ (held : Held Timestamp). (content_of held).version) o)) (sym t) (no_lower_stays (option_map (λ (held : Held Timestamp). (content_of held).version) old.timestamp));
-  pins = λ name. subst (λ (o : Option (Held Snapshot)). NoLower ((floor_of old).pins name) (option_and_then (λ (held : Held Snapshot). option_map (λ (pin : MetaFile). pin.version) (at_name name (content_of held).meta)) o)) (sym s) (no_lower_stays ((floor_of old).pins name));
-})
+floor_same old new v t s = (
+  subst (λ n. version_in old ≤ n) (sym v) (le_refl (version_in old)),
+  λ same. record {
+    timestamp = subst (λ (o : Option (Held Timestamp)). NoLower (option_map (λ (held : Held Timestamp). (content_of held).version) old.timestamp) (option_map (λ (held : Held Timestamp). (content_of held).version) o)) (sym t) (no_lower_stays (option_map (λ (held : Held Timestamp). (content_of held).version) old.timestamp));
+    pins = λ name. subst (λ (o : Option (Held Snapshot)). NoLower ((floor_of old).pins name) (option_and_then (λ (held : Held Snapshot). option_map (λ (pin : MetaFile). pin.version) (at_name name (content_of held).meta)) o)) (sym s) (no_lower_stays ((floor_of old).pins name));
+  },
+)
 
 least : (role : List ℕ) (trusted new : ℕ) → not_below_of role trusted new ≡ Ok tt → trusted ≤ new
 least role trusted new h = by_test (nat_lt new trusted) refl h

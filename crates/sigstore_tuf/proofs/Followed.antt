@@ -69,7 +69,7 @@ matching_named path (d ∷ later) next h = by_top (is_top_level d.name) refl h (
 
     by_top : (b : Bool) → is_top_level d.name ≡ b
         → (if b then matching path later
-            else (pattern_or (matches_path_of d path) >>= λ found. (if found then (if d.terminating then Ok (record { names = d.name ∷ []; ends = true }) else (matching path later >>= λ m. Ok (with_name d.name m))) else matching path later))) ≡ Ok next
+        else (pattern_or (matches_path_of d path) >>= λ found. (if found then (if d.terminating then Ok (record { names = d.name ∷ []; ends = true }) else (matching path later >>= λ m. Ok (with_name d.name m))) else matching path later))) ≡ Ok next
         → Later → Named next
     by_top true top h rec = rest rec next h
     by_top false low h rec = let f = step_ok (pattern_or (matches_path_of d path)) _ next h in by_found f.0 low f.2 rec

@@ -145,7 +145,7 @@ module _ (session : Session) (snapshot : Snapshot) (path : List ℕ) where
         replays = λ d agrees depth less.
             by_list depth (tree_of d snapshot path) v vs w less
             ∙ ap (λ x. visits_of (x >>= λ t. walk_all depth (tree_of d snapshot path) (pending_after v t vs) t.walk))
-                (same_step snapshot path d mid.documents new.documents v w u step c (search_grows session snapshot path _ _ mid new _ more) agrees a.reads o'.read)
+            (same_step snapshot path d mid.documents new.documents v w u step c (search_grows session snapshot path _ _ mid new _ more) agrees a.reads o'.read)
             ∙ a.replays d agrees depth (le_trans left less);
       }
 
@@ -256,7 +256,7 @@ matching_gap path (d ∷ ds) gap h = by_top (is_top_level d.name) h (λ g k. mat
 
     by_top : (b : Bool)
         → (if b then matching path ds
-            else (pattern_or (matches_path_of d path) >>= λ found. (if found then (if d.terminating then Ok (record { names = d.name ∷ []; ends = true }) else (matching path ds >>= λ m. Ok (with_name d.name m))) else matching path ds))) ≡ Err gap
+        else (pattern_or (matches_path_of d path) >>= λ found. (if found then (if d.terminating then Ok (record { names = d.name ∷ []; ends = true }) else (matching path ds >>= λ m. Ok (with_name d.name m))) else matching path ds))) ≡ Err gap
         → Later → gap ≡ pattern
     by_top true h rec = rec gap h
     by_top false h rec = refused_at (pattern_or (matches_path_of d path)) _ gap h (λ is. by_pattern (matches_path_of d path) is) (λ found k is. by_found found is rec)
@@ -273,7 +273,7 @@ module _ (tree : Tree) (v : Visit) (w : Walk) (gap : Gap) where
     where
       by_list : (b : Bool)
           → (if b then Ok (still (record { visits = (having_read v.name (one_more v w)).visits; read = (having_read v.name (one_more v w)).read; left = 0 }))
-              else matching tree.path (delegated_in doc.delegations) >>= λ next. Ok (record { walk = having_read v.name (one_more v w); next = next })) ≡ Err gap → gap ≡ pattern
+          else matching tree.path (delegated_in doc.delegations) >>= λ next. Ok (record { walk = having_read v.name (one_more v w); next = next })) ≡ Err gap → gap ≡ pattern
       by_list true h = cc
       by_list false h = refused_at (matching tree.path (delegated_in doc.delegations)) _ gap h (matching_gap tree.path (delegated_in doc.delegations) gap) (λ m k is. cc)
 

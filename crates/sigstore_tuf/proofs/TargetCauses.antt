@@ -113,7 +113,6 @@ module _ (session : Session) (path : List ℕ) (a b c : Watched Folders) (s : Si
   file_earlier consistent entry e (file_differs name bytes n h i) = file_differs name bytes n (subst (λ told. IfTold told (λ folders. target_files folders name ≡ Some bytes)) s.same h) i
   file_earlier consistent entry e (file_wanting is) = file_wanting is
 
-
 module _ (session : Session) (path : List ℕ) (before old new : State) (same : before.documents ≡ old.documents) (s : Since before.repo old.repo) (e : Error) where
   kept_before : (v : Visit) (held : Held Targets) → at_name v.name old.documents.targets ≡ Some held → at_name v.name before.documents.targets ≡ Some held
   kept_before v held at = ap (λ (d : InForce). at_name v.name d.targets) same ∙ at

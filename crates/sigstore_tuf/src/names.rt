@@ -174,9 +174,7 @@ pub(crate) fn role_file(alloc: Global, name: &str) -> Result<Text, NoMemory>
     ensures { IfOk result (λ out. out ≡ role_file name.now) }
 {
     let escaped = escaped(alloc, name)?;
-    Ok(Text::from_string(
-        format!(in alloc; "{}.json", escaped.as_str())?,
-    ))
+    Ok(Text::from_string(format!(in alloc; "{}.json", escaped.as_str())?))
 }
 
 // What the snapshot in force pins a role's document by.
@@ -195,11 +193,7 @@ pub(crate) fn role_pin_in<'d>(
 }
 
 // The name of a role's document in the repository.
-pub(crate) fn role_name_in(
-    alloc: Global,
-    documents: &InForce,
-    name: &str,
-) -> Result<Text, NoMemory>
+pub(crate) fn role_name_in(alloc: Global, documents: &InForce, name: &str) -> Result<Text, NoMemory>
     ensures { IfOk result (λ out. out ≡ role_name_in documents.now name.now) }
 {
     let pin = role_pin_in(alloc, documents, name)?;

@@ -141,12 +141,7 @@ fn check_visit<C: CryptoProvider, M: Armor>(
 }
 
 // Whether a visit reads a document.
-fn reads(
-    alloc: Global,
-    documents: &InForce,
-    visit: &Visit,
-    walk: &Walk,
-) -> Result<bool, NoMemory>
+fn reads(alloc: Global, documents: &InForce, visit: &Visit, walk: &Walk) -> Result<bool, NoMemory>
     ensures { IfOk result (λ b. b ≡ reads documents.now visit.now walk.now) }
 {
     if walk.left == 0 || contains(walk.read.as_slice(), &visit.name) {
@@ -213,12 +208,7 @@ fn delegated(doc: &Targets) -> &[DelegatedRole]
 }
 
 // Reads a document: one that lists the path ends the search, another is followed by its matching delegations.
-fn read_document(
-    alloc: Global,
-    path: &str,
-    doc: &Targets,
-    walk: &mut Walk,
-) -> Result<Next, Error>
+fn read_document(alloc: Global, path: &str, doc: &Targets, walk: &mut Walk) -> Result<Next, Error>
     ensures ok { IfOk result (λ next. (tree : Tree) → tree.path ≡ path.now → read_of tree doc.now walk.old ≡ Ok (record { walk = walk.new; next = next })) }
     ensures err { IfErr result (λ e. e ≢ Error.NoMemory → (tree : Tree) → tree.path ≡ path.now → IsGap (read_of tree doc.now walk.old) e) }
     ensures less { IfOk result (λ next. walk.new.left ≤ walk.old.left) }
@@ -385,9 +375,7 @@ fn walk_all<C: CryptoProvider, M: Armor, R: Repository, S: MetadataStore>(
 {
     let walk = first_walk(alloc, session.config.max_delegations);
     match first_pending(alloc) {
-        Ok(pending) => {
-            walk_pending(alloc, session, documents, repo, store, path, pending, walk)
-        }
+        Ok(pending) => { walk_pending(alloc, session, documents, repo, store, path, pending, walk) }
         Err(e) => Err(Error::from(e)),
     }
 }

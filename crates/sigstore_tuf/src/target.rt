@@ -134,7 +134,11 @@ fn check_all_pinned(
 
 // The documents in force serve a search.
 #[tactic(auto, unfolding(crate::specs::Target::search_serves_of))]
-pub(crate) fn check_search(alloc: Global, documents: &InForce, now: jiff::Timestamp) -> Result<(), Error>
+pub(crate) fn check_search(
+    alloc: Global,
+    documents: &InForce,
+    now: jiff::Timestamp,
+) -> Result<(), Error>
     ensures ok { OnOk result (search_serves_of documents.now now ≡ Ok tt) }
     ensures err { IfErr result (λ e. e ≢ Error.NoMemory → search_serves_of documents.now now ≡ Err e) }
 {
@@ -470,7 +474,15 @@ fn chain_after<R: Repository, S: MetadataStore>(
         (state_of documents.now (R.seen repo.new) (S.seen store.new)) result }
 {
     match find_entry(alloc, documents, path, visits) {
-        Ok(entry) => match obtain(alloc, is_consistent(documents), config, repo, store, entry, path) {
+        Ok(entry) => match obtain(
+            alloc,
+            is_consistent(documents),
+            config,
+            repo,
+            store,
+            entry,
+            path,
+        ) {
             Ok(file) => match chain(alloc, documents, visits, entry, file) {
                 Ok(chain) => Ok(chain),
                 Err(e) => Err(e),

@@ -57,11 +57,7 @@ fn matches(alloc: Global, role: &DelegatedRole, path: &str) -> Result<bool, Erro
 }
 
 // The delegations that match a path, in order, up to the first terminating one.
-pub(crate) fn matching(
-    alloc: Global,
-    path: &str,
-    roles: &[DelegatedRole],
-) -> Result<Next, Error>
+pub(crate) fn matching(alloc: Global, path: &str, roles: &[DelegatedRole]) -> Result<Next, Error>
     ensures ok { IfOk result (λ m. matching path.now roles.now ≡ Ok m) }
     ensures err { IfErr result (λ e. e ≢ Error.NoMemory →
         (e ≡ Error.Malformed Rule.Pattern) × (matching path.now roles.now ≡ Err pattern)) }

@@ -11,9 +11,10 @@ returns-in-Err g c = λ snapshot at.
 pub loop-walk-preserved : goal.loop-walk-preserved
 loop-walk-preserved g c = λ snapshot at.
     let so_far = c.loop-walk.invariant snapshot at in
-    let first = rw c.as_slice.ensures at c.in-Some.ensures.first in
-    (kept_snapshot c.loop-walk.documents c.walk_one.new.documents snapshot c.in-Ok.ensures.same so_far.0,
-    λ new result s. so_far.1 _ _ (skips _ _ _ _ _ _ _ _ _ _ first (goes_on _ _ _ _ _ _ _ _ _ _ _ _ (c.in-Ok.ensures.walks snapshot so_far.0 (some_left _ c.loop-walk-test.true, is_unread _ _ _ _ first)) s)))
+    let first = rw c.as_slice.ensures at c.in-Some.ensures.first in (
+      kept_snapshot c.loop-walk.documents c.walk_one.new.documents snapshot c.in-Ok.ensures.same so_far.0,
+      λ new result s. so_far.1 _ _ (skips _ _ _ _ _ _ _ _ _ _ first (goes_on _ _ _ _ _ _ _ _ _ _ _ _ (c.in-Ok.ensures.walks snapshot so_far.0 (some_left _ c.loop-walk-test.true, is_unread _ _ _ _ first)) s)),
+    )
 
 pub returns-in-None : goal.returns-in-None
 returns-in-None g c = λ snapshot at.
