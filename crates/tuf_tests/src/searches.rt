@@ -36,7 +36,9 @@ fn limited<X: AllocGlobal + Abort>(rt: &X, row: &str) -> String {
     searched(rt, config, line)
 }
 
-// The matching delegations are walked in order, each with all below it before the next one.
+// A row of these tables: a repository's line, and the visits or the refusal. A visit is the delegator, `>` and
+// the role, and `@` and the version of the document where there is one. The matching delegations are walked in
+// order, each with all below it before the next one.
 const ORDERS: &str = r#"targets f > d; d f => root>targets@1
 targets > d; d f => root>targets@1 targets>d@1
 targets > d:x; d f => TargetNotFound { path: "f" }
@@ -66,7 +68,7 @@ targets > a! c; a > b; b f; c f => root>targets@1 targets>a@1 a>b@1
 targets > a b! c; a; b f; c f => root>targets@1 targets>a@1 targets>b@1"#;
 
 // A delegation of a top-level name is left out before it is matched. The others are matched up to the first
-// terminating one before any is walked.
+// terminating one before any is walked. By a script: SHA-256 of `f` begins with 252f, that of its file with 4413.
 const MATCHING: &str = r#"targets > timestamp! d; d f => root>targets@1 targets>d@1
 targets > root:[! d; d f => root>targets@1 targets>d@1
 targets > targets snapshot d; d f => root>targets@1 targets>d@1
@@ -76,8 +78,8 @@ targets f > e:[; e => root>targets@1
 targets > d#252f; d f => root>targets@1 targets>d@1
 targets > d#4413; d f => TargetNotFound { path: "f" }"#;
 
-// SHA-256 of `f` begins with 252f, that of its file with 4413 (by a script). The keys of a role are those of the
-// first delegation of its name in its delegator's document, by the keys beside it.
+// The keys of a role are those of the first delegation of its name in its delegator's document, by the keys
+// beside it.
 const AUTHORITIES: &str =
     r#"targets > d=l:x d; d f => ThresholdNotMet { role: "d", found: 0, threshold: 1 }
 targets > d=l:x d; d=l f => root>targets@1 targets>d@1
