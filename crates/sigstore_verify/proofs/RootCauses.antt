@@ -79,7 +79,6 @@ module _ (given : Given) (before after : Outside) where
   by_tuf (tuf.TargetNotFound a) h s = (h, s)
   by_tuf (tuf.Transport a) h s = (h, s)
   by_tuf tuf.NoMemory h s = tt
-  by_tuf (tuf.Unbuilt a) h s = (h, s)
 
   by_verify : (e : Error) (chain : TrustChain) → TrustsChain given.anchor chain
       → JudgeCause (asked_by given) chain.file before.source after.source e → Cause (root_of_verify e chain)
