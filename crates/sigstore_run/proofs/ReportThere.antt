@@ -15,7 +15,7 @@ use Rattle.sigstore_tuf_parts.specs.Crypto.{Crypto}
 use Rattle.sigstore_tuf.specs.Documents.{timestamp_document, snapshot_document, targets_document}
 use Rattle.sigstore_tuf.specs.declared.chain.TrustChain.{TrustChain}
 use Rattle.sigstore_tuf.specs.declared.chain.RoleDoc.{RoleDoc}
-use Rattle.sigstore_tuf.specs.Order.{Visit}
+use Rattle.sigstore_tuf.specs.declared.visit.Visit.{Visit}
 use Rattle.sigstore_tuf.specs.Trusted.{IsTrustedVisit, visit_in, documents_in, Trusted}
 use Rattle.sigstore_verify.specs.declared.report.VerificationResult.{VerificationResult}
 use Rattle.sigstore_app_parts.specs.Printed.{line_of, named_line}
