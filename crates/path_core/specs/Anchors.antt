@@ -29,6 +29,7 @@ may_anchor bytes = unconstrained_read (certificate_of bytes)
 abbrev pub is_since_1970 : Timestamp → Bool
 is_since_1970 at = not (int_lt at.nanosecond (pos 0))
 
--- the moment isn't before 1970, and the anchor's window has it; its certificate's own dates aren't looked at, since it is trusted by its window
+-- the moment isn't before 1970, and the anchor's window has it; its certificate's own dates aren't looked at, since it is trusted
+-- by its window
 unfoldable pub opens : Timestamp → TrustAnchor → Bool
 opens at anchor = is_since_1970 at && is_used_at at anchor.valid_for

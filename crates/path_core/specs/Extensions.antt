@@ -8,7 +8,8 @@ use Rattle.x509_core_parts.specs.Extensions.{OneExtension}
 abbrev pub extension_oid : ℕ → List ℕ
 extension_oid last = 0x55 ∷ 0x1d ∷ last ∷ []
 
--- subject key identifier, key usage, subject alternative name, basic constraints, CRL distribution points, certificate policies, authority key identifier and extended key usage
+-- subject key identifier, key usage, subject alternative name, basic constraints, CRL distribution points, certificate policies,
+-- authority key identifier and extended key usage
 abbrev pub known_numbers : List ℕ
 known_numbers = 14 ∷ 15 ∷ 17 ∷ 19 ∷ 31 ∷ 32 ∷ 35 ∷ 37 ∷ []
 

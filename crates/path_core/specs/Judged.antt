@@ -12,7 +12,8 @@ width_of w = length w.intermediates + length w.anchors
 
 -- each judgement that is kept is right and stands at the place of its pair
 pub record AreRight (w : Setting) (j : Judgements) : Type 0 where
-  pub right : (s t : ℕ) → s ≤ length w.intermediates → t < width_of w → IfSome (get nat_cmp j.judged (s * width_of w + t)) (λ good. good ≡ judgement w s t)
+  pub right : (s t : ℕ) → s ≤ length w.intermediates → t < width_of w
+      → IfSome (get nat_cmp j.judged (s * width_of w + t)) (λ good. good ≡ judgement w s t)
   pub within : All (λ k. k < (length w.intermediates + 1) * width_of w) (keys j.judged)
   pub ordered : IsOrdered nat_cmp j.judged
 

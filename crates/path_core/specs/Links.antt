@@ -8,7 +8,8 @@ use Rattle.sigstore_crypto.specs.Good.{Judge, is_good}
 use Rattle.sigstore_crypto.specs.Key.{key_with}
 use Rattle.sigstore_crypto.specs.Pairs.{Pair, known_pairs}
 
--- the issuer's name is the next one's subject, octet by octet (6.1.3 (a) (4); names that only a comparison by RFC 5280, 7.1, would find equal differ here, which refuses more)
+-- the issuer's name is the next one's subject, octet by octet (6.1.3 (a) (4); names that only a comparison by RFC 5280, 7.1,
+-- would find equal differ here, which refuses more)
 abbrev pub names_meet : Certificate → Certificate → Bool
 names_meet c issuer = bytes_eq c.signed.front.issuer issuer.signed.middle.subject
 
@@ -18,7 +19,8 @@ is_pair key_id signature_id p = bytes_eq p.key_id key_id && bytes_eq p.signature
 -- the scheme of the first pair with these identifiers
 abbrev pub scheme_among : List ℕ → List ℕ → List Pair → Option SigningScheme
 scheme_among key_id signature_id [] = None
-scheme_among key_id signature_id (p ∷ pairs) = if is_pair key_id signature_id p then Some p.scheme else scheme_among key_id signature_id pairs
+scheme_among key_id signature_id (p ∷ pairs) =
+    if is_pair key_id signature_id p then Some p.scheme else scheme_among key_id signature_id pairs
 
 -- the scheme of a key's and a signature's identifier
 unfoldable pub scheme_of : List ℕ → List ℕ → Option SigningScheme

@@ -38,7 +38,8 @@ pub record IsPath (w : Setting) (p : Route) : Type 0 where
   -- each intermediate may stand above those below it
   pub fit : (k : ℕ) (c : Encoding) → slice_get between k ≡ Some c → IsTrue (fits w.purpose w.at k c)
   -- each certificate was issued by the next
-  pub linked : (k : ℕ) (c issuer : Encoding) → slice_get (w.leaf ∷ between ++ anchor.certificate ∷ []) k ≡ Some c → slice_get (between ++ anchor.certificate ∷ []) k ≡ Some issuer → IsTrue (links w.accepts c issuer)
+  pub linked : (k : ℕ) (c issuer : Encoding) → slice_get (w.leaf ∷ between ++ anchor.certificate ∷ []) k ≡ Some c
+      → slice_get (between ++ anchor.certificate ∷ []) k ≡ Some issuer → IsTrue (links w.accepts c issuer)
   pub open_then : IsTrue (opens w.at anchor)
 
 -- of two lists of one length: in order by positions, then by anchor
@@ -50,7 +51,9 @@ InOrder (i ∷ p) a (j ∷ q) b = (i < j) ⊎ ((i ≡ j) × InOrder p a q b)
 
 -- in order by number of positions, then by positions, then by anchor
 abbrev pub AtMost : Route → Route → Type 0
-AtMost p q = (length p.positions < length q.positions) ⊎ ((length p.positions ≡ length q.positions) × InOrder p.positions p.anchor q.positions q.anchor)
+AtMost p q =
+    (length p.positions < length q.positions)
+    ⊎ ((length p.positions ≡ length q.positions) × InOrder p.positions p.anchor q.positions q.anchor)
 
 -- a path that no path is before
 pub record First (w : Setting) (p : Route) : Type 0 where

@@ -1,5 +1,6 @@
 -- The search: the best path of each length, and what the ways of a level find.
-use Rattle.std.specs.Prelude.{◌≡◌, ℕ, zero, suc, ◌+◌, ◌-◌, Bool, true, false, ◌&&◌, nat_lt, ◌==◌, if◌then◌else◌, List, [], ◌∷◌, ◌++◌, length, slice_get, slice_index_or, Option, Some, None}
+use Rattle.std.specs.Prelude.{◌≡◌, ℕ, zero, suc, ◌+◌, ◌-◌, Bool, true, false, ◌&&◌, nat_lt, ◌==◌, if◌then◌else◌}
+use Rattle.std.specs.Prelude.{List, [], ◌∷◌, ◌++◌, length, slice_get, slice_index_or, Option, Some, None}
 use Rattle.std.specs.List.{list_any}
 use Rattle.std.specs.Option.{option_map, option_or, option_map_or}
 use Rattle.sigstore_crypto.specs.Good.{Judge}
@@ -12,7 +13,14 @@ use Rattle.path_core.specs.Paths.{Encoding, Setting}
 use Rattle.path_core.specs.Traits.{fits}
 
 abbrev pub setting_of : {C : Type 0} → (C → Judge) → Given C → Setting
-setting_of accepts given = record { accepts = accepts given.provider.now; purpose = given.purpose; at = given.at; leaf = given.leaf.now; intermediates = given.intermediates.now; anchors = given.anchors.now }
+setting_of accepts given = record {
+  accepts = accepts given.provider.now;
+  purpose = given.purpose;
+  at = given.at;
+  leaf = given.leaf.now;
+  intermediates = given.intermediates.now;
+  anchors = given.anchors.now;
+}
 
 -- a source is an intermediate by its position, or the leaf from their number on
 abbrev pub source_at : Setting → ℕ → Encoding
@@ -54,7 +62,8 @@ at_anchor w s a = if ends w s a then Some (record { positions = []; anchor = a }
 -- the best path of r intermediates from a source on
 unfoldable pub best : Setting → ℕ → ℕ → ℕ → Option Route
 best w zero below s = first_from (at_anchor w s) 0 (length w.anchors)
-best w (suc r) below s = first_from (λ i. if goes w below s i then option_map (through i) (best w r (below + 1) i) else None) 0 (length w.intermediates)
+best w (suc r) below s =
+    first_from (λ i. if goes w below s i then option_map (through i) (best w r (below + 1) i) else None) 0 (length w.intermediates)
 
 -- the best path of r more intermediates over a way
 unfoldable pub over : Setting → ℕ → ℕ → Way → Option Route

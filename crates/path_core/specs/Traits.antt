@@ -79,7 +79,9 @@ leaf_of purpose bytes = leaf_read purpose (certificate_of bytes)
 
 -- ---- an intermediate
 
--- of the third version and a CA (6.1.4 (k)), its path length no less than the number of intermediates below it (6.1.4 (l) and (m); those that issued themselves count too, which refuses more), for the purpose or for any, the moment in its window (6.1.3 (a) (2)), each critical extension known (6.1.4 (o)); name constraints (6.1.3 (b) and (c)) aren't judged, so it has none
+-- of the third version and a CA (6.1.4 (k)), its path length no less than the number of intermediates below it (6.1.4 (l) and
+-- (m); those that issued themselves count too, which refuses more), for the purpose or for any, the moment in its window (6.1.3
+-- (a) (2)), each critical extension known (6.1.4 (o)); name constraints (6.1.3 (b) and (c)) aren't judged, so it has none
 unfoldable pub issues : Purpose → Timestamp → ℕ → Traits → Bool
 issues purpose at below t =
     t.version == 2 && stands_above below t.authority && allows_purpose purpose t.usage && contains t.window at

@@ -27,7 +27,8 @@ role_doc_in set v = record {
   bytes = option_map (λ held. held.bytes) (at_name v.name set.targets);
 }
 
-abbrev pub chain_in : InForce → Option (Held Timestamp) → Option (Held Snapshot) → List Visit → TargetFile → List ℕ → Result TrustChain Error
+abbrev pub chain_in : InForce → Option (Held Timestamp) → Option (Held Snapshot) → List Visit → TargetFile → List ℕ
+    → Result TrustChain Error
 chain_in set None snapshot visits entry file = Err NotRefreshed
 chain_in set (Some timestamp) None visits entry file = Err NotRefreshed
 chain_in set (Some timestamp) (Some snapshot) visits entry file =

@@ -110,7 +110,8 @@ pub data Searches (session : Session) (snapshot : Snapshot) (path : List ℕ) : 
       → Searches session snapshot path (v ∷ vs) w old new result
 
 -- one visit: what it leaves of the walk and of what is pending, or the search that it ends
-abbrev pub WalksOne : Session → Snapshot → List ℕ → Visit → List Visit → Walk → State → State → Walk → List Visit → Result ⊤ Error → Type 0
+abbrev pub WalksOne : Session → Snapshot → List ℕ → Visit → List Visit → Walk → State → State → Walk → List Visit → Result ⊤ Error
+    → Type 0
 WalksOne session snapshot path v vs w old new w' vs' (Ok x) =
     Readies session v w old new (Ok tt)
     × ((step : Step) × (visit_of (tree_in new.documents snapshot path) v w ≡ Ok step) × (w' ≡ step.walk) × (vs' ≡ pending_after v step vs))

@@ -96,7 +96,8 @@ authorities_added (authority ∷ authorities) anchors = authority_added authorit
 
 -- ---- the whole
 
--- what is kept of a trust file: the keys of logs by their ids, and the certificates of certificate authorities as anchors; or the first check that fails
+-- what is kept of a trust file: the keys of logs by their ids, and the certificates of certificate authorities as anchors; or the
+-- first check that fails
 unfoldable pub material_of : TrustedRoot → Result Material Error
 material_of trust = do
   logs ← logs_added Entries trust.tlogs []
