@@ -1,9 +1,6 @@
 -- A trust file has no form that isn't built: each refusal of its reading is another.
 use Rattle.std.proofs.Common.{◌≡◌, ℕ, List, [], ◌∷◌, Bool, true, false, cond, Option, Some, None, Result, Ok, Err, subst, sym}
 use Rattle.std.specs.Prelude.{⊤, ok_or, is_some, option_and_then}
-use Rattle.std.specs.Result.{result_ok}
-use Rattle.base64.specs.Engines.{standard}
-use Rattle.base64.specs.GeneralPurpose.{decode_of}
 use Rattle.serde_json.specs.Data.{Data, Items, no_items, item}
 use Rattle.serde_json.specs.Find.{get, as_null, as_str, as_array, as_object}
 use Rattle.foundation.specs.Steps.{◌>>=◌}
@@ -17,7 +14,6 @@ use Rattle.sigstore_types_parts.specs.declared.error.TypesError.TheVariants as t
 use Rattle.sigstore_types_parts.specs.Error.{types_of, types_of_fault, placed_at, name_of}
 use Rattle.sigstore_types_parts.specs.Instant.{instant_of}
 use Rattle.sigstore_types_parts.specs.Parse.{parsed_of}
-use Rattle.sigstore_types_parts.specs.Encoded.{decoded_of}
 use Rattle.sigstore_types_parts.specs.Read.{at, object_of, nullable_of, required_in, optional_in, required_of, optional_of, items_of, sequence_of, moment_of}
 use Rattle.sigstore_types.specs.Members.{required, optional, bytes, json, faulted}
 use Rattle.sigstore_types.specs.TrustedRoot.{valid_for_of, list_of, log_id_of, key_of_log, log_of, certificate_of, certificates_of, chain_of, authority_of, trusted_root_of, trusted_root_of_bytes}
@@ -103,7 +99,7 @@ sequence_built reads r d = step_built (ok_or (as_array d) types.Json) _ (or_buil
 
 bytes_built : Reads bytes
 bytes_built d =
-    step_built (ok_or (as_str d) types.Json) _ (or_built (as_str d) types.Json tt) (λ text. or_built (result_ok (decode_of standard text)) types.Base64 tt)
+    step_built (ok_or (as_str d) types.Json) _ (or_built (as_str d) types.Json tt) (λ text. or_built _ types.Base64 tt)
 
 moment_built : Reads (moment_of types_of)
 moment_built d = or_built (option_and_then instant_of (as_str d)) types.Json tt
