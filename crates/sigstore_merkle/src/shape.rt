@@ -26,8 +26,8 @@ pub fn path_length(index: u64, size: u64) -> u64
 
 /// Whether a place stands in the tree, and a path has as many hashes as lead there. Errors, in order:
 /// `IndexOutOfTree`, without which a proof could name a place that the tree doesn't have, and
-/// `PathLength`, without which a shorter path would show a node as a leaf, and a longer one what
-/// stands below a leaf.
+/// `PathLength`, without which a shorter path would show a node as a leaf, and a longer one could
+/// carry hashes that nothing judges.
 pub fn check_shape(index: u64, size: u64, members: usize) -> Result<(), MerkleError>
     ensures inside { OnOk result (index < size) }
     ensures fits { OnOk result (IsPathLength index size members) }
