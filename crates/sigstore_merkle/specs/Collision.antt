@@ -47,6 +47,7 @@ inputs_of i = inputs_down i.body i.index i.size (reverse i.hashes)
 abbrev pub root_of : Inclusion → Option (List ℕ)
 root_of i = root_from (leaf_hash i.body) i.index i.size i.hashes
 
+-- its index is in the tree and its path has the length of that place
 abbrev pub HasRoot : Inclusion → Type 0
 HasRoot i = IsSome (root_of i)
 
@@ -73,6 +74,7 @@ abbrev pub IsCollisionAnswer : Inclusion → Inclusion → Option Collision → 
 IsCollisionAnswer a b None = IsComparable a b → root_of a ≡ root_of b → ⊥
 IsCollisionAnswer a b (Some c) = IsShown a b c
 
+-- an inclusion's place or path is wrong
 abbrev pub FaultOf : Inclusion → MerkleError → Type 0
 FaultOf i e = ShapeFault i.index i.size (length i.hashes) e
 
@@ -101,6 +103,7 @@ pub record DifferAtFirst (a b : Inclusion) (t : Together) : Type 0 where
 
 -- ---- the law
 
+-- one index and one size
 pub record IsOnePlace (a b : Inclusion) : Type 0 where
   pub index : a.index ≡ b.index
   pub size : a.size ≡ b.size

@@ -6,6 +6,7 @@ use Rattle.sigstore_merkle.specs.declared.side.Side.{Side}
 use Rattle.sigstore_merkle.specs.declared.together.NodePair.{NodePair}
 use Rattle.sigstore_merkle.specs.declared.together.Together.{Together}
 
+-- whether the two of a pair are equal
 abbrev pub is_same : List ℕ × List ℕ → Bool
 is_same pair = bytes_eq pair.0 pair.1
 
@@ -17,6 +18,7 @@ higher_of pair lower = cond (is_same pair) lower (Some pair)
 abbrev pub inputs_at : Side → List ℕ → List ℕ → List ℕ → List ℕ → List ℕ × List ℕ
 inputs_at side a a_sibling b b_sibling = (input_at side a a_sibling, input_at side b b_sibling)
 
+-- what was hashed at two nodes
 abbrev pub inputs_of_pair : NodePair → List ℕ × List ℕ
 inputs_of_pair p = inputs_at p.side p.a p.a_sibling p.b p.b_sibling
 
