@@ -1,0 +1,2 @@
+pub mod LogIndex
+pub mod Checkpoint
