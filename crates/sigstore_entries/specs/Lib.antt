@@ -1,2 +1,3 @@
-pub mod LogIndex
+pub mod Numbers
 pub mod Checkpoint
+pub mod Entry

@@ -2,10 +2,23 @@
 #![tactic(auto)]
 
 mod checkpoint;
+mod checkpoint_data;
+mod entry;
+mod inclusion_proof;
+mod kind_version;
 mod lines;
+mod log_id;
 mod log_index;
+mod members;
+mod number;
 mod signature_line;
+mod time;
 
 pub use checkpoint::Checkpoint;
+pub use checkpoint_data::CheckpointData;
+pub use entry::TransparencyLogEntry;
+pub use inclusion_proof::InclusionProof;
+pub use kind_version::KindVersion;
+pub use log_id::LogId;
 pub use log_index::LogIndex;
 pub use signature_line::CheckpointSignature;

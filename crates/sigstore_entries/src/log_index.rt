@@ -1,12 +1,18 @@
 // Places of entries in a log.
-ghost use Rattle.std.specs.Prelude.{◌≡◌};
-ghost use Rattle.sigstore_entries.specs.LogIndex.{log_index_of};
+ghost use Rattle.std.specs.Prelude.{◌≡◌, Ok, Err, pos};
+ghost use Rattle.serde_json.specs.View.{view};
+ghost use Rattle.sigstore_entries.specs.Numbers.{log_index_of, place_of, or_first};
 
+use crate::number::unsigned;
 use foundation::{Duplicate, NoMemory};
-use sigstore_types_parts::{TypesError, TypesMember};
+use serde_json::Value;
+use sigstore_types_parts::{FromValue, TypesError, TypesMember};
 use std::alloc::Global;
 
-/// A place in a log, counted from 0 and below 2^63 (an int64 in the Sigstore protobuf specs).
+/// The first number that is no place (an int64 in the Sigstore protobuf specs).
+const LIMIT: u64 = 9_223_372_036_854_775_808;
+
+/// A place in a log, counted from 0 and below 2^63.
 #[derive(Clone, Copy, Debug, PartialEq, Eq, Drop)]
 pub struct LogIndex {
     value: u64,
@@ -17,7 +23,7 @@ impl LogIndex {
     pub fn new(value: u64) -> Result<LogIndex, TypesError>
         ensures { result ≡ log_index_of value }
     {
-        if value >= 9_223_372_036_854_775_808 {
+        if value >= LIMIT {
             return Err(TypesError::Field {
                 member: TypesMember::LogIndex,
             });
@@ -36,5 +42,31 @@ impl LogIndex {
 impl Duplicate for LogIndex {
     fn duplicate(&self, _alloc: Global) -> Result<LogIndex, NoMemory> {
         Ok(*self)
+    }
+}
+
+impl FromValue<TypesError> for LogIndex {
+    ghost reads = { place_of };
+
+    #[tactic(auto, unfolding(crate::specs::Numbers::place_of))]
+    fn from_value(_alloc: Global, value: &Value) -> Result<LogIndex, TypesError> {
+        match unsigned(value) {
+            Some(number) => if number < LIMIT {
+                Ok(LogIndex { value: number })
+            } else {
+                Err(TypesError::Json)
+            },
+            None => Err(TypesError::Json),
+        }
+    }
+}
+
+// The place that was read, or the first one.
+pub(crate) fn or_first(place: Option<LogIndex>) -> LogIndex
+    ensures { result ≡ or_first place }
+{
+    match place {
+        Some(place) => place,
+        None => LogIndex { value: 0 },
     }
 }
