@@ -1,5 +1,5 @@
 // Places of entries in a log.
-ghost use Rattle.std.specs.Prelude.{◌≡◌, Ok, Err, pos};
+ghost use Rattle.std.specs.Prelude.{◌≡◌, ◌-◌, ◌^◌, min, pos, Ok, Err};
 ghost use Rattle.serde_json.specs.View.{view};
 ghost use Rattle.sigstore_entries.specs.Numbers.{log_index_of, place_of, or_first};
 
@@ -36,6 +36,13 @@ impl LogIndex {
         ensures { result ≡ self.value }
     {
         self.value
+    }
+
+    /// The place as an `i64`, which it is below 2^63, as every place that `new` or a reading gives.
+    pub fn as_i64(self) -> i64
+        ensures { result ≡ pos (min self.value (2 ^ 63 - 1)) }
+    {
+        self.value.min(LIMIT - 1) as i64
     }
 }
 
