@@ -1,7 +1,7 @@
 // Tables of checkpoints, one row a line: a call, a text, ` => ` and the answer, worked out by hand. `read` answers
 // the origin, the size, the root's first octet, how many octets are signed, and of each signature its name, its
 // hint and its length. `held` answers the same of an inclusion proof's checkpoint, or `none`.
-use crate::texts::{good, hexadecimal, meant, parts, shown};
+use crate::texts::{first, good, hexadecimal, meant, parts, shown};
 use foundation::Duplicate;
 use sigstore_entries::{
     Checkpoint, CheckpointData, CheckpointSignature, checkpoints_are_parted, envelopes_are_kept,
@@ -99,8 +99,7 @@ fn tell_signatures<X: AllocGlobal + Abort>(
 fn told<X: AllocGlobal + Abort>(rt: &X, checkpoint: &Checkpoint) -> String {
     let origin = checkpoint.origin();
     let size = checkpoint.tree_size();
-    let (first, _) = checkpoint.root_hash().as_bytes().split_at(1);
-    let root = hexadecimal(rt, first);
+    let root = first(rt, checkpoint.root_hash().as_bytes());
     let signed = checkpoint.signed_data();
     assert!(rt; checkpoint.text().starts_with(signed));
     let length = signed.len();

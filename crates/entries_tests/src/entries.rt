@@ -4,7 +4,7 @@
 // kind and version, the time, the promise's length, the proof as its place, its root's first octet, its size, the
 // number of its hashes and its checkpoint's size, and the body. `payload` answers what its promise signs, and
 // `index` a place.
-use crate::texts::{good, hexadecimal, marked, parts, shown};
+use crate::texts::{first, good, hexadecimal, marked, parts, shown};
 use foundation::Duplicate;
 use serde_json::Value;
 use sigstore_entries::{
@@ -33,10 +33,10 @@ read {*,"inclusionProof":{"rootHash":"<ones>"}} => 0 01/32 dsse/0.0.1 - - 0/01/0
 read {*,"inclusionProof":{"rootHash":"<ones>","logIndex":null,"treeSize":null,"hashes":null,"checkpoint":null}} => 0 01/32 dsse/0.0.1 - - 0/01/0/0/empty 7b7d
 read {*,"inclusionProof":{"rootHash":"<ones>","logIndex":"1","treeSize":"3","hashes":["<zeros>","<ones>"],"checkpoint":{"envelope":""}}} => 0 01/32 dsse/0.0.1 - - 1/01/3/2/empty 7b7d
 read {*,"inclusionProof":{"rootHash":"<ones>","logIndex":1,"treeSize":3,"hashes":[],"checkpoint":{"envelope":"o\n5\n<zeros>\n\n— n AQIDBAUG\n"}}} => 0 01/32 dsse/0.0.1 - - 1/01/3/0/5 7b7d
-read {"canonicalizedBody":"","logId":{"keyId":"","x":0},"kindVersion":{"version":"0.0.2","kind":"hashedrekord"}} => 0 nothing hashedrekord/0.0.2 - - - 
-read {"canonicalizedBody":"","logId":{"keyId":""},"kindVersion":{"kind":"hashedrekord","version":"0.0.1"}} => 0 nothing hashedrekord/0.0.1 - - - 
-read {"canonicalizedBody":"","logId":{"keyId":""},"kindVersion":{"kind":"dsse","version":"0.0.2"}} => 0 nothing dsse/0.0.2 - - - 
-read {"canonicalizedBody":"","logId":{"keyId":""},"kindVersion":{"kind":"intoto","version":"0.0.2"}} => 0 nothing intoto/0.0.2 - - - "#;
+read {"canonicalizedBody":"","logId":{"keyId":"","x":0},"kindVersion":{"version":"0.0.2","kind":"hashedrekord"}} => 0 nothing/0 hashedrekord/0.0.2 - - - 
+read {"canonicalizedBody":"","logId":{"keyId":""},"kindVersion":{"kind":"hashedrekord","version":"0.0.1"}} => 0 nothing/0 hashedrekord/0.0.1 - - - 
+read {"canonicalizedBody":"","logId":{"keyId":""},"kindVersion":{"kind":"dsse","version":"0.0.2"}} => 0 nothing/0 dsse/0.0.2 - - - 
+read {"canonicalizedBody":"","logId":{"keyId":""},"kindVersion":{"kind":"intoto","version":"0.0.2"}} => 0 nothing/0 intoto/0.0.2 - - - "#;
 
 // Each member wrong.
 const REFUSED: &str = r#"read [] => Json
@@ -148,14 +148,9 @@ fn text_of<X: AllocGlobal + Abort>(rt: &X, cell: &str) -> String {
 
 // The first of some octets, and how many there are.
 fn part<X: AllocGlobal + Abort>(rt: &X, octets: &[u8]) -> String {
-    match octets {
-        [] => good(rt, String::from_str(rt.alloc(), "nothing")),
-        [first, ..] => {
-            let first = hexadecimal(rt, &[*first]);
-            let length = octets.len();
-            good(rt, format!(in rt.alloc(); "{first}/{length}"))
-        }
-    }
+    let first = first(rt, octets);
+    let length = octets.len();
+    good(rt, format!(in rt.alloc(); "{first}/{length}"))
 }
 
 fn held<X: AllocGlobal + Abort>(rt: &X, held: &CheckpointData) -> String {
@@ -172,8 +167,7 @@ fn proof<X: AllocGlobal + Abort>(rt: &X, proof: Option<&InclusionProof>) -> Stri
     match proof {
         Some(proof) => {
             let index = proof.log_index.get();
-            let (first, _) = proof.root_hash.as_bytes().split_at(1);
-            let root = hexadecimal(rt, first);
+            let root = first(rt, proof.root_hash.as_bytes());
             let size = proof.tree_size;
             let count = proof.hashes.len();
             let checkpoint = held(rt, &proof.checkpoint);

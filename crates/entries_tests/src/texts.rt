@@ -54,6 +54,14 @@ pub fn hexadecimal<X: AllocGlobal + Abort>(rt: &X, octets: &[u8]) -> String {
     good(rt, hex::encode(rt.alloc(), octets))
 }
 
+/// The first octet in hexadecimal, `nothing` where there is none.
+pub fn first<X: AllocGlobal + Abort>(rt: &X, octets: &[u8]) -> String {
+    match octets {
+        [] => good(rt, String::from_str(rt.alloc(), "nothing")),
+        [first, ..] => hexadecimal(rt, &[*first]),
+    }
+}
+
 /// The call of a row, what it is given, and the answer.
 pub fn parts<'a, X: Abort>(rt: &X, row: &'a str) -> (&'a str, &'a str, &'a str) {
     let (given, wanted) = row.split_once(" => ").expect(rt, "an answer");
