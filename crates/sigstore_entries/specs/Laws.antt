@@ -1,0 +1,21 @@
+-- Laws of checkpoints.
+use Rattle.std.specs.Prelude.{◌≡◌, ℕ, List, ◌∷◌, ◌++◌, Ok}
+use Rattle.sigstore_entries.specs.Checkpoint.{lines_of, signatures_of, checkpoint_of, signed_data_of}
+use Rattle.sigstore_entries.specs.Entry.{checkpoint_data_of, envelope_text_of}
+use Rattle.sigstore_entries.specs.declared.checkpoint.Checkpoint.{Checkpoint}
+use Rattle.sigstore_entries.specs.declared.checkpoint_data.CheckpointData.{CheckpointData}
+
+-- a text is what is signed, an empty line and the signature lines
+pub record IsParted (text : List ℕ) (checkpoint : Checkpoint) : Type 0 where
+  pub kept : checkpoint.text ≡ text
+  pub behind : List ℕ
+  pub whole : text ≡ signed_data_of checkpoint ++ (10 ∷ behind)
+  pub signed_by : signatures_of (lines_of behind) ≡ Ok checkpoint.signatures
+
+-- a checkpoint keeps the text that was read, and its signed data begins that text
+abbrev pub CheckpointsAreParted : Type 0
+CheckpointsAreParted = (text : List ℕ) (checkpoint : Checkpoint) → checkpoint_of text ≡ Ok checkpoint → IsParted text checkpoint
+
+-- the envelope is the text that was read
+abbrev pub EnvelopesAreKept : Type 0
+EnvelopesAreKept = (text : List ℕ) (held : CheckpointData) → checkpoint_data_of text ≡ Ok held → envelope_text_of held ≡ text

@@ -1,0 +1,5 @@
+pub mod Numbers
+pub mod Checkpoint
+pub mod Entry
+pub mod Promise
+pub mod Laws

@@ -1,0 +1,13 @@
+// Laws of the definitions. A call does nothing.
+ghost use Rattle.sigstore_entries.specs.Laws.{CheckpointsAreParted, EnvelopesAreKept};
+
+/// The law of checkpoints: a text that is read as one is kept, and is what is signed, an empty line and the
+/// signature lines.
+pub fn checkpoints_are_parted()
+    ensures { CheckpointsAreParted }
+{}
+
+/// The law of envelopes: what is kept is the text that was read.
+pub fn envelopes_are_kept()
+    ensures { EnvelopesAreKept }
+{}
