@@ -1,0 +1,135 @@
+// What rows of tables mean: names of logs, checkpoints and entries, moments, and answers as texts.
+use crate::data::{CHECKPOINTS, ENTRIES, KEYS, SIGNATURES};
+use jiff::Timestamp;
+use sigstore_app_parts::{Tables, read_provider};
+use sigstore_crypto::{Keyring, VerificationKey, sha256};
+use sigstore_entries::{Checkpoint, TransparencyLogEntry};
+use sigstore_types_parts::{DerPublicKey, LogKeyId, TimeRange, parse_json};
+use std::fmt::Debug;
+use std::process::Abort;
+
+/// What a call gave; a refusal ends the process.
+pub fn good<X: Abort, T, E: Debug>(rt: &X, given: Result<T, E>) -> T {
+    given.expect(rt, "a value")
+}
+
+/// A text of its own.
+pub fn text<X: AllocGlobal + Abort>(rt: &X, text: &str) -> String {
+    good(rt, String::from_str(rt.alloc(), text))
+}
+
+// What a table has behind a name.
+fn behind<X: Abort>(rt: &X, table: &'static str, name: &str) -> &'static str {
+    for row in table.lines() {
+        if let Some((first, rest)) = row.split_once(' ') {
+            if first == name {
+                return rest;
+            }
+        }
+    }
+    panic!(rt; "no {name}")
+}
+
+/// The key of a log; that of no name is one byte.
+pub fn key<X: AllocGlobal + Abort>(rt: &X, name: &str) -> DerPublicKey {
+    if name == "nothing" {
+        return good(rt, DerPublicKey::from_bytes(rt.alloc(), &[0]));
+    }
+    good(
+        rt,
+        DerPublicKey::from_base64(rt.alloc(), behind(rt, KEYS, name)),
+    )
+}
+
+/// A moment; `now` is the middle of 2024.
+pub fn moment<X: Abort>(rt: &X, word: &str) -> Timestamp {
+    let word = if word == "now" {
+        "2024-06-01T00:00:00Z"
+    } else {
+        word
+    };
+    good(rt, word.parse::<Timestamp>())
+}
+
+// A window: `START..END`, the end left out where there is none.
+fn window<X: Abort>(rt: &X, word: &str) -> TimeRange {
+    let (start, end) = word.split_once("..").expect(rt, "a window");
+    TimeRange {
+        start: moment(rt, start),
+        end: if end.is_empty() {
+            None
+        } else {
+            Some(moment(rt, end))
+        },
+    }
+}
+
+// Holds the key of `NAME`, or of `NAME@WINDOW`, under the log's id.
+fn hold<X: AllocGlobal + Abort>(rt: &X, logs: &mut Keyring, word: &str) {
+    let (name, valid_for) = match word.split_once('@') {
+        Some((name, range)) => (name, Some(window(rt, range))),
+        None => (word, None),
+    };
+    let der = key(rt, name);
+    let read = good(rt, VerificationKey::from_spki(rt.alloc(), &der));
+    good(
+        rt,
+        logs.add_key_with_validity(sha256(der.as_bytes()), read, valid_for),
+    );
+}
+
+/// The logs of these words.
+pub fn logs<X: AllocGlobal + Abort>(rt: &X, words: &str) -> Keyring {
+    let mut logs = Keyring::new(rt.alloc());
+    for word in words.split_ascii_whitespace() {
+        hold(rt, &mut logs, word);
+    }
+    logs
+}
+
+/// Who decides signatures.
+pub fn tables<X: AllocGlobal + Abort>(rt: &X) -> Tables {
+    good(rt, read_provider(rt.alloc(), SIGNATURES.as_bytes()))
+}
+
+/// The checkpoint of a name.
+pub fn checkpoint<X: AllocGlobal + Abort>(rt: &X, name: &str) -> Checkpoint {
+    let value = good(
+        rt,
+        parse_json(rt.alloc(), behind(rt, CHECKPOINTS, name).as_bytes()),
+    );
+    let signed = value.as_str().expect(rt, "a text");
+    good(rt, Checkpoint::from_text(rt.alloc(), signed.as_bytes()))
+}
+
+// One side of a change: `checkpoint NAME` or `id NAME` for what the entry has of it, else the text itself.
+fn side<X: AllocGlobal + Abort>(rt: &X, side: &str) -> String {
+    if let Some(name) = side.strip_prefix("checkpoint ") {
+        return text(rt, behind(rt, CHECKPOINTS, name));
+    }
+    if let Some(name) = side.strip_prefix("id ") {
+        let id = sha256(key(rt, name).as_bytes());
+        let id = good(rt, LogKeyId::from_bytes(rt.alloc(), id.as_bytes()));
+        return text(rt, good(rt, id.to_base64(rt.alloc())).as_str());
+    }
+    text(rt, side)
+}
+
+// The text with one part, which stands in it once, in another's place: `OLD ~ NEW`.
+fn changed<X: AllocGlobal + Abort>(rt: &X, whole: &str, change: &str) -> String {
+    if change.is_empty() {
+        return text(rt, whole);
+    }
+    let (old, new) = change.split_once(" ~ ").expect(rt, "a change");
+    let (old, new) = (side(rt, old), side(rt, new));
+    let (before, behind) = whole.split_once(old.as_str()).expect(rt, "what is changed");
+    assert!(rt; behind.split_once(old.as_str()).is_none(), "twice: {old}");
+    good(rt, format!(in rt.alloc(); "{before}{new}{behind}"))
+}
+
+/// The entry of a name with a change.
+pub fn entry<X: AllocGlobal + Abort>(rt: &X, name: &str, change: &str) -> TransparencyLogEntry {
+    let whole = changed(rt, behind(rt, ENTRIES, name), change);
+    let value = good(rt, parse_json(rt.alloc(), whole.as_str().as_bytes()));
+    good(rt, TransparencyLogEntry::from_value(rt.alloc(), &value))
+}

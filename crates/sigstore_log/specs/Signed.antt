@@ -1,0 +1,78 @@
+-- Whose signatures a checkpoint has (C2SP tlog-checkpoint over signed-note), and which checkpoint an inclusion proof is of.
+use Rattle.std.specs.Prelude.{ℕ, List, Bool, true, ◌&&◌, bytes_eq, if◌then◌else◌, Option, Some, None, Result, Ok, Err}
+use Rattle.std.specs.Prelude.{⊤, take}
+use Rattle.std.specs.List.{list_any}
+use Rattle.sha2.specs.Sha256.{sha256}
+use Rattle.foundation.specs.Steps.{◌>>=◌}
+use Rattle.jiff_core.specs.declared.timestamp.Timestamp.{Timestamp}
+use Rattle.sigstore_crypto.specs.declared.error.Error.{Error as CryptoError}
+use Rattle.sigstore_crypto.specs.declared.error.Error.TheVariants as crypto
+use Rattle.sigstore_crypto.specs.declared.error.CheckpointFault.TheVariants as fault
+use Rattle.sigstore_crypto.specs.declared.key.VerificationKey.{VerificationKey}
+use Rattle.sigstore_crypto.specs.Good.{Judge, is_good}
+use Rattle.sigstore_crypto.specs.Key.{spki_key_of}
+use Rattle.sigstore_crypto.specs.Keyring.{Ring, keys_meant}
+use Rattle.sigstore_entries.specs.declared.checkpoint.Checkpoint.{Checkpoint}
+use Rattle.sigstore_entries.specs.declared.inclusion_proof.InclusionProof.{InclusionProof}
+use Rattle.sigstore_entries.specs.declared.kind_version.KindVersion.{KindVersion}
+use Rattle.sigstore_entries.specs.declared.kind_version.KindVersion.TheVariants.{HashedRekordV001, HashedRekordV002}
+use Rattle.sigstore_entries.specs.declared.kind_version.KindVersion.TheVariants.{DsseV001, DsseV002, IntotoV002}
+use Rattle.sigstore_entries.specs.declared.signature_line.CheckpointSignature.{CheckpointSignature}
+use Rattle.sigstore_entries.specs.Checkpoint.{signed_data_of}
+use Rattle.sigstore_log.specs.declared.error.LogError.{LogError}
+use Rattle.sigstore_log.specs.declared.error.LogError.TheVariants as refusal
+
+-- ---- under the keys of trusted logs
+
+-- one of the keys makes the signature good
+abbrev pub is_good_by : Judge → List VerificationKey → List ℕ → List ℕ → Bool
+is_good_by accepts keys message signature = list_any (λ key. is_good accepts key message signature) keys
+
+-- a line's signature is good under a key that its hint means: that of a log whose id begins with the hint, and whose window has
+-- started by now (else a key that is only to be used later could vouch for a log of today)
+abbrev pub is_vouched : Judge → Ring → Timestamp → List ℕ → CheckpointSignature → Bool
+is_vouched accepts logs now signed line = is_good_by accepts (keys_meant line.key_id now logs) signed line.signature
+
+-- some line's is: whoever else signed doesn't count, and takes nothing away
+abbrev pub is_signed_by : Judge → Ring → Timestamp → Checkpoint → Bool
+is_signed_by accepts logs now checkpoint = list_any (is_vouched accepts logs now (signed_data_of checkpoint)) checkpoint.signatures
+
+-- ---- the checkpoint of a proof
+
+-- the proof is of the checkpoint's tree (else the signature would be of another tree than that in which the entry was found); that of
+-- hashedrekord 0.0.2 was found in the checkpoint's own
+abbrev pub is_of_tree : KindVersion → InclusionProof → Checkpoint → Bool
+is_of_tree HashedRekordV001 proof checkpoint = bytes_eq checkpoint.root_hash proof.root_hash
+is_of_tree HashedRekordV002 proof checkpoint = true
+is_of_tree DsseV001 proof checkpoint = bytes_eq checkpoint.root_hash proof.root_hash
+is_of_tree DsseV002 proof checkpoint = bytes_eq checkpoint.root_hash proof.root_hash
+is_of_tree IntotoV002 proof checkpoint = bytes_eq checkpoint.root_hash proof.root_hash
+
+-- a checkpoint is there, of the proof's tree, and signed by a trusted log (else whoever wrote the bundle made up the tree)
+abbrev pub checkpoint_judged : Judge → Ring → Timestamp → KindVersion → InclusionProof → Option Checkpoint → Result ⊤ LogError
+checkpoint_judged accepts logs now kind proof None = Err refusal.Checkpoint
+checkpoint_judged accepts logs now kind proof (Some checkpoint) =
+    if is_of_tree kind proof checkpoint && is_signed_by accepts logs now checkpoint then Ok tt else Err refusal.Checkpoint
+
+-- ---- under one key in DER
+
+-- the hint to a key: the first four bytes of its SHA-256 value
+abbrev pub hint_of : List ℕ → List ℕ
+hint_of der = take 4 (sha256 der)
+
+abbrev pub has_hint : List ℕ → CheckpointSignature → Bool
+has_hint hint line = bytes_eq line.key_id hint
+
+abbrev pub is_line_good : Judge → VerificationKey → List ℕ → List ℕ → CheckpointSignature → Bool
+is_line_good accepts key hint signed line = has_hint hint line && is_good accepts key signed line.signature
+
+-- a line with the hint is there, and the signature of one with it is good
+abbrev pub hinted_of : Judge → VerificationKey → List ℕ → Checkpoint → Result ⊤ CryptoError
+hinted_of accepts key hint checkpoint =
+    if list_any (has_hint hint) checkpoint.signatures then
+    (if list_any (is_line_good accepts key hint (signed_data_of checkpoint)) checkpoint.signatures then Ok tt
+    else Err (crypto.Checkpoint fault.Refused))
+    else Err (crypto.Checkpoint fault.NoHint)
+
+abbrev pub verified_of : Judge → List ℕ → Checkpoint → Result ⊤ CryptoError
+verified_of accepts der checkpoint = spki_key_of der >>= λ key. hinted_of accepts key (hint_of der) checkpoint

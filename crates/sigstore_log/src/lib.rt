@@ -1,0 +1,13 @@
+//! Whether an entry stands in a transparency log that is trusted: its place in the log's tree, the checkpoint
+//! that the log signed, and what the log promised.
+#![tactic(auto)]
+
+mod checkpoint;
+mod entry;
+mod error;
+mod inclusion;
+mod promise;
+
+pub use checkpoint::{CheckpointVerifyExt, is_signed_by};
+pub use entry::judge_entry;
+pub use error::LogError;
