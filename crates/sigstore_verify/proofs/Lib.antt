@@ -10,5 +10,3 @@ pub mod Agree
 pub mod Taken
 pub mod RootCompleting
 pub mod Usable
-mod OnlyTop
-mod TrustReading
