@@ -29,9 +29,10 @@ use Rattle.sigstore_verify.specs.Accepts.{signature_in, digest_in}
 use Rattle.sigstore_verify.specs.Artifact.{Artifact, Read, read_kind, digest_of}
 use Rattle.sigstore_types.specs.declared.trusted_root.TrustedRoot.{TrustedRoot}
 use Rattle.sigstore_verify.specs.Trust.{usable_of}
+use Rattle.sigstore_verify.proofs.TrustReading.{trust_is_built}
 use Rattle.sigstore_verify.proofs.UsableCauses.{IsFault, usable_fault}
 use Rattle.sigstore_verify.specs.Cause.{IsRefusedAs, IsRead, HasScheme, HasBundle, LacksScheme, key_unread, no_scheme, no_hasher}
-use Rattle.sigstore_verify.specs.Cause.{trust_unbuilt, bundle_unbuilt, KeyCause, CauseUnder, JudgeCause}
+use Rattle.sigstore_verify.specs.Cause.{KeyCause, CauseUnder, JudgeCause}
 use Rattle.sigstore_verify.specs.FromRoot.{or_fault, trust_fault, bundle_fault, JudgesBundle, trust_refused, verifier_refused, bundle_refused, judged}
 use Rattle.sigstore_verify.specs.Given.{Asked, terms_of}
 use Rattle.sigstore_verify.specs.Judged.{by_crypto, by_types, scheme_of, needed_of, supported_of, prepared_of, is_digest, is_bound, is_signed, content_judged_of, key_judged_of, judged_by, ready_of}
@@ -100,12 +101,12 @@ module _ (accepts : Judge) (policy : PublicKeyVerificationPolicy) (asked : Asked
 
   by_trust : (e : Error) (x : TypesError) → trusted_root_of_bytes file ≡ Err x → trust_fault x ≡ e → IsLowered verify.TrustRoot x → Cause e
   by_trust e x h q (inl want) = subst Cause (sym want ∙ q) tt
-  by_trust e x h q (inr (inl (f, same, is))) = subst Cause (sym is ∙ q) (trust_unbuilt (h ∙ ap Err same))
+  by_trust e x h q (inr (inl (f, same, is))) = subst Cause (sym is ∙ q) (trust_is_built file f (h ∙ ap Err same))
   by_trust e x h q (inr (inr is)) = subst Cause (sym is ∙ q) (x, h, is)
 
   by_bundle : (e : Error) (x : TypesError) → bundle_of_bytes asked.bundle ≡ Err x → bundle_fault x ≡ e → IsLowered verify.InvalidBundle x → Cause e
   by_bundle e x h q (inl want) = subst Cause (sym want ∙ q) tt
-  by_bundle e x h q (inr (inl (f, same, is))) = subst Cause (sym is ∙ q) (bundle_unbuilt (h ∙ ap Err same))
+  by_bundle e x h q (inr (inl (f, same, is))) = subst Cause (sym is ∙ q) (h ∙ ap Err same)
   by_bundle e x h q (inr (inr is)) = subst Cause (sym is ∙ q) (x, h, is)
 
   wants : (e : Error) → (e ≢ verify.NoMemory → Cause e) → Cause e

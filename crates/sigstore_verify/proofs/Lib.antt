@@ -10,3 +10,5 @@ pub mod Agree
 pub mod Taken
 pub mod RootCompleting
 pub mod Usable
+mod OnlyTop
+mod TrustReading

@@ -22,6 +22,7 @@ use Rattle.sigstore_verify.specs.Given.{Anchor, Given, Outside, asked_by}
 use Rattle.sigstore_verify.specs.FromRoot as top
 use Rattle.sigstore_verify.specs.FromRoot.{trust_path, session_in, TrustsChain, GivesChain, root_of_tuf, root_of_verify, Runs}
 use Rattle.sigstore_verify.proofs.JudgeCauses.{judge_refused}
+use Rattle.sigstore_verify.proofs.OnlyTop.{first_root_only, attach_only, refresh_only}
 use Rattle.sigstore_verify.proofs.RootFacts.{refreshed_authorised, searched_authorised, chain_trusts}
 
 -- a chain that isn't given has its cause in the root, the repository and the store
@@ -50,8 +51,10 @@ module _ (anchor : Anchor) (before after : Outside) where
   chain_cause e (top.target_refused set last end mid begun kept d b w g r) =
       let since = (refresh_carried (session_in anchor) (state_of set before.repo begun) (state_of last mid kept) (Ok tt) w.runs).since in
       let first = refreshed_authorised anchor before.repo mid before.store begun kept set last (Ok tt) b w in
+      let begins = attach_only anchor.crypto (state_in b.first before) (state_of set before.repo begun) (Ok tt) b.attached.attaches (first_root_only anchor.crypto anchor.root b.first b.first_is) in
+      let only = refresh_only (session_in anchor) (state_of set before.repo begun) (state_of last mid kept) (Ok tt) w.runs begins in
       subst Chain (err_same d e (sym r))
-      (cause.search_refused last end first (searched_authorised anchor before.repo mid after.repo before.store begun kept after.store set last end (Err d) b w g)
+      (cause.search_refused last end only first (searched_authorised anchor before.repo mid after.repo before.store begun kept after.store set last end (Err d) b w g)
       (gets_serves (session_in anchor) trust_path (state_of last mid kept) (state_in end after) (Err d) g.gets w.serves)
       (target_earlier (session_in anchor) trust_path (state_in last before) (state_of last mid kept) (state_in end after) refl since d g.cause))
   chain_cause e (top.chain_given set last end mid begun kept chain b w g r) = cc

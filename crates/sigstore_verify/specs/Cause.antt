@@ -1,8 +1,9 @@
 -- What each refusal of the top call tells: of the root and the repository, or of the trust file, the bundle, the policy and the
 -- artifact (TUF specification, section 5; Sigstore bundle format; FIPS 180-4, FIPS 186-5).
-use Rattle.std.specs.Prelude.{◌≡◌, ◌≢◌, ◌⊎◌, ℕ, List, true, false, Some, None, Result, Ok, Err, ⊤}
+use Rattle.std.specs.Prelude.{◌≡◌, ◌≢◌, ◌⊎◌, ℕ, List, true, false, Some, None, Result, Ok, Err, codes, ⊤}
 use Rattle.std.specs.List.{list_all}
 use Rattle.foundation.specs.Watched.{Watched}
+use Rattle.sigstore_types_parts.specs.Entries.{at_name}
 use Rattle.sigstore_types_parts.specs.declared.form.Form.{Form}
 use Rattle.sigstore_types_parts.specs.declared.error.TypesError.TheVariants as types
 use Rattle.sigstore_types.specs.declared.bundle.Bundle.{Bundle}
@@ -18,9 +19,11 @@ use Rattle.sigstore_crypto.specs.Key.{spki_key_of}
 use Rattle.sigstore_crypto.specs.Scheme.{has_digest}
 use Rattle.sigstore_tuf_parts.specs.declared.error.Error.TheVariants as tuf
 use Rattle.sigstore_tuf_parts.specs.declared.error.Error.{Error as TufError}
+use Rattle.sigstore_tuf_parts.specs.declared.targets.Targets.{Targets}
 use Rattle.sigstore_tuf.specs.Cause.{FirstCause, RefreshCause}
 use Rattle.sigstore_tuf.specs.SearchCause.{TargetCause}
 use Rattle.sigstore_tuf.specs.Authorised.{AreAuthorised, Serve}
+use Rattle.sigstore_tuf.specs.declared.documents.Held.{Held}
 use Rattle.sigstore_tuf.specs.declared.documents.InForce.{InForce}
 use Rattle.sigstore_tuf.specs.State.{State, state_of}
 use Rattle.sigstore_tuf.specs.Update.{first_root_of}
@@ -109,11 +112,9 @@ pub record IsUnsigned (accepts : Judge) (policy : PublicKeyVerificationPolicy) (
 abbrev pub IsUnusable : List ℕ → Error → Type 0
 IsUnusable file e = (trust : TrustedRoot) × (trusted_root_of_bytes file ≡ Ok trust) × (usable_of trust ≡ Err e)
 
--- a form that isn't built: of the trust file or of the bundle
-pub data IsUnbuilt (file bundle : List ℕ) (unbuilt : Form) : Type 0 where
-  trust_unbuilt : trusted_root_of_bytes file ≡ Err (types.Unbuilt unbuilt) → IsUnbuilt file bundle unbuilt
-  unusable : IsUnusable file (verify.Unbuilt unbuilt) → IsUnbuilt file bundle unbuilt
-  bundle_unbuilt : bundle_of_bytes bundle ≡ Err (types.Unbuilt unbuilt) → IsUnbuilt file bundle unbuilt
+-- the bundle is of a form that isn't built
+abbrev pub IsUnbuilt : List ℕ → Form → Type 0
+IsUnbuilt bundle unbuilt = bundle_of_bytes bundle ≡ Err (types.Unbuilt unbuilt)
 
 -- ---- each refusal of the judgement, by its number and name
 
@@ -132,7 +133,7 @@ KeyCause accepts policy asked file source source' verify.Bundle = LacksEntry pol
 KeyCause accepts policy asked file source source' verify.TrustRoot = IsRefusedAs trust_fault (trusted_root_of_bytes file) verify.TrustRoot
 KeyCause accepts policy asked file source source' verify.TrustedCertificate = IsUnusable file verify.TrustedCertificate
 KeyCause accepts policy asked file source source' (verify.ArtifactRead fault) = ReadCause source source' asked.max fault
-KeyCause accepts policy asked file source source' (verify.Unbuilt unbuilt) = IsUnbuilt file asked.bundle unbuilt
+KeyCause accepts policy asked file source source' (verify.Unbuilt unbuilt) = IsUnbuilt asked.bundle unbuilt
 KeyCause accepts policy asked file source source' verify.NoMemory = ⊤
 KeyCause accepts policy asked file source source' _ = ⊥
 
@@ -147,15 +148,21 @@ JudgeCause asked file source source' e = CauseUnder asked.policy asked file sour
 abbrev pub state_in : InForce → Outside → State
 state_in set outside = state_of set outside.repo outside.store
 
+-- of the targets documents only the top-level one is in force
+abbrev pub OnlyTop : InForce → Type 0
+OnlyTop set = (name : List ℕ) (held : Held Targets) → at_name name set.targets ≡ Some held → name ≡ codes "targets"
+
 -- The given root is refused; or a refresh from it, of documents that repository and store had at the beginning; or the search, whose
--- documents are authorised from the root at its beginning and at its end, where they serve at this moment.
+-- documents are authorised from the root at its beginning, when none of a delegated role is in force, and at its end, where they serve
+-- at this moment.
 pub data ChainCause (anchor : Anchor) (before after : Outside) (e : TufError) : Type 0 where
   root_refused : FirstCause anchor.crypto anchor.root e → ChainCause anchor before after e
   refresh_refused : (first last : InForce) → first_root_of anchor.crypto anchor.root ≡ Ok first
       → AreAuthorised anchor.crypto anchor.root last
       → RefreshCause (session_in anchor) (state_in first before) (state_in last after) e → ChainCause anchor before after e
-  search_refused : (last end : InForce) → AreAuthorised anchor.crypto anchor.root last → AreAuthorised anchor.crypto anchor.root end
-      → Serve anchor.now end → TargetCause (session_in anchor) trust_path (state_in last before) (state_in end after) e
+  search_refused : (last end : InForce) → OnlyTop last → AreAuthorised anchor.crypto anchor.root last
+      → AreAuthorised anchor.crypto anchor.root end → Serve anchor.now end
+      → TargetCause (session_in anchor) trust_path (state_in last before) (state_in end after) e
       → ChainCause anchor before after e
   chain_wanting : e ≡ tuf.NoMemory → ChainCause anchor before after e
 
