@@ -1,5 +1,6 @@
 -- INTEGER from 0 up to a greatest number (X.690, 8.3).
-use Rattle.std.specs.Prelude.{◌≡◌, ℕ, zero, suc, ◌+◌, ◌*◌, ◌/◌, ◌%◌, Bool, ◌&&◌, nat_le, nat_lt, List, [], ◌∷◌, Ok, Err, if◌then◌else◌, refl}
+use Rattle.std.specs.Prelude.{◌≡◌, ℕ, zero, suc, ◌+◌, ◌*◌, ◌/◌, ◌%◌, Bool}
+use Rattle.std.specs.Prelude.{◌&&◌, nat_le, nat_lt, List, [], ◌∷◌, Ok, Err, if◌then◌else◌, refl}
 use Rattle.std.specs.Str.{bytes_eq}
 use Rattle.std.proofs.Common.{sym, subst, cond, eqb, leb, ◌≤◌, ◌∙◌, ap, arith, true, false}
 use Rattle.std.proofs.lemmas.Bool.{eqb-true, le-leb}

@@ -2,7 +2,10 @@
 // trees are those of src/data.rt; every answer was worked out by hand.
 use crate::words::{checkpoint, entry, good, key, logs, moment, tables, text};
 use sigstore_app_parts::Tables;
-use sigstore_log::{CheckpointVerifyExt, LogError, is_signed_by, judge_entry};
+use sigstore_log::{
+    CheckpointVerifyExt, LogError, is_signed_by, judge_entry, logged_exactly, one_place_one_body,
+    refusals_have_causes,
+};
 use sigstore_types_parts::Sha256Hash;
 use std::process::Abort;
 
@@ -116,6 +119,9 @@ fn entries_are_logged(rt: HostRuntime) {
     for row in ENTRIES.lines() {
         try_entry(&rt, &tables, row);
     }
+    logged_exactly();
+    one_place_one_body();
+    refusals_have_causes();
 }
 
 fn try_key<X: AllocGlobal + Abort>(rt: &X, tables: &Tables, row: &str) {

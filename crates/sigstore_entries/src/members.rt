@@ -21,8 +21,9 @@ pub(crate) fn place(
     Ok(or_first(optional(alloc, value, member)?))
 }
 
-/// A list that is there, or an empty one.
-pub(crate) fn list<T: FromValue<TypesError>>(
+/// The list that a member is; absent or null, it is empty. Errors: `Field` where the member is no list, and
+/// those of its items.
+pub fn list<T: FromValue<TypesError>>(
     alloc: Global,
     value: &Value,
     member: TypesMember,

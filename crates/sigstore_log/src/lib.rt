@@ -6,8 +6,10 @@ mod checkpoint;
 mod entry;
 mod error;
 mod inclusion;
+mod laws;
 mod promise;
 
 pub use checkpoint::{CheckpointVerifyExt, is_signed_by};
 pub use entry::judge_entry;
 pub use error::LogError;
+pub use laws::{logged_exactly, one_place_one_body, refusals_have_causes};

@@ -1,5 +1,6 @@
 -- A call of the client as a list of steps, which are run until one refuses (TUF specification, section 5).
-use Rattle.std.specs.Prelude.{◌≡◌, ◌≢◌, ◌⊎◌, ℕ, zero, suc, ◌+◌, ◌-◌, ◌^◌, ◌==◌, if◌then◌else◌, List, [], ◌∷◌, Bool, true, false}
+use Rattle.std.specs.Prelude.{◌≡◌, ◌≢◌, ◌⊎◌, ℕ, zero, suc, ◌+◌, ◌-◌}
+use Rattle.std.specs.Prelude.{◌^◌, ◌==◌, if◌then◌else◌, List, [], ◌∷◌, Bool, true, false}
 use Rattle.std.specs.Prelude.{Option, Some, None, is_some, Result, Ok, Err, IfErr, OnOk, ⊤}
 use Rattle.jiff_core.specs.declared.timestamp.Timestamp as jiff
 use Rattle.sigstore_tuf_parts.specs.declared.error.Error.{Error}

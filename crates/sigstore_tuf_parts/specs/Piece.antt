@@ -1,5 +1,6 @@
 -- What the code reads of a pattern, and the rows by which it matches. Nobody has to believe this: what a pattern means is in Pattern.
-use Rattle.std.specs.Prelude.{◌≡◌, ℕ, ◌+◌, ◌≤◌, List, [], ◌∷◌, length, take, drop, reverse, Bool, true, false, not, ◌&&◌, ◌||◌, ◌==◌}
+use Rattle.std.specs.Prelude.{◌≡◌, ℕ, ◌+◌, ◌≤◌, List, [], ◌∷◌, length, take}
+use Rattle.std.specs.Prelude.{drop, reverse, Bool, true, false, not, ◌&&◌, ◌||◌, ◌==◌}
 use Rattle.std.specs.Prelude.{Option, None, option_map, slice_index_or}
 use Rattle.sigstore_tuf_parts.specs.declared.piece.PatternPiece.{PatternPiece}
 use Rattle.sigstore_tuf_parts.specs.declared.piece.PatternPiece.TheVariants.{Run, Any, Same, Class}

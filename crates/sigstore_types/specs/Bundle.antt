@@ -1,6 +1,7 @@
 -- A Sigstore bundle as JSON (Sigstore protobuf specs, sigstore_bundle.proto), as far as it is built.
-use Rattle.std.specs.Prelude.{ℕ, List, Bool, true, false, ◌||◌, bytes_eq, codes, Option, Some, None, Result, Ok, Err, ⊤, ok_or}
-use Rattle.std.specs.Prelude.{if◌then◌else◌}
+use Rattle.std.specs.Prelude.{ℕ, List, [], ◌∷◌, Bool, true, false, ◌||◌, bytes_eq, codes, Option, Some, None, Result, Ok, Err, ⊤}
+use Rattle.std.specs.Prelude.{ok_or, is_some, if◌then◌else◌}
+use Rattle.std.specs.List.{list_all}
 use Rattle.serde_json.specs.Data.{Data}
 use Rattle.foundation.specs.Steps.{◌>>=◌}
 use Rattle.sigstore_types_parts.specs.HashAlgorithm.{algorithm_named}
@@ -19,7 +20,9 @@ use Rattle.sigstore_types.specs.declared.material.VerificationMaterialContent.{V
 use Rattle.sigstore_types.specs.declared.material.VerificationMaterialContent.TheVariants as material
 use Rattle.sigstore_types.specs.declared.material.Hint.{Hint}
 use Rattle.sigstore_types.specs.declared.material.Tokens.{Tokens}
-use Rattle.sigstore_types.specs.Members.{required, optional, text, bytes, absent, without_items, json}
+use Rattle.sigstore_entries.specs.declared.entry.TransparencyLogEntry.{TransparencyLogEntry}
+use Rattle.sigstore_entries.specs.Entry.{required, optional, text, bytes, list, entry_of}
+use Rattle.sigstore_types.specs.Members.{absent, without_items, json}
 
 abbrev pub is_media_type : List ℕ → Bool
 is_media_type name =
@@ -59,9 +62,9 @@ tokens_of d = do
 unfoldable pub material_of : Data → Result VerificationMaterial TypesError
 material_of d = do
   content ← material_content_of d
-  _ ← without_items form.Entries m.TlogEntries d
+  entries ← list entry_of m.TlogEntries d
   _ ← optional tokens_of m.TimestampVerificationData d
-  Ok (record { content = content })
+  Ok (record { content = content; tlog_entries = entries })
 
 -- a known algorithm, by either of its names
 unfoldable pub algorithm_of : Data → Result HashAlgorithm TypesError
@@ -103,7 +106,20 @@ bundle_of d = do
 unfoldable pub bundle_of_bytes : List ℕ → Result Bundle TypesError
 bundle_of_bytes bytes = json bytes >>= bundle_of
 
--- where the log is to be verified, a bundle has an entry and each entry a proof; no entry is built
+-- ---- what a policy needs of the log
+
+abbrev pub entries_in : Bundle → List TransparencyLogEntry
+entries_in bundle = bundle.verification_material.tlog_entries
+
+abbrev pub has_proof : TransparencyLogEntry → Bool
+has_proof entry = is_some entry.inclusion_proof
+
+-- there is an entry, and each has a proof
+abbrev pub shown_of : List TransparencyLogEntry → Result ⊤ TypesError
+shown_of [] = Err e.NoEntry
+shown_of (entry ∷ entries) = if list_all has_proof (entry ∷ entries) then Ok tt else Err e.NoProof
+
+-- where the log is to be verified (else a signature that nobody can find in a log would pass)
 abbrev pub structure_of : Bundle → Bool → Result ⊤ TypesError
-structure_of bundle true = Err e.NoEntry
+structure_of bundle true = shown_of (entries_in bundle)
 structure_of bundle false = Ok tt

@@ -1,29 +1,16 @@
--- The readers of this crate: a member that is absent or of another JSON type is Field of that member.
-use Rattle.std.specs.Prelude.{ℕ, List, Option, Result, Ok, Err, ⊤, ok_or}
+-- Readers of members whose other forms aren't built, and of the JSON text itself.
+use Rattle.std.specs.Prelude.{ℕ, List, Result, Ok, Err, ⊤, ok_or}
 use Rattle.serde_json.specs.Data.{Data, Items, no_items, item}
 use Rattle.serde_json.specs.Find.{as_array}
 use Rattle.foundation.specs.Steps.{◌>>=◌}
-use Rattle.sigstore_types_parts.specs.Read as read
-use Rattle.sigstore_types_parts.specs.Encoded as encoded
 use Rattle.sigstore_types_parts.specs.Parse.{parsed_of}
-use Rattle.sigstore_types_parts.specs.Error.{types_of, types_of_fault, placed_at, name_of}
+use Rattle.sigstore_types_parts.specs.Error.{types_of_fault}
 use Rattle.sigstore_types_parts.specs.declared.form.Form.{Form}
 use Rattle.sigstore_types_parts.specs.declared.member.TypesMember.{TypesMember}
 use Rattle.sigstore_types_parts.specs.declared.parse.JsonFault.{JsonFault}
 use Rattle.sigstore_types_parts.specs.declared.error.TypesError.{TypesError}
 use Rattle.sigstore_types_parts.specs.declared.error.TypesError.TheVariants.{Json, Unbuilt}
-
-abbrev pub required : {T : Type 0} → (Data → Result T TypesError) → TypesMember → Data → Result T TypesError
-required reads m = read.required_of types_of (placed_at m) reads (name_of m)
-
-abbrev pub optional : {T : Type 0} → (Data → Result T TypesError) → TypesMember → Data → Result (Option T) TypesError
-optional reads m = read.optional_of types_of (placed_at m) reads (name_of m)
-
-abbrev pub text : Data → Result (List ℕ) TypesError
-text = read.text_of types_of
-
-abbrev pub bytes : Data → Result (List ℕ) TypesError
-bytes = encoded.bytes_of types_of
+use Rattle.sigstore_entries.specs.Entry.{optional}
 
 -- a form that isn't built
 abbrev pub unbuilt : Form → Data → Result ⊤ TypesError

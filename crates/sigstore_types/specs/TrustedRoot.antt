@@ -7,18 +7,17 @@ use Rattle.sigstore_types_parts.specs.Instant.{at_nanosecond}
 use Rattle.sigstore_types_parts.specs.Read as read
 use Rattle.sigstore_types_parts.specs.Error.{types_of}
 use Rattle.sigstore_types_parts.specs.declared.time_range.TimeRange.{TimeRange}
-use Rattle.sigstore_types_parts.specs.declared.member.TypesMember.{TypesMember}
 use Rattle.sigstore_types_parts.specs.declared.member.TypesMember.TheVariants as m
 use Rattle.sigstore_types_parts.specs.declared.error.TypesError.{TypesError}
 use Rattle.sigstore_types.specs.declared.authority.Authority.{Authority}
 use Rattle.sigstore_types.specs.declared.authority.Certificates.{Certificates}
 use Rattle.sigstore_types.specs.declared.authority.Chain.{Chain}
 use Rattle.sigstore_types.specs.declared.trusted_root.KeyOfLog.{KeyOfLog}
-use Rattle.sigstore_types.specs.declared.trusted_root.LogId.{LogId}
 use Rattle.sigstore_types.specs.declared.trusted_root.TrustedLog.{TrustedLog}
 use Rattle.sigstore_types.specs.declared.trusted_root.TrustedRoot.{TrustedRoot}
 use Rattle.sigstore_types.specs.declared.valid_for.ValidFor.{ValidFor}
-use Rattle.sigstore_types.specs.Members.{required, optional, bytes, json}
+use Rattle.sigstore_entries.specs.Entry.{required, optional, bytes, list, log_id_of}
+use Rattle.sigstore_types.specs.Members.{json}
 
 -- ---- spans of time
 
@@ -37,22 +36,7 @@ abbrev pub window_of : Option ValidFor → Option TimeRange
 window_of None = None
 window_of (Some valid_for) = Some valid_for.range
 
--- ---- lists
-
-abbrev pub or_empty : {T : Type 0} → Option (List T) → List T
-or_empty None = []
-or_empty (Some items) = items
-
--- a list; absent or null, it is empty
-abbrev pub list_of : {T : Type 0} → (Data → Result T TypesError) → TypesMember → Data → Result (List T) TypesError
-list_of reads m d = optional (read.sequence_of types_of reads) m d >>= λ items. Ok (or_empty items)
-
 -- ---- logs
-
-unfoldable pub log_id_of : Data → Result LogId TypesError
-log_id_of d = do
-  key_id ← required bytes m.KeyId d
-  Ok (record { key_id = key_id })
 
 -- PublicKey, of which the key in DER and its span count
 unfoldable pub key_of_log : Data → Result KeyOfLog TypesError
@@ -99,10 +83,10 @@ authority_of d = do
 -- TrustedRoot; other members are passed over
 unfoldable pub trusted_root_of : Data → Result TrustedRoot TypesError
 trusted_root_of d = do
-  tlogs ← list_of log_of m.Tlogs d
-  ctlogs ← list_of log_of m.Ctlogs d
-  certificate_authorities ← list_of authority_of m.CertificateAuthorities d
-  timestamp_authorities ← list_of authority_of m.TimestampAuthorities d
+  tlogs ← list log_of m.Tlogs d
+  ctlogs ← list log_of m.Ctlogs d
+  certificate_authorities ← list authority_of m.CertificateAuthorities d
+  timestamp_authorities ← list authority_of m.TimestampAuthorities d
   Ok (record {
     tlogs = tlogs;
     ctlogs = ctlogs;

@@ -1,18 +1,20 @@
 // A bundle.
 ghost use Rattle.std.specs.Prelude.{◌≡◌, ◌≢◌, Ok, Err, IfOk, IfErr};
+ghost use Rattle.std.specs.List.{list_all};
 ghost use Rattle.serde_json.specs.View.{view};
-ghost use Rattle.sigstore_types.specs.Bundle.{is_media_type, media_type_of, bundle_of, bundle_of_bytes, structure_of};
+ghost use Rattle.sigstore_types.specs.Bundle.{is_media_type, media_type_of, bundle_of, bundle_of_bytes, has_proof, shown_of, structure_of};
 
 use crate::content::{SignatureContent, read_content};
 use crate::material::VerificationMaterial;
 use crate::members::json;
 use foundation::{Duplicate, NoMemory};
 use serde_json::Value;
+use sigstore_entries::TransparencyLogEntry;
 use sigstore_types_parts::{FromValue, Text, TypesError, TypesMember, required};
 use std::alloc::Global;
 
 /// A signature over an artifact with what it is verified with.
-#[derive(Debug, PartialEq, Drop)]
+#[derive(PartialEq, Drop)]
 pub struct Bundle {
     pub media_type: Text,
     pub content: SignatureContent,
@@ -80,13 +82,40 @@ impl Bundle {
     }
 }
 
-/// Whether a bundle has what its policy needs of the log. Errors: `NoEntry` where the log is to be
-/// verified, as no entry is built.
-pub fn validate_structure(_bundle: &Bundle, verify_tlog: bool) -> Result<(), TypesError>
-    ensures { result ≡ structure_of _bundle.now verify_tlog }
+fn has_proof(entry: &TransparencyLogEntry) -> bool
+    ensures { result ≡ has_proof entry.now }
+{
+    entry.inclusion_proof.is_some()
+}
+
+fn have_proofs(entries: &[TransparencyLogEntry]) -> bool
+    ensures { result ≡ list_all has_proof entries.now }
+{
+    entries.iter().all(|entry| has_proof(entry))
+}
+
+// There is an entry, and each has a proof.
+#[tactic(auto, using(crate::proofs::Shown::shown, crate::proofs::Shown::unshown))]
+fn check_shown(entries: &[TransparencyLogEntry]) -> Result<(), TypesError>
+    ensures { result ≡ shown_of entries.now }
+{
+    if entries.is_empty() {
+        return Err(TypesError::NoEntry);
+    }
+    if have_proofs(entries) {
+        Ok(())
+    } else {
+        Err(TypesError::NoProof)
+    }
+}
+
+/// Whether a bundle has what its policy needs of the log. Errors, where the log is to be verified: `NoEntry`
+/// where the bundle has no entry, `NoProof` where one has no inclusion proof.
+pub fn validate_structure(bundle: &Bundle, verify_tlog: bool) -> Result<(), TypesError>
+    ensures { result ≡ structure_of bundle.now verify_tlog }
 {
     if verify_tlog {
-        return Err(TypesError::NoEntry);
+        return check_shown(bundle.verification_material.tlog_entries.as_slice());
     }
     Ok(())
 }

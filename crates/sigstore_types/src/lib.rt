@@ -1,5 +1,5 @@
-//! The bundle and the trust file of Sigstore, read from JSON, and the names of
-//! `sigstore_types_parts`.
+//! The bundle and the trust file of Sigstore, read from JSON, and the names of `sigstore_types_parts` and
+//! `sigstore_entries`.
 #![tactic(auto)]
 
 mod authority;
@@ -14,6 +14,10 @@ pub use authority::Authority;
 pub use bundle::{Bundle, validate_structure};
 pub use content::{MessageDigest, MessageSignature, SignatureContent};
 pub use material::{VerificationMaterial, VerificationMaterialContent};
+pub use sigstore_entries::{
+    Checkpoint, CheckpointData, CheckpointSignature, InclusionProof, KindVersion, LogId, LogIndex,
+    TransparencyLogEntry, checkpoints_are_parted, envelopes_are_kept, list, promise_payload,
+};
 pub use sigstore_types_parts::{
     Armor, Artifact, ArtifactDigest, ByteString, Bytes, Calls, CanonicalBody, CanonicalizedBody,
     Certificate, CheckpointRule, DerCertificate, DerPublicKey, Digest, DigestBytes, EntryPromise,
@@ -23,4 +27,4 @@ pub use sigstore_types_parts::{
     TimestampToken, Token, TypesError, TypesMember, contains_float, defaulted, instant, optional,
     parse_json, required,
 };
-pub use trusted_root::{LogId, TrustedLog, TrustedRoot};
+pub use trusted_root::{TrustedLog, TrustedRoot};

@@ -1,18 +1,21 @@
-// What a bundle is verified with: a public key, of which it tells at most a hint.
+// What a bundle is verified with: a public key, of which it tells at most a hint, and entries of logs.
 ghost use Rattle.std.specs.Prelude.{◌≡◌, ◌≢◌, Ok, Err, IfOk, IfErr};
 ghost use Rattle.serde_json.specs.View.{view};
 ghost use Rattle.sigstore_types.specs.Bundle.{hint_of, tokens_of, material_of, material_content_of};
 
 use crate::members::{absent, without_items};
-use foundation::{Duplicate, NoMemory};
+use foundation::{Duplicate, NoMemory, Sequence};
 use serde_json::Value;
+use sigstore_entries::{TransparencyLogEntry, list};
 use sigstore_types_parts::{Form, FromValue, Text, TypesError, TypesMember, optional};
 use std::alloc::Global;
 
 /// What a bundle is verified with.
-#[derive(Debug, PartialEq, Drop)]
+#[derive(PartialEq, Drop)]
 pub struct VerificationMaterial {
     pub content: VerificationMaterialContent,
+    /// Where the signature was logged.
+    pub tlog_entries: Sequence<TransparencyLogEntry>,
 }
 
 /// Whose signature a bundle has.
@@ -25,6 +28,7 @@ impl Duplicate for VerificationMaterial {
     fn duplicate(&self, alloc: Global) -> Result<VerificationMaterial, NoMemory> {
         Ok(VerificationMaterial {
             content: self.content.duplicate(alloc)?,
+            tlog_entries: self.tlog_entries.duplicate(alloc)?,
         })
     }
 }
@@ -93,12 +97,15 @@ impl FromValue<TypesError> for VerificationMaterial {
     #[tactic(auto, unfolding(crate::specs::Bundle::material_of))]
     fn from_value(alloc: Global, value: &Value) -> Result<VerificationMaterial, TypesError> {
         let content = read_content(alloc, value)?;
-        without_items(value, TypesMember::TlogEntries, Form::Entries)?;
+        let tlog_entries = list::<TransparencyLogEntry>(alloc, value, TypesMember::TlogEntries)?;
         let _tokens: Option<Tokens> = optional(
             alloc,
             value,
             TypesMember::TimestampVerificationData,
         )?;
-        Ok(VerificationMaterial { content })
+        Ok(VerificationMaterial {
+            content,
+            tlog_entries,
+        })
     }
 }

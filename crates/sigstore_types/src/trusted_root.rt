@@ -1,24 +1,18 @@
 // A trust file.
 ghost use Rattle.std.specs.Prelude.{◌≡◌, ◌≢◌, Ok, Err, IfOk, IfErr};
 ghost use Rattle.serde_json.specs.View.{view};
-ghost use Rattle.sigstore_types.specs.TrustedRoot.{list_of, log_of, log_id_of, key_of_log, trusted_root_of, trusted_root_of_bytes};
+ghost use Rattle.sigstore_types.specs.TrustedRoot.{log_of, key_of_log, trusted_root_of, trusted_root_of_bytes};
 
 use crate::authority::Authority;
 use crate::members::json;
 use crate::valid_for::{ValidFor, window};
 use foundation::{Duplicate, NoMemory, Sequence};
 use serde_json::Value;
+use sigstore_entries::{LogId, list};
 use sigstore_types_parts::{
-    DerPublicKey, FromValue, LogKeyId, TimeRange, TypesError, TypesMember, optional, required,
+    DerPublicKey, FromValue, TimeRange, TypesError, TypesMember, optional, required,
 };
 use std::alloc::Global;
-
-/// The id of a log.
-#[derive(PartialEq, Drop)]
-pub struct LogId {
-    /// The id of its key.
-    pub key_id: LogKeyId,
-}
 
 /// A log that is trusted.
 #[derive(PartialEq, Drop)]
@@ -43,14 +37,6 @@ pub struct TrustedRoot {
     pub timestamp_authorities: Sequence<Authority>,
 }
 
-impl Duplicate for LogId {
-    fn duplicate(&self, alloc: Global) -> Result<LogId, NoMemory> {
-        Ok(LogId {
-            key_id: self.key_id.duplicate(alloc)?,
-        })
-    }
-}
-
 impl Duplicate for TrustedLog {
     fn duplicate(&self, alloc: Global) -> Result<TrustedLog, NoMemory> {
         Ok(TrustedLog {
@@ -68,17 +54,6 @@ impl Duplicate for TrustedRoot {
             ctlogs: self.ctlogs.duplicate(alloc)?,
             certificate_authorities: self.certificate_authorities.duplicate(alloc)?,
             timestamp_authorities: self.timestamp_authorities.duplicate(alloc)?,
-        })
-    }
-}
-
-impl FromValue<TypesError> for LogId {
-    ghost reads = { log_id_of };
-
-    #[tactic(auto, unfolding(crate::specs::TrustedRoot::log_id_of))]
-    fn from_value(alloc: Global, value: &Value) -> Result<LogId, TypesError> {
-        Ok(LogId {
-            key_id: required(alloc, value, TypesMember::KeyId)?,
         })
     }
 }
@@ -116,25 +91,6 @@ impl FromValue<TypesError> for TrustedLog {
             raw_bytes: key.raw_bytes,
             valid_for: key.valid_for,
         })
-    }
-}
-
-/// A list that is there, or an empty one.
-pub(crate) fn list<T: FromValue<TypesError>>(
-    alloc: Global,
-    value: &Value,
-    member: TypesMember,
-) -> Result<Sequence<T>, TypesError>
-    ensures ok { IfOk result (λ items. list_of T.reads member (view value.now) ≡ Ok items) }
-    ensures err { IfErr result (λ e. e ≢ TypesError.NoMemory → list_of T.reads member (view value.now) ≡ Err e) }
-{
-    let items: Option<Sequence<T>> = match optional(alloc, value, member) {
-        Ok(items) => items,
-        Err(e) => return Err(e),
-    };
-    match items {
-        Some(items) => Ok(items),
-        None => Ok(Sequence::new(alloc)),
     }
 }
 

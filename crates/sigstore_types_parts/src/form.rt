@@ -4,7 +4,7 @@
 #[derive(Clone, Copy, Debug, PartialEq, Eq, Drop)]
 pub enum Form {
     Tokens,
-    Entries,
+    Binding,
     Envelope,
     Certificate,
 }

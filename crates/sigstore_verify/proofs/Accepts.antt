@@ -3,6 +3,7 @@ use Rattle.std.proofs.Common.{◌≡◌, ℕ, List, Bool, true, false, ◌||◌,
 use Rattle.std.specs.Prelude.{⊤, IsTrue}
 use Rattle.std.specs.List.{list_all}
 use Rattle.std.proofs.lemmas.Slice.Eq.{bytes_eq-Decides}
+use Rattle.jiff_core.specs.declared.timestamp.Timestamp.{Timestamp}
 use Rattle.foundation.specs.Steps.{◌>>=◌}
 use Rattle.foundation.specs.Results.{step_ok}
 use Rattle.sigstore_types_parts.specs.declared.hash_algorithm.HashAlgorithm.{HashAlgorithm}
@@ -11,7 +12,7 @@ use Rattle.sigstore_types.specs.declared.bundle.Bundle.{Bundle}
 use Rattle.sigstore_types.specs.declared.content.SignatureContent.{SignatureContent}
 use Rattle.sigstore_types.specs.declared.content.SignatureContent.TheVariants.{MessageSignature as OfMessage}
 use Rattle.sigstore_types.specs.declared.content.MessageDigest.{MessageDigest}
-use Rattle.sigstore_types.specs.Bundle.{structure_of}
+use Rattle.sigstore_types.specs.Bundle.{entries_in, structure_of}
 use Rattle.sigstore_crypto.specs.declared.error.Error.{Error as CryptoError}
 use Rattle.sigstore_crypto.specs.declared.scheme.SigningScheme.{SigningScheme}
 use Rattle.sigstore_crypto.specs.declared.key.VerificationKey.{VerificationKey}
@@ -19,6 +20,7 @@ use Rattle.sigstore_crypto.specs.Scheme.{digest_algorithm_of, has_digest}
 use Rattle.sigstore_crypto.specs.Digest.{is_hashed}
 use Rattle.sigstore_crypto.specs.Key.{spki_key_of}
 use Rattle.sigstore_crypto.specs.Good.{Judge, is_good_over}
+use Rattle.sigstore_crypto.specs.Keyring.{Ring}
 use Rattle.sigstore_verify.specs.declared.error.Error.{Error}
 use Rattle.sigstore_verify.specs.declared.error.Error.TheVariants.{SignatureInvalid, ArtifactMismatch, UnsupportedArtifact}
 use Rattle.sigstore_verify.specs.declared.judge.Ready.{Ready}
@@ -26,7 +28,10 @@ use Rattle.sigstore_verify.specs.declared.policy.PublicKeyVerificationPolicy.{Pu
 use Rattle.sigstore_verify.specs.declared.report.VerificationResult.{VerificationResult}
 use Rattle.sigstore_verify.specs.Artifact.{Artifact, Kind, kind_of, digest_of, bytes_of}
 use Rattle.sigstore_verify.specs.Judged.{by_types, by_crypto, scheme_of, needed_of, supported_of, prepared_of, is_digest, is_bound, subject_by, is_good_of, is_signed}
-use Rattle.sigstore_verify.specs.Judged.{content_judged_of, key_judged_of, key_report_of}
+use Rattle.sigstore_verify.specs.Judged.{judged_had, key_judged_of, key_report_of}
+use Rattle.sigstore_verify.specs.Entries.{log_judged_of, compared_of}
+use Rattle.sigstore_verify.proofs.Had.{content_judged_of}
+use Rattle.sigstore_verify.proofs.EntryLaw.{are_logged, log_accepted, none_there}
 use Rattle.sigstore_verify.specs.Accepts.{signature_in, digest_in, IsBound, AcceptsKey, AcceptsExactly}
 
 through_types : {A : Type 0} (r : Result A TypesError) (x : A) → by_types r ≡ Ok x → r ≡ Ok x
@@ -151,46 +156,62 @@ all_hashed kind scheme needed is h = by_test (has_digest scheme || kind.keeps_by
 same_report : (x y : VerificationResult) → ◌≡◌ {A = Result VerificationResult Error} (Ok x) (Ok y) → y ≡ x
 same_report x y h = cc
 
-abbrev after_ready : Judge → PublicKeyVerificationPolicy → Bundle → Artifact → Ready → Result VerificationResult Error
-after_ready accepts policy bundle artifact ready = content_judged_of accepts ready.key bundle.content artifact >>= λ _. Ok (key_report_of policy)
+module _ (accepts : Judge) (logs : Ring) (now : Timestamp) (policy : PublicKeyVerificationPolicy) (bundle : Bundle) (artifact : Artifact) where
+  abbrev after_ready : Ready → Result VerificationResult Error
+  after_ready ready = judged_had accepts logs now ready.key bundle policy (digest_of artifact) (bytes_of artifact)
 
-means : (accepts : Judge) (policy : PublicKeyVerificationPolicy) (bundle : Bundle) (artifact : Artifact) (report : VerificationResult)
-    → key_judged_of accepts policy bundle artifact ≡ Ok report → AcceptsKey accepts policy bundle artifact × (report ≡ key_report_of policy)
-unfolding key_judged_of
-means accepts policy bundle artifact report h =
-    let one = step_ok (prepared_of (kind_of artifact) policy bundle) (after_ready accepts policy bundle artifact) report h in
-    let two = step_ok (content_judged_of accepts (one.0).key bundle.content artifact) (λ _. Ok (key_report_of policy)) report one.2 in
-    let p = prepared_means (kind_of artifact) policy bundle one.0 one.1 in
-    let judged = subst (λ (ready : Ready). content_judged_of accepts ready.key bundle.content artifact ≡ Ok two.0) p.same two.1 in
-    let q = content_means accepts (key_under p.scheme p.key) bundle.content artifact two.0 judged in (
-      record {
-        structure = p.structure;
-        key = p.key;
-        read = p.read;
-        scheme = p.scheme;
-        chosen = p.chosen;
-        supported = p.supported;
-        bound = q.0;
-        subject = q.1.0;
-        signs = q.1.1;
-        signed = q.1.2;
-      },
-      same_report (key_report_of policy) report two.2,
-    )
+  abbrev log_judged : Result ⊤ Error
+  log_judged = log_judged_of accepts logs now policy.verify_tlog (entries_in bundle)
 
-accepted : (accepts : Judge) (policy : PublicKeyVerificationPolicy) (bundle : Bundle) (artifact : Artifact) (report : VerificationResult)
-    → AcceptsKey accepts policy bundle artifact × (report ≡ key_report_of policy) → key_judged_of accepts policy bundle artifact ≡ Ok report
-unfolding key_judged_of prepared_of
-accepted accepts policy bundle artifact report h =
-    let a = h.0 in
-    let kind = kind_of artifact in
-    let judge = after_ready accepts policy bundle artifact in
-    ap (λ r. (by_types r >>= λ _. after_structure kind policy bundle) >>= judge) a.structure
-    ∙ ap (λ r. (by_crypto r >>= after_key kind bundle) >>= judge) a.read
-    ∙ ap (λ r. (by_crypto r >>= after_scheme kind a.key bundle) >>= judge) a.chosen
-    ∙ ap (λ r. (r >>= λ _. Ok (ready_under a.scheme a.key bundle.content)) >>= judge) a.supported
-    ∙ ap (λ r. r >>= λ _. Ok (key_report_of policy)) (content_accepted accepts (key_under a.scheme a.key) bundle.content artifact a.bound (a.subject, a.signs, a.signed))
-    ∙ ap Ok (sym h.1)
+  abbrev after_content : ⊤ → Result VerificationResult Error
+  after_content u = compared_of (entries_in bundle) >>= λ _. Ok (key_report_of policy)
+
+  abbrev after_log : VerificationKey → ⊤ → Result VerificationResult Error
+  after_log key u = content_judged_of accepts key bundle.content artifact >>= after_content
+
+  means : (report : VerificationResult) → key_judged_of accepts logs now policy bundle artifact ≡ Ok report
+      → AcceptsKey accepts logs now policy bundle artifact × (report ≡ key_report_of policy)
+  unfolding key_judged_of judged_had
+  means report h =
+      let one = step_ok (prepared_of (kind_of artifact) policy bundle) after_ready report h in
+      let two = step_ok log_judged (after_log (one.0).key) report one.2 in
+      let three = step_ok (content_judged_of accepts (one.0).key bundle.content artifact) after_content report two.2 in
+      let four = step_ok (compared_of (entries_in bundle)) (λ _. Ok (key_report_of policy)) report three.2 in
+      let p = prepared_means (kind_of artifact) policy bundle one.0 one.1 in
+      let judged = subst (λ (ready : Ready). content_judged_of accepts ready.key bundle.content artifact ≡ Ok three.0) p.same three.1 in
+      let q = content_means accepts (key_under p.scheme p.key) bundle.content artifact three.0 judged in (
+        record {
+          structure = p.structure;
+          key = p.key;
+          read = p.read;
+          scheme = p.scheme;
+          chosen = p.chosen;
+          supported = p.supported;
+          logged = are_logged accepts logs now policy.verify_tlog (entries_in bundle) two.0 two.1;
+          bound = q.0;
+          subject = q.1.0;
+          signs = q.1.1;
+          signed = q.1.2;
+          compared = none_there (entries_in bundle) four.0 four.1;
+        },
+        same_report (key_report_of policy) report four.2,
+      )
+
+  accepted : (report : VerificationResult) → AcceptsKey accepts logs now policy bundle artifact × (report ≡ key_report_of policy)
+      → key_judged_of accepts logs now policy bundle artifact ≡ Ok report
+  unfolding key_judged_of prepared_of judged_had
+  accepted report h =
+      let a = h.0 in
+      let kind = kind_of artifact in
+      ap (λ r. (by_types r >>= λ _. after_structure kind policy bundle) >>= after_ready) a.structure
+      ∙ ap (λ r. (by_crypto r >>= after_key kind bundle) >>= after_ready) a.read
+      ∙ ap (λ r. (by_crypto r >>= after_scheme kind a.key bundle) >>= after_ready) a.chosen
+      ∙ ap (λ r. (r >>= λ _. Ok (ready_under a.scheme a.key bundle.content)) >>= after_ready) a.supported
+      ∙ ap (λ r. r >>= after_log (key_under a.scheme a.key)) (log_accepted accepts logs now policy.verify_tlog (entries_in bundle) a.logged)
+      ∙ ap (λ r. r >>= after_content) (content_accepted accepts (key_under a.scheme a.key) bundle.content artifact a.bound (a.subject, a.signs, a.signed))
+      ∙ ap (λ entries. compared_of entries >>= λ _. Ok (key_report_of policy)) a.compared
+      ∙ ap Ok (sym h.1)
 
 pub accepts_exactly : AcceptsExactly
-accepts_exactly accepts policy bundle artifact report = (means accepts policy bundle artifact report, accepted accepts policy bundle artifact report)
+accepts_exactly accepts logs now policy bundle artifact report =
+    (means accepts logs now policy bundle artifact report, accepted accepts logs now policy bundle artifact report)

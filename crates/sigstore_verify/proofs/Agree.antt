@@ -2,6 +2,7 @@
 use Rattle.std.proofs.Common.{◌≡◌, ◌≢◌, ℕ, List, Bool, true, false, ◌||◌, if◌then◌else◌, Option, Some, None, Result, Ok, Err, refl, ap}
 use Rattle.std.specs.Prelude.{⊤}
 use Rattle.std.specs.List.{list_all}
+use Rattle.jiff_core.specs.declared.timestamp.Timestamp.{Timestamp}
 use Rattle.foundation.specs.Steps.{◌>>=◌}
 use Rattle.sigstore_types.specs.declared.bundle.Bundle.{Bundle}
 use Rattle.sigstore_types.specs.declared.content.SignatureContent.{SignatureContent}
@@ -12,6 +13,7 @@ use Rattle.sigstore_crypto.specs.declared.key.VerificationKey.{VerificationKey}
 use Rattle.sigstore_crypto.specs.declared.scheme.SigningScheme.{SigningScheme}
 use Rattle.sigstore_crypto.specs.Digest.{is_hashed}
 use Rattle.sigstore_crypto.specs.Good.{Judge}
+use Rattle.sigstore_crypto.specs.Keyring.{Ring}
 use Rattle.sigstore_crypto.specs.Key.{spki_key_of}
 use Rattle.sigstore_crypto.specs.Scheme.{digest_algorithm_of, has_digest}
 use Rattle.sigstore_verify.specs.declared.error.Error.{Error}
@@ -20,9 +22,11 @@ use Rattle.sigstore_verify.specs.declared.judge.Ready.{Ready}
 use Rattle.sigstore_verify.specs.declared.policy.PublicKeyVerificationPolicy.{PublicKeyVerificationPolicy}
 use Rattle.sigstore_verify.specs.declared.report.VerificationResult.{VerificationResult}
 use Rattle.sigstore_verify.specs.Agree.{BlobAgrees}
-use Rattle.sigstore_verify.specs.Artifact.{Artifact, Blob, Read, blob_kind, read_kind, digest_of}
-use Rattle.sigstore_verify.specs.Judged.{Terms, by_types, by_crypto, scheme_of, needed_of, prepared_of, is_bound, subject_by, is_good_of, content_judged_of, key_judged_of, key_report_of, judged_by}
+use Rattle.sigstore_verify.specs.Artifact.{Artifact, Blob, Read, blob_kind, read_kind, digest_of, bytes_of}
+use Rattle.sigstore_verify.specs.Judged.{Terms, by_types, by_crypto, scheme_of, needed_of, prepared_of, is_bound, subject_by, is_good_of, judged_had, key_judged_of, judged_by}
 use Rattle.sigstore_verify.specs.Policy.{Meaning, PublicKey}
+use Rattle.sigstore_verify.proofs.Had.{content_judged_of}
+use Rattle.sigstore_verify.proofs.Stages.{had_alike}
 use Rattle.sigstore_verify.proofs.Accepts.{after_scheme, after_key, after_structure, ready_under, key_under}
 
 -- where the scheme has a digest, a signature is over it
@@ -43,9 +47,9 @@ there None scheme is h e = not_both (has_digest scheme) h
     not_both b k = cc
 there (Some a) scheme is h e = cc
 
-module _ (accepts : Judge) (policy : PublicKeyVerificationPolicy) (bundle : Bundle) (bytes : List ℕ) where
+module _ (accepts : Judge) (logs : Ring) (now : Timestamp) (policy : PublicKeyVerificationPolicy) (bundle : Bundle) (bytes : List ℕ) where
   abbrev judge : Artifact → Ready → Result VerificationResult Error
-  judge artifact ready = content_judged_of accepts ready.key bundle.content artifact >>= λ _. Ok (key_report_of policy)
+  judge artifact ready = judged_had accepts logs now ready.key bundle policy (digest_of artifact) (bytes_of artifact)
 
   abbrev Differs : Result VerificationResult Error → Type 0
   Differs r = r ≢ Err UnsupportedArtifact
@@ -59,7 +63,8 @@ module _ (accepts : Judge) (policy : PublicKeyVerificationPolicy) (bundle : Bund
   by_support : (key : VerificationKey) (scheme : SigningScheme) (a b : Bool) → has_digest scheme ≡ a → Differs (after (Read bytes) key scheme (supported (a || false) b))
       → after (Blob bytes) key scheme (supported (a || true) b) ≡ after (Read bytes) key scheme (supported (a || false) b)
   by_support key scheme true true e n =
-      ap (λ r. r >>= λ _. Ok (key_report_of policy)) (content_alike accepts (key_under scheme key) bundle.content bytes (there (digest_algorithm_of scheme) scheme refl e))
+      had_alike accepts logs now (key_under scheme key) bundle policy (digest_of (Blob bytes)) (digest_of (Read bytes)) (Some bytes) None
+      (content_alike accepts (key_under scheme key) bundle.content bytes (there (digest_algorithm_of scheme) scheme refl e))
   by_support key scheme true false e n = refl
   by_support key scheme false b e n = absurd (n refl)
 
@@ -78,13 +83,14 @@ module _ (accepts : Judge) (policy : PublicKeyVerificationPolicy) (bundle : Bund
   by_structure (Ok u) n = by_key (by_crypto (spki_key_of policy.key)) n
   by_structure (Err e) n = refl
 
-  key_agrees : Differs (key_judged_of accepts policy bundle (Read bytes)) → key_judged_of accepts policy bundle (Blob bytes) ≡ key_judged_of accepts policy bundle (Read bytes)
+  key_agrees : Differs (key_judged_of accepts logs now policy bundle (Read bytes))
+      → key_judged_of accepts logs now policy bundle (Blob bytes) ≡ key_judged_of accepts logs now policy bundle (Read bytes)
   unfolding key_judged_of prepared_of
   key_agrees n = by_structure (by_types (structure_of bundle policy.verify_tlog)) n
 
 agrees_by : (terms : Terms) (policy : Meaning) (bundle : Bundle) (bytes : List ℕ) → judged_by terms policy bundle (Read bytes) ≢ Err UnsupportedArtifact
     → judged_by terms policy bundle (Blob bytes) ≡ judged_by terms policy bundle (Read bytes)
-agrees_by terms (PublicKey policy) bundle bytes n = key_agrees terms.crypto.accepts policy bundle bytes n
+agrees_by terms (PublicKey policy) bundle bytes n = key_agrees terms.crypto.accepts terms.logs terms.now policy bundle bytes n
 
 pub blob_agrees : BlobAgrees
 blob_agrees terms bundle bytes n = agrees_by terms terms.policy bundle bytes n

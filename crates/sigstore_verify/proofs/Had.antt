@@ -1,6 +1,7 @@
 -- The digests that were taken of an artifact are the artifact's, for each algorithm that is needed.
 use Rattle.std.proofs.Common.{◌≡◌, ℕ, List, [], ◌∷◌, ◌++◌, Bool, true, false, ◌||◌, cond, if◌then◌else◌, Option, Some, None, option_map, find}
-use Rattle.std.proofs.Common.{Ok, Err, refl, sym, ap, ◌∙◌, subst}
+use Rattle.std.proofs.Common.{Result, Ok, Err, refl, sym, ap, ◌∙◌, subst}
+use Rattle.std.specs.Prelude.{⊤}
 use Rattle.std.specs.List.{list_any, list_all}
 use Rattle.foundation.specs.Results.{and_true}
 use Rattle.sigstore_types_parts.specs.HashAlgorithm.{same_algorithm, with_algorithm, with_optional}
@@ -15,8 +16,13 @@ use Rattle.sigstore_crypto.specs.Digest.{is_hashed, digest_by, digests_by}
 use Rattle.sigstore_crypto.specs.Good.{Judge}
 use Rattle.sigstore_crypto.specs.Scheme.{digest_algorithm_of}
 use Rattle.sigstore_verify.specs.declared.error.Error.TheVariants.{SignatureInvalid, ArtifactMismatch}
-use Rattle.sigstore_verify.specs.Artifact.{Read, Digest, digest_of, had_digest}
-use Rattle.sigstore_verify.specs.Judged.{Digests, algorithm_told, algorithm_in, needed_of, is_digest, is_bound, subject_by, is_good_of, content_judged_by, content_judged_of}
+use Rattle.sigstore_verify.specs.declared.error.Error.{Error}
+use Rattle.sigstore_verify.specs.Artifact.{Artifact, Read, Digest, digest_of, bytes_of, had_digest}
+use Rattle.sigstore_verify.specs.Judged.{Digests, algorithm_told, algorithm_in, needed_of, is_digest, is_bound, subject_by, is_good_of, content_judged_by}
+
+-- the judgement of a content by an artifact
+abbrev pub content_judged_of : Judge → VerificationKey → SignatureContent → Artifact → Result ⊤ Error
+content_judged_of accepts key content artifact = content_judged_by accepts key content (digest_of artifact) (bytes_of artifact)
 
 pub same_is : (a b : HashAlgorithm) → same_algorithm a b ≡ true → a ≡ b
 same_is Sha2256 Sha2256 h = refl

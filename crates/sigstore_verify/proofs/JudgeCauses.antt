@@ -1,16 +1,17 @@
 -- Each refusal of the judgement has its cause.
-use Rattle.std.proofs.Common.{◌≡◌, ◌≢◌, ◌⊎◌, inl, inr, ℕ, List, Bool, true, false, ◌||◌, if◌then◌else◌, Option, Some, None, Result, Ok, Err, refl, sym, ap, ◌∙◌, subst}
-use Rattle.std.specs.Prelude.{⊤}
+use Rattle.std.proofs.Common.{◌≡◌, ◌≢◌, ◌⊎◌, inl, inr, ℕ, List, [], ◌∷◌, Bool, true, false, ◌||◌, if◌then◌else◌, Option, Some, None, Result, Ok, Err, refl, sym, ap, ◌∙◌, subst}
+use Rattle.std.specs.Prelude.{⊤, ◌&&◌, is_some, Contains}
 use Rattle.foundation.specs.Watched.{Watched}
 use Rattle.foundation.specs.Results.{err_same, refused_at}
 use Rattle.sigstore_types_parts.specs.declared.form.Form.{Form}
+use Rattle.sigstore_types_parts.specs.declared.form.Form.TheVariants as form
 use Rattle.sigstore_types_parts.specs.declared.error.TypesError.{TypesError}
 use Rattle.sigstore_types_parts.specs.declared.error.TypesError.TheVariants as types
 use Rattle.sigstore_types.specs.declared.bundle.Bundle.{Bundle}
 use Rattle.sigstore_types.specs.declared.content.MessageDigest.{MessageDigest}
 use Rattle.sigstore_types.specs.declared.content.SignatureContent.{SignatureContent}
 use Rattle.sigstore_types.specs.declared.content.SignatureContent.TheVariants.{MessageSignature as OfMessage}
-use Rattle.sigstore_types.specs.Bundle.{bundle_of_bytes, structure_of}
+use Rattle.sigstore_types.specs.Bundle.{bundle_of_bytes, entries_in, has_proof, shown_of, structure_of}
 use Rattle.sigstore_types.specs.TrustedRoot.{trusted_root_of_bytes}
 use Rattle.sigstore_crypto.specs.declared.error.Error.{Error as CryptoError}
 use Rattle.sigstore_crypto.specs.declared.error.Error.TheVariants as crypto
@@ -18,7 +19,7 @@ use Rattle.sigstore_crypto.specs.Key.{spki_key_of}
 use Rattle.sigstore_verify.specs.declared.error.Error.{Error}
 use Rattle.sigstore_verify.specs.declared.error.Error.TheVariants as verify
 use Rattle.sigstore_verify.specs.declared.policy.PublicKeyVerificationPolicy.{PublicKeyVerificationPolicy}
-use Rattle.sigstore_verify.specs.Error.{error_of_crypto, lowered}
+use Rattle.sigstore_verify.specs.Error.{error_of_crypto, error_of_log, lowered}
 use Rattle.std.specs.List.{list_all}
 use Rattle.std.proofs.lemmas.Slice.Eq.{bytes_eq-Decides}
 use Rattle.sigstore_crypto.specs.Digest.{is_hashed}
@@ -28,14 +29,23 @@ use Rattle.sigstore_verify.specs.declared.judge.Ready.{Ready}
 use Rattle.sigstore_verify.specs.Accepts.{signature_in, digest_in}
 use Rattle.sigstore_verify.specs.Artifact.{Artifact, Read, read_kind, digest_of}
 use Rattle.sigstore_types.specs.declared.trusted_root.TrustedRoot.{TrustedRoot}
-use Rattle.sigstore_verify.specs.Trust.{usable_of}
+use Rattle.sigstore_verify.specs.Trust.{logs_of, usable_of}
 use Rattle.sigstore_verify.proofs.TrustReading.{trust_is_built}
 use Rattle.sigstore_verify.proofs.UsableCauses.{IsFault, usable_fault}
-use Rattle.sigstore_verify.specs.Cause.{IsRefusedAs, IsRead, HasScheme, HasBundle, LacksScheme, key_unread, no_scheme, no_hasher}
+use Rattle.sigstore_verify.specs.Cause.{IsRefusedAs, IsRead, HasScheme, HasBundle, LacksScheme, key_unread, no_scheme, no_hasher, LacksEntry, no_entry, no_proof, form_unread, entry_uncompared, IsUnlogged}
 use Rattle.sigstore_verify.specs.Cause.{KeyCause, CauseUnder, JudgeCause}
 use Rattle.sigstore_verify.specs.FromRoot.{or_fault, trust_fault, bundle_fault, JudgesBundle, trust_refused, verifier_refused, bundle_refused, judged}
 use Rattle.sigstore_verify.specs.Given.{Asked, terms_of}
-use Rattle.sigstore_verify.specs.Judged.{by_crypto, by_types, scheme_of, needed_of, supported_of, prepared_of, is_digest, is_bound, is_signed, content_judged_of, key_judged_of, judged_by, ready_of}
+use Rattle.sigstore_verify.specs.Judged.{by_crypto, by_types, scheme_of, needed_of, supported_of, prepared_of, is_digest, is_bound, is_signed, judged_had, key_judged_of, judged_by, ready_of}
+use Rattle.sigstore_verify.specs.Entries.{log_judged_of, compared_of}
+use Rattle.sigstore_verify.specs.declared.error.TransparencyLogError.{TransparencyLogError}
+use Rattle.sigstore_verify.specs.declared.error.TransparencyLogError.TheVariants as log
+use Rattle.sigstore_entries.specs.declared.entry.TransparencyLogEntry.{TransparencyLogEntry}
+use Rattle.sigstore_log.specs.declared.error.LogError.{LogError}
+use Rattle.sigstore_log.specs.declared.error.LogError.TheVariants as entry
+use Rattle.sigstore_log.specs.Cause.{LogCause}
+use Rattle.sigstore_verify.proofs.EntryCauses.{among_first, among_later, entries_unlogged}
+use Rattle.sigstore_verify.proofs.Had.{content_judged_of}
 use Rattle.sigstore_verify.specs.Policy.{Meaning, PublicKey}
 use Rattle.sigstore_verify.specs.Promise as promise
 use Rattle.sigstore_verify.proofs.Accepts.{ok_crypto, Prepared, prepared_means}
@@ -44,15 +54,15 @@ by_fault : {T : Type 0} (fault : TypesError → Error) (r : Result T TypesError)
 by_fault fault (Ok x) e h = cc
 by_fault fault (Err t) e h = (t, refl, err_same (fault t) e h)
 
-through_crypto : {A : Type 0} (r : Result A CryptoError) (e : Error) → by_crypto r ≡ Err e → IsRefusedAs error_of_crypto r e
+pub through_crypto : {A : Type 0} (r : Result A CryptoError) (e : Error) → by_crypto r ≡ Err e → IsRefusedAs error_of_crypto r e
 through_crypto (Ok x) e h = cc
 through_crypto (Err t) e h = (t, refl, err_same (error_of_crypto t) e h)
 
-abbrev IsKind : Error → Type 0
+abbrev pub IsKind : Error → Type 0
 IsKind e = (e ≡ verify.Crypto) ⊎ (e ≡ verify.NoMemory)
 
 -- what a refusal of the crate of keys is here
-as_crypto : (x : CryptoError) → IsKind (error_of_crypto x)
+pub as_crypto : (x : CryptoError) → IsKind (error_of_crypto x)
 as_crypto crypto.Signing = inl refl
 as_crypto (crypto.Verification a) = inl refl
 as_crypto crypto.InvalidKeyFormat = inl refl
@@ -63,11 +73,11 @@ as_crypto (crypto.InvalidKey a) = inl refl
 as_crypto crypto.NoMemory = inr refl
 
 -- what a refusal of the crates of values is here
-abbrev IsLowered : Error → TypesError → Type 0
+abbrev pub IsLowered : Error → TypesError → Type 0
 IsLowered otherwise x =
     (lowered otherwise x ≡ verify.NoMemory) ⊎ (((f : Form) × (x ≡ types.Unbuilt f) × (lowered otherwise x ≡ verify.Unbuilt f)) ⊎ (lowered otherwise x ≡ otherwise))
 
-as_lowered : (otherwise : Error) (x : TypesError) → IsLowered otherwise x
+pub as_lowered : (otherwise : Error) (x : TypesError) → IsLowered otherwise x
 as_lowered o types.Json = inr (inr refl)
 as_lowered o types.Float = inr (inr refl)
 as_lowered o (types.Field a) = inr (inr refl)
@@ -95,6 +105,33 @@ told_another (Some told) artifact h f = f told refl (λ same. not_it (digest_of 
         let equal = (bytes_eq-Decides told.digest digest).1 (sym is) in
         cc
 
+-- one of these fails the test
+not_all : {A : Type 0} (p : A → Bool) (xs : List A) → list_all p xs ≡ false → (x : A) × Contains xs x × (p x ≡ false)
+not_all p [] h = cc
+not_all {A} p (x ∷ xs) h = by (p x) refl (not_all p xs)
+  where
+    by : (b : Bool) → p x ≡ b → (list_all p xs ≡ false → (y : A) × Contains xs y × (p y ≡ false)) → (y : A) × Contains (x ∷ xs) y × (p y ≡ false)
+    by true e later =
+        let rest = later (ap (λ b. b && list_all p xs) (sym e) ∙ h) in
+        (rest.0, among_later x xs rest.0 rest.1, rest.2)
+    by false e later = (x, among_first x xs, e)
+
+not_some : {A : Type 0} (o : Option A) → is_some o ≡ false → o ≡ None
+not_some None h = refl
+not_some (Some x) h = cc
+
+abbrev shown_if : Bool → Result ⊤ TypesError
+shown_if all = if all then Ok tt else Err types.NoProof
+
+-- what isn't there is a lack of the bundle
+lacks_bundle : (entries : List TransparencyLogEntry) (e : Error) → by_types (shown_of entries) ≡ Err e → verify.Bundle ≡ e
+lacks_bundle [] e h = err_same verify.Bundle e h
+lacks_bundle (x ∷ xs) e h = by (list_all has_proof (x ∷ xs)) h
+  where
+    by : (b : Bool) → by_types (shown_if b) ≡ Err e → verify.Bundle ≡ e
+    by true k = cc
+    by false k = err_same verify.Bundle e k
+
 module _ (accepts : Judge) (policy : PublicKeyVerificationPolicy) (asked : Asked) (file : List ℕ) (source source' : Watched (List ℕ)) where
   abbrev Cause : Error → Type 0
   Cause e = KeyCause accepts policy asked file source source' e
@@ -106,7 +143,7 @@ module _ (accepts : Judge) (policy : PublicKeyVerificationPolicy) (asked : Asked
 
   by_bundle : (e : Error) (x : TypesError) → bundle_of_bytes asked.bundle ≡ Err x → bundle_fault x ≡ e → IsLowered verify.InvalidBundle x → Cause e
   by_bundle e x h q (inl want) = subst Cause (sym want ∙ q) tt
-  by_bundle e x h q (inr (inl (f, same, is))) = subst Cause (sym is ∙ q) (h ∙ ap Err same)
+  by_bundle e x h q (inr (inl (f, same, is))) = subst Cause (sym is ∙ q) (form_unread (h ∙ ap Err same))
   by_bundle e x h q (inr (inr is)) = subst Cause (sym is ∙ q) (x, h, is)
 
   wants : (e : Error) → (e ≢ verify.NoMemory → Cause e) → Cause e
@@ -163,8 +200,19 @@ module _ (accepts : Judge) (policy : PublicKeyVerificationPolicy) (asked : Asked
   by_scheme e (no_hasher is lacking same) = subst Cause (sym same) (inl (no_hasher is lacking refl))
 
   -- the log is asked for
+  unshown : (reading : Bundle) → IsRead asked.bundle reading → policy.verify_tlog ≡ true → (entries : List TransparencyLogEntry) → entries_in reading ≡ entries → (e : Error)
+      → by_types (shown_of entries) ≡ Err e → LacksEntry policy asked.bundle
+  unshown reading read asks [] is e h = no_entry reading read asks is
+  unshown reading read asks (x ∷ xs) is e h = by (list_all has_proof (x ∷ xs)) refl h
+    where
+      by : (b : Bool) → list_all has_proof (x ∷ xs) ≡ b → by_types (shown_if b) ≡ Err e → LacksEntry policy asked.bundle
+      by true all k = cc
+      by false all k =
+          let one = not_all has_proof (x ∷ xs) all in
+          no_proof reading one.0 read asks (subst (λ entries. Contains entries one.0) (sym is) one.1) (not_some (one.0).inclusion_proof one.2)
+
   unstructured : (reading : Bundle) → IsRead asked.bundle reading → (b : Bool) → policy.verify_tlog ≡ b → (e : Error) → by_types (structure_of reading b) ≡ Err e → Cause e
-  unstructured reading read true asks e h = subst Cause (err_same verify.Bundle e h) (record { reading = reading; read = read; asked = asks; lacking = refl })
+  unstructured reading read true asks e h = subst Cause (lacks_bundle (entries_in reading) e h) (unshown reading read asks (entries_in reading) refl e h)
   unstructured reading read false asks e h = cc
 
   -- the artifact can't be judged
@@ -206,11 +254,52 @@ module _ (accepts : Judge) (policy : PublicKeyVerificationPolicy) (asked : Asked
   unaccepted reading read ready p bytes whole (OfMessage message) is e h =
       mismatched reading read ready p bytes whole (OfMessage message) is (is_bound message.message_digest (digest_of (Read bytes))) (is_signed accepts ready.key (digest_of (Read bytes)) None message.signature) refl refl e h
 
-  unjudged : (reading : Bundle) → IsRead asked.bundle reading → (bytes : List ℕ) → promise.ReadWhole source source' asked.max bytes → (e : Error) → key_judged_of accepts policy reading (Read bytes) ≡ Err e → Cause e
-  unfolding key_judged_of
-  unjudged reading read bytes whole e h =
+  -- an entry isn't logged
+  unlogged : (trust : TrustedRoot) → trusted_root_of_bytes file ≡ Ok trust → (reading : Bundle) → IsRead asked.bundle reading → (bytes : List ℕ) → promise.ReadWhole source source' asked.max bytes
+      → (b : Bool) → policy.verify_tlog ≡ b → (e : Error) → log_judged_of accepts (logs_of trust) asked.now b (entries_in reading) ≡ Err e → Cause e
+  unlogged trust t reading read bytes whole true asks e h =
+      let u = entries_unlogged accepts (logs_of trust) asked.now (entries_in reading) e h in
+      subst Cause u.named (by_why u.entry u.among u.why u.cause)
+    where
+      as_is : (x : TransparencyLogEntry) → Contains (entries_in reading) x → (why : LogError) → LogCause accepts (logs_of trust) asked.now x why → (fault : TransparencyLogError)
+          → error_of_log why ≡ verify.TransparencyLog fault → IsUnlogged accepts policy asked file source source' fault
+      as_is x among why cause fault named = record {
+        trust = trust;
+        trust_read = t;
+        reading = reading;
+        read = read;
+        bytes = bytes;
+        whole = whole;
+        asks = asks;
+        unlogged = record { entry = x; among = among; why = why; named = named; cause = cause };
+      }
+
+      by_why : (x : TransparencyLogEntry) → Contains (entries_in reading) x → (why : LogError) → LogCause accepts (logs_of trust) asked.now x why → Cause (error_of_log why)
+      by_why x among entry.InclusionProof cause = as_is x among entry.InclusionProof cause log.InclusionProof refl
+      by_why x among entry.Checkpoint cause = as_is x among entry.Checkpoint cause log.Checkpoint refl
+      by_why x among entry.MalformedEntry cause = as_is x among entry.MalformedEntry cause log.MalformedEntry refl
+      by_why x among (entry.UnknownLog id) cause = as_is x among (entry.UnknownLog id) cause (log.UnknownLog id) refl
+      by_why x among entry.InclusionPromise cause = as_is x among entry.InclusionPromise cause log.InclusionPromise refl
+      by_why x among entry.IntegratedTime cause = as_is x among entry.IntegratedTime cause log.IntegratedTime refl
+      by_why x among entry.NoMemory cause = absurd cause
+  unlogged trust t reading read bytes whole false asks e h = cc
+
+  -- an entry isn't compared
+  uncompared : (reading : Bundle) → IsRead asked.bundle reading → (entries : List TransparencyLogEntry) → entries_in reading ≡ entries → (e : Error) → compared_of entries ≡ Err e → Cause e
+  uncompared reading read [] is e h = cc
+  uncompared reading read (x ∷ xs) is e h = subst Cause (err_same (verify.Unbuilt form.Binding) e h) (entry_uncompared reading read (λ none. not_empty (sym is ∙ none)) refl)
+    where
+      not_empty : (x ∷ xs) ≡ [] → ⊥
+      not_empty k = cc
+
+  unjudged : (trust : TrustedRoot) → trusted_root_of_bytes file ≡ Ok trust → (reading : Bundle) → IsRead asked.bundle reading → (bytes : List ℕ) → promise.ReadWhole source source' asked.max bytes
+      → (e : Error) → key_judged_of accepts (logs_of trust) asked.now policy reading (Read bytes) ≡ Err e → Cause e
+  unfolding key_judged_of judged_had
+  unjudged trust t reading read bytes whole e h =
       refused_at (prepared_of read_kind policy reading) _ e h (unprepared reading read e) (λ (ready : Ready) p k.
-      refused_at (content_judged_of accepts ready.key reading.content (Read bytes)) _ e k (unaccepted reading read ready (prepared_means read_kind policy reading ready p) bytes whole reading.content refl e) (λ u q l. cc))
+      refused_at (log_judged_of accepts (logs_of trust) asked.now policy.verify_tlog (entries_in reading)) _ e k (unlogged trust t reading read bytes whole policy.verify_tlog refl e) (λ u q l.
+      refused_at (content_judged_of accepts ready.key reading.content (Read bytes)) _ e l (unaccepted reading read ready (prepared_means read_kind policy reading ready p) bytes whole reading.content refl e) (λ v r m.
+      refused_at (compared_of (entries_in reading)) _ e m (uncompared reading read (entries_in reading) refl e) (λ w s n. cc))))
 
   before_reading : (reading : Bundle) → IsRead asked.bundle reading → (e : Error) → ready_of read_kind (PublicKey policy) reading ≡ Err e → Cause e
   before_reading reading read e h = refused_at (prepared_of read_kind policy reading) _ e h (unprepared reading read e) (λ ready p k. cc)
@@ -246,7 +335,7 @@ key_refused asked policy file source source' e under (judged trust reading t u b
         before_reading asked.crypto.accepts policy asked file source source' reading read e (subst (λ p. ready_of read_kind p reading ≡ Err e) under before.refusal)
     by_stage read (inr (inr (inl within))) = subst (Cause asked.crypto.accepts policy asked file source source') (sym within.refusal.1) within.refusal.2
     by_stage read (inr (inr (inr after))) =
-        unjudged asked.crypto.accepts policy asked file source source' reading read after.refusal.0 after.refusal.1 e
+        unjudged asked.crypto.accepts policy asked file source source' trust (file_of (trusted_root_of_bytes file) trust t) reading read after.refusal.0 after.refusal.1 e
         (subst (λ p. judged_by (terms_of asked trust) p reading (Read after.refusal.0) ≡ Err e) under after.refusal.2)
 
 -- the judgement's refusal, under a policy of any kind

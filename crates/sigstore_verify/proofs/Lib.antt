@@ -1,5 +1,8 @@
 pub mod Stages
 pub mod Accepts
+pub mod EntryCauses
+pub mod EntryLaw
+pub mod LogRefusals
 pub mod RootFacts
 pub mod UsableCauses
 pub mod JudgeCauses

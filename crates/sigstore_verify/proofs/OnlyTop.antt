@@ -1,5 +1,5 @@
 -- Up to the end of a refresh from a first root no document of a delegated role is in force.
-use Rattle.std.proofs.Common.{◌≡◌, ◌⊎◌, inl, inr, List, [], Bool, Option, Some, None, Result, Ok, Err, codes, refl, sym, subst}
+use Rattle.std.proofs.Common.{◌≡◌, ◌⊎◌, inl, inr, List, Bool, Option, Some, None, Result, Ok, codes, sym, subst}
 use Rattle.std.specs.Prelude.{⊤, ℕ}
 use Rattle.jiff_core.specs.declared.timestamp.Timestamp as jiff
 use Rattle.foundation.specs.Results.{step_ok, ok_same}
@@ -16,7 +16,7 @@ use Rattle.sigstore_tuf.specs.declared.kind.Kind.TheVariants.{Root, Timestamp, S
 use Rattle.sigstore_tuf.specs.State.{Session, State}
 use Rattle.sigstore_tuf.specs.Update.{first_root_of}
 use Rattle.sigstore_tuf.specs.Adopt.{Adopts, unfetched, absent, refused, kept, adopted, Seeds, unloaded, unkept, unseeded, equal, seeded}
-use Rattle.sigstore_tuf.specs.Run.{said, SavesRoot, Attaches, refresh_steps, RunsSteps}
+use Rattle.sigstore_tuf.specs.Run.{said, Attaches, refresh_steps, RunsSteps}
 use Rattle.sigstore_tuf.proofs.Files.{inserted}
 use Rattle.sigstore_tuf.proofs.Updates.{Puts, judged_puts}
 use Rattle.sigstore_tuf.proofs.Lift.{IsAsked, attach_lift, runs_lift}

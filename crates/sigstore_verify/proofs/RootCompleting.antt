@@ -152,7 +152,7 @@ never_unread old new max bytes (TooLong limit) t short (at, read, given, long) =
 
 -- what refuses before the artifact is read refuses the judgement
 key_unready : (terms : Terms) (policy : PublicKeyVerificationPolicy) (bundle : Bundle) (bytes : List ℕ) (e : Error) → ready_of read_kind (PublicKey policy) bundle ≡ Err e
-    → key_judged_of terms.crypto.accepts policy bundle (Read bytes) ≡ Err e
+    → key_judged_of terms.crypto.accepts terms.logs terms.now policy bundle (Read bytes) ≡ Err e
 unfolding key_judged_of
 key_unready terms policy bundle bytes e h = step_err (prepared_of read_kind policy bundle) _ e (was_err (prepared_of read_kind policy bundle) h)
   where

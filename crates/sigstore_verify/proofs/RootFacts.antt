@@ -35,7 +35,7 @@ read_of fault (Err e) x h = cc
 
 under : (terms : Terms) (policy : Meaning) (bundle : Bundle) (artifact : Artifact) (report : VerificationResult) → judged_by terms policy bundle artifact ≡ Ok report
     → AcceptsBy terms policy bundle artifact
-under terms (PublicKey policy) bundle artifact report h = ((accepts_exactly terms.crypto.accepts policy bundle artifact report).0 h).0
+under terms (PublicKey policy) bundle artifact report h = ((accepts_exactly terms.crypto.accepts terms.logs terms.now policy bundle artifact report).0 h).0
 
 -- what is in force in the beginning is authorised from the root
 pub begins_given : (anchor : Anchor) (repo : Watched Folders) (store store' : Watched Files) (set : InForce) → Begins anchor repo store store' set → given_in set ≡ anchor.root

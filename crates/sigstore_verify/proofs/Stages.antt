@@ -1,15 +1,17 @@
 -- What is refused or accepted by the digests that were taken.
 use Rattle.std.proofs.Common.{◌≡◌, ◌≢◌, ℕ, List, [], ◌∷◌, ap, ◌∙◌, sym, subst, Option, Some, None, Result, Ok, Err, inl, inr, refl, true, IfOk, IfErr}
-use Rattle.std.specs.Prelude.{⊤, ◌⊎◌, ◌≤◌}
+use Rattle.std.specs.Prelude.{◌⊎◌, ◌≤◌}
 use Rattle.std.specs.List.{list_all}
 use Rattle.jiff_core.specs.declared.timestamp.Timestamp as jiff
 use Rattle.foundation.specs.Watched.{Watched}
 use Rattle.foundation.specs.Steps.{◌>>=◌}
 use Rattle.sigstore_types_parts.specs.declared.hash_algorithm.HashAlgorithm.{HashAlgorithm}
 use Rattle.sigstore_types.specs.declared.bundle.Bundle.{Bundle}
-use Rattle.sigstore_types.specs.declared.trusted_root.TrustedRoot.{TrustedRoot}
+use Rattle.sigstore_types.specs.Bundle.{entries_in}
 use Rattle.sigstore_crypto.specs.Digest.{is_hashed, digests_by}
+use Rattle.sigstore_crypto.specs.declared.key.VerificationKey.{VerificationKey}
 use Rattle.sigstore_crypto.specs.Good.{Judge}
+use Rattle.sigstore_crypto.specs.Keyring.{Ring}
 use Rattle.sigstore_crypto.specs.declared.reader.ReadError.{ReadError}
 use Rattle.sigstore_tuf_parts.specs.Crypto.{Crypto}
 use Rattle.sigstore_verify.specs.declared.error.Error.{Error}
@@ -19,9 +21,10 @@ use Rattle.sigstore_verify.specs.declared.judge.Ready.{Ready}
 use Rattle.sigstore_verify.specs.declared.policy.PublicKeyVerificationPolicy.{PublicKeyVerificationPolicy}
 use Rattle.sigstore_verify.specs.declared.report.Kept.{Kept}
 use Rattle.sigstore_verify.specs.declared.report.VerificationResult.{VerificationResult}
-use Rattle.sigstore_verify.specs.Artifact.{Artifact, Blob, Read, Digest, Kind, kind_of, read_kind, blob_kind, digest_of, had_digest}
+use Rattle.sigstore_verify.specs.Artifact.{Artifact, Blob, Read, Digest, Kind, kind_of, read_kind, blob_kind, digest_of, bytes_of, had_digest}
+use Rattle.sigstore_verify.specs.Entries.{log_judged_of, compared_of}
 use Rattle.sigstore_verify.specs.Policy.{PublicKey}
-use Rattle.sigstore_verify.specs.Judged.{Terms, prepared_of, needed_of, key_judged_of, content_judged_by, content_judged_of, judged_had, key_report_of, ready_of, needed_in}
+use Rattle.sigstore_verify.specs.Judged.{Terms, Digests, prepared_of, needed_of, key_judged_of, content_judged_by, judged_had, key_report_of, ready_of, needed_in}
 use Rattle.sigstore_verify.specs.Promise.{ReadCause, Cause, VerifiesKept, VerifiesHanded}
 use Rattle.sigstore_verify.specs.Taking.{Takes}
 use Rattle.sigstore_verify.proofs.Accepts.{prepared_means, all_hashed}
@@ -64,20 +67,27 @@ prepared_hashed kind policy bundle ready is p =
     subst (λ (r : Ready). list_all is_hashed r.needed ≡ true) (sym q.same) (all_hashed kind q.scheme (needed_of q.scheme bundle.content) is q.supported)
 
 -- the whole judgement of what was prepared
-judged : (accepts : Judge) (policy : PublicKeyVerificationPolicy) (bundle : Bundle) (ready : Ready) (artifact : Artifact) (r : Result ⊤ Error)
-    → prepared_of (kind_of artifact) policy bundle ≡ Ok ready → content_judged_of accepts ready.key bundle.content artifact ≡ r
-    → key_judged_of accepts policy bundle artifact ≡ (r >>= λ _. Ok (key_report_of policy))
+judged : (accepts : Judge) (logs : Ring) (now : jiff.Timestamp) (policy : PublicKeyVerificationPolicy) (bundle : Bundle) (ready : Ready) (artifact : Artifact)
+    → prepared_of (kind_of artifact) policy bundle ≡ Ok ready
+    → key_judged_of accepts logs now policy bundle artifact ≡ judged_had accepts logs now ready.key bundle policy (digest_of artifact) (bytes_of artifact)
 unfolding key_judged_of
-judged accepts policy bundle ready artifact r p q =
-    ap (λ s. s >>= λ (k : Ready). content_judged_of accepts k.key bundle.content artifact >>= λ _. Ok (key_report_of policy)) p
-    ∙ ap (λ s. s >>= λ _. Ok (key_report_of policy)) q
+judged accepts logs now policy bundle ready artifact p =
+    ap (λ s. s >>= λ (k : Ready). judged_had accepts logs now k.key bundle policy (digest_of artifact) (bytes_of artifact)) p
 
 -- and of what wasn't
-unready : (accepts : Judge) (policy : PublicKeyVerificationPolicy) (bundle : Bundle) (artifact : Artifact) (e : Error) → prepared_of (kind_of artifact) policy bundle ≡ Err e
-    → key_judged_of accepts policy bundle artifact ≡ Err e
+unready : (accepts : Judge) (logs : Ring) (now : jiff.Timestamp) (policy : PublicKeyVerificationPolicy) (bundle : Bundle) (artifact : Artifact) (e : Error)
+    → prepared_of (kind_of artifact) policy bundle ≡ Err e → key_judged_of accepts logs now policy bundle artifact ≡ Err e
 unfolding key_judged_of
-unready accepts policy bundle artifact e p =
-    ap (λ s. s >>= λ (k : Ready). content_judged_of accepts k.key bundle.content artifact >>= λ _. Ok (key_report_of policy)) p
+unready accepts logs now policy bundle artifact e p =
+    ap (λ s. s >>= λ (k : Ready). judged_had accepts logs now k.key bundle policy (digest_of artifact) (bytes_of artifact)) p
+
+-- what was prepared is judged alike where the content is
+pub had_alike : (accepts : Judge) (logs : Ring) (now : jiff.Timestamp) (key : VerificationKey) (bundle : Bundle) (policy : PublicKeyVerificationPolicy) (d d' : Digests) (b b' : Option (List ℕ))
+    → content_judged_by accepts key bundle.content d b ≡ content_judged_by accepts key bundle.content d' b'
+    → judged_had accepts logs now key bundle policy d b ≡ judged_had accepts logs now key bundle policy d' b'
+unfolding judged_had
+had_alike accepts logs now key bundle policy d d' b b' h =
+    ap (λ c. log_judged_of accepts logs now policy.verify_tlog (entries_in bundle) >>= λ _. c >>= λ _. compared_of (entries_in bundle) >>= λ _. Ok (key_report_of policy)) h
 
 -- the judgement by the digests of all the bytes is that of the artifact
 taken_judged : (accepts : Judge) (policy : PublicKeyVerificationPolicy) (bundle : Bundle) (ready : Ready) (kind : Kind) (kept : Option (List ℕ)) (bytes : List ℕ) (digests : List (HashAlgorithm × List ℕ))
@@ -90,12 +100,12 @@ taken_judged accepts policy bundle ready kind kept bytes digests is p d =
     ∙ judged_by_taken accepts ready.key bundle.content kept bytes (subst (λ l. list_all is_hashed l ≡ true) n (prepared_hashed kind policy bundle ready is p))
     )
 
-module _ (crypto : Crypto) (trust : TrustedRoot) (now : jiff.Timestamp) (policy : PublicKeyVerificationPolicy) (bundle : Bundle) where
+module _ (crypto : Crypto) (logs : Ring) (now : jiff.Timestamp) (policy : PublicKeyVerificationPolicy) (bundle : Bundle) where
   abbrev terms : Terms
-  terms = record { crypto = crypto; trust = trust; policy = PublicKey policy; now = now }
+  terms = record { crypto = crypto; logs = logs; policy = PublicKey policy; now = now }
 
   abbrev judges : Ready → List (HashAlgorithm × List ℕ) → Option (List ℕ) → Result VerificationResult Error
-  judges ready digests kept = judged_had crypto.accepts ready.key bundle policy (had_digest digests) kept
+  judges ready digests kept = judged_had crypto.accepts logs now ready.key bundle policy (had_digest digests) kept
 
   -- ---- an artifact that is read
 
@@ -103,9 +113,10 @@ module _ (crypto : Crypto) (trust : TrustedRoot) (now : jiff.Timestamp) (policy 
   ready_so ready p = ap (λ r. r >>= λ _. Ok tt) p
 
   read_judged : (bytes : List ℕ) (ready : Ready) (digests : List (HashAlgorithm × List ℕ)) → prepared_of read_kind policy bundle ≡ Ok ready → digests ≡ digests_by ready.needed bytes
-      → key_judged_of crypto.accepts policy bundle (Read bytes) ≡ judges ready digests None
+      → key_judged_of crypto.accepts logs now policy bundle (Read bytes) ≡ judges ready digests None
   read_judged bytes ready digests p d =
-      judged crypto.accepts policy bundle ready (Read bytes) (content_judged_by crypto.accepts ready.key bundle.content (had_digest digests) None) p
+      judged crypto.accepts logs now policy bundle ready (Read bytes) p
+      ∙ had_alike crypto.accepts logs now ready.key bundle policy (digest_of (Read bytes)) (had_digest digests) None None
       (taken_judged crypto.accepts policy bundle ready read_kind None bytes digests refl p d)
 
   pub unprepared : (old new : Watched (List ℕ)) (max : ℕ) (e : Error) → old.faults ≤ new.faults → new ≡ old → (e ≢ NoMemory → prepared_of read_kind policy bundle ≡ Err e)
@@ -123,14 +134,14 @@ module _ (crypto : Crypto) (trust : TrustedRoot) (now : jiff.Timestamp) (policy 
   pub after_reading : (old new : Watched (List ℕ)) (max : ℕ) (ready : Ready) (digests : List (HashAlgorithm × List ℕ)) (result : Result Kept Error)
       → prepared_of read_kind policy bundle ≡ Ok ready → Takes old new max ready.needed (Ok digests)
       → IfOk result (λ kept. (judges ready digests None ≡ Ok kept.result) × (kept.digests ≡ digests))
-      → IfErr result (λ e. judges ready digests None ≡ Err e)
+      → IfErr result (λ e. e ≢ NoMemory → judges ready digests None ≡ Err e)
       → VerifiesKept terms bundle old new max result
   after_reading old new max ready digests (Err e) p t a r =
       let w = t.taken in
       record {
         later = t.later;
         accepted = tt;
-        refused = inr (inr (inr (record { ready = ready_so ready p; refusal = (w.0, w.1, read_judged w.0 ready digests p w.2 ∙ r) })));
+        refused = wanting e (λ n. inr (inr (record { ready = ready_so ready p; refusal = (w.0, w.1, read_judged w.0 ready digests p w.2 ∙ r n) })));
       }
   after_reading old new max ready digests (Ok kept) p t a r =
       let w = t.taken in
@@ -146,24 +157,27 @@ module _ (crypto : Crypto) (trust : TrustedRoot) (now : jiff.Timestamp) (policy 
 
   -- ---- an artifact that is handed in
 
-  pub handed : (artifact : Artifact) (r : Result VerificationResult Error) → key_judged_of crypto.accepts policy bundle artifact ≡ r → VerifiesHanded terms bundle artifact r
-  handed artifact (Ok report) h = record { accepted = h; refused = tt }
-  handed artifact (Err e) h = record { accepted = tt; refused = λ n. h }
+  pub handed : (artifact : Artifact) (r had : Result VerificationResult Error) → key_judged_of crypto.accepts logs now policy bundle artifact ≡ had
+      → IfOk r (λ report. had ≡ Ok report) → IfErr r (λ e. e ≢ NoMemory → had ≡ Err e) → VerifiesHanded terms bundle artifact r
+  handed artifact (Ok report) had h a r = record { accepted = h ∙ a; refused = tt }
+  handed artifact (Err e) had h a r = record { accepted = tt; refused = λ n. h ∙ r n }
 
   pub handed_unready : (artifact : Artifact) (e : Error) → (e ≢ NoMemory → prepared_of (kind_of artifact) policy bundle ≡ Err e) → VerifiesHanded terms bundle artifact (Err e)
-  handed_unready artifact e f = record { accepted = tt; refused = λ n. unready crypto.accepts policy bundle artifact e (f n) }
+  handed_unready artifact e f = record { accepted = tt; refused = λ n. unready crypto.accepts logs now policy bundle artifact e (f n) }
 
   pub handed_wanting : (artifact : Artifact) (e : Error) → e ≡ NoMemory → VerifiesHanded terms bundle artifact (Err e)
   handed_wanting artifact e want = record { accepted = tt; refused = λ n. absurd (n want) }
 
   pub blob_judged : (bytes : List ℕ) (ready : Ready) (digests : List (HashAlgorithm × List ℕ)) → prepared_of blob_kind policy bundle ≡ Ok ready
-      → digests ≡ digests_by ready.needed bytes → key_judged_of crypto.accepts policy bundle (Blob bytes) ≡ judges ready digests (Some bytes)
+      → digests ≡ digests_by ready.needed bytes → key_judged_of crypto.accepts logs now policy bundle (Blob bytes) ≡ judges ready digests (Some bytes)
   blob_judged bytes ready digests p d =
-      judged crypto.accepts policy bundle ready (Blob bytes) (content_judged_by crypto.accepts ready.key bundle.content (had_digest digests) (Some bytes)) p
+      judged crypto.accepts logs now policy bundle ready (Blob bytes) p
+      ∙ had_alike crypto.accepts logs now ready.key bundle policy (digest_of (Blob bytes)) (had_digest digests) (Some bytes) (Some bytes)
       (taken_judged crypto.accepts policy bundle ready blob_kind (Some bytes) bytes digests refl p d)
 
   pub digest_judged : (given : HashAlgorithm) (digest : List ℕ) (ready : Ready) → prepared_of (kind_of (Digest given digest)) policy bundle ≡ Ok ready
-      → key_judged_of crypto.accepts policy bundle (Digest given digest) ≡ judges ready ((given, digest) ∷ []) None
+      → key_judged_of crypto.accepts logs now policy bundle (Digest given digest) ≡ judges ready ((given, digest) ∷ []) None
   digest_judged given digest ready p =
-      judged crypto.accepts policy bundle ready (Digest given digest) (content_judged_by crypto.accepts ready.key bundle.content (had_digest ((given, digest) ∷ [])) None) p
+      judged crypto.accepts logs now policy bundle ready (Digest given digest) p
+      ∙ had_alike crypto.accepts logs now ready.key bundle policy (digest_of (Digest given digest)) (had_digest ((given, digest) ∷ [])) None None
       (sym (judged_by_one crypto.accepts ready.key bundle.content given digest))

@@ -1,5 +1,5 @@
 -- A trust file has no form that isn't built: each refusal of its reading is another.
-use Rattle.std.proofs.Common.{◌≡◌, ℕ, List, [], ◌∷◌, Bool, true, false, cond, Option, Some, None, Result, Ok, Err, subst, sym}
+use Rattle.std.proofs.Common.{◌≡◌, ℕ, List, Bool, true, false, cond, Option, Some, None, Result, Ok, Err, subst}
 use Rattle.std.specs.Prelude.{⊤, ok_or, is_some, option_and_then}
 use Rattle.serde_json.specs.Data.{Data, Items, no_items, item}
 use Rattle.serde_json.specs.Find.{get, as_null, as_str, as_array, as_object}
@@ -14,9 +14,10 @@ use Rattle.sigstore_types_parts.specs.declared.error.TypesError.TheVariants as t
 use Rattle.sigstore_types_parts.specs.Error.{types_of, types_of_fault, placed_at, name_of}
 use Rattle.sigstore_types_parts.specs.Instant.{instant_of}
 use Rattle.sigstore_types_parts.specs.Parse.{parsed_of}
-use Rattle.sigstore_types_parts.specs.Read.{at, object_of, nullable_of, required_in, optional_in, required_of, optional_of, items_of, sequence_of, moment_of}
-use Rattle.sigstore_types.specs.Members.{required, optional, bytes, json, faulted}
-use Rattle.sigstore_types.specs.TrustedRoot.{valid_for_of, list_of, log_id_of, key_of_log, log_of, certificate_of, certificates_of, chain_of, authority_of, trusted_root_of, trusted_root_of_bytes}
+use Rattle.sigstore_types_parts.specs.Read.{at, object_of, required_in, optional_in, required_of, optional_of, items_of, sequence_of, moment_of}
+use Rattle.sigstore_entries.specs.Entry.{required, optional, bytes, list, log_id_of}
+use Rattle.sigstore_types.specs.Members.{json, faulted}
+use Rattle.sigstore_types.specs.TrustedRoot.{valid_for_of, key_of_log, log_of, certificate_of, certificates_of, chain_of, authority_of, trusted_root_of, trusted_root_of_bytes}
 
 -- each refusal is of what is built
 abbrev pub Built : TypesError → Type 0
@@ -104,7 +105,7 @@ bytes_built d =
 moment_built : Reads (moment_of types_of)
 moment_built d = or_built (option_and_then instant_of (as_str d)) types.Json tt
 
-list_built : {T : Type 0} (reads : Data → Result T TypesError) (member : TypesMember) → Reads reads → Reads (list_of reads member)
+list_built : {T : Type 0} (reads : Data → Result T TypesError) (member : TypesMember) → Reads reads → Reads (list reads member)
 list_built reads member r d =
     step_built (optional (sequence_of types_of reads) member d) _ (optional_built (sequence_of types_of reads) member (sequence_built reads r) d) (λ items. tt)
 
@@ -154,10 +155,10 @@ authority_built d =
 root_built : Reads trusted_root_of
 unfolding trusted_root_of
 root_built d =
-    step_built (list_of log_of m.Tlogs d) _ (list_built log_of m.Tlogs log_built d) (λ tlogs.
-    step_built (list_of log_of m.Ctlogs d) _ (list_built log_of m.Ctlogs log_built d) (λ ctlogs.
-    step_built (list_of authority_of m.CertificateAuthorities d) _ (list_built authority_of m.CertificateAuthorities authority_built d) (λ certifying.
-    step_built (list_of authority_of m.TimestampAuthorities d) _ (list_built authority_of m.TimestampAuthorities authority_built d) (λ stamping. tt))))
+    step_built (list log_of m.Tlogs d) _ (list_built log_of m.Tlogs log_built d) (λ tlogs.
+    step_built (list log_of m.Ctlogs d) _ (list_built log_of m.Ctlogs log_built d) (λ ctlogs.
+    step_built (list authority_of m.CertificateAuthorities d) _ (list_built authority_of m.CertificateAuthorities authority_built d) (λ certifying.
+    step_built (list authority_of m.TimestampAuthorities d) _ (list_built authority_of m.TimestampAuthorities authority_built d) (λ stamping. tt))))
 
 json_built : (text : List ℕ) → AllBuilt (json text)
 json_built text = by (parsed_of text)

@@ -1,14 +1,15 @@
 -- What each refusal of the top call tells: of the root and the repository, or of the trust file, the bundle, the policy and the
 -- artifact (TUF specification, section 5; Sigstore bundle format; FIPS 180-4, FIPS 186-5).
-use Rattle.std.specs.Prelude.{◌≡◌, ◌≢◌, ◌⊎◌, ℕ, List, true, false, Some, None, Result, Ok, Err, codes, ⊤}
+use Rattle.std.specs.Prelude.{◌≡◌, ◌≢◌, ◌⊎◌, ℕ, List, [], Contains, true, false, Some, None, Result, Ok, Err, codes, ⊤}
 use Rattle.std.specs.List.{list_all}
 use Rattle.foundation.specs.Watched.{Watched}
 use Rattle.sigstore_types_parts.specs.Entries.{at_name}
 use Rattle.sigstore_types_parts.specs.declared.form.Form.{Form}
+use Rattle.sigstore_types_parts.specs.declared.form.Form.TheVariants as form
 use Rattle.sigstore_types_parts.specs.declared.error.TypesError.TheVariants as types
 use Rattle.sigstore_types.specs.declared.bundle.Bundle.{Bundle}
 use Rattle.sigstore_types.specs.declared.content.MessageDigest.{MessageDigest}
-use Rattle.sigstore_types.specs.Bundle.{bundle_of_bytes, structure_of}
+use Rattle.sigstore_types.specs.Bundle.{bundle_of_bytes, entries_in}
 use Rattle.sigstore_types.specs.declared.trusted_root.TrustedRoot.{TrustedRoot}
 use Rattle.sigstore_types.specs.TrustedRoot.{trusted_root_of_bytes}
 use Rattle.sigstore_crypto.specs.declared.key.VerificationKey.{VerificationKey}
@@ -17,6 +18,7 @@ use Rattle.sigstore_crypto.specs.Good.{Judge}
 use Rattle.sigstore_crypto.specs.Digest.{is_hashed}
 use Rattle.sigstore_crypto.specs.Key.{spki_key_of}
 use Rattle.sigstore_crypto.specs.Scheme.{has_digest}
+use Rattle.sigstore_entries.specs.declared.entry.TransparencyLogEntry.{TransparencyLogEntry}
 use Rattle.sigstore_tuf_parts.specs.declared.error.Error.TheVariants as tuf
 use Rattle.sigstore_tuf_parts.specs.declared.error.Error.{Error as TufError}
 use Rattle.sigstore_tuf_parts.specs.declared.targets.Targets.{Targets}
@@ -28,6 +30,7 @@ use Rattle.sigstore_tuf.specs.declared.documents.InForce.{InForce}
 use Rattle.sigstore_tuf.specs.State.{State, state_of}
 use Rattle.sigstore_tuf.specs.Update.{first_root_of}
 use Rattle.sigstore_verify.specs.declared.error.Error.{Error}
+use Rattle.sigstore_verify.specs.declared.error.TransparencyLogError.{TransparencyLogError}
 use Rattle.sigstore_verify.specs.declared.error.Error.TheVariants as verify
 use Rattle.sigstore_verify.specs.declared.policy.PublicKeyVerificationPolicy.{PublicKeyVerificationPolicy}
 use Rattle.sigstore_verify.specs.declared.from_root.RootFault.{RootFault}
@@ -36,7 +39,8 @@ use Rattle.sigstore_verify.specs.Accepts.{signature_in, digest_in}
 use Rattle.sigstore_verify.specs.Error.{error_of_crypto}
 use Rattle.sigstore_verify.specs.Judged.{scheme_of, needed_of, is_signed}
 use Rattle.sigstore_verify.specs.Artifact.{Read, digest_of}
-use Rattle.sigstore_verify.specs.Trust.{usable_of}
+use Rattle.sigstore_verify.specs.Trust.{logs_of, usable_of}
+use Rattle.sigstore_verify.specs.Unlogged.{HasUnlogged}
 use Rattle.sigstore_verify.specs.Policy.{Meaning, PublicKey}
 use Rattle.sigstore_verify.specs.Promise.{ReadWhole, ReadCause}
 use Rattle.sigstore_verify.specs.Given.{Anchor, Given, Outside, Asked, asked_by}
@@ -66,12 +70,11 @@ pub record HasBundle (policy : PublicKeyVerificationPolicy) (bundle : List ℕ) 
 
 -- ---- the refusals, one by one
 
--- the policy verifies the log, and the bundle that was read has no entry
-pub record LacksEntry (policy : PublicKeyVerificationPolicy) (bundle : List ℕ) : Type 0 where
-  pub reading : Bundle
-  pub read : IsRead bundle reading
-  pub asked : policy.verify_tlog ≡ true
-  pub lacking : structure_of reading true ≡ Err types.NoEntry
+-- the policy verifies the log, and the bundle that was read has no entry, or one without a proof
+pub data LacksEntry (policy : PublicKeyVerificationPolicy) (bundle : List ℕ) : Type 0 where
+  no_entry : (reading : Bundle) → IsRead bundle reading → policy.verify_tlog ≡ true → entries_in reading ≡ [] → LacksEntry policy bundle
+  no_proof : (reading : Bundle) (entry : TransparencyLogEntry) → IsRead bundle reading → policy.verify_tlog ≡ true
+      → Contains (entries_in reading) entry → entry.inclusion_proof ≡ None → LacksEntry policy bundle
 
 -- the policy's key isn't read; or it and the digest that the bundle tells have no scheme; or a digest that is needed has no hasher
 pub data LacksScheme (policy : PublicKeyVerificationPolicy) (bundle : List ℕ) (e : Error) : Type 0 where
@@ -112,9 +115,23 @@ pub record IsUnsigned (accepts : Judge) (policy : PublicKeyVerificationPolicy) (
 abbrev pub IsUnusable : List ℕ → Error → Type 0
 IsUnusable file e = (trust : TrustedRoot) × (trusted_root_of_bytes file ≡ Ok trust) × (usable_of trust ≡ Err e)
 
--- the bundle is of a form that isn't built
-abbrev pub IsUnbuilt : List ℕ → Form → Type 0
-IsUnbuilt bundle unbuilt = bundle_of_bytes bundle ≡ Err (types.Unbuilt unbuilt)
+-- the bundle is of a form that isn't built; or it is read and has an entry, and what one says isn't compared with its bundle yet
+pub data IsUnbuilt (bundle : List ℕ) (unbuilt : Form) : Type 0 where
+  form_unread : bundle_of_bytes bundle ≡ Err (types.Unbuilt unbuilt) → IsUnbuilt bundle unbuilt
+  entry_uncompared : (reading : Bundle) → IsRead bundle reading → entries_in reading ≢ [] → unbuilt ≡ form.Binding
+      → IsUnbuilt bundle unbuilt
+
+-- the policy verifies the log, the artifact was read whole, and some entry of the bundle isn't logged by the trust file's logs
+pub record IsUnlogged (accepts : Judge) (policy : PublicKeyVerificationPolicy) (asked : Asked) (file : List ℕ)
+    (source source' : Watched (List ℕ)) (fault : TransparencyLogError) : Type 0 where
+  pub trust : TrustedRoot
+  pub trust_read : trusted_root_of_bytes file ≡ Ok trust
+  pub reading : Bundle
+  pub read : IsRead asked.bundle reading
+  pub bytes : List ℕ
+  pub whole : ReadWhole source source' asked.max bytes
+  pub asks : policy.verify_tlog ≡ true
+  pub unlogged : HasUnlogged accepts (logs_of trust) asked.now (entries_in reading) fault
 
 -- ---- each refusal of the judgement, by its number and name
 
@@ -123,6 +140,8 @@ abbrev pub KeyCause : Judge → PublicKeyVerificationPolicy → Asked → List �
 KeyCause accepts policy asked file source source' verify.SignatureInvalid = IsUnsigned accepts policy asked.bundle source source' asked.max
 KeyCause accepts policy asked file source source' verify.ArtifactMismatch = IsOfAnother asked.bundle source source' asked.max
 KeyCause accepts policy asked file source source' verify.UnsupportedArtifact = LacksDigest policy asked.bundle
+KeyCause accepts policy asked file source source' (verify.TransparencyLog fault) =
+    IsUnlogged accepts policy asked file source source' fault
 KeyCause accepts policy asked file source source' verify.InvalidBundle =
     IsRefusedAs bundle_fault (bundle_of_bytes asked.bundle) verify.InvalidBundle
 KeyCause accepts policy asked file source source' verify.InvalidTrustRoot = IsUnusable file verify.InvalidTrustRoot

@@ -4,6 +4,8 @@ use Rattle.sigstore_types_parts.specs.declared.error.TypesError.{TypesError}
 use Rattle.sigstore_types_parts.specs.declared.error.TypesError.TheVariants as types
 use Rattle.sigstore_crypto.specs.declared.error.Error.{Error as CryptoError}
 use Rattle.sigstore_crypto.specs.declared.error.Error.TheVariants as crypto
+use Rattle.sigstore_log.specs.declared.error.LogError.{LogError}
+use Rattle.sigstore_log.specs.declared.error.LogError.TheVariants as entry
 use Rattle.sigstore_verify.specs.declared.error.CertificateError.{CertificateError}
 use Rattle.sigstore_verify.specs.declared.error.CertificateError.TheVariants.{Malformed, ChainInvalid, NoValidAuthority}
 use Rattle.sigstore_verify.specs.declared.error.CertificateError.TheVariants.{NotYetValid, Expired, Sct}
@@ -116,6 +118,16 @@ error_of_crypto (crypto.Checkpoint fault) = Crypto
 error_of_crypto (crypto.InvalidCertificate fault) = Crypto
 error_of_crypto (crypto.InvalidKey rule) = Crypto
 error_of_crypto crypto.NoMemory = NoMemory
+
+-- what a refusal of an entry is of its bundle
+abbrev pub error_of_log : LogError → Error
+error_of_log entry.InclusionProof = TransparencyLog log.InclusionProof
+error_of_log entry.Checkpoint = TransparencyLog log.Checkpoint
+error_of_log entry.MalformedEntry = TransparencyLog log.MalformedEntry
+error_of_log (entry.UnknownLog log_id) = TransparencyLog (log.UnknownLog log_id)
+error_of_log entry.InclusionPromise = TransparencyLog log.InclusionPromise
+error_of_log entry.IntegratedTime = TransparencyLog log.IntegratedTime
+error_of_log entry.NoMemory = NoMemory
 
 -- A refusal of the crates of values: want of memory and a form that isn't built stay what they are, and every other is this one.
 abbrev pub lowered : Error → TypesError → Error

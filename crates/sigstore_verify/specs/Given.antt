@@ -8,6 +8,7 @@ use Rattle.sigstore_tuf.specs.declared.config.UpdaterConfig.{UpdaterConfig}
 use Rattle.sigstore_types.specs.declared.trusted_root.TrustedRoot.{TrustedRoot}
 use Rattle.sigstore_verify.specs.Judged.{Terms}
 use Rattle.sigstore_verify.specs.Policy.{Meaning}
+use Rattle.sigstore_verify.specs.Trust.{logs_of}
 
 -- from what a chain of documents is trusted: who decides signatures, the pinned root, the limits, the moment
 pub record Anchor : Type 0 where
@@ -41,7 +42,7 @@ asked_by given = record {
 }
 
 abbrev pub terms_of : Asked → TrustedRoot → Terms
-terms_of asked trust = record { crypto = asked.crypto; trust = trust; policy = asked.policy; now = asked.now }
+terms_of asked trust = record { crypto = asked.crypto; logs = logs_of trust; policy = asked.policy; now = asked.now }
 
 -- the outside at one moment
 pub record Outside : Type 0 where

@@ -12,14 +12,14 @@ use Rattle.sigstore_types.specs.declared.bundle.Bundle.{Bundle}
 use Rattle.sigstore_types.specs.declared.content.SignatureContent.{SignatureContent}
 use Rattle.sigstore_types.specs.declared.content.SignatureContent.TheVariants.{MessageSignature as OfMessage}
 use Rattle.sigstore_types.specs.declared.content.MessageDigest.{MessageDigest}
-use Rattle.sigstore_types.specs.declared.trusted_root.TrustedRoot.{TrustedRoot}
-use Rattle.sigstore_types.specs.Bundle.{structure_of}
+use Rattle.sigstore_types.specs.Bundle.{entries_in, structure_of}
 use Rattle.sigstore_crypto.specs.declared.error.Error.{Error as CryptoError}
 use Rattle.sigstore_crypto.specs.declared.scheme.SigningScheme.{SigningScheme}
 use Rattle.sigstore_crypto.specs.declared.key.VerificationKey.{VerificationKey}
 use Rattle.sigstore_crypto.specs.Scheme.{key_algorithm_of, digest_algorithm_of, has_digest, resolved_of}
 use Rattle.sigstore_crypto.specs.Key.{spki_key_of}
 use Rattle.sigstore_crypto.specs.Good.{Judge, is_good_over}
+use Rattle.sigstore_crypto.specs.Keyring.{Ring}
 use Rattle.sigstore_tuf_parts.specs.Crypto.{Crypto}
 use Rattle.sigstore_verify.specs.declared.error.Error.{Error}
 use Rattle.sigstore_verify.specs.declared.error.Error.TheVariants.{SignatureInvalid, ArtifactMismatch, UnsupportedArtifact}
@@ -28,13 +28,14 @@ use Rattle.sigstore_verify.specs.declared.judge.Ready.{Ready}
 use Rattle.sigstore_verify.specs.declared.policy.PublicKeyVerificationPolicy.{PublicKeyVerificationPolicy}
 use Rattle.sigstore_verify.specs.declared.report.VerificationResult.{VerificationResult}
 use Rattle.sigstore_verify.specs.Artifact.{Artifact, digest_of, bytes_of, Kind, kind_of, read_kind}
+use Rattle.sigstore_verify.specs.Entries.{log_judged_of, compared_of}
 use Rattle.sigstore_verify.specs.Error.{error_of_crypto, lowered}
 use Rattle.sigstore_verify.specs.Policy.{Meaning, PublicKey}
 
--- what a bundle is judged under: who decides signatures, the trust file, the policy, and the moment
+-- what a bundle is judged under: who decides signatures, the logs of entries that are trusted, the policy, and the moment
 pub record Terms : Type 0 where
   pub crypto : Crypto
-  pub trust : TrustedRoot
+  pub logs : Ring
   pub policy : Meaning
   pub now : jiff.Timestamp
 
@@ -123,9 +124,6 @@ content_judged_by accepts key (OfMessage message) digest bytes =
     (if is_signed accepts key digest bytes message.signature then Ok tt else Err SignatureInvalid)
     else Err ArtifactMismatch
 
-abbrev pub content_judged_of : Judge → VerificationKey → SignatureContent → Artifact → Result ⊤ Error
-content_judged_of accepts key content artifact = content_judged_by accepts key content (digest_of artifact) (bytes_of artifact)
-
 -- what an acceptance under a managed key shows
 abbrev pub key_report_of : PublicKeyVerificationPolicy → VerificationResult
 key_report_of policy = record {
@@ -138,19 +136,22 @@ key_report_of policy = record {
   verified_timestamps = [];
 }
 
--- the judgement of what was prepared, over digests and bytes that are had
-abbrev pub judged_had : Judge → VerificationKey → Bundle → PublicKeyVerificationPolicy → Digests → Option (List ℕ)
-    → Result VerificationResult Error
-judged_had accepts key bundle policy digest bytes =
-    content_judged_by accepts key bundle.content digest bytes >>= λ _. Ok (key_report_of policy)
+-- The judgement of what was prepared, over digests and bytes that are had: the entries, the content, and what the entries say of it.
+unfoldable pub judged_had : Judge → Ring → jiff.Timestamp → VerificationKey → Bundle → PublicKeyVerificationPolicy → Digests
+    → Option (List ℕ) → Result VerificationResult Error
+judged_had accepts logs now key bundle policy digest bytes = do
+  _ ← log_judged_of accepts logs now policy.verify_tlog (entries_in bundle)
+  _ ← content_judged_by accepts key bundle.content digest bytes
+  _ ← compared_of (entries_in bundle)
+  Ok (key_report_of policy)
 
 -- ---- the whole judgement
 
-unfoldable pub key_judged_of : Judge → PublicKeyVerificationPolicy → Bundle → Artifact → Result VerificationResult Error
-key_judged_of accepts policy bundle artifact = do
+unfoldable pub key_judged_of : Judge → Ring → jiff.Timestamp → PublicKeyVerificationPolicy → Bundle → Artifact
+    → Result VerificationResult Error
+key_judged_of accepts logs now policy bundle artifact = do
   ready ← prepared_of (kind_of artifact) policy bundle
-  _ ← content_judged_of accepts ready.key bundle.content artifact
-  Ok (key_report_of policy)
+  judged_had accepts logs now ready.key bundle policy (digest_of artifact) (bytes_of artifact)
 
 -- what refuses before the artifact is read, for a policy of any kind
 abbrev pub ready_of : Kind → Meaning → Bundle → Result ⊤ Error
@@ -158,7 +159,8 @@ ready_of kind (PublicKey policy) bundle = prepared_of kind policy bundle >>= λ 
 
 -- the judgement for a policy of any kind
 abbrev pub judged_by : Terms → Meaning → Bundle → Artifact → Result VerificationResult Error
-judged_by terms (PublicKey policy) bundle artifact = key_judged_of terms.crypto.accepts policy bundle artifact
+judged_by terms (PublicKey policy) bundle artifact =
+    key_judged_of terms.crypto.accepts terms.logs terms.now policy bundle artifact
 
 abbrev pub judged_of : Terms → Bundle → Artifact → Result VerificationResult Error
 judged_of terms bundle artifact = judged_by terms terms.policy bundle artifact

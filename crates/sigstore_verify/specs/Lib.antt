@@ -2,6 +2,8 @@ pub mod Accepts
 pub mod Agree
 pub mod Artifact
 pub mod Cause
+pub mod Complete
+pub mod Entries
 pub mod Error
 pub mod FromRoot
 pub mod Given
@@ -12,5 +14,5 @@ pub mod Promises
 pub mod Taken
 pub mod Taking
 pub mod Trust
-pub mod Complete
+pub mod Unlogged
 pub mod Usable

@@ -4,6 +4,7 @@ use Rattle.std.specs.Io.KnownBytes.{prepend_known, IsAtEnd}
 use Rattle.foundation.specs.Steps.{◌>>=◌}
 use Rattle.foundation.specs.Watched.{Watched, Rose}
 use Rattle.sigstore_types.specs.declared.bundle.Bundle.{Bundle}
+use Rattle.sigstore_types.specs.declared.trusted_root.TrustedRoot.{TrustedRoot}
 use Rattle.sigstore_crypto.specs.Digest.{digests_by}
 use Rattle.sigstore_crypto.specs.declared.reader.ReadError.{ReadError}
 use Rattle.sigstore_crypto.specs.declared.reader.ReadError.TheVariants.{Failed, TooLong}
@@ -74,6 +75,7 @@ pub record VerifiesHanded (terms : Terms) (bundle : Bundle) (artifact : Artifact
   pub refused : IfErr result (λ e. e ≢ NoMemory → judged_of terms bundle artifact ≡ Err e)
 
 -- the promise of a verification that makes its verifier: that of the trust file comes first
-pub record VerifiesUnder (terms : Terms) (bundle : Bundle) (artifact : Artifact) (result : Result VerificationResult Error) : Type 0 where
-  pub accepted : IfOk result (λ report. (usable_of terms.trust ≡ Ok tt) × (judged_of terms bundle artifact ≡ Ok report))
-  pub refused : IfErr result (λ e. e ≢ NoMemory → (usable_of terms.trust >>= λ _. judged_of terms bundle artifact) ≡ Err e)
+pub record VerifiesUnder (trust : TrustedRoot) (terms : Terms) (bundle : Bundle) (artifact : Artifact)
+    (result : Result VerificationResult Error) : Type 0 where
+  pub accepted : IfOk result (λ report. (usable_of trust ≡ Ok tt) × (judged_of terms bundle artifact ≡ Ok report))
+  pub refused : IfErr result (λ e. e ≢ NoMemory → (usable_of trust >>= λ _. judged_of terms bundle artifact) ≡ Err e)

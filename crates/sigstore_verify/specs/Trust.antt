@@ -109,3 +109,11 @@ material_of trust = do
 -- whether a verifier is made of it
 abbrev pub usable_of : TrustedRoot → Result ⊤ Error
 usable_of trust = material_of trust >>= λ _. Ok tt
+
+-- the keys of its logs of entries; none where no verifier is made of it
+abbrev pub ring_or_none : Result Ring Error → Ring
+ring_or_none (Ok ring) = ring
+ring_or_none (Err e) = []
+
+abbrev pub logs_of : TrustedRoot → Ring
+logs_of trust = ring_or_none (logs_added Entries trust.tlogs [])

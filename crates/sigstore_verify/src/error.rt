@@ -6,7 +6,7 @@ ghost use Rattle.sigstore_verify.specs.declared.error.Error.TheVariants.{NoMemor
 use foundation::NoMemory;
 use jiff::Timestamp;
 use sigstore_crypto::ReadError;
-use sigstore_types_parts::{Form, LogKeyId, Text, TypesError};
+use sigstore_types_parts::{Form, Sha256Hash, Text, TypesError};
 use std::{error, fmt};
 
 /// Why a signing certificate isn't accepted.
@@ -37,19 +37,19 @@ pub enum CertificateError {
 /// Why an entry of a transparency log isn't accepted.
 #[derive(Debug, PartialEq, Drop)]
 pub enum TransparencyLogError {
-    /// The trust file has no log of this id.
-    UnknownLog { log_id: LogKeyId },
+    /// No log of this id that the trust file has has started.
+    UnknownLog { log_id: Sha256Hash },
     /// The entry isn't shown to be in the log's tree (RFC 6962, section 2.1.1).
     InclusionProof,
-    /// The log's signed tree head isn't read, or isn't signed by the log.
+    /// The entry's proof has no checkpoint of its tree that a trusted log signed (C2SP tlog-checkpoint).
     Checkpoint,
-    /// The log's promise to include the entry isn't signed by the log.
+    /// The log's promise to include the entry isn't the log's, or is of another entry.
     InclusionPromise,
     /// The entry is of another signature, artifact or certificate than the bundle.
     EntryMismatch,
-    /// The log's time for the entry is missing where it is needed, or outside the log's validity.
+    /// The time that the log promised is after now.
     IntegratedTime,
-    /// The entry's body has no reading by its kind's grammar.
+    /// The id of the log that promised isn't a SHA-256 value.
     MalformedEntry,
 }
 
@@ -99,7 +99,7 @@ pub enum Error {
     Types,
     /// The policy's key isn't read, or it has no scheme with the message digest's algorithm.
     Crypto,
-    /// The bundle lacks what its policy needs: an entry of a log.
+    /// The bundle lacks what its policy needs: an entry of a log, or an entry's inclusion proof.
     Bundle,
     /// The trust file's bytes have no reading by its grammar.
     TrustRoot,

@@ -1,6 +1,7 @@
 // Laws of the definitions. A call does nothing.
 ghost use Rattle.sigstore_verify.specs.Accepts.{AcceptsExactly};
 ghost use Rattle.sigstore_verify.specs.Agree.{BlobAgrees};
+ghost use Rattle.sigstore_verify.specs.Unlogged.{LogRefusals};
 ghost use Rattle.sigstore_verify.specs.Usable.{UsableExactly};
 
 /// The judgement under a managed key accepts exactly the bundles that are to be accepted.
@@ -12,6 +13,11 @@ pub fn accepts_exactly()
 /// the scheme signs the bytes themselves.
 pub fn blob_and_reader_agree()
     ensures { BlobAgrees }
+{}
+
+/// The law of refusals of the log: each comes only where an entry of the bundle isn't logged, and names why.
+pub fn log_refusals_have_causes()
+    ensures { LogRefusals }
 {}
 
 /// A verifier is made of exactly the trust files that are usable, told without any order of checks: each

@@ -5,7 +5,7 @@ ghost use Rattle.sigstore_crypto.specs.declared.error.Error.TheVariants as crypt
 ghost use Rattle.sigstore_crypto.specs.declared.scheme.SigningScheme.TheVariants.{RsaPkcs1Sha256};
 ghost use Rattle.sigstore_crypto.specs.Key.{der_key_of};
 ghost use Rattle.sigstore_verify.specs.declared.trust.LogKind.TheVariants.{Certificates};
-ghost use Rattle.sigstore_verify.specs.Trust.{window_usable, id_usable, id_new, log_key_of, log_added, logs_added, nonempty, or_certificate, certificate_added, certificates_added, authority_added, authorities_added, material_of};
+ghost use Rattle.sigstore_verify.specs.Trust.{window_usable, id_usable, id_new, log_key_of, log_added, logs_added, nonempty, or_certificate, certificate_added, certificates_added, authority_added, authorities_added, material_of, logs_of};
 
 use crate::error::Error;
 use foundation::{Duplicate, Sequence};
@@ -215,6 +215,7 @@ fn authorities(alloc: Global, list: &[Authority]) -> Result<Sequence<Anchor>, Er
 #[tactic(auto, unfolding(crate::specs::Trust::material_of))]
 pub(crate) fn material_in(alloc: Global, trust: &TrustedRoot) -> Result<Material, Error>
     ensures ok { IfOk result (λ material. material_of trust.now ≡ Ok material) }
+    ensures logs { IfOk result (λ material. material.logs ≡ logs_of trust.now) }
     ensures err { IfErr result (λ e. e ≢ Error.NoMemory → material_of trust.now ≡ Err e) }
 {
     let log_keys = logs(alloc, LogKind::Entries, trust.tlogs.as_slice())?;

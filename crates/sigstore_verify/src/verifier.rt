@@ -4,18 +4,19 @@ ghost use Rattle.sigstore_tuf_parts.specs.By.{crypto_by};
 ghost use Rattle.sigstore_verify.specs.Artifact.{Blob, Digest, artifact_of, had_digest};
 ghost use Rattle.sigstore_verify.specs.Judged.{Terms, judged_had};
 ghost use Rattle.sigstore_verify.specs.Policy.{PublicKey};
-ghost use Rattle.sigstore_verify.specs.Trust.{material_of, usable_of};
+ghost use Rattle.sigstore_verify.specs.Trust.{logs_of, material_of, usable_of};
 ghost use Rattle.sigstore_verify.specs.Promise.{Verifies, VerifiesKept, VerifiesHanded, VerifiesUnder};
 
+use crate::entries::{check_compared, check_log};
 use crate::error::Error;
 use crate::judge::{Handed, judge_content, key_report, prepare};
 use crate::policy::{Policy, PolicyKind, PublicKeyVerificationPolicy};
 use crate::report::{Kept, VerificationResult};
 use crate::taking::{digests_in, read_digests};
 use crate::trust::{Material, material_in};
-use foundation::{Duplicate, Sequence};
+use foundation::Sequence;
 use jiff::Timestamp;
-use sigstore_crypto::{ArtifactSource, CryptoProvider, VerificationKey};
+use sigstore_crypto::{ArtifactSource, CryptoProvider, Keyring, VerificationKey};
 use sigstore_types::{Bundle, TrustedRoot};
 use sigstore_types_parts::{Armor, Artifact, ArtifactDigest};
 use std::alloc::Global;
@@ -26,46 +27,57 @@ use std::slice;
 pub struct Verifier<'p, C: CryptoProvider, M: Armor> {
     provider: &'p C,
     armor: &'p M,
-    trust: TrustedRoot,
     material: Material,
 }
 
-// The judgement over digests that were taken, and the bytes where they are kept.
+// The judgement over digests that were taken, and the bytes where they are kept. The entries come first: what
+// was never logged isn't worth a look at its signature.
+#[tactic(auto, unfolding(crate::specs::Judged::judged_had))]
 fn judge_had<C: CryptoProvider>(
     alloc: Global,
     provider: &C,
+    logs: &Keyring,
+    now: Timestamp,
     key: &VerificationKey,
     bundle: &Bundle,
     policy: &PublicKeyVerificationPolicy,
     digests: &[ArtifactDigest],
     bytes: Option<&[u8]>,
 ) -> Result<VerificationResult, Error>
-    ensures { result ≡ judged_had (C.accepts provider.now) key.now bundle.now policy.now (had_digest digests.now) (option_copied bytes.entry) }
+    ensures ok { IfOk result (λ report.
+        judged_had (C.accepts provider.now) logs.now now key.now bundle.now policy.now (had_digest digests.now) (option_copied bytes.entry) ≡ Ok report) }
+    ensures err { IfErr result (λ e. e ≢ Error.NoMemory →
+        judged_had (C.accepts provider.now) logs.now now key.now bundle.now policy.now (had_digest digests.now) (option_copied bytes.entry) ≡ Err e) }
 {
-    match judge_content(provider, key, &bundle.content, digests, bytes) {
-        Ok(()) => Ok(key_report(alloc, policy)),
-        Err(e) => Err(e),
-    }
+    let entries = bundle.verification_material.tlog_entries.as_slice();
+    check_log(alloc, provider, logs, now, policy.verify_tlog, entries)?;
+    judge_content(provider, key, &bundle.content, digests, bytes)?;
+    check_compared(entries)?;
+    Ok(key_report(alloc, policy))
 }
 
 // The judgement over digests that were read, and these.
 fn keep<C: CryptoProvider>(
     alloc: Global,
     provider: &C,
+    logs: &Keyring,
+    now: Timestamp,
     key: &VerificationKey,
     bundle: &Bundle,
     policy: &PublicKeyVerificationPolicy,
     digests: Sequence<ArtifactDigest>,
 ) -> Result<Kept, Error>
     ensures accepted { IfOk result (λ kept.
-        (judged_had (C.accepts provider.now) key.now bundle.now policy.now (had_digest digests) None ≡ Ok kept.result)
+        (judged_had (C.accepts provider.now) logs.now now key.now bundle.now policy.now (had_digest digests) None ≡ Ok kept.result)
         × (kept.digests ≡ digests)) }
-    ensures refused { IfErr result (λ e.
-        judged_had (C.accepts provider.now) key.now bundle.now policy.now (had_digest digests) None ≡ Err e) }
+    ensures refused { IfErr result (λ e. e ≢ Error.NoMemory →
+        judged_had (C.accepts provider.now) logs.now now key.now bundle.now policy.now (had_digest digests) None ≡ Err e) }
 {
     match judge_had(
         alloc,
         provider,
+        logs,
+        now,
         key,
         bundle,
         policy,
@@ -91,8 +103,8 @@ impl<'p, C: CryptoProvider, M: Armor> Verifier<'p, C, M> {
     ) -> Result<Verifier<'p, C, M>, Error>
         ensures provider { IfOk result (λ verifier. verifier.provider.now ≡ provider.now) }
         ensures armor { IfOk result (λ verifier. verifier.armor.now ≡ armor.now) }
-        ensures trust { IfOk result (λ verifier. verifier.trust ≡ trusted_root.now) }
         ensures kept { IfOk result (λ verifier. material_of trusted_root.now ≡ Ok verifier.material) }
+        ensures logs { IfOk result (λ verifier. verifier.material.logs ≡ logs_of trusted_root.now) }
         ensures ok { IfOk result (λ verifier. usable_of trusted_root.now ≡ Ok tt) }
         ensures err { IfErr result (λ e. e ≢ Error.NoMemory → usable_of trusted_root.now ≡ Err e) }
     {
@@ -100,7 +112,6 @@ impl<'p, C: CryptoProvider, M: Armor> Verifier<'p, C, M> {
         Ok(Verifier {
             provider,
             armor,
-            trust: trusted_root.duplicate(alloc)?,
             material,
         })
     }
@@ -113,15 +124,24 @@ impl<'p, C: CryptoProvider, M: Armor> Verifier<'p, C, M> {
         max: u64,
         bundle: &Bundle,
         policy: &PublicKeyVerificationPolicy,
-        _now: Timestamp,
+        now: Timestamp,
     ) -> Result<Kept, Error>
         ensures { let crypto = crypto_by C.CryptoProvider M.Armor self.now.provider.now self.now.armor.now in
-            let terms : Terms = record { crypto = crypto; trust = self.now.trust; policy = PublicKey policy.now; now = _now } in
+            let terms : Terms = record { crypto = crypto; logs = self.now.material.logs; policy = PublicKey policy.now; now = now } in
             VerifiesKept terms bundle.now (A.seen source.old) (A.seen source.new) max result }
     {
         match prepare(alloc, Handed::Read, policy, bundle) {
             Ok(ready) => match read_digests(alloc, source, max, ready.needed.as_slice()) {
-                Ok(digests) => keep(alloc, self.provider, &ready.key, bundle, policy, digests),
+                Ok(digests) => keep(
+                    alloc,
+                    self.provider,
+                    &self.material.logs,
+                    now,
+                    &ready.key,
+                    bundle,
+                    policy,
+                    digests,
+                ),
                 Err(e) => Err(e),
             },
             Err(e) => Err(e),
@@ -135,10 +155,10 @@ impl<'p, C: CryptoProvider, M: Armor> Verifier<'p, C, M> {
         bytes: &[u8],
         bundle: &Bundle,
         policy: &PublicKeyVerificationPolicy,
-        _now: Timestamp,
+        now: Timestamp,
     ) -> Result<VerificationResult, Error>
         ensures { let crypto = crypto_by C.CryptoProvider M.Armor self.now.provider.now self.now.armor.now in
-            let terms : Terms = record { crypto = crypto; trust = self.now.trust; policy = PublicKey policy.now; now = _now } in
+            let terms : Terms = record { crypto = crypto; logs = self.now.material.logs; policy = PublicKey policy.now; now = now } in
             VerifiesHanded terms bundle.now (Blob bytes.now) result }
     {
         match prepare(alloc, Handed::Blob, policy, bundle) {
@@ -146,6 +166,8 @@ impl<'p, C: CryptoProvider, M: Armor> Verifier<'p, C, M> {
                 Ok(digests) => judge_had(
                     alloc,
                     self.provider,
+                    &self.material.logs,
+                    now,
                     &ready.key,
                     bundle,
                     policy,
@@ -165,16 +187,18 @@ impl<'p, C: CryptoProvider, M: Armor> Verifier<'p, C, M> {
         digest: &ArtifactDigest,
         bundle: &Bundle,
         policy: &PublicKeyVerificationPolicy,
-        _now: Timestamp,
+        now: Timestamp,
     ) -> Result<VerificationResult, Error>
         ensures { let crypto = crypto_by C.CryptoProvider M.Armor self.now.provider.now self.now.armor.now in
-            let terms : Terms = record { crypto = crypto; trust = self.now.trust; policy = PublicKey policy.now; now = _now } in
+            let terms : Terms = record { crypto = crypto; logs = self.now.material.logs; policy = PublicKey policy.now; now = now } in
             VerifiesHanded terms bundle.now (Digest digest.now.0 digest.now.1) result }
     {
         match prepare(alloc, Handed::Digest(digest.algorithm()), policy, bundle) {
             Ok(ready) => judge_had(
                 alloc,
                 self.provider,
+                &self.material.logs,
+                now,
                 &ready.key,
                 bundle,
                 policy,
@@ -185,10 +209,11 @@ impl<'p, C: CryptoProvider, M: Armor> Verifier<'p, C, M> {
         }
     }
 
-    /// Verifies the bundle over an artifact that is handed in. Errors, in order: `Bundle`, `Unbuilt` or
-    /// `Crypto` for the policy's key and its scheme, `UnsupportedArtifact` where the scheme signs the bytes
-    /// themselves or a digest that is needed wasn't handed in, `Crypto` where one has no hasher,
-    /// `ArtifactMismatch`, `SignatureInvalid`.
+    /// Verifies the bundle over an artifact that is handed in. Errors, in order: `Bundle`, `Crypto` for the
+    /// policy's key and its scheme, `UnsupportedArtifact` where the scheme signs the bytes themselves or a
+    /// digest that is needed wasn't handed in, `Crypto` where one has no hasher; where the policy verifies the
+    /// log, `TransparencyLog` for the first entry that isn't logged; `ArtifactMismatch`, `SignatureInvalid`;
+    /// `Unbuilt` where there is an entry.
     pub fn verify<P: Policy>(
         &self,
         alloc: Global,
@@ -198,7 +223,7 @@ impl<'p, C: CryptoProvider, M: Armor> Verifier<'p, C, M> {
         now: Timestamp,
     ) -> Result<VerificationResult, Error>
         ensures { let crypto = crypto_by C.CryptoProvider M.Armor self.now.provider.now self.now.armor.now in
-            let terms : Terms = record { crypto = crypto; trust = self.now.trust; policy = P.meant policy.now; now = now } in
+            let terms : Terms = record { crypto = crypto; logs = self.now.material.logs; policy = P.meant policy.now; now = now } in
             VerifiesHanded terms bundle.now (artifact_of artifact.entry) result }
     {
         match policy.kind() {
@@ -210,9 +235,11 @@ impl<'p, C: CryptoProvider, M: Armor> Verifier<'p, C, M> {
     }
 
     /// Reads the artifact to its end and verifies the bundle over it; gives also the digests that were
-    /// needed, in their order. Errors, in order: `Bundle`, `Unbuilt` or `Crypto` for the policy's key and
+    /// needed, in their order. Errors, in order: `Bundle`, `Crypto` for the policy's key and
     /// its scheme, `UnsupportedArtifact` where the scheme signs the bytes themselves, `Crypto` where a
-    /// digest has no hasher, `ArtifactRead`, `ArtifactMismatch`, `SignatureInvalid`.
+    /// digest has no hasher, `ArtifactRead`; where the policy verifies the log, `TransparencyLog` for the
+    /// first entry that isn't logged; `ArtifactMismatch`, `SignatureInvalid`; `Unbuilt` where there is an
+    /// entry.
     pub fn verify_reader_kept<A: ArtifactSource, P: Policy>(
         &self,
         alloc: Global,
@@ -223,7 +250,7 @@ impl<'p, C: CryptoProvider, M: Armor> Verifier<'p, C, M> {
         now: Timestamp,
     ) -> Result<Kept, Error>
         ensures { let crypto = crypto_by C.CryptoProvider M.Armor self.now.provider.now self.now.armor.now in
-            let terms : Terms = record { crypto = crypto; trust = self.now.trust; policy = P.meant policy.now; now = now } in
+            let terms : Terms = record { crypto = crypto; logs = self.now.material.logs; policy = P.meant policy.now; now = now } in
             VerifiesKept terms bundle.now (A.seen source.old) (A.seen source.new) max result }
     {
         match policy.kind() {
@@ -244,7 +271,7 @@ impl<'p, C: CryptoProvider, M: Armor> Verifier<'p, C, M> {
         now: Timestamp,
     ) -> Result<VerificationResult, Error>
         ensures { let crypto = crypto_by C.CryptoProvider M.Armor self.now.provider.now self.now.armor.now in
-            let terms : Terms = record { crypto = crypto; trust = self.now.trust; policy = P.meant policy.now; now = now } in
+            let terms : Terms = record { crypto = crypto; logs = self.now.material.logs; policy = P.meant policy.now; now = now } in
             Verifies terms bundle.now (A.seen source.old) (A.seen source.new) max result }
     {
         let kept = self.verify_reader_kept(alloc, source, max, bundle, policy, now)?;
@@ -265,8 +292,8 @@ pub fn verify<P: Policy, C: CryptoProvider, M: Armor>(
     now: Timestamp,
 ) -> Result<VerificationResult, Error>
     ensures { let crypto = crypto_by C.CryptoProvider M.Armor provider.now armor.now in
-        let terms : Terms = record { crypto = crypto; trust = trusted_root.now; policy = P.meant policy.now; now = now } in
-        VerifiesUnder terms bundle.now (artifact_of artifact.entry) result }
+        let terms : Terms = record { crypto = crypto; logs = logs_of trusted_root.now; policy = P.meant policy.now; now = now } in
+        VerifiesUnder trusted_root.now terms bundle.now (artifact_of artifact.entry) result }
 {
     let verifier = Verifier::new(alloc, provider, armor, trusted_root)?;
     Ok(verifier.verify(alloc, artifact, bundle, policy, now)?)

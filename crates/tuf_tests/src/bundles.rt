@@ -10,6 +10,7 @@ pub fn answer<X: AllocGlobal + Abort>(rt: &X, call: &str, given: &str) -> String
         "bundle" => word(rt, Bundle::from_json(rt.alloc(), given.as_bytes())),
         "bundle of byte ff" => word(rt, Bundle::from_json(rt.alloc(), &[0xff])),
         "bundle over hello" => over_hello(rt, given),
+        "structure" => structure_of(rt, given),
         _ => keys::answer(rt, call, given),
     }
 }
@@ -43,7 +44,8 @@ const MATERIALS: &str = r#"null => Field { member: VerificationMaterial }
 {"publicKey":{"hint":0},"tlogEntries":0} => Field { member: Hint }
 {"publicKey":{"hint":null}} => Ok
 {"publicKey":{},"tlogEntries":{}} => Field { member: TlogEntries }
-{"publicKey":{},"tlogEntries":[0],"timestampVerificationData":0} => Unbuilt(Entries)
+{"publicKey":{},"tlogEntries":[0],"timestampVerificationData":0} => Field { member: TlogEntries }
+{"publicKey":{},"tlogEntries":[{}],"timestampVerificationData":0} => Field { member: LogId }
 {"publicKey":{},"tlogEntries":[]} => Ok
 {"publicKey":{},"tlogEntries":null} => Ok
 {"publicKey":{},"timestampVerificationData":[]} => Field { member: TimestampVerificationData }
@@ -90,8 +92,19 @@ fn over_hello<X: AllocGlobal + Abort>(rt: &X, call: &str) -> String {
     match call {
         "log" => structure(rt, bundle, true),
         "no log" => structure(rt, bundle, false),
-        _ => printed(rt, bundle),
+        _ => shown(rt, bundle),
     }
+}
+
+// The parts of a bundle.
+fn shown<X: AllocGlobal + Abort>(rt: &X, bundle: Bundle) -> String {
+    let entries = bundle.verification_material.tlog_entries.len();
+    let text = format!(in rt.alloc();
+        "{:?} {:?} {:?} {entries}",
+        bundle.media_type, bundle.content, bundle.verification_material.content
+    );
+    drop(bundle);
+    good(rt, text)
 }
 
 fn structure<X: AllocGlobal + Abort>(rt: &X, bundle: Bundle, verifies_log: bool) -> String {
@@ -100,9 +113,24 @@ fn structure<X: AllocGlobal + Abort>(rt: &X, bundle: Bundle, verifies_log: bool)
     printed(rt, answer)
 }
 
+// The structure of a bundle where the log is verified.
+fn structure_of<X: AllocGlobal + Abort>(rt: &X, text: &str) -> String {
+    let bundle = good(rt, Bundle::from_json(rt.alloc(), text.as_bytes()));
+    structure(rt, bundle, true)
+}
+
+const ENTRIES: &str =
+    r#"{"messageSignature":{"signature":"AQ=="},"mediaType":"application/vnd.dev.sigstore.bundle.v0.3+json","verificationMaterial":{"publicKey":{},"tlogEntries":[*]}}"#;
+
+// Entries with and without a proof.
+const STRUCTURES: &str = r#" => Err(NoEntry)
+{"logId":{"keyId":""},"kindVersion":{"kind":"dsse","version":"0.0.1"},"canonicalizedBody":"","inclusionProof":{"rootHash":"AAAAAAAAAAAAAAAAAAAAAAAAAAAAAAAAAAAAAAAAAAA="}} => Ok(())
+{"logId":{"keyId":""},"kindVersion":{"kind":"dsse","version":"0.0.1"},"canonicalizedBody":""} => Err(NoProof)
+{"logId":{"keyId":""},"kindVersion":{"kind":"dsse","version":"0.0.1"},"canonicalizedBody":"","inclusionProof":{"rootHash":"AAAAAAAAAAAAAAAAAAAAAAAAAAAAAAAAAAAAAAAAAAA="}},{"logId":{"keyId":""},"kindVersion":{"kind":"dsse","version":"0.0.1"},"canonicalizedBody":""} => Err(NoProof)"#;
+
 // The digest's bytes are those of the base64 text.
 const OVER_HELLO: &str =
-    r#"copy => Bundle { media_type: "application/vnd.dev.sigstore.bundle.v0.3+json", content: MessageSignature(MessageSignature { message_digest: Some(MessageDigest { algorithm: Sha2256, digest: [44, 242, 77, 186, 95, 176, 163, 14, 38, 232, 59, 42, 197, 185, 226, 158, 27, 22, 30, 92, 31, 167, 66, 94, 115, 4, 51, 98, 147, 139, 152, 36] }), signature: [1] }), verification_material: VerificationMaterial { content: PublicKey { hint: Some("k") } } }
+    r#"copy => "application/vnd.dev.sigstore.bundle.v0.3+json" MessageSignature(MessageSignature { message_digest: Some(MessageDigest { algorithm: Sha2256, digest: [44, 242, 77, 186, 95, 176, 163, 14, 38, 232, 59, 42, 197, 185, 226, 158, 27, 22, 30, 92, 31, 167, 66, 94, 115, 4, 51, 98, 147, 139, 152, 36] }), signature: [1] }) PublicKey { hint: Some("k") } 0
 no log => Ok(())
 log => Err(NoEntry)"#;
 
@@ -112,5 +140,6 @@ fn bundles(rt: HostRuntime) {
     hold(&rt, "bundle of byte ff", " => Json");
     hold_filled(&rt, "bundle", MATERIAL, MATERIALS);
     hold_filled(&rt, "bundle", CONTENT, CONTENTS);
+    hold_filled(&rt, "structure", ENTRIES, STRUCTURES);
     hold(&rt, "bundle over hello", OVER_HELLO);
 }

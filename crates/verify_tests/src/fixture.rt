@@ -1,8 +1,8 @@
 // A run of the program over objects in memory: the fixture, with one of its parts changed.
-use crate::delegated;
 use crate::tables::{
     Change, bytes, change_in, failures, good, source, string, text_of, there, words,
 };
+use crate::{delegated, logged};
 use jiff::Timestamp;
 use sigstore_app_parts::{MemoryInputs, MemorySink, Which};
 use sigstore_crypto::{MemorySource, sha256};
@@ -56,6 +56,16 @@ timestamp
 kept timestamp
 unsigned
 trust
+logged
+unasked
+later log
+proof
+root of proof
+checkpoint
+promised time
+promised body
+log id
+timeless log id
 listed
 delegations
 delegated
@@ -99,6 +109,13 @@ fn second_version(change: Change) -> &str {
     change.of("second root", change.of("kept root", ""))
 }
 
+fn trust(change: Change) -> &str {
+    if logged::is_logged(change) {
+        return logged::trust(change);
+    }
+    change.of("trust", "{}")
+}
+
 // The entry of the trust file, with its length and digest.
 fn listed<X: AllocGlobal + Abort>(rt: &X, trust: &str) -> String {
     let digest = good(rt, sha256(trust.as_bytes()).to_hex(rt.alloc()));
@@ -114,7 +131,7 @@ fn targets<X: AllocGlobal + Abort>(rt: &X, change: Change) -> String {
     if change.part == "delegated" {
         return delegated::delegating(rt, change.text, SPKI);
     }
-    let entry = listed(rt, change.of("trust", "{}"));
+    let entry = listed(rt, trust(change));
     let listed = change.of("listed", entry.as_str());
     let delegations = change.of("delegations", "");
     let text = format!(in rt.alloc();
@@ -179,7 +196,7 @@ fn repository<X: AllocGlobal + Abort>(rt: &X, change: Change, targets: &str) -> 
         targets,
     );
     put_delegated(rt, &mut repo, change);
-    let trust = change.of("file", change.of("trust", "{}"));
+    let trust = change.of("file", trust(change));
     let file = name_of(change, DIGEST_NAME, "trusted_root.json");
     good(rt, repo.put_target(rt.alloc(), file, trust.as_bytes()));
     repo
@@ -235,6 +252,15 @@ fn sign_delegated<X: AllocGlobal + Abort>(rt: &X, change: Change, rows: &mut Str
     }
 }
 
+fn sign_entry<X: AllocGlobal + Abort>(rt: &X, change: Change, rows: &mut String) {
+    if logged::is_logged(change) {
+        sign(rt, change, rows, "entry", logged::SIGNED);
+        let payload = logged::payload(rt, change);
+        sign(rt, change, rows, "promise", payload.as_str());
+        drop(payload);
+    }
+}
+
 fn provider<X: AllocGlobal + Abort>(rt: &X, change: Change, root: &str, targets: &str) -> Bytes {
     let mut rows = String::new(rt.alloc());
     sign(rt, change, &mut rows, "root", root);
@@ -244,6 +270,7 @@ fn provider<X: AllocGlobal + Abort>(rt: &X, change: Change, root: &str, targets:
     sign(rt, change, &mut rows, "snapshot", snapshot(change));
     sign(rt, change, &mut rows, "targets", targets);
     sign_delegated(rt, change, &mut rows);
+    sign_entry(rt, change, &mut rows);
     sign(
         rt,
         change,
@@ -254,8 +281,16 @@ fn provider<X: AllocGlobal + Abort>(rt: &X, change: Change, root: &str, targets:
     Bytes::from_vec(rows.into_bytes())
 }
 
+// The policy asks for the log where the bundle has an entry, unless the change says otherwise.
+fn skip(change: Change) -> &str {
+    if logged::is_logged(change) && change.part != "unasked" {
+        return "";
+    }
+    change.of("skip", "skip tlog\n")
+}
+
 fn policy<X: AllocGlobal + Abort>(rt: &X, change: Change) -> Bytes {
-    let (key, skip) = (change.of("key", SPKI), change.of("skip", "skip tlog\n"));
+    let (key, skip) = (change.of("key", SPKI), skip(change));
     let text = good(rt, format!(in rt.alloc(); "key {key}\n{skip}"));
     Bytes::from_vec(text.into_bytes())
 }
@@ -273,12 +308,20 @@ fn message(change: Change) -> &str {
     change.of("content", MESSAGE)
 }
 
+fn material<X: AllocGlobal + Abort>(rt: &X, change: Change) -> String {
+    if logged::is_logged(change) {
+        return logged::material(rt, change);
+    }
+    string(rt, change.of("material", r#""publicKey":{"hint":"k"}"#))
+}
+
 fn made_bundle<X: AllocGlobal + Abort>(rt: &X, change: Change) -> Bytes {
-    let material = change.of("material", r#""publicKey":{"hint":"k"}"#);
+    let material = material(rt, change);
     let content = message(change);
     let text = format!(in rt.alloc();
         r#"{{"mediaType":"application/vnd.dev.sigstore.bundle.v0.3+json","verificationMaterial":{{{material}}},{content}}}"#
     );
+    drop(material);
     Bytes::from_vec(good(rt, text).into_bytes())
 }
 

@@ -8,6 +8,8 @@ mod fixture;
 #[cfg(test)]
 mod inputs;
 #[cfg(test)]
+mod logged;
+#[cfg(test)]
 mod runs;
 #[cfg(test)]
 mod tables;

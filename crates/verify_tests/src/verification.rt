@@ -6,12 +6,12 @@ use crate::fixture;
 use crate::tables::{
     Change, change_in, debug, good, halves, hold, number, source, text, there, word,
 };
-use foundation::{Duplicate, NoMemory};
+use foundation::{Duplicate, NoMemory, Sequence};
 use jiff::Timestamp;
 use sigstore_crypto::{CryptoProvider, ReadError, SigningScheme, sha256, sha384, sha512};
 use sigstore_types::{
     Armor, Artifact, ArtifactDigest, Bundle, Bytes, DerPublicKey, DigestBytes, Form, HashAlgorithm,
-    LogKeyId, MessageDigest, MessageSignature, SignatureBytes, SignatureContent, Text, TrustedRoot,
+    MessageDigest, MessageSignature, SignatureBytes, SignatureContent, Text, TrustedRoot,
     VerificationMaterial, VerificationMaterialContent,
 };
 use sigstore_verify::*;
@@ -162,7 +162,7 @@ fn sample<X: AllocGlobal + Abort>(rt: &X, given: &str) -> Error {
         },
         6..=11 => Error::Certificate(certificate(number)),
         12 => Error::TransparencyLog(TransparencyLogError::UnknownLog {
-            log_id: good(rt, LogKeyId::from_bytes(rt.alloc(), b"log")),
+            log_id: sha256(b"log"),
         }),
         13..=18 => Error::TransparencyLog(log(number)),
         19..=21 => Error::Timestamp(timestamp(number)),
@@ -294,6 +294,7 @@ fn bundle<X: AllocGlobal + Abort>(rt: &X, change: Change) -> Bundle {
         }),
         verification_material: VerificationMaterial {
             content: VerificationMaterialContent::PublicKey { hint: None },
+            tlog_entries: Sequence::new(rt.alloc()),
         },
     }
 }

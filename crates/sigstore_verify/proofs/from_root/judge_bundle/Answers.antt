@@ -14,4 +14,4 @@ returns-in-Err-read_bundle g c = bundle_refused _ _ c.in-Ok.ensures.ok c.in-Ok-n
 pub returns : goal.returns
 returns g c =
     judged _ _ c.in-Ok.ensures.ok c.in-Ok-new.ensures.ok c.in-Ok-read_bundle.ensures.ok
-    (rw (c.in-Ok-new.ensures.provider, c.in-Ok-new.ensures.armor, c.in-Ok-new.ensures.trust) at c.verify_reader_kept-kept.ensures)
+    (rw (c.in-Ok-new.ensures.provider, c.in-Ok-new.ensures.armor, c.in-Ok-new.ensures.logs) at c.verify_reader_kept-kept.ensures)

@@ -14,7 +14,7 @@ returns-in-Ok-read_digests g c =
     let ready = c.in-Ok.ready in
     let hashed : list_all is_hashed c.as_slice.result.now ≡ true =
     ap (list_all is_hashed) c.as_slice.ensures ∙ prepared_hashed read_kind c.args.policy.now c.args.bundle.now ready refl c.in-Ok.ensures.ok in
-    after_reading (crypto_by g.C.CryptoProvider g.M.Armor c.args.self.now.provider.now c.args.self.now.armor.now) c.args.self.now.trust c.args._now c.args.policy.now c.args.bundle.now
+    after_reading (crypto_by g.C.CryptoProvider g.M.Armor c.args.self.now.provider.now c.args.self.now.armor.now) c.args.self.now.material.logs c.args.now c.args.policy.now c.args.bundle.now
     before after c.args.max ready c.in-Ok-read_digests.digests c.keep.result c.in-Ok.ensures.ok
     (subst (λ l. Takes before after c.args.max l (Ok c.in-Ok-read_digests.digests)) c.as_slice.ensures (c.in-Ok-read_digests.ensures hashed))
     c.keep.ensures.accepted c.keep.ensures.refused
@@ -26,6 +26,6 @@ returns-in-Ok g c =
     let ready = c.in-Ok.ready in
     let hashed : list_all is_hashed c.as_slice.result.now ≡ true =
     ap (list_all is_hashed) c.as_slice.ensures ∙ prepared_hashed read_kind c.args.policy.now c.args.bundle.now ready refl c.in-Ok.ensures.ok in
-    reading_refused (crypto_by g.C.CryptoProvider g.M.Armor c.args.self.now.provider.now c.args.self.now.armor.now) c.args.self.now.trust c.args._now c.args.policy.now c.args.bundle.now
+    reading_refused (crypto_by g.C.CryptoProvider g.M.Armor c.args.self.now.provider.now c.args.self.now.armor.now) c.args.self.now.material.logs c.args.now c.args.policy.now c.args.bundle.now
     before after c.args.max ready c.in-Err-read_digests.e c.in-Ok.ensures.ok
     (subst (λ l. Takes before after c.args.max l (Err c.in-Err-read_digests.e)) c.as_slice.ensures (c.in-Err-read_digests.ensures hashed))
