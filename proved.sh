@@ -5,11 +5,20 @@ program=$app/out/sigstore_app
 asking=$top/crates/sigstore_questions_app
 questions=$asking/out/sigstore_questions_app
 
-# A program's crates, lowest first: those of this repository in its line of crates.txt, and itself.
+# A program's crates, lowest first: those of this repository that its line of crates.txt leads to, and itself.
 crates() {
-    for name in $(sed -n "s/^$1://p" "$top/crates.txt") "$1"; do
-        [ ! -d "$top/crates/$name" ] || echo "$name"
-    done
+    awk -v program="$1" '
+        function add(name,    parts, n, i) {
+            if (name in seen || !(name in uses)) return
+            seen[name]
+            n = split(uses[name], parts, " ")
+            for (i = 1; i <= n; i++) add(parts[i])
+            print name
+        }
+        { sub(/#.*/, "") }
+        /:/ { name = $0; sub(/:.*/, "", name); sub(/^[^:]*:/, ""); uses[name] = $0 }
+        END { add(program) }
+    ' "$top/crates.txt"
 }
 
 # Whether a proved program is there and no source of its crates is newer.
