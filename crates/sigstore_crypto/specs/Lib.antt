@@ -1,5 +1,6 @@
 pub mod Claims
 pub mod Coming
+pub mod Crypto
 pub mod Digest
 pub mod Error
 pub mod Good
