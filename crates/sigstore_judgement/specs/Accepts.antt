@@ -1,0 +1,65 @@
+-- What it means that a bundle is accepted, told without any order of checks.
+use Rattle.std.specs.Prelude.{◌≡◌, ◌↔◌, ℕ, List, Bool, true, false, ⊤, Some, Ok, IsTrue}
+use Rattle.std.specs.List.{AllByRecursion}
+use Rattle.sigstore_types_parts.specs.declared.hash_algorithm.HashAlgorithm.{HashAlgorithm}
+use Rattle.sigstore_types.specs.declared.bundle.Bundle.{Bundle}
+use Rattle.sigstore_types.specs.Bundle.{entries_in}
+use Rattle.sigstore_crypto.specs.declared.scheme.SigningScheme.{SigningScheme}
+use Rattle.sigstore_crypto.specs.declared.key.VerificationKey.{VerificationKey}
+use Rattle.sigstore_crypto.specs.Key.{spki_key_of}
+use Rattle.sigstore_crypto.specs.Good.{is_good_over}
+use Rattle.sigstore_entries.specs.declared.entry.TransparencyLogEntry.{TransparencyLogEntry}
+use Rattle.sigstore_log.specs.Logged.{Logged}
+use Rattle.sigstore_judgement.specs.declared.evidence.Evidence.{Evidence}
+use Rattle.sigstore_judgement.specs.declared.policy.PublicKeyVerificationPolicy.{PublicKeyVerificationPolicy}
+use Rattle.sigstore_judgement.specs.declared.report.VerificationResult.{VerificationResult}
+use Rattle.sigstore_judgement.specs.Artifact.{Artifact, digest_of, bytes_of, kind_of}
+use Rattle.sigstore_judgement.specs.Content.{scheme_of, needed_of, signs_digest, supported_of, subject_in, signature_in, IsBound}
+use Rattle.sigstore_judgement.specs.Entries.{told_if, Describes}
+use Rattle.sigstore_judgement.specs.Evidence.{report_of}
+use Rattle.sigstore_judgement.specs.Grounds.{Grounds, Terms}
+use Rattle.sigstore_judgement.specs.Judged.{judged_of}
+use Rattle.sigstore_judgement.specs.Signer.{Signer, Managed, key_in, IsSigner}
+
+-- where the policy verifies the log, each entry is logged
+abbrev pub AreLogged : Grounds → Bool → List TransparencyLogEntry → Type 0
+AreLogged grounds true entries = AllByRecursion (Logged grounds.crypto.accepts grounds.material.logs grounds.now) entries
+AreLogged grounds false entries = ⊤
+
+-- under a managed key: the log does, and what is found are the times that it promised
+pub record ManagedVouches (grounds : Grounds) (policy : PublicKeyVerificationPolicy) (bundle : Bundle) (evidence : Evidence) : Type 0 where
+  pub logged : AreLogged grounds policy.verify_tlog (entries_in bundle)
+  pub promised : evidence.promised ≡ told_if policy.verify_tlog (entries_in bundle)
+
+-- what vouches for the signer, and what is found of it
+abbrev pub Vouches : Grounds → Signer → Bundle → Evidence → Type 0
+Vouches grounds (Managed policy) bundle evidence = ManagedVouches grounds policy bundle evidence
+
+-- Someone signed whom the policy asks for; their key is read, and with the content it has a scheme; the artifact has what is signed and each
+-- digest that is needed; the signer is vouched for; what the bundle tells of its artifact is the artifact's; the signature over what the
+-- scheme signs is good under the signer's key; each entry describes the bundle; and the report is made of who signed and what was found.
+pub record Accepts (terms : Terms) (bundle : Bundle) (artifact : Artifact) (report : VerificationResult) : Type 0 where
+  pub signer : Signer
+  pub is : IsSigner terms.policy bundle signer
+  pub key : VerificationKey
+  pub read : spki_key_of (key_in signer) ≡ Ok key
+  pub scheme : SigningScheme
+  pub chosen : scheme_of key.scheme bundle.content ≡ Ok scheme
+  pub needed : List HashAlgorithm
+  pub needs : needed_of scheme bundle.content ≡ Ok needed
+  pub supported : supported_of (kind_of artifact) (signs_digest scheme bundle.content) needed ≡ Ok tt
+  pub evidence : Evidence
+  pub vouches : Vouches terms.grounds signer bundle evidence
+  pub bound : IsBound bundle.content artifact
+  pub subject : List ℕ
+  pub signs : subject_in scheme bundle.content (digest_of artifact) (bytes_of artifact) ≡ Some subject
+  pub signed :
+      IsTrue (is_good_over terms.grounds.crypto.accepts (record { scheme = scheme; key = key.key }) subject (signature_in bundle.content))
+  pub described : AllByRecursion (Describes terms.grounds signer bundle artifact) (entries_in bundle)
+  pub shows : report ≡ report_of signer evidence
+
+-- the judgement accepts exactly the bundles that are to be accepted, with their report
+abbrev pub AcceptsExactly : Type 0
+AcceptsExactly =
+    (terms : Terms) (bundle : Bundle) (artifact : Artifact) (report : VerificationResult)
+    → (judged_of terms bundle artifact ≡ Ok report) ↔ Accepts terms bundle artifact report

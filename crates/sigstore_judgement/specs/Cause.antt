@@ -1,0 +1,151 @@
+-- What each refusal of the judgement tells: of the trust file, the bundle, the policy and the artifact (Sigstore bundle format; FIPS 180-4,
+-- FIPS 186-5; RFC 6962).
+use Rattle.std.specs.Prelude.{◌≡◌, ◌≢◌, ◌⊎◌, ℕ, List, [], Contains, Bool, true, false, None, Result, Ok, Err, ⊤, ⊥}
+use Rattle.std.specs.List.{list_all}
+use Rattle.foundation.specs.Watched.{Watched}
+use Rattle.sigstore_types_parts.specs.declared.form.Form.{Form}
+use Rattle.sigstore_types_parts.specs.declared.form.Form.TheVariants as form
+use Rattle.sigstore_types_parts.specs.declared.error.TypesError.TheVariants as types
+use Rattle.sigstore_types_parts.specs.declared.hash_algorithm.HashAlgorithm.{HashAlgorithm}
+use Rattle.sigstore_types.specs.declared.bundle.Bundle.{Bundle}
+use Rattle.sigstore_types.specs.Bundle.{bundle_of_bytes, entries_in}
+use Rattle.sigstore_types.specs.declared.trusted_root.TrustedRoot.{TrustedRoot}
+use Rattle.sigstore_types.specs.TrustedRoot.{trusted_root_of_bytes}
+use Rattle.sigstore_crypto.specs.declared.key.VerificationKey.{VerificationKey}
+use Rattle.sigstore_crypto.specs.declared.scheme.SigningScheme.{SigningScheme}
+use Rattle.sigstore_crypto.specs.Digest.{is_hashed}
+use Rattle.sigstore_crypto.specs.Key.{spki_key_of}
+use Rattle.sigstore_entries.specs.declared.entry.TransparencyLogEntry.{TransparencyLogEntry}
+use Rattle.sigstore_judgement.specs.declared.error.Error.{Error}
+use Rattle.sigstore_judgement.specs.declared.error.TransparencyLogError.{TransparencyLogError}
+use Rattle.sigstore_judgement.specs.declared.error.Error.TheVariants as verify
+use Rattle.sigstore_judgement.specs.declared.trust.Material.{Material}
+use Rattle.sigstore_judgement.specs.Artifact.{Read, digest_of}
+use Rattle.sigstore_judgement.specs.Content.{scheme_of, needed_of, signs_digest, is_signed, IsOfOther}
+use Rattle.sigstore_judgement.specs.Error.{error_of_crypto}
+use Rattle.sigstore_judgement.specs.Policy.{Meaning, PublicKey}
+use Rattle.sigstore_judgement.specs.Promise.{ReadWhole, ReadCause}
+use Rattle.sigstore_judgement.specs.Signer.{Signer, key_in, IsSigner}
+use Rattle.sigstore_judgement.specs.Trust.{material_of}
+use Rattle.sigstore_judgement.specs.Under.{Asked, terms_of, trust_fault, bundle_fault}
+use Rattle.sigstore_judgement.specs.Unlogged.{HasUnlogged}
+
+-- a lower definition refuses, and its refusal is this one here
+abbrev pub IsRefusedAs : {T X : Type 0} → (X → Error) → Result T X → Error → Type 0
+IsRefusedAs {T} {X} error_of r e = (x : X) × (r ≡ Err x) × (error_of x ≡ e)
+
+-- the bundle's bytes are read as this
+abbrev pub IsRead : List ℕ → Bundle → Type 0
+IsRead bytes reading = bundle_of_bytes bytes ≡ Ok reading
+
+-- the trust file is read, and this is kept of it
+pub record IsKept (file : List ℕ) (material : Material) : Type 0 where
+  pub trust : TrustedRoot
+  pub trust_read : trusted_root_of_bytes file ≡ Ok trust
+  pub usable : material_of trust ≡ Ok material
+
+-- ---- those that rest on the trust file, the bundle's bytes and the reader alone
+
+-- the trust file is read, and no verifier can be made of it
+abbrev pub IsUnusable : List ℕ → Error → Type 0
+IsUnusable file e = (trust : TrustedRoot) × (trusted_root_of_bytes file ≡ Ok trust) × (material_of trust ≡ Err e)
+
+-- the bundle is of a form that isn't built; or it is read and has an entry, and what one says isn't compared with its bundle yet
+pub data IsUnbuilt (bundle : List ℕ) (unbuilt : Form) : Type 0 where
+  form_unread : bundle_of_bytes bundle ≡ Err (types.Unbuilt unbuilt) → IsUnbuilt bundle unbuilt
+  entry_uncompared : (reading : Bundle) → IsRead bundle reading → entries_in reading ≢ [] → unbuilt ≡ form.Binding
+      → IsUnbuilt bundle unbuilt
+
+abbrev pub SharedCause : Asked → List ℕ → Watched (List ℕ) → Watched (List ℕ) → Error → Type 0
+SharedCause asked file source source' verify.InvalidBundle = IsRefusedAs bundle_fault (bundle_of_bytes asked.bundle) verify.InvalidBundle
+SharedCause asked file source source' verify.InvalidTrustRoot = IsUnusable file verify.InvalidTrustRoot
+SharedCause asked file source source' verify.Types = IsUnusable file verify.Types
+SharedCause asked file source source' verify.Crypto = IsUnusable file verify.Crypto
+SharedCause asked file source source' verify.TrustRoot = IsRefusedAs trust_fault (trusted_root_of_bytes file) verify.TrustRoot
+SharedCause asked file source source' verify.TrustedCertificate = IsUnusable file verify.TrustedCertificate
+SharedCause asked file source source' (verify.ArtifactRead fault) = ReadCause source source' asked.max fault
+SharedCause asked file source source' (verify.Unbuilt unbuilt) = IsUnbuilt asked.bundle unbuilt
+SharedCause asked file source source' verify.NoMemory = ⊤
+SharedCause asked file source source' _ = ⊥
+
+-- ---- those that rest on the policy, and so on who signed
+
+-- whether the policy verifies the log
+abbrev pub asks_log : Meaning → Bool
+asks_log (PublicKey policy) = policy.verify_tlog
+
+-- the bundle is read, and this signer signed it under the policy
+pub record HasSigner (asked : Asked) : Type 0 where
+  pub reading : Bundle
+  pub read : IsRead asked.bundle reading
+  pub signer : Signer
+  pub is : IsSigner asked.policy reading signer
+
+-- their key is read, and with the content it has this scheme
+pub record HasScheme (asked : Asked) : Type 0 where
+  pub has : HasSigner asked
+  pub key : VerificationKey
+  pub key_read : spki_key_of (key_in has.signer) ≡ Ok key
+  pub scheme : SigningScheme
+  pub chosen : scheme_of key.scheme has.reading.content ≡ Ok scheme
+
+-- the policy verifies the log, and the bundle that was read has no entry, or one without a proof
+pub data LacksEntry (asked : Asked) : Type 0 where
+  no_entry : (reading : Bundle) → IsRead asked.bundle reading → asks_log asked.policy ≡ true → entries_in reading ≡ [] → LacksEntry asked
+  no_proof : (reading : Bundle) (entry : TransparencyLogEntry) → IsRead asked.bundle reading → asks_log asked.policy ≡ true
+      → Contains (entries_in reading) entry → entry.inclusion_proof ≡ None → LacksEntry asked
+
+-- the signer's key isn't read; or it and the content have no scheme; or a digest that is needed has no hasher
+pub data LacksScheme (asked : Asked) (e : Error) : Type 0 where
+  key_unread : (has : HasSigner asked) → IsRefusedAs error_of_crypto (spki_key_of (key_in has.signer)) e → LacksScheme asked e
+  no_scheme : (has : HasSigner asked) (key : VerificationKey) → spki_key_of (key_in has.signer) ≡ Ok key
+      → IsRefusedAs error_of_crypto (scheme_of key.scheme has.reading.content) e → LacksScheme asked e
+  no_hasher : (is : HasScheme asked) (needed : List HashAlgorithm) → needed_of is.scheme is.has.reading.content ≡ Ok needed
+      → list_all is_hashed needed ≡ false → e ≡ verify.Crypto → LacksScheme asked e
+
+-- what is signed is the artifact itself, and only its digests are had
+pub record LacksDigest (asked : Asked) : Type 0 where
+  pub is : HasScheme asked
+  pub lacking : signs_digest is.scheme is.has.reading.content ≡ false
+
+-- the artifact was read whole, and what the bundle tells of its artifact is another's
+pub record IsOfAnother (asked : Asked) (source source' : Watched (List ℕ)) : Type 0 where
+  pub reading : Bundle
+  pub read : IsRead asked.bundle reading
+  pub bytes : List ℕ
+  pub whole : ReadWhole source source' asked.max bytes
+  pub other : IsOfOther reading.content (Read bytes)
+
+-- the artifact was read whole, and the bundle's signature isn't good over what the scheme signs under the signer's key
+pub record IsUnsigned (asked : Asked) (source source' : Watched (List ℕ)) : Type 0 where
+  pub is : HasScheme asked
+  pub bytes : List ℕ
+  pub whole : ReadWhole source source' asked.max bytes
+  pub unsigned :
+      is_signed asked.crypto.accepts (record { scheme = is.scheme; key = is.key.key }) is.has.reading.content (digest_of (Read bytes)) None
+      ≡ false
+
+-- the policy verifies the log, the artifact was read whole, and some entry of the bundle isn't logged by the trust file's logs
+pub record IsUnlogged (asked : Asked) (file : List ℕ) (source source' : Watched (List ℕ)) (fault : TransparencyLogError) : Type 0 where
+  pub material : Material
+  pub kept : IsKept file material
+  pub reading : Bundle
+  pub read : IsRead asked.bundle reading
+  pub bytes : List ℕ
+  pub whole : ReadWhole source source' asked.max bytes
+  pub asks : asks_log asked.policy ≡ true
+  pub unlogged : HasUnlogged (terms_of asked material).grounds (entries_in reading) fault
+
+abbrev pub SignedCause : Asked → List ℕ → Watched (List ℕ) → Watched (List ℕ) → Error → Type 0
+SignedCause asked file source source' verify.SignatureInvalid = IsUnsigned asked source source'
+SignedCause asked file source source' verify.ArtifactMismatch = IsOfAnother asked source source'
+SignedCause asked file source source' verify.UnsupportedArtifact = LacksDigest asked
+SignedCause asked file source source' (verify.TransparencyLog fault) = IsUnlogged asked file source source' fault
+SignedCause asked file source source' verify.Crypto = LacksScheme asked verify.Crypto
+SignedCause asked file source source' verify.Bundle = LacksEntry asked
+SignedCause asked file source source' _ = ⊥
+
+-- ---- each refusal of the judgement, by its number and name
+
+abbrev pub JudgeCause : Asked → List ℕ → Watched (List ℕ) → Watched (List ℕ) → Error → Type 0
+JudgeCause asked file source source' e = SharedCause asked file source source' e ⊎ SignedCause asked file source source' e

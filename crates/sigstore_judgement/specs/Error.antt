@@ -1,0 +1,150 @@
+-- The refusals: their numbers and names, and what a lower crate's refusal is here.
+use Rattle.std.specs.Prelude.{ℕ, List, codes}
+use Rattle.sigstore_types_parts.specs.declared.error.TypesError.{TypesError}
+use Rattle.sigstore_types_parts.specs.declared.error.TypesError.TheVariants as types
+use Rattle.sigstore_crypto.specs.declared.error.Error.{Error as CryptoError}
+use Rattle.sigstore_crypto.specs.declared.error.Error.TheVariants as crypto
+use Rattle.sigstore_log.specs.declared.error.LogError.{LogError}
+use Rattle.sigstore_log.specs.declared.error.LogError.TheVariants as entry
+use Rattle.sigstore_judgement.specs.declared.error.CertificateError.{CertificateError}
+use Rattle.sigstore_judgement.specs.declared.error.CertificateError.TheVariants.{Malformed, ChainInvalid, NoValidAuthority}
+use Rattle.sigstore_judgement.specs.declared.error.CertificateError.TheVariants.{NotYetValid, Expired, Sct}
+use Rattle.sigstore_judgement.specs.declared.error.TransparencyLogError.{TransparencyLogError}
+use Rattle.sigstore_judgement.specs.declared.error.TransparencyLogError.TheVariants as log
+use Rattle.sigstore_judgement.specs.declared.error.TimestampError.{TimestampError}
+use Rattle.sigstore_judgement.specs.declared.error.TimestampError.TheVariants as stamp
+use Rattle.sigstore_judgement.specs.declared.error.Error.{Error}
+use Rattle.sigstore_judgement.specs.declared.error.Error.TheVariants.{IdentityMismatch, IssuerMismatch, SignatureInvalid}
+use Rattle.sigstore_judgement.specs.declared.error.Error.TheVariants.{ArtifactMismatch, UnsupportedArtifact, Certificate}
+use Rattle.sigstore_judgement.specs.declared.error.Error.TheVariants.{TransparencyLog, Timestamp, InvalidBundle}
+use Rattle.sigstore_judgement.specs.declared.error.Error.TheVariants.{UnsupportedBundle, InvalidTrustRoot, Types, Crypto}
+use Rattle.sigstore_judgement.specs.declared.error.Error.TheVariants.{Bundle, TrustRoot, TrustedCertificate, ArtifactRead}
+use Rattle.sigstore_judgement.specs.declared.error.Error.TheVariants.{NoMemory, Unbuilt}
+
+abbrev pub certificate_number_of : CertificateError → ℕ
+certificate_number_of Malformed = 6
+certificate_number_of ChainInvalid = 7
+certificate_number_of (NoValidAuthority time) = 8
+certificate_number_of (NotYetValid time not_before) = 9
+certificate_number_of (Expired time not_after) = 10
+certificate_number_of Sct = 11
+
+abbrev pub certificate_name_of : CertificateError → List ℕ
+certificate_name_of Malformed = codes "CertificateMalformed"
+certificate_name_of ChainInvalid = codes "ChainInvalid"
+certificate_name_of (NoValidAuthority time) = codes "NoValidAuthority"
+certificate_name_of (NotYetValid time not_before) = codes "NotYetValid"
+certificate_name_of (Expired time not_after) = codes "CertificateExpired"
+certificate_name_of Sct = codes "Sct"
+
+abbrev pub log_number_of : TransparencyLogError → ℕ
+log_number_of (log.UnknownLog log_id) = 12
+log_number_of log.InclusionProof = 13
+log_number_of log.Checkpoint = 14
+log_number_of log.InclusionPromise = 15
+log_number_of log.EntryMismatch = 16
+log_number_of log.IntegratedTime = 17
+log_number_of log.MalformedEntry = 18
+
+abbrev pub log_name_of : TransparencyLogError → List ℕ
+log_name_of (log.UnknownLog log_id) = codes "UnknownLog"
+log_name_of log.InclusionProof = codes "InclusionProof"
+log_name_of log.Checkpoint = codes "Checkpoint"
+log_name_of log.InclusionPromise = codes "InclusionPromise"
+log_name_of log.EntryMismatch = codes "EntryMismatch"
+log_name_of log.IntegratedTime = codes "IntegratedTime"
+log_name_of log.MalformedEntry = codes "MalformedEntry"
+
+abbrev pub timestamp_number_of : TimestampError → ℕ
+timestamp_number_of stamp.Invalid = 19
+timestamp_number_of (stamp.OutsideAuthorityValidity time) = 20
+timestamp_number_of stamp.NoVerifiedTimestamp = 21
+
+abbrev pub timestamp_name_of : TimestampError → List ℕ
+timestamp_name_of stamp.Invalid = codes "TimestampInvalid"
+timestamp_name_of (stamp.OutsideAuthorityValidity time) = codes "OutsideAuthorityValidity"
+timestamp_name_of stamp.NoVerifiedTimestamp = codes "NoVerifiedTimestamp"
+
+abbrev pub number_of : Error → ℕ
+number_of (IdentityMismatch expected actual) = 1
+number_of (IssuerMismatch expected actual) = 2
+number_of SignatureInvalid = 3
+number_of ArtifactMismatch = 4
+number_of UnsupportedArtifact = 5
+number_of (Certificate fault) = certificate_number_of fault
+number_of (TransparencyLog fault) = log_number_of fault
+number_of (Timestamp fault) = timestamp_number_of fault
+number_of InvalidBundle = 22
+number_of UnsupportedBundle = 23
+number_of InvalidTrustRoot = 24
+number_of Types = 25
+number_of Crypto = 26
+number_of Bundle = 27
+number_of TrustRoot = 28
+number_of TrustedCertificate = 29
+number_of (ArtifactRead fault) = 30
+number_of NoMemory = 31
+number_of (Unbuilt form) = 90
+
+-- the name as it is printed
+abbrev pub name_of : Error → List ℕ
+name_of (IdentityMismatch expected actual) = codes "IdentityMismatch"
+name_of (IssuerMismatch expected actual) = codes "IssuerMismatch"
+name_of SignatureInvalid = codes "SignatureInvalid"
+name_of ArtifactMismatch = codes "ArtifactMismatch"
+name_of UnsupportedArtifact = codes "UnsupportedArtifact"
+name_of (Certificate fault) = certificate_name_of fault
+name_of (TransparencyLog fault) = log_name_of fault
+name_of (Timestamp fault) = timestamp_name_of fault
+name_of InvalidBundle = codes "InvalidBundle"
+name_of UnsupportedBundle = codes "UnsupportedBundle"
+name_of InvalidTrustRoot = codes "InvalidTrustRoot"
+name_of Types = codes "Types"
+name_of Crypto = codes "Crypto"
+name_of Bundle = codes "Bundle"
+name_of TrustRoot = codes "TrustRoot"
+name_of TrustedCertificate = codes "TrustedCertificate"
+name_of (ArtifactRead fault) = codes "ArtifactRead"
+name_of NoMemory = codes "NoMemory"
+name_of (Unbuilt form) = codes "Unbuilt"
+
+-- an unusable key, or a key and a digest that have no scheme
+abbrev pub error_of_crypto : CryptoError → Error
+error_of_crypto crypto.Signing = Crypto
+error_of_crypto (crypto.Verification fault) = Crypto
+error_of_crypto crypto.InvalidKeyFormat = Crypto
+error_of_crypto crypto.UnsupportedAlgorithm = Crypto
+error_of_crypto (crypto.Checkpoint fault) = Crypto
+error_of_crypto (crypto.InvalidCertificate fault) = Crypto
+error_of_crypto (crypto.InvalidKey rule) = Crypto
+error_of_crypto crypto.NoMemory = NoMemory
+
+-- what a refusal of an entry is of its bundle
+abbrev pub error_of_log : LogError → Error
+error_of_log entry.InclusionProof = TransparencyLog log.InclusionProof
+error_of_log entry.Checkpoint = TransparencyLog log.Checkpoint
+error_of_log entry.MalformedEntry = TransparencyLog log.MalformedEntry
+error_of_log (entry.UnknownLog log_id) = TransparencyLog (log.UnknownLog log_id)
+error_of_log entry.InclusionPromise = TransparencyLog log.InclusionPromise
+error_of_log entry.IntegratedTime = TransparencyLog log.IntegratedTime
+error_of_log entry.NoMemory = NoMemory
+
+-- A refusal of the crates of values: want of memory and a form that isn't built stay what they are, and every other is this one.
+abbrev pub lowered : Error → TypesError → Error
+lowered otherwise types.NoMemory = NoMemory
+lowered otherwise (types.Unbuilt form) = Unbuilt form
+lowered otherwise _ = otherwise
+
+-- ---- a lower call's value, or what its refusal is here
+
+abbrev pub by_crypto : {A : Type 0} → Result A CryptoError → Result A Error
+by_crypto (Ok x) = Ok x
+by_crypto (Err e) = Err (error_of_crypto e)
+
+abbrev pub by_types : {A : Type 0} → Result A TypesError → Result A Error
+by_types (Ok x) = Ok x
+by_types (Err e) = Err (lowered Bundle e)
+
+abbrev pub by_log : {A : Type 0} → Result A LogError → Result A Error
+by_log (Ok x) = Ok x
+by_log (Err e) = Err (error_of_log e)

@@ -1,0 +1,31 @@
+-- What a bundle is judged by, whoever signed it.
+use Rattle.jiff_core.specs.declared.timestamp.Timestamp.{Timestamp}
+use Rattle.sigstore_types_parts.specs.declared.armor.Armor as armor
+use Rattle.sigstore_crypto.specs.declared.provider.CryptoProvider as provider
+use Rattle.sigstore_crypto.specs.Crypto.{Crypto, crypto_by}
+use Rattle.sigstore_judgement.specs.declared.grounds.Grounds as declared
+use Rattle.sigstore_judgement.specs.declared.trust.Material.{Material}
+use Rattle.sigstore_judgement.specs.declared.verifier.Verifier.{Verifier}
+use Rattle.sigstore_judgement.specs.Policy.{Meaning}
+
+-- who decides signatures and reads armoured texts, what a verifier keeps of the trust file, and the moment
+pub record Grounds : Type 0 where
+  pub crypto : Crypto
+  pub material : Material
+  pub now : Timestamp
+
+-- and under which policy
+pub record Terms : Type 0 where
+  pub grounds : Grounds
+  pub policy : Meaning
+
+abbrev pub terms_with : Crypto → Material → Timestamp → Meaning → Terms
+terms_with crypto material now policy = record { grounds = record { crypto = crypto; material = material; now = now }; policy = policy }
+
+-- the grounds that a call of the code is given
+abbrev pub grounds_by : {C M : Type 0} → provider.Ghosts C → armor.Ghosts M → declared.Grounds C M → Grounds
+grounds_by p a g = record { crypto = crypto_by p a g.provider.now g.armor.now; material = g.material.now; now = g.moment }
+
+-- those of a verifier at a moment, with a policy
+abbrev pub terms_by : {C M : Type 0} → provider.Ghosts C → armor.Ghosts M → Verifier C M → Meaning → Timestamp → Terms
+terms_by p a verifier policy now = terms_with (crypto_by p a verifier.provider.now verifier.armor.now) verifier.material now policy

@@ -1,0 +1,88 @@
+-- When a bundle is accepted, whoever signed it, by its artifact (Sigstore bundle format; FIPS 180-4, FIPS 186-5).
+use Rattle.std.specs.Prelude.{ℕ, List, [], Option, Result, Ok, Err}
+use Rattle.foundation.specs.Steps.{◌>>=◌}
+use Rattle.sigstore_types_parts.specs.declared.hash_algorithm.HashAlgorithm.{HashAlgorithm}
+use Rattle.sigstore_types.specs.declared.bundle.Bundle.{Bundle}
+use Rattle.sigstore_types.specs.Bundle.{entries_in}
+use Rattle.sigstore_crypto.specs.declared.key.VerificationKey.{VerificationKey}
+use Rattle.sigstore_crypto.specs.Key.{spki_key_of}
+use Rattle.sigstore_judgement.specs.declared.error.Error.{Error}
+use Rattle.sigstore_judgement.specs.declared.evidence.Evidence.{Evidence}
+use Rattle.sigstore_judgement.specs.declared.judge.Ready.{Ready as Prepared}
+use Rattle.sigstore_judgement.specs.declared.policy.PublicKeyVerificationPolicy.{PublicKeyVerificationPolicy}
+use Rattle.sigstore_judgement.specs.declared.report.VerificationResult.{VerificationResult}
+use Rattle.sigstore_judgement.specs.Artifact.{Artifact, Digests, digest_of, bytes_of, Kind, kind_of, read_kind}
+use Rattle.sigstore_judgement.specs.Content.{scheme_of, needed_of, signs_digest, supported_of, content_judged_of}
+use Rattle.sigstore_judgement.specs.Entries.{log_judged_of, entries_described_of}
+use Rattle.sigstore_judgement.specs.Error.{by_crypto}
+use Rattle.sigstore_judgement.specs.Evidence.{report_of}
+use Rattle.sigstore_judgement.specs.Grounds.{Grounds, Terms}
+use Rattle.sigstore_judgement.specs.Policy.{Meaning}
+use Rattle.sigstore_judgement.specs.Signer.{Signer, Managed, signer_as, key_in, signer_of}
+
+-- ---- before the artifact is read
+
+-- who signed, their key under the scheme of this bundle, and the digests that are needed of the artifact
+pub record Ready : Type 0 where
+  pub signer : Signer
+  pub key : VerificationKey
+  pub needed : List HashAlgorithm
+
+-- what the code prepared
+abbrev pub ready_as : Prepared → Ready
+ready_as ready = record { signer = signer_as ready.signer; key = ready.key; needed = ready.needed }
+
+abbrev pub ready_with : Signer → VerificationKey → List HashAlgorithm → Ready
+ready_with signer key needed = record { signer = signer; key = key; needed = needed }
+
+-- The signer's key (the bundle's own hint is never a key), its scheme (else a bundle could choose a weaker one), the digests that are
+-- needed, and whether the artifact serves.
+unfoldable pub ready_of : Kind → Signer → Bundle → Result Ready Error
+ready_of kind signer bundle = do
+  key ← by_crypto (spki_key_of (key_in signer))
+  scheme ← by_crypto (scheme_of key.scheme bundle.content)
+  needed ← needed_of scheme bundle.content
+  _ ← supported_of kind (signs_digest scheme bundle.content) needed
+  Ok (ready_with signer (record { scheme = scheme; key = key.key }) needed)
+
+-- who signed, and what is needed of them
+unfoldable pub prepared_of : Kind → Meaning → Bundle → Result Ready Error
+prepared_of kind policy bundle = do
+  signer ← signer_of policy bundle
+  ready_of kind signer bundle
+
+-- ---- by the artifact
+
+-- under a managed key: the entries, where the policy verifies the log
+unfoldable pub managed_vouched_of : Grounds → PublicKeyVerificationPolicy → Bundle → Result Evidence Error
+managed_vouched_of grounds policy bundle = do
+  promised ← log_judged_of grounds policy.verify_tlog (entries_in bundle)
+  Ok (record { promised = promised })
+
+-- what vouches for the signer, and what it shows
+abbrev pub vouched_of : Grounds → Signer → Bundle → Result Evidence Error
+vouched_of grounds (Managed policy) bundle = managed_vouched_of grounds policy bundle
+
+-- The judgement of what was prepared, over digests and bytes that are had: what vouches for the signer (what wasn't logged isn't worth a
+-- look at its signature), the content, and what the entries say of the bundle.
+unfoldable pub judged_had : Grounds → Ready → Bundle → Digests → Option (List ℕ) → Result VerificationResult Error
+judged_had grounds ready bundle digest bytes = do
+  evidence ← vouched_of grounds ready.signer bundle
+  _ ← content_judged_of grounds.crypto.accepts ready.key bundle.content digest bytes
+  _ ← entries_described_of grounds ready.signer bundle digest (entries_in bundle)
+  Ok (report_of ready.signer evidence)
+
+-- ---- the whole judgement
+
+unfoldable pub judged_of : Terms → Bundle → Artifact → Result VerificationResult Error
+judged_of terms bundle artifact = do
+  ready ← prepared_of (kind_of artifact) terms.policy bundle
+  judged_had terms.grounds ready bundle (digest_of artifact) (bytes_of artifact)
+
+abbrev pub needed_in : Result Ready Error → List HashAlgorithm
+needed_in (Ok ready) = ready.needed
+needed_in (Err e) = []
+
+-- the digests that are taken of an artifact that is read
+abbrev pub needed_by : Meaning → Bundle → List HashAlgorithm
+needed_by policy bundle = needed_in (prepared_of read_kind policy bundle)

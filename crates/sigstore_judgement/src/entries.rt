@@ -1,0 +1,123 @@
+// The entries of a bundle under the logs that are trusted, and what they say of the bundle.
+ghost use Rattle.std.specs.Prelude.{◌≡◌, ◌≢◌, Ok, Err, IfOk, IfErr, OnOk};
+ghost use Rattle.sigstore_types.specs.declared.bundle.Bundle as value;
+ghost use Rattle.sigstore_judgement.specs.Artifact.{Digests};
+ghost use Rattle.sigstore_judgement.specs.Entries.{entry_judged_of, with_time, entries_judged_of, log_judged_of, entry_described_of, entries_described_of};
+ghost use Rattle.sigstore_judgement.specs.Error.{error_of_log};
+ghost use Rattle.sigstore_judgement.specs.Grounds as judged;
+ghost use Rattle.sigstore_judgement.specs.Grounds.{grounds_by};
+ghost use Rattle.sigstore_judgement.specs.Signer.{Signer};
+
+use crate::error::{Error, TransparencyLogError};
+use crate::grounds::Grounds;
+use foundation::{NoMemory, Sequence};
+use jiff::Timestamp;
+use sigstore_crypto::CryptoProvider;
+use sigstore_entries::TransparencyLogEntry;
+use sigstore_log::{LogError, judge_entry};
+use sigstore_types_parts::{Armor, Form};
+use std::alloc::Global;
+
+// What a refusal of an entry is of its bundle.
+fn refused(fault: LogError) -> Error
+    ensures { result ≡ error_of_log fault }
+{
+    match fault {
+        LogError::InclusionProof => Error::TransparencyLog(TransparencyLogError::InclusionProof),
+        LogError::Checkpoint => Error::TransparencyLog(TransparencyLogError::Checkpoint),
+        LogError::MalformedEntry => Error::TransparencyLog(TransparencyLogError::MalformedEntry),
+        LogError::UnknownLog { log_id } => {
+            Error::TransparencyLog(TransparencyLogError::UnknownLog { log_id })
+        }
+        LogError::InclusionPromise => {
+            Error::TransparencyLog(TransparencyLogError::InclusionPromise)
+        }
+        LogError::IntegratedTime => Error::TransparencyLog(TransparencyLogError::IntegratedTime),
+        LogError::NoMemory => Error::NoMemory,
+    }
+}
+
+// The time that an entry's log promised, where the entry is logged.
+fn check_entry<C: CryptoProvider, M: Armor>(
+    alloc: Global,
+    grounds: &Grounds<'_, C, M>,
+    entry: &TransparencyLogEntry,
+) -> Result<Option<Timestamp>, Error>
+    ensures ok { IfOk result (λ time. entry_judged_of (grounds_by C.CryptoProvider M.Armor grounds.now) entry.now ≡ Ok time) }
+    ensures err { IfErr result (λ e. e ≢ Error.NoMemory → entry_judged_of (grounds_by C.CryptoProvider M.Armor grounds.now) entry.now ≡ Err e) }
+{
+    match judge_entry(
+        alloc,
+        grounds.provider,
+        &grounds.material.logs,
+        grounds.moment,
+        entry,
+    ) {
+        Ok(time) => Ok(time),
+        Err(fault) => Err(refused(fault)),
+    }
+}
+
+fn add_time(time: Option<Timestamp>, times: &mut Sequence<Timestamp>) -> Result<(), NoMemory>
+    ensures { OnOk result (times.new ≡ with_time time times.old) }
+{
+    if let Some(time) = time {
+        times.push(time)?;
+    }
+    Ok(())
+}
+
+// Each entry has to be logged: a good one doesn't cover for one that is made up.
+fn check_entries<C: CryptoProvider, M: Armor>(
+    alloc: Global,
+    grounds: &Grounds<'_, C, M>,
+    entries: &[TransparencyLogEntry],
+    times: &mut Sequence<Timestamp>,
+) -> Result<(), Error>
+    ensures ok { OnOk result (entries_judged_of (grounds_by C.CryptoProvider M.Armor grounds.now) entries.now times.old ≡ Ok times.new) }
+    ensures err { IfErr result (λ e. e ≢ Error.NoMemory → entries_judged_of (grounds_by C.CryptoProvider M.Armor grounds.now) entries.now times.old ≡ Err e) }
+{
+    'entries: for entry in entries {
+        let time = check_entry(alloc, grounds, entry)?;
+        add_time(time, times)?;
+    }
+    Ok(())
+}
+
+/// Where the log is to be verified, whether each entry is logged by the trusted logs at this moment, and the times
+/// that they promised. Errors: those of the first entry that isn't.
+pub(crate) fn check_log<C: CryptoProvider, M: Armor>(
+    alloc: Global,
+    grounds: &Grounds<'_, C, M>,
+    verify_tlog: bool,
+    entries: &[TransparencyLogEntry],
+) -> Result<Sequence<Timestamp>, Error>
+    ensures ok { IfOk result (λ times. log_judged_of (grounds_by C.CryptoProvider M.Armor grounds.now) verify_tlog entries.now ≡ Ok times) }
+    ensures err { IfErr result (λ e. e ≢ Error.NoMemory → log_judged_of (grounds_by C.CryptoProvider M.Armor grounds.now) verify_tlog entries.now ≡ Err e) }
+{
+    let mut times = Sequence::new(alloc);
+    if verify_tlog {
+        check_entries(alloc, grounds, entries, &mut times)?;
+    }
+    Ok(times)
+}
+
+// What an entry says isn't compared with its bundle, signer and artifact yet, so that it describes none: else an
+// entry of another signature would count as this one's.
+fn check_entry_described(_entry: &TransparencyLogEntry) -> Result<(), Error>
+    ensures { (grounds : judged.Grounds) (signer : Signer) (bundle : value.Bundle) (digest : Digests)
+        → result ≡ entry_described_of grounds signer bundle digest _entry.now }
+{
+    Err(Error::Unbuilt(Form::Binding))
+}
+
+/// Whether each entry describes the bundle. Errors: `Unbuilt`, where there is an entry.
+pub(crate) fn check_described(entries: &[TransparencyLogEntry]) -> Result<(), Error>
+    ensures { (grounds : judged.Grounds) (signer : Signer) (bundle : value.Bundle) (digest : Digests)
+        → result ≡ entries_described_of grounds signer bundle digest entries.now }
+{
+    'entries: for entry in entries {
+        check_entry_described(entry)?;
+    }
+    Ok(())
+}

@@ -1,0 +1,358 @@
+// Why a bundle isn't accepted.
+ghost use Rattle.std.specs.Prelude.{◌≡◌};
+ghost use Rattle.sigstore_judgement.specs.Error.{number_of, name_of, certificate_number_of, certificate_name_of, log_number_of, log_name_of, timestamp_number_of, timestamp_name_of, error_of_crypto, lowered};
+ghost use Rattle.sigstore_judgement.specs.declared.error.Error.TheVariants.{NoMemory};
+
+use foundation::NoMemory;
+use jiff::Timestamp;
+use sigstore_crypto::ReadError;
+use sigstore_types_parts::{Form, Sha256Hash, Text, TypesError};
+use std::{error, fmt};
+
+/// Why a signing certificate isn't accepted.
+#[derive(Debug, PartialEq, Drop)]
+pub enum CertificateError {
+    /// The certificate has no reading by its grammar (RFC 5280, section 4.1).
+    Malformed,
+    /// No path leads from the certificate to an authority of the trust file (RFC 5280, section 6).
+    ChainInvalid,
+    /// No authority of the trust file was valid at the time.
+    NoValidAuthority {
+        time: Timestamp,
+    },
+    /// The certificate's validity begins after the time.
+    NotYetValid {
+        time: Timestamp,
+        not_before: Timestamp,
+    },
+    /// The certificate's validity ended before the time.
+    Expired {
+        time: Timestamp,
+        not_after: Timestamp,
+    },
+    /// No timestamp of a certificate log in the certificate is good (RFC 6962, section 3.2).
+    Sct,
+}
+
+/// Why an entry of a transparency log isn't accepted.
+#[derive(Debug, PartialEq, Drop)]
+pub enum TransparencyLogError {
+    /// No log of this id that the trust file has has started.
+    UnknownLog { log_id: Sha256Hash },
+    /// The entry isn't shown to be in the log's tree (RFC 6962, section 2.1.1).
+    InclusionProof,
+    /// The entry's proof has no checkpoint of its tree that a trusted log signed (C2SP tlog-checkpoint).
+    Checkpoint,
+    /// The log's promise to include the entry isn't the log's, or is of another entry.
+    InclusionPromise,
+    /// The entry is of another signature, artifact or certificate than the bundle.
+    EntryMismatch,
+    /// The time that the log promised is after now.
+    IntegratedTime,
+    /// The id of the log that promised isn't a SHA-256 value.
+    MalformedEntry,
+}
+
+/// Why a time-stamp token isn't accepted.
+#[derive(Debug, PartialEq, Drop)]
+pub enum TimestampError {
+    /// The token isn't read, or isn't signed by an authority over the bundle's signature (RFC 3161).
+    Invalid,
+    /// The token's time is outside its authority's validity.
+    OutsideAuthorityValidity { time: Timestamp },
+    /// A verified time is needed, and the bundle gives none.
+    NoVerifiedTimestamp,
+}
+
+/// Why a bundle isn't accepted.
+#[derive(Debug, PartialEq, Drop)]
+pub enum Error {
+    /// The certificate is for another identity than the policy's.
+    IdentityMismatch {
+        expected: Text,
+        actual: Option<Text>,
+    },
+    /// The certificate names another issuer of identities than the policy's.
+    IssuerMismatch {
+        expected: Text,
+        actual: Option<Text>,
+    },
+    /// The signature isn't good over the artifact's digest under the key.
+    SignatureInvalid,
+    /// The bundle tells another digest of its message than the artifact's.
+    ArtifactMismatch,
+    /// The scheme signs the message itself, and only the artifact's digest is there.
+    UnsupportedArtifact,
+    /// The signing certificate isn't accepted.
+    Certificate(CertificateError),
+    /// An entry of a transparency log isn't accepted.
+    TransparencyLog(TransparencyLogError),
+    /// A time-stamp token isn't accepted.
+    Timestamp(TimestampError),
+    /// The bundle's bytes have no reading by its grammar.
+    InvalidBundle,
+    /// The bundle has parts that don't go together.
+    UnsupportedBundle,
+    /// The trust file was read, and can't be used.
+    InvalidTrustRoot,
+    /// A value of the trust file or the bundle is outside its type's grammar.
+    Types,
+    /// The policy's key isn't read, or it has no scheme with the message digest's algorithm.
+    Crypto,
+    /// The bundle lacks what its policy needs: an entry of a log, or an entry's inclusion proof.
+    Bundle,
+    /// The trust file's bytes have no reading by its grammar.
+    TrustRoot,
+    /// A certificate of the trust file has no reading.
+    TrustedCertificate,
+    /// A read of the artifact failed, or it is longer than the limit.
+    ArtifactRead(ReadError),
+    /// An allocation was refused.
+    NoMemory,
+    /// The input is of a form that is known and isn't built yet.
+    Unbuilt(Form),
+}
+
+impl CertificateError {
+    fn number(&self) -> u8
+        ensures { result ≡ certificate_number_of self.now }
+    {
+        match self {
+            CertificateError::Malformed => 6,
+            CertificateError::ChainInvalid => 7,
+            CertificateError::NoValidAuthority { .. } => 8,
+            CertificateError::NotYetValid { .. } => 9,
+            CertificateError::Expired { .. } => 10,
+            CertificateError::Sct => 11,
+        }
+    }
+
+    fn name(&self) -> &'static str
+        ensures { result.now ≡ certificate_name_of self.now }
+    {
+        match self {
+            CertificateError::Malformed => "CertificateMalformed",
+            CertificateError::ChainInvalid => "ChainInvalid",
+            CertificateError::NoValidAuthority { .. } => "NoValidAuthority",
+            CertificateError::NotYetValid { .. } => "NotYetValid",
+            CertificateError::Expired { .. } => "CertificateExpired",
+            CertificateError::Sct => "Sct",
+        }
+    }
+}
+
+impl TransparencyLogError {
+    fn number(&self) -> u8
+        ensures { result ≡ log_number_of self.now }
+    {
+        match self {
+            TransparencyLogError::UnknownLog { .. } => 12,
+            TransparencyLogError::InclusionProof => 13,
+            TransparencyLogError::Checkpoint => 14,
+            TransparencyLogError::InclusionPromise => 15,
+            TransparencyLogError::EntryMismatch => 16,
+            TransparencyLogError::IntegratedTime => 17,
+            TransparencyLogError::MalformedEntry => 18,
+        }
+    }
+
+    fn name(&self) -> &'static str
+        ensures { result.now ≡ log_name_of self.now }
+    {
+        match self {
+            TransparencyLogError::UnknownLog { .. } => "UnknownLog",
+            TransparencyLogError::InclusionProof => "InclusionProof",
+            TransparencyLogError::Checkpoint => "Checkpoint",
+            TransparencyLogError::InclusionPromise => "InclusionPromise",
+            TransparencyLogError::EntryMismatch => "EntryMismatch",
+            TransparencyLogError::IntegratedTime => "IntegratedTime",
+            TransparencyLogError::MalformedEntry => "MalformedEntry",
+        }
+    }
+}
+
+impl TimestampError {
+    fn number(&self) -> u8
+        ensures { result ≡ timestamp_number_of self.now }
+    {
+        match self {
+            TimestampError::Invalid => 19,
+            TimestampError::OutsideAuthorityValidity { .. } => 20,
+            TimestampError::NoVerifiedTimestamp => 21,
+        }
+    }
+
+    fn name(&self) -> &'static str
+        ensures { result.now ≡ timestamp_name_of self.now }
+    {
+        match self {
+            TimestampError::Invalid => "TimestampInvalid",
+            TimestampError::OutsideAuthorityValidity { .. } => "OutsideAuthorityValidity",
+            TimestampError::NoVerifiedTimestamp => "NoVerifiedTimestamp",
+        }
+    }
+}
+
+impl Error {
+    /// The number of this refusal.
+    pub fn number(&self) -> u8
+        ensures { result ≡ number_of self.now }
+    {
+        match self {
+            Error::IdentityMismatch { .. } => 1,
+            Error::IssuerMismatch { .. } => 2,
+            Error::SignatureInvalid => 3,
+            Error::ArtifactMismatch => 4,
+            Error::UnsupportedArtifact => 5,
+            Error::Certificate(fault) => fault.number(),
+            Error::TransparencyLog(fault) => fault.number(),
+            Error::Timestamp(fault) => fault.number(),
+            Error::InvalidBundle => 22,
+            Error::UnsupportedBundle => 23,
+            Error::InvalidTrustRoot => 24,
+            Error::Types => 25,
+            Error::Crypto => 26,
+            Error::Bundle => 27,
+            Error::TrustRoot => 28,
+            Error::TrustedCertificate => 29,
+            Error::ArtifactRead(_) => 30,
+            Error::NoMemory => 31,
+            Error::Unbuilt(_) => 90,
+        }
+    }
+
+    /// The name of this refusal as it is printed.
+    pub fn name(&self) -> &'static str
+        ensures { result.now ≡ name_of self.now }
+    {
+        match self {
+            Error::IdentityMismatch { .. } => "IdentityMismatch",
+            Error::IssuerMismatch { .. } => "IssuerMismatch",
+            Error::SignatureInvalid => "SignatureInvalid",
+            Error::ArtifactMismatch => "ArtifactMismatch",
+            Error::UnsupportedArtifact => "UnsupportedArtifact",
+            Error::Certificate(fault) => fault.name(),
+            Error::TransparencyLog(fault) => fault.name(),
+            Error::Timestamp(fault) => fault.name(),
+            Error::InvalidBundle => "InvalidBundle",
+            Error::UnsupportedBundle => "UnsupportedBundle",
+            Error::InvalidTrustRoot => "InvalidTrustRoot",
+            Error::Types => "Types",
+            Error::Crypto => "Crypto",
+            Error::Bundle => "Bundle",
+            Error::TrustRoot => "TrustRoot",
+            Error::TrustedCertificate => "TrustedCertificate",
+            Error::ArtifactRead(_) => "ArtifactRead",
+            Error::NoMemory => "NoMemory",
+            Error::Unbuilt(_) => "Unbuilt",
+        }
+    }
+}
+
+impl From<NoMemory> for Error {
+    ghost from_gives = { λ _ e. e ≡ NoMemory };
+
+    fn from(_: NoMemory) -> Error {
+        Error::NoMemory
+    }
+}
+
+impl From<sigstore_crypto::Error> for Error {
+    ghost from_gives = { λ fault e. e ≡ error_of_crypto fault };
+
+    fn from(fault: sigstore_crypto::Error) -> Error {
+        match fault {
+            sigstore_crypto::Error::NoMemory => Error::NoMemory,
+            _ => Error::Crypto,
+        }
+    }
+}
+
+// A refusal of the crates of values: want of memory and a form that isn't built stay what they are, and every
+// other is this one.
+pub(crate) fn lowered(fault: TypesError, otherwise: Error) -> Error
+    ensures { result ≡ lowered otherwise fault }
+{
+    match fault {
+        TypesError::NoMemory => {
+            drop(otherwise);
+            Error::NoMemory
+        }
+        TypesError::Unbuilt(form) => {
+            drop(otherwise);
+            Error::Unbuilt(form)
+        }
+        _ => otherwise,
+    }
+}
+
+impl fmt::Display for CertificateError {
+    fn fmt<W: fmt::Write>(&self, f: &mut fmt::Formatter<W>) -> fmt::Result {
+        f.write_str(match self {
+            CertificateError::Malformed => "Malformed",
+            CertificateError::ChainInvalid => "ChainInvalid",
+            CertificateError::NoValidAuthority { .. } => "NoValidAuthority",
+            CertificateError::NotYetValid { .. } => "NotYetValid",
+            CertificateError::Expired { .. } => "Expired",
+            CertificateError::Sct => "Sct",
+        })
+    }
+}
+
+impl error::Error for CertificateError {}
+
+impl fmt::Display for TransparencyLogError {
+    fn fmt<W: fmt::Write>(&self, f: &mut fmt::Formatter<W>) -> fmt::Result {
+        f.write_str(match self {
+            TransparencyLogError::UnknownLog { .. } => "UnknownLog",
+            TransparencyLogError::InclusionProof => "InclusionProof",
+            TransparencyLogError::Checkpoint => "Checkpoint",
+            TransparencyLogError::InclusionPromise => "InclusionPromise",
+            TransparencyLogError::EntryMismatch => "EntryMismatch",
+            TransparencyLogError::IntegratedTime => "IntegratedTime",
+            TransparencyLogError::MalformedEntry => "MalformedEntry",
+        })
+    }
+}
+
+impl error::Error for TransparencyLogError {}
+
+impl fmt::Display for TimestampError {
+    fn fmt<W: fmt::Write>(&self, f: &mut fmt::Formatter<W>) -> fmt::Result {
+        f.write_str(match self {
+            TimestampError::Invalid => "Invalid",
+            TimestampError::OutsideAuthorityValidity { .. } => "OutsideAuthorityValidity",
+            TimestampError::NoVerifiedTimestamp => "NoVerifiedTimestamp",
+        })
+    }
+}
+
+impl error::Error for TimestampError {}
+
+impl fmt::Display for Error {
+    fn fmt<W: fmt::Write>(&self, f: &mut fmt::Formatter<W>) -> fmt::Result {
+        f.write_str(match self {
+            Error::IdentityMismatch { .. } => "IdentityMismatch",
+            Error::IssuerMismatch { .. } => "IssuerMismatch",
+            Error::SignatureInvalid => "SignatureInvalid",
+            Error::ArtifactMismatch => "ArtifactMismatch",
+            Error::UnsupportedArtifact => "UnsupportedArtifact",
+            Error::Certificate(_) => "Certificate",
+            Error::TransparencyLog(_) => "TransparencyLog",
+            Error::Timestamp(_) => "Timestamp",
+            Error::InvalidBundle => "InvalidBundle",
+            Error::UnsupportedBundle => "UnsupportedBundle",
+            Error::InvalidTrustRoot => "InvalidTrustRoot",
+            Error::Types => "Types",
+            Error::Crypto => "Crypto",
+            Error::Bundle => "Bundle",
+            Error::TrustRoot => "TrustRoot",
+            Error::TrustedCertificate => "TrustedCertificate",
+            Error::ArtifactRead(_) => "ArtifactRead",
+            Error::NoMemory => "NoMemory",
+            Error::Unbuilt(_) => "Unbuilt",
+        })
+    }
+}
+
+impl error::Error for Error {}

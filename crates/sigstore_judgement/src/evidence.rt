@@ -1,0 +1,54 @@
+// What the judgement finds on its way, and the report of it.
+ghost use Rattle.std.specs.Prelude.{◌≡◌, None};
+ghost use Rattle.sigstore_judgement.specs.Evidence.{earlier, earliest_from, report_of};
+ghost use Rattle.sigstore_judgement.specs.Signer.{signer_as};
+
+use crate::report::VerificationResult;
+use crate::signing::Signing;
+use foundation::Sequence;
+use jiff::Timestamp;
+
+/// What vouches for a signer shows.
+#[derive(Drop)]
+pub struct Evidence {
+    /// The times that logs promised, each of an entry that is logged, in the entries' order.
+    pub promised: Sequence<Timestamp>,
+}
+
+fn earlier(first: Option<Timestamp>, time: Timestamp) -> Timestamp
+    ensures { result ≡ earlier first time }
+{
+    match first {
+        Some(first) if first <= time => first,
+        _ => time,
+    }
+}
+
+fn earliest(times: &[Timestamp]) -> Option<Timestamp>
+    ensures { result ≡ earliest_from None times.now }
+{
+    let mut first = None;
+    'times: for time in times {
+        first = Some(earlier(first, *time));
+    }
+    first
+}
+
+/// What an acceptance shows.
+pub(crate) fn report(signer: &Signing<'_>, evidence: Evidence) -> VerificationResult
+    ensures { result ≡ report_of (signer_as signer.now) evidence }
+{
+    let Evidence { promised } = evidence;
+    let integrated_time = earliest(promised.as_slice());
+    match signer {
+        Signing::Managed(policy) => VerificationResult {
+            integrated_time,
+            issuer: None,
+            certificate_verified: false,
+            sct_verified: false,
+            tlog_verified: policy.verify_tlog,
+            identity_policy_checked: false,
+            verified_timestamps: promised,
+        },
+    }
+}

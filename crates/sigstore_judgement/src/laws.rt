@@ -1,0 +1,28 @@
+// Laws of the definitions. A call does nothing.
+ghost use Rattle.sigstore_judgement.specs.Accepts.{AcceptsExactly};
+ghost use Rattle.sigstore_judgement.specs.Agree.{BlobAgrees};
+ghost use Rattle.sigstore_judgement.specs.Unlogged.{LogRefusals};
+ghost use Rattle.sigstore_judgement.specs.Usable.{UsableExactly};
+
+/// The judgement under a managed key accepts exactly the bundles that are to be accepted.
+pub fn accepts_exactly()
+    ensures { AcceptsExactly }
+{}
+
+/// The law of blobs and readers: over the same bytes they get one answer, but where the reader's is that
+/// the scheme signs the bytes themselves.
+pub fn blob_and_reader_agree()
+    ensures { BlobAgrees }
+{}
+
+/// The law of refusals of the log: each comes only where an entry of the bundle isn't logged, and names why.
+pub fn log_refusals_have_causes()
+    ensures { LogRefusals }
+{}
+
+/// A verifier is made of exactly the trust files that are usable, told without any order of checks: each
+/// log's id has 32 bytes and stands once among the logs of its kind, no window is reversed, each log's key is
+/// read, no authority's chain is empty, and each certificate in it is read and has no name constraints.
+pub fn usable_exactly()
+    ensures { UsableExactly }
+{}

@@ -1,0 +1,27 @@
+//! The judgement of a bundle over an artifact under a policy and a trust file, whoever signed it.
+#![tactic(auto)]
+
+mod artifact;
+mod content;
+mod entries;
+mod error;
+mod evidence;
+mod grounds;
+mod judge;
+mod laws;
+mod policy;
+mod report;
+mod signing;
+mod taking;
+mod trust;
+mod under;
+mod verifier;
+
+pub use error::{CertificateError, Error, TimestampError, TransparencyLogError};
+pub use evidence::Evidence;
+pub use laws::{accepts_exactly, blob_and_reader_agree, log_refusals_have_causes, usable_exactly};
+pub use policy::{Policy, PolicyKind, PublicKeyVerificationPolicy};
+pub use report::{Kept, VerificationResult};
+pub use trust::Material;
+pub use under::judge_bundle;
+pub use verifier::{Verifier, verify};

@@ -1,0 +1,87 @@
+// What a bundle is verified under.
+ghost use Rattle.std.specs.Prelude.{◌≡◌, true, false};
+ghost use Rattle.sigstore_judgement.specs.Policy.{meaning_of};
+
+use foundation::{Duplicate, NoMemory};
+use sigstore_types_parts::DerPublicKey;
+use std::alloc::Global;
+
+/// A public key that its holder manages, and whether the transparency log is verified.
+#[derive(Debug, PartialEq, Drop)]
+pub struct PublicKeyVerificationPolicy {
+    pub key: DerPublicKey,
+    pub verify_tlog: bool,
+}
+
+impl Duplicate for PublicKeyVerificationPolicy {
+    fn duplicate(&self, alloc: Global) -> Result<PublicKeyVerificationPolicy, NoMemory> {
+        Ok(PublicKeyVerificationPolicy {
+            key: self.key.duplicate(alloc)?,
+            verify_tlog: self.verify_tlog,
+        })
+    }
+}
+
+impl PublicKeyVerificationPolicy {
+    /// A policy that verifies the log.
+    pub fn new(key: DerPublicKey) -> PublicKeyVerificationPolicy
+        ensures key { result.key ≡ key }
+        ensures log { result.verify_tlog ≡ true }
+    {
+        PublicKeyVerificationPolicy {
+            key,
+            verify_tlog: true,
+        }
+    }
+
+    /// The same policy without the log, so that a signature may never have been logged.
+    pub fn skip_tlog_unsafe(self) -> PublicKeyVerificationPolicy
+        ensures key { result.key ≡ self.key }
+        ensures log { result.verify_tlog ≡ false }
+    {
+        PublicKeyVerificationPolicy {
+            key: self.key,
+            verify_tlog: false,
+        }
+    }
+
+    /// The key.
+    pub fn public_key(&self) -> &DerPublicKey
+        ensures { result.now ≡ self.now.key }
+    {
+        &self.key
+    }
+
+    /// Whether the log is verified.
+    pub fn verifies_tlog(&self) -> bool
+        ensures { result ≡ self.now.verify_tlog }
+    {
+        self.verify_tlog
+    }
+}
+
+/// What a policy is.
+pub enum PolicyKind<'a> {
+    PublicKey(&'a PublicKeyVerificationPolicy),
+}
+
+/// A policy of some kind; each call gives the one that it means.
+pub trait Policy {
+    ghost use Rattle.sigstore_judgement.specs.Policy.{Meaning};
+
+    ghost meant: { Self → Meaning };
+
+    /// What this policy is.
+    fn kind(&self) -> PolicyKind<'_>
+        ensures { meaning_of result ≡ meant self.now };
+}
+
+impl Policy for PublicKeyVerificationPolicy {
+    ghost use Rattle.sigstore_judgement.specs.Policy.{PublicKey};
+
+    ghost meant = { λ policy. PublicKey policy };
+
+    fn kind(&self) -> PolicyKind<'_> {
+        PolicyKind::PublicKey(self)
+    }
+}

@@ -1,0 +1,230 @@
+// The verification of a bundle over an artifact.
+ghost use Rattle.std.specs.Prelude.{◌≡◌, ◌≢◌, Ok, Err, IfOk, IfErr};
+ghost use Rattle.sigstore_crypto.specs.Crypto.{crypto_by};
+ghost use Rattle.sigstore_judgement.specs.Artifact.{Blob, Digest, artifact_of};
+ghost use Rattle.sigstore_judgement.specs.Grounds.{grounds_by, terms_by};
+ghost use Rattle.sigstore_judgement.specs.Policy.{Meaning, meaning_of};
+ghost use Rattle.sigstore_judgement.specs.Trust.{material_of};
+ghost use Rattle.sigstore_judgement.specs.Promise.{Verifies, VerifiesKept, VerifiesHanded, VerifiesUnder};
+
+use crate::artifact::{Had, Handed};
+use crate::error::Error;
+use crate::grounds::Grounds;
+use crate::judge::{judge, prepare};
+use crate::policy::{Policy, PolicyKind};
+use crate::report::{Kept, VerificationResult};
+use crate::taking::{digests_in, read_digests};
+use crate::trust::{Material, material_in};
+use jiff::Timestamp;
+use sigstore_crypto::{ArtifactSource, CryptoProvider};
+use sigstore_types::{Bundle, TrustedRoot};
+use sigstore_types_parts::{Armor, Artifact, ArtifactDigest};
+use std::alloc::Global;
+use std::slice;
+
+/// Verifies bundles by a provider, an armour and a trust file.
+#[derive(Drop)]
+pub struct Verifier<'p, C: CryptoProvider, M: Armor> {
+    provider: &'p C,
+    armor: &'p M,
+    material: Material,
+}
+
+impl<'p, C: CryptoProvider, M: Armor> Verifier<'p, C, M> {
+    /// A verifier over a trust file. Errors, in order: for each log of entries and then of certificates
+    /// `InvalidTrustRoot` for a reversed window, `Types` for an id that isn't of 32 bytes, `InvalidTrustRoot`
+    /// for an id that an earlier one has, `Crypto` for its key; for each certificate authority and then
+    /// time-stamp authority `InvalidTrustRoot` for a reversed window and for an empty chain,
+    /// `TrustedCertificate` for a certificate that isn't read or has name constraints.
+    pub fn new(
+        alloc: Global,
+        provider: &'p C,
+        armor: &'p M,
+        trusted_root: &TrustedRoot,
+    ) -> Result<Verifier<'p, C, M>, Error>
+        ensures provider { IfOk result (λ verifier. verifier.provider.now ≡ provider.now) }
+        ensures armor { IfOk result (λ verifier. verifier.armor.now ≡ armor.now) }
+        ensures kept { IfOk result (λ verifier. material_of trusted_root.now ≡ Ok verifier.material) }
+        ensures err { IfErr result (λ e. e ≢ Error.NoMemory → material_of trusted_root.now ≡ Err e) }
+    {
+        let material = material_in(alloc, trusted_root)?;
+        Ok(Verifier {
+            provider,
+            armor,
+            material,
+        })
+    }
+
+    // What a bundle is judged by at a moment.
+    fn grounds(&self, now: Timestamp) -> Grounds<'_, C, M>
+        ensures { (policy : Meaning) → grounds_by C.CryptoProvider M.Armor result ≡ (terms_by C.CryptoProvider M.Armor self.now policy now).grounds }
+    {
+        Grounds {
+            provider: self.provider,
+            armor: self.armor,
+            material: &self.material,
+            moment: now,
+        }
+    }
+
+    // An artifact that is read.
+    fn judge_read<A: ArtifactSource>(
+        &self,
+        alloc: Global,
+        source: &mut A,
+        max: u64,
+        bundle: &Bundle,
+        policy: PolicyKind<'_>,
+        now: Timestamp,
+    ) -> Result<Kept, Error>
+        ensures { VerifiesKept (terms_by C.CryptoProvider M.Armor self.now (meaning_of policy.entry) now) bundle.now
+            (A.seen source.old) (A.seen source.new) max result }
+    {
+        match prepare(alloc, Handed::Read, policy, bundle) {
+            Ok(ready) => match read_digests(alloc, source, max, ready.needed.as_slice()) {
+                Ok(digests) => {
+                    let had = Had {
+                        digests: digests.as_slice(),
+                        bytes: None,
+                    };
+                    match judge(alloc, &self.grounds(now), &ready, bundle, &had) {
+                        Ok(result) => Ok(Kept { result, digests }),
+                        Err(e) => Err(e),
+                    }
+                }
+                Err(e) => Err(e),
+            },
+            Err(e) => Err(e),
+        }
+    }
+
+    // An artifact of which all bytes are handed in.
+    fn judge_blob(
+        &self,
+        alloc: Global,
+        bytes: &[u8],
+        bundle: &Bundle,
+        policy: PolicyKind<'_>,
+        now: Timestamp,
+    ) -> Result<VerificationResult, Error>
+        ensures { VerifiesHanded (terms_by C.CryptoProvider M.Armor self.now (meaning_of policy.entry) now) bundle.now (Blob bytes.now) result }
+    {
+        match prepare(alloc, Handed::Blob, policy, bundle) {
+            Ok(ready) => match digests_in(alloc, bytes, ready.needed.as_slice()) {
+                Ok(digests) => {
+                    let had = Had {
+                        digests: digests.as_slice(),
+                        bytes: Some(bytes),
+                    };
+                    judge(alloc, &self.grounds(now), &ready, bundle, &had)
+                }
+                Err(e) => Err(e),
+            },
+            Err(e) => Err(e),
+        }
+    }
+
+    // An artifact of which one digest is handed in.
+    fn judge_digest(
+        &self,
+        alloc: Global,
+        digest: &ArtifactDigest,
+        bundle: &Bundle,
+        policy: PolicyKind<'_>,
+        now: Timestamp,
+    ) -> Result<VerificationResult, Error>
+        ensures { VerifiesHanded (terms_by C.CryptoProvider M.Armor self.now (meaning_of policy.entry) now) bundle.now
+            (Digest digest.now.0 digest.now.1) result }
+    {
+        match prepare(alloc, Handed::Digest(digest.algorithm()), policy, bundle) {
+            Ok(ready) => {
+                let had = Had {
+                    digests: slice::from_ref(digest),
+                    bytes: None,
+                };
+                judge(alloc, &self.grounds(now), &ready, bundle, &had)
+            }
+            Err(e) => Err(e),
+        }
+    }
+
+    /// Verifies the bundle over an artifact that is handed in. Errors, in order: `Bundle`, `Crypto` for the
+    /// policy's key and its scheme, `UnsupportedArtifact` where the scheme signs the bytes themselves or a
+    /// digest that is needed wasn't handed in, `Crypto` where one has no hasher; where the policy verifies the
+    /// log, `TransparencyLog` for the first entry that isn't logged; `ArtifactMismatch`, `SignatureInvalid`;
+    /// `Unbuilt` where there is an entry.
+    pub fn verify<P: Policy>(
+        &self,
+        alloc: Global,
+        artifact: Artifact<'_>,
+        bundle: &Bundle,
+        policy: &P,
+        now: Timestamp,
+    ) -> Result<VerificationResult, Error>
+        ensures { VerifiesHanded (terms_by C.CryptoProvider M.Armor self.now (P.meant policy.now) now) bundle.now (artifact_of artifact.entry) result }
+    {
+        match artifact {
+            Artifact::Blob(bytes) => self.judge_blob(alloc, bytes, bundle, policy.kind(), now),
+            Artifact::Digest(digest) => {
+                self.judge_digest(alloc, &digest, bundle, policy.kind(), now)
+            }
+        }
+    }
+
+    /// Reads the artifact to its end and verifies the bundle over it; gives also the digests that were
+    /// needed, in their order. Errors, in order: `Bundle`, `Crypto` for the policy's key and
+    /// its scheme, `UnsupportedArtifact` where the scheme signs the bytes themselves, `Crypto` where a
+    /// digest has no hasher, `ArtifactRead`; where the policy verifies the log, `TransparencyLog` for the
+    /// first entry that isn't logged; `ArtifactMismatch`, `SignatureInvalid`; `Unbuilt` where there is an
+    /// entry.
+    pub fn verify_reader_kept<A: ArtifactSource, P: Policy>(
+        &self,
+        alloc: Global,
+        source: &mut A,
+        max: u64,
+        bundle: &Bundle,
+        policy: &P,
+        now: Timestamp,
+    ) -> Result<Kept, Error>
+        ensures { VerifiesKept (terms_by C.CryptoProvider M.Armor self.now (P.meant policy.now) now) bundle.now
+            (A.seen source.old) (A.seen source.new) max result }
+    {
+        self.judge_read(alloc, source, max, bundle, policy.kind(), now)
+    }
+
+    /// Reads the artifact to its end and verifies the bundle over it. Errors as `verify_reader_kept`.
+    pub fn verify_reader<A: ArtifactSource, P: Policy>(
+        &self,
+        alloc: Global,
+        source: &mut A,
+        max: u64,
+        bundle: &Bundle,
+        policy: &P,
+        now: Timestamp,
+    ) -> Result<VerificationResult, Error>
+        ensures { Verifies (terms_by C.CryptoProvider M.Armor self.now (P.meant policy.now) now) bundle.now
+            (A.seen source.old) (A.seen source.new) max result }
+    {
+        let kept = self.verify_reader_kept(alloc, source, max, bundle, policy, now)?;
+        Ok(kept.result)
+    }
+}
+
+/// Verifies a bundle over an artifact by a verifier that is made for it. Errors are those of
+/// `Verifier::new`, then those of `Verifier::verify`.
+pub fn verify<P: Policy, C: CryptoProvider, M: Armor>(
+    alloc: Global,
+    provider: &C,
+    armor: &M,
+    artifact: Artifact<'_>,
+    bundle: &Bundle,
+    policy: &P,
+    trusted_root: &TrustedRoot,
+    now: Timestamp,
+) -> Result<VerificationResult, Error>
+    ensures { VerifiesUnder (crypto_by C.CryptoProvider M.Armor provider.now armor.now) now (P.meant policy.now) trusted_root.now bundle.now
+        (artifact_of artifact.entry) result }
+{
+    let verifier = Verifier::new(alloc, provider, armor, trusted_root)?;
+    Ok(verifier.verify(alloc, artifact, bundle, policy, now)?)
+}

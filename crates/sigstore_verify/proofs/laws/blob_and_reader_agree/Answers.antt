@@ -1,5 +1,0 @@
-use Rattle.sigstore_verify.proofs.Agree.{blob_agrees}
-use Rattle.sigstore_verify.proofs.laws.blob_and_reader_agree.Goals as goal
-
-pub returns : goal.returns
-returns c = blob_agrees

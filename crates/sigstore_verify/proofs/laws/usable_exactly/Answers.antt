@@ -1,5 +1,0 @@
-use Rattle.sigstore_verify.proofs.Usable.{usable_exactly}
-use Rattle.sigstore_verify.proofs.laws.usable_exactly.Goals as goal
-
-pub returns : goal.returns
-returns c = usable_exactly
