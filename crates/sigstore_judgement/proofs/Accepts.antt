@@ -5,7 +5,7 @@ use Rattle.std.specs.List.{list_all}
 use Rattle.std.proofs.lemmas.Slice.Eq.{bytes_eq-Decides}
 use Rattle.jiff_core.specs.declared.timestamp.Timestamp.{Timestamp}
 use Rattle.foundation.specs.Steps.{◌>>=◌}
-use Rattle.foundation.specs.Results.{step_ok}
+use Rattle.foundation.specs.Results.{step_ok, ok_same}
 use Rattle.sigstore_types_parts.specs.declared.hash_algorithm.HashAlgorithm.{HashAlgorithm}
 use Rattle.sigstore_types_parts.specs.declared.error.TypesError.{TypesError}
 use Rattle.sigstore_types.specs.declared.bundle.Bundle.{Bundle}
@@ -16,23 +16,25 @@ use Rattle.sigstore_types.specs.Bundle.{entries_in, structure_of}
 use Rattle.sigstore_crypto.specs.declared.error.Error.{Error as CryptoError}
 use Rattle.sigstore_crypto.specs.declared.scheme.SigningScheme.{SigningScheme}
 use Rattle.sigstore_crypto.specs.declared.key.VerificationKey.{VerificationKey}
-use Rattle.sigstore_crypto.specs.Scheme.{digest_algorithm_of, has_digest}
 use Rattle.sigstore_crypto.specs.Digest.{is_hashed}
 use Rattle.sigstore_crypto.specs.Key.{spki_key_of}
 use Rattle.sigstore_crypto.specs.Good.{Judge, is_good_over}
-use Rattle.sigstore_crypto.specs.Keyring.{Ring}
 use Rattle.sigstore_judgement.specs.declared.error.Error.{Error}
 use Rattle.sigstore_judgement.specs.declared.error.Error.TheVariants.{SignatureInvalid, ArtifactMismatch, UnsupportedArtifact}
-use Rattle.sigstore_judgement.specs.declared.judge.Ready.{Ready}
+use Rattle.sigstore_judgement.specs.declared.evidence.Evidence.{Evidence}
 use Rattle.sigstore_judgement.specs.declared.policy.PublicKeyVerificationPolicy.{PublicKeyVerificationPolicy}
 use Rattle.sigstore_judgement.specs.declared.report.VerificationResult.{VerificationResult}
+use Rattle.sigstore_judgement.specs.Accepts.{ManagedVouches, Vouches, Accepts, AcceptsExactly}
 use Rattle.sigstore_judgement.specs.Artifact.{Artifact, Kind, kind_of, digest_of, bytes_of}
-use Rattle.sigstore_judgement.specs.Judged.{by_types, by_crypto, scheme_of, needed_of, supported_of, prepared_of, is_digest, is_bound, subject_by, is_good_of, is_signed}
-use Rattle.sigstore_judgement.specs.Judged.{judged_had, key_judged_of, key_report_of}
-use Rattle.sigstore_judgement.specs.Entries.{log_judged_of, compared_of}
-use Rattle.sigstore_judgement.proofs.Had.{content_judged_of}
-use Rattle.sigstore_judgement.proofs.EntryLaw.{are_logged, log_accepted, none_there}
-use Rattle.sigstore_judgement.specs.Accepts.{signature_in, digest_in, IsBound, AcceptsKey, AcceptsExactly}
+use Rattle.sigstore_judgement.specs.Content.{scheme_of, needed_of, signs_digest, supported_of, is_digest, is_told, is_bound, IsTold, IsBound, subject_in, signature_in, is_good_of, is_signed, first_refusal, content_judged_of}
+use Rattle.sigstore_judgement.specs.Entries.{log_judged_of, told_if, entries_described_of}
+use Rattle.sigstore_judgement.specs.Error.{by_types, by_crypto}
+use Rattle.sigstore_judgement.specs.Evidence.{report_of}
+use Rattle.sigstore_judgement.specs.Grounds.{Grounds, Terms}
+use Rattle.sigstore_judgement.specs.Judged.{Ready, ready_with, ready_of, prepared_of, managed_vouched_of, vouched_of, judged_had, judged_of}
+use Rattle.sigstore_judgement.specs.Policy.{Meaning, PublicKey}
+use Rattle.sigstore_judgement.specs.Signer.{Signer, Managed, key_in, managed_of, signer_of, IsSigner}
+use Rattle.sigstore_judgement.proofs.EntryLaw.{are_logged, log_accepted, are_described, described_pass}
 
 through_types : {A : Type 0} (r : Result A TypesError) (x : A) → by_types r ≡ Ok x → r ≡ Ok x
 through_types (Ok y) x h = cc
@@ -44,10 +46,14 @@ ok_crypto (Err e) x h = cc
 
 -- ---- the content
 
-both : (b g : Bool) (x : ⊤) → ◌≡◌ {A = Result ⊤ Error} (if b then (if g then Ok tt else Err SignatureInvalid) else Err ArtifactMismatch) (Ok x) → (b ≡ true) × (g ≡ true)
-both true true x h = (refl, refl)
-both true false x h = cc
-both false g x h = cc
+-- what refuses nothing is bound and signed
+both_there : (content : SignatureContent) (b g : Bool) (x : ⊤) → first_refusal content b g ≡ Ok x → (b ≡ true) × (g ≡ true)
+both_there (OfMessage message) true true x h = (refl, refl)
+both_there (OfMessage message) true false x h = cc
+both_there (OfMessage message) false g x h = cc
+
+both_pass : (content : SignatureContent) → first_refusal content true true ≡ Ok tt
+both_pass (OfMessage message) = refl
 
 is_it : (told : List ℕ) (o : Option (List ℕ)) → is_digest told o ≡ true → o ≡ Some told
 is_it told None h = cc
@@ -57,13 +63,19 @@ it_is : (told : List ℕ) (o : Option (List ℕ)) → o ≡ Some told → is_dig
 it_is told None h = cc
 it_is told (Some digest) h = (bytes_eq-Decides told digest).1 (let same : digest ≡ told = cc in sym same)
 
-bound : (o : Option MessageDigest) (artifact : Artifact) → is_bound o (digest_of artifact) ≡ true → IsBound o artifact
-bound None artifact h = tt
-bound (Some told) artifact h = is_it told.digest (digest_of artifact told.algorithm) h
+told_so : (o : Option MessageDigest) (artifact : Artifact) → is_told o (digest_of artifact) ≡ true → IsTold o artifact
+told_so None artifact h = tt
+told_so (Some told) artifact h = is_it told.digest (digest_of artifact told.algorithm) h
 
-is_told : (o : Option MessageDigest) (artifact : Artifact) → IsBound o artifact → is_bound o (digest_of artifact) ≡ true
-is_told None artifact h = refl
-is_told (Some told) artifact h = it_is told.digest (digest_of artifact told.algorithm) h
+so_told : (o : Option MessageDigest) (artifact : Artifact) → IsTold o artifact → is_told o (digest_of artifact) ≡ true
+so_told None artifact h = refl
+so_told (Some told) artifact h = it_is told.digest (digest_of artifact told.algorithm) h
+
+bound_so : (content : SignatureContent) (artifact : Artifact) → is_bound content (digest_of artifact) ≡ true → IsBound content artifact
+bound_so (OfMessage message) artifact h = told_so message.message_digest artifact h
+
+so_bound : (content : SignatureContent) (artifact : Artifact) → IsBound content artifact → is_bound content (digest_of artifact) ≡ true
+so_bound (OfMessage message) artifact h = so_told message.message_digest artifact h
 
 -- the signature is over a subject, and good
 abbrev pub Signs : Judge → VerificationKey → Option (List ℕ) → List ℕ → Type 0
@@ -76,21 +88,35 @@ signs accepts key (Some subject) signature h = (subject, refl, h)
 signed : (accepts : Judge) (key : VerificationKey) (o : Option (List ℕ)) (signature : List ℕ) → Signs accepts key o signature → is_good_of accepts key o signature ≡ true
 signed accepts key o signature s = ap (λ o. is_good_of accepts key o signature) s.1 ∙ s.2
 
-abbrev subject_of : VerificationKey → Artifact → Option (List ℕ)
-subject_of key artifact = subject_by (digest_algorithm_of key.scheme) (digest_of artifact) (bytes_of artifact)
+abbrev subject_of : VerificationKey → SignatureContent → Artifact → Option (List ℕ)
+subject_of key content artifact = subject_in key.scheme content (digest_of artifact) (bytes_of artifact)
 
-content_means : (accepts : Judge) (key : VerificationKey) (content : SignatureContent) (artifact : Artifact) (x : ⊤) → content_judged_of accepts key content artifact ≡ Ok x
-    → IsBound (digest_in content) artifact × Signs accepts key (subject_of key artifact) (signature_in content)
-content_means accepts key (OfMessage message) artifact x h =
-    let two = both (is_bound message.message_digest (digest_of artifact)) (is_signed accepts key (digest_of artifact) (bytes_of artifact) message.signature) x h in
-    (bound message.message_digest artifact two.0, signs accepts key (subject_of key artifact) message.signature two.1)
+content_means : (accepts : Judge) (key : VerificationKey) (content : SignatureContent) (artifact : Artifact) (x : ⊤)
+    → content_judged_of accepts key content (digest_of artifact) (bytes_of artifact) ≡ Ok x
+    → IsBound content artifact × Signs accepts key (subject_of key content artifact) (signature_in content)
+content_means accepts key content artifact x h =
+    let two = both_there content (is_bound content (digest_of artifact)) (is_signed accepts key content (digest_of artifact) (bytes_of artifact)) x h in
+    (bound_so content artifact two.0, signs accepts key (subject_of key content artifact) (signature_in content) two.1)
 
 content_accepted : (accepts : Judge) (key : VerificationKey) (content : SignatureContent) (artifact : Artifact)
-    → IsBound (digest_in content) artifact → Signs accepts key (subject_of key artifact) (signature_in content) → content_judged_of accepts key content artifact ≡ Ok tt
-content_accepted accepts key (OfMessage message) artifact b s =
-    ap (λ c. if c then (if is_signed accepts key (digest_of artifact) (bytes_of artifact) message.signature then Ok tt else Err SignatureInvalid) else Err ArtifactMismatch)
-    (is_told message.message_digest artifact b)
-    ∙ ap (λ (c : Bool). if c then Ok tt else Err SignatureInvalid) (signed accepts key (subject_of key artifact) message.signature s)
+    → IsBound content artifact → Signs accepts key (subject_of key content artifact) (signature_in content)
+    → content_judged_of accepts key content (digest_of artifact) (bytes_of artifact) ≡ Ok tt
+content_accepted accepts key content artifact b s =
+    ap (λ b. first_refusal content b (is_signed accepts key content (digest_of artifact) (bytes_of artifact))) (so_bound content artifact b)
+    ∙ ap (first_refusal content true) (signed accepts key (subject_of key content artifact) (signature_in content) s)
+    ∙ both_pass content
+
+-- ---- who signed
+
+pub signer_means : (policy : Meaning) (bundle : Bundle) (signer : Signer) → signer_of policy bundle ≡ Ok signer → IsSigner policy bundle signer
+unfolding managed_of
+signer_means (PublicKey policy) bundle signer h =
+    let a = step_ok (by_types (structure_of bundle policy.verify_tlog)) (λ _. Ok (Managed policy)) signer h in
+    record { structure = through_types (structure_of bundle policy.verify_tlog) a.0 a.1; is = sym (ok_same (Managed policy) signer a.2) }
+
+signer_passes : (policy : Meaning) (bundle : Bundle) (signer : Signer) → IsSigner policy bundle signer → signer_of policy bundle ≡ Ok signer
+unfolding managed_of
+signer_passes (PublicKey policy) bundle signer i = ap (λ r. by_types r >>= λ _. Ok (Managed policy)) i.structure ∙ ap Ok (sym i.is)
 
 -- ---- what is prepared
 
@@ -98,120 +124,150 @@ content_accepted accepts key (OfMessage message) artifact b s =
 abbrev pub key_under : SigningScheme → VerificationKey → VerificationKey
 key_under scheme key = record { scheme = scheme; key = key.key }
 
-abbrev pub ready_under : SigningScheme → VerificationKey → SignatureContent → Ready
-ready_under scheme key content = record { key = key_under scheme key; needed = needed_of scheme content }
+abbrev pub after_needed : Kind → Signer → VerificationKey → Bundle → SigningScheme → List HashAlgorithm → Result Ready Error
+after_needed kind signer key bundle scheme needed =
+    supported_of kind (signs_digest scheme bundle.content) needed >>= λ _. Ok (ready_with signer (key_under scheme key) needed)
 
-abbrev pub after_scheme : Kind → VerificationKey → Bundle → SigningScheme → Result Ready Error
-after_scheme kind key bundle scheme = supported_of kind scheme (needed_of scheme bundle.content) >>= λ _. Ok (ready_under scheme key bundle.content)
+abbrev pub after_scheme : Kind → Signer → VerificationKey → Bundle → SigningScheme → Result Ready Error
+after_scheme kind signer key bundle scheme = needed_of scheme bundle.content >>= after_needed kind signer key bundle scheme
 
-abbrev pub after_key : Kind → Bundle → VerificationKey → Result Ready Error
-after_key kind bundle key = by_crypto (scheme_of key.scheme bundle.content) >>= after_scheme kind key bundle
+abbrev pub after_key : Kind → Signer → Bundle → VerificationKey → Result Ready Error
+after_key kind signer bundle key = by_crypto (scheme_of key.scheme bundle.content) >>= after_scheme kind signer key bundle
 
-abbrev pub after_structure : Kind → PublicKeyVerificationPolicy → Bundle → Result Ready Error
-after_structure kind policy bundle = by_crypto (spki_key_of policy.key) >>= after_key kind bundle
+abbrev pub after_signer : Kind → Bundle → Signer → Result Ready Error
+after_signer kind bundle signer = by_crypto (spki_key_of (key_in signer)) >>= after_key kind signer bundle
 
 -- the parts of what was prepared
-pub record Prepared (kind : Kind) (policy : PublicKeyVerificationPolicy) (bundle : Bundle) (ready : Ready) : Type 0 where
-  pub structure : structure_of bundle policy.verify_tlog ≡ Ok tt
+pub record Prepared (kind : Kind) (policy : Meaning) (bundle : Bundle) (ready : Ready) : Type 0 where
+  pub signer : Signer
+  pub is : IsSigner policy bundle signer
   pub key : VerificationKey
-  pub read : spki_key_of policy.key ≡ Ok key
+  pub read : spki_key_of (key_in signer) ≡ Ok key
   pub scheme : SigningScheme
   pub chosen : scheme_of key.scheme bundle.content ≡ Ok scheme
-  pub supported : supported_of kind scheme (needed_of scheme bundle.content) ≡ Ok tt
-  pub same : ready ≡ ready_under scheme key bundle.content
+  pub needed : List HashAlgorithm
+  pub needs : needed_of scheme bundle.content ≡ Ok needed
+  pub supported : supported_of kind (signs_digest scheme bundle.content) needed ≡ Ok tt
+  pub same : ready ≡ ready_with signer (key_under scheme key) needed
 
-same_ok : (x y : Ready) → ◌≡◌ {A = Result Ready Error} (Ok x) (Ok y) → y ≡ x
-same_ok x y h = cc
-
-pub prepared_means : (kind : Kind) (policy : PublicKeyVerificationPolicy) (bundle : Bundle) (ready : Ready) → prepared_of kind policy bundle ≡ Ok ready
-    → Prepared kind policy bundle ready
-unfolding prepared_of
+pub prepared_means : (kind : Kind) (policy : Meaning) (bundle : Bundle) (ready : Ready) → prepared_of kind policy bundle ≡ Ok ready → Prepared kind policy bundle ready
+unfolding prepared_of ready_of
 prepared_means kind policy bundle ready h =
-    let a = step_ok (by_types (structure_of bundle policy.verify_tlog)) (λ _. after_structure kind policy bundle) ready h in
-    let b = step_ok (by_crypto (spki_key_of policy.key)) (after_key kind bundle) ready a.2 in
-    let c = step_ok (by_crypto (scheme_of (b.0).scheme bundle.content)) (after_scheme kind b.0 bundle) ready b.2 in
-    let d = step_ok (supported_of kind c.0 (needed_of c.0 bundle.content)) (λ _. Ok (ready_under c.0 b.0 bundle.content)) ready c.2 in
+    let a = step_ok (signer_of policy bundle) (after_signer kind bundle) ready h in
+    let b = step_ok (by_crypto (spki_key_of (key_in a.0))) (after_key kind a.0 bundle) ready a.2 in
+    let c = step_ok (by_crypto (scheme_of (b.0).scheme bundle.content)) (after_scheme kind a.0 b.0 bundle) ready b.2 in
+    let d = step_ok (needed_of c.0 bundle.content) (after_needed kind a.0 b.0 bundle c.0) ready c.2 in
+    let e = step_ok (supported_of kind (signs_digest c.0 bundle.content) d.0) (λ _. Ok (ready_with a.0 (key_under c.0 b.0) d.0)) ready d.2 in
     record {
-      structure = through_types (structure_of bundle policy.verify_tlog) tt a.1;
+      signer = a.0;
+      is = signer_means policy bundle a.0 a.1;
       key = b.0;
-      read = ok_crypto (spki_key_of policy.key) b.0 b.1;
+      read = ok_crypto (spki_key_of (key_in a.0)) b.0 b.1;
       scheme = c.0;
       chosen = ok_crypto (scheme_of (b.0).scheme bundle.content) c.0 c.1;
-      supported = d.1;
-      same = same_ok (ready_under c.0 b.0 bundle.content) ready d.2;
+      needed = d.0;
+      needs = d.1;
+      supported = e.1;
+      same = sym (ok_same (ready_with a.0 (key_under c.0 b.0) d.0) ready e.2);
     }
 
 -- what was prepared for an artifact that is read or is a blob has hashers alone
-pub all_hashed : (kind : Kind) (scheme : SigningScheme) (needed : List HashAlgorithm) → kind.has ≡ is_hashed → supported_of kind scheme needed ≡ Ok tt
+pub all_hashed : (kind : Kind) (signs : Bool) (needed : List HashAlgorithm) → kind.has ≡ is_hashed → supported_of kind signs needed ≡ Ok tt
     → list_all is_hashed needed ≡ true
-all_hashed kind scheme needed is h = by_test (has_digest scheme || kind.keeps_bytes) (list_all kind.has needed) refl h
+all_hashed kind signs needed is h = by_test (signs || kind.keeps_bytes) (list_all kind.has needed) refl h
   where
     by_test : (a b : Bool) → list_all kind.has needed ≡ b → ◌≡◌ {A = Result ⊤ Error} (if a then (if b then Ok tt else Err kind.lacking) else Err UnsupportedArtifact) (Ok tt) → list_all is_hashed needed ≡ true
     by_test true true e k = subst (λ t. list_all t needed ≡ true) is e
     by_test true false e k = cc
     by_test false b e k = cc
 
+-- ---- what vouches for the signer
+
+abbrev found : List Timestamp → Evidence
+found promised = record { promised = promised }
+
+found_same : (promised : List Timestamp) (evidence : Evidence) → ◌≡◌ {A = Result Evidence Error} (Ok (found promised)) (Ok evidence) → evidence.promised ≡ promised
+found_same promised evidence h = sym (ap (λ (e : Evidence). e.promised) (ok_same (found promised) evidence h))
+
+vouches_means : (grounds : Grounds) (signer : Signer) (bundle : Bundle) (evidence : Evidence) → vouched_of grounds signer bundle ≡ Ok evidence → Vouches grounds signer bundle evidence
+unfolding managed_vouched_of
+vouches_means grounds (Managed policy) bundle evidence h =
+    let a = step_ok (log_judged_of grounds policy.verify_tlog (entries_in bundle)) (λ promised. Ok (found promised)) evidence h in
+    let l = are_logged grounds policy.verify_tlog (entries_in bundle) a.0 a.1 in
+    record { logged = l.0; promised = found_same a.0 evidence a.2 ∙ l.1 }
+
+vouches_passes : (grounds : Grounds) (signer : Signer) (bundle : Bundle) (evidence : Evidence) → Vouches grounds signer bundle evidence → vouched_of grounds signer bundle ≡ Ok evidence
+unfolding managed_vouched_of
+vouches_passes grounds (Managed policy) bundle evidence v =
+    ap (λ r. r >>= λ promised. Ok (found promised)) (log_accepted grounds policy.verify_tlog (entries_in bundle) v.logged)
+    ∙ ap (λ promised. Ok (found promised)) (sym v.promised)
+
 -- ---- both ways
 
-same_report : (x y : VerificationResult) → ◌≡◌ {A = Result VerificationResult Error} (Ok x) (Ok y) → y ≡ x
-same_report x y h = cc
-
-module _ (accepts : Judge) (logs : Ring) (now : Timestamp) (policy : PublicKeyVerificationPolicy) (bundle : Bundle) (artifact : Artifact) where
+module _ (terms : Terms) (bundle : Bundle) (artifact : Artifact) (report : VerificationResult) where
   abbrev after_ready : Ready → Result VerificationResult Error
-  after_ready ready = judged_had accepts logs now ready.key bundle policy (digest_of artifact) (bytes_of artifact)
+  after_ready ready = judged_had terms.grounds ready bundle (digest_of artifact) (bytes_of artifact)
 
-  abbrev log_judged : Result ⊤ Error
-  log_judged = log_judged_of accepts logs now policy.verify_tlog (entries_in bundle)
+  abbrev after_described : Signer → Evidence → ⊤ → Result VerificationResult Error
+  after_described signer evidence u = Ok (report_of signer evidence)
 
-  abbrev after_content : ⊤ → Result VerificationResult Error
-  after_content u = compared_of (entries_in bundle) >>= λ _. Ok (key_report_of policy)
+  abbrev after_content : Signer → Evidence → ⊤ → Result VerificationResult Error
+  after_content signer evidence u =
+      entries_described_of terms.grounds signer bundle (digest_of artifact) (entries_in bundle) >>= after_described signer evidence
 
-  abbrev after_log : VerificationKey → ⊤ → Result VerificationResult Error
-  after_log key u = content_judged_of accepts key bundle.content artifact >>= after_content
+  abbrev after_vouched : Signer → VerificationKey → Evidence → Result VerificationResult Error
+  after_vouched signer key evidence =
+      content_judged_of terms.grounds.crypto.accepts key bundle.content (digest_of artifact) (bytes_of artifact) >>= after_content signer evidence
 
-  means : (report : VerificationResult) → key_judged_of accepts logs now policy bundle artifact ≡ Ok report
-      → AcceptsKey accepts logs now policy bundle artifact × (report ≡ key_report_of policy)
-  unfolding key_judged_of judged_had
-  means report h =
-      let one = step_ok (prepared_of (kind_of artifact) policy bundle) after_ready report h in
-      let two = step_ok log_judged (after_log (one.0).key) report one.2 in
-      let three = step_ok (content_judged_of accepts (one.0).key bundle.content artifact) after_content report two.2 in
-      let four = step_ok (compared_of (entries_in bundle)) (λ _. Ok (key_report_of policy)) report three.2 in
-      let p = prepared_means (kind_of artifact) policy bundle one.0 one.1 in
-      let judged = subst (λ (ready : Ready). content_judged_of accepts ready.key bundle.content artifact ≡ Ok three.0) p.same three.1 in
-      let q = content_means accepts (key_under p.scheme p.key) bundle.content artifact three.0 judged in (
-        record {
-          structure = p.structure;
-          key = p.key;
-          read = p.read;
-          scheme = p.scheme;
-          chosen = p.chosen;
-          supported = p.supported;
-          logged = are_logged accepts logs now policy.verify_tlog (entries_in bundle) two.0 two.1;
-          bound = q.0;
-          subject = q.1.0;
-          signs = q.1.1;
-          signed = q.1.2;
-          compared = none_there (entries_in bundle) four.0 four.1;
-        },
-        same_report (key_report_of policy) report four.2,
-      )
+  had_means : (ready : Ready) → Prepared (kind_of artifact) terms.policy bundle ready → after_ready ready ≡ Ok report → Accepts terms bundle artifact report
+  unfolding judged_had
+  had_means ready p h =
+      let k = subst (λ (ready : Ready). after_ready ready ≡ Ok report) p.same h in
+      let under = key_under p.scheme p.key in
+      let a = step_ok (vouched_of terms.grounds p.signer bundle) (after_vouched p.signer under) report k in
+      let b = step_ok (content_judged_of terms.grounds.crypto.accepts under bundle.content (digest_of artifact) (bytes_of artifact)) (after_content p.signer a.0) report a.2 in
+      let c = step_ok (entries_described_of terms.grounds p.signer bundle (digest_of artifact) (entries_in bundle)) (after_described p.signer a.0) report b.2 in
+      let q = content_means terms.grounds.crypto.accepts under bundle.content artifact b.0 b.1 in
+      record {
+        signer = p.signer;
+        is = p.is;
+        key = p.key;
+        read = p.read;
+        scheme = p.scheme;
+        chosen = p.chosen;
+        needed = p.needed;
+        needs = p.needs;
+        supported = p.supported;
+        evidence = a.0;
+        vouches = vouches_means terms.grounds p.signer bundle a.0 a.1;
+        bound = q.0;
+        subject = q.1.0;
+        signs = q.1.1;
+        signed = q.1.2;
+        described = are_described terms.grounds p.signer bundle artifact (entries_in bundle) c.0 c.1;
+        shows = sym (ok_same (report_of p.signer a.0) report c.2);
+      }
 
-  accepted : (report : VerificationResult) → AcceptsKey accepts logs now policy bundle artifact × (report ≡ key_report_of policy)
-      → key_judged_of accepts logs now policy bundle artifact ≡ Ok report
-  unfolding key_judged_of prepared_of judged_had
-  accepted report h =
-      let a = h.0 in
+  means : judged_of terms bundle artifact ≡ Ok report → Accepts terms bundle artifact report
+  unfolding judged_of
+  means h =
+      let z = step_ok (prepared_of (kind_of artifact) terms.policy bundle) after_ready report h in
+      had_means z.0 (prepared_means (kind_of artifact) terms.policy bundle z.0 z.1) z.2
+
+  accepted : Accepts terms bundle artifact report → judged_of terms bundle artifact ≡ Ok report
+  unfolding judged_of prepared_of ready_of judged_had
+  accepted a =
       let kind = kind_of artifact in
-      ap (λ r. (by_types r >>= λ _. after_structure kind policy bundle) >>= after_ready) a.structure
-      ∙ ap (λ r. (by_crypto r >>= after_key kind bundle) >>= after_ready) a.read
-      ∙ ap (λ r. (by_crypto r >>= after_scheme kind a.key bundle) >>= after_ready) a.chosen
-      ∙ ap (λ r. (r >>= λ _. Ok (ready_under a.scheme a.key bundle.content)) >>= after_ready) a.supported
-      ∙ ap (λ r. r >>= after_log (key_under a.scheme a.key)) (log_accepted accepts logs now policy.verify_tlog (entries_in bundle) a.logged)
-      ∙ ap (λ r. r >>= after_content) (content_accepted accepts (key_under a.scheme a.key) bundle.content artifact a.bound (a.subject, a.signs, a.signed))
-      ∙ ap (λ entries. compared_of entries >>= λ _. Ok (key_report_of policy)) a.compared
-      ∙ ap Ok (sym h.1)
+      let under = key_under a.scheme a.key in
+      ap (λ r. (r >>= after_signer kind bundle) >>= after_ready) (signer_passes terms.policy bundle a.signer a.is)
+      ∙ ap (λ r. (by_crypto r >>= after_key kind a.signer bundle) >>= after_ready) a.read
+      ∙ ap (λ r. (by_crypto r >>= after_scheme kind a.signer a.key bundle) >>= after_ready) a.chosen
+      ∙ ap (λ r. (r >>= after_needed kind a.signer a.key bundle a.scheme) >>= after_ready) a.needs
+      ∙ ap (λ r. (r >>= λ _. Ok (ready_with a.signer under a.needed)) >>= after_ready) a.supported
+      ∙ ap (λ r. r >>= after_vouched a.signer under) (vouches_passes terms.grounds a.signer bundle a.evidence a.vouches)
+      ∙ ap (λ r. r >>= after_content a.signer a.evidence) (content_accepted terms.grounds.crypto.accepts under bundle.content artifact a.bound (a.subject, a.signs, a.signed))
+      ∙ ap (λ r. r >>= after_described a.signer a.evidence) (described_pass terms.grounds a.signer bundle artifact (entries_in bundle) a.described)
+      ∙ ap Ok (sym a.shows)
 
 pub accepts_exactly : AcceptsExactly
-accepts_exactly accepts logs now policy bundle artifact report =
-    (means accepts logs now policy bundle artifact report, accepted accepts logs now policy bundle artifact report)
+accepts_exactly terms bundle artifact report = (means terms bundle artifact report, accepted terms bundle artifact report)

@@ -1,47 +1,69 @@
--- Every entry is logged exactly where the judgement of all says so.
-use Rattle.std.proofs.Common.{◌≡◌, List, [], ◌∷◌, Bool, true, false, Result, Ok, Err, refl, ap, ◌∙◌}
+-- Every entry is logged exactly where the judgement of all says so, and the times that are found are those that promises tell.
+use Rattle.std.proofs.Common.{◌≡◌, List, [], ◌∷◌, Bool, true, false, Option, Result, Ok, Err, refl, sym, ap, ◌∙◌}
 use Rattle.std.specs.Prelude.{⊤}
 use Rattle.std.specs.List.{AllByRecursion}
 use Rattle.jiff_core.specs.declared.timestamp.Timestamp.{Timestamp}
 use Rattle.foundation.specs.Steps.{◌>>=◌}
-use Rattle.foundation.specs.Results.{step_ok}
-use Rattle.sigstore_crypto.specs.Good.{Judge}
-use Rattle.sigstore_crypto.specs.Keyring.{Ring}
+use Rattle.foundation.specs.Results.{step_ok, ok_same}
+use Rattle.sigstore_types.specs.declared.bundle.Bundle.{Bundle}
 use Rattle.sigstore_entries.specs.declared.entry.TransparencyLogEntry.{TransparencyLogEntry}
 use Rattle.sigstore_log.specs.declared.error.LogError.{LogError}
 use Rattle.sigstore_log.specs.Entry.{logged_of}
 use Rattle.sigstore_log.specs.Logged.{Logged}
+use Rattle.sigstore_log.specs.Promise.{told_time}
 use Rattle.sigstore_log.proofs.LoggedLaw.{logged_exactly}
 use Rattle.sigstore_judgement.specs.Accepts.{AreLogged}
-use Rattle.sigstore_judgement.specs.Entries.{by_log, entries_judged_of, log_judged_of, compared_of}
+use Rattle.sigstore_judgement.specs.Artifact.{Artifact, digest_of}
+use Rattle.sigstore_judgement.specs.Entries.{entry_judged_of, with_time, entries_judged_of, log_judged_of, told_onto, told_if, entries_described_of, Describes}
+use Rattle.sigstore_judgement.specs.Error.{by_log}
+use Rattle.sigstore_judgement.specs.Grounds.{Grounds}
+use Rattle.sigstore_judgement.specs.Signer.{Signer}
 
-ok_log : (r : Result ⊤ LogError) (x : ⊤) → by_log r ≡ Ok x → r ≡ Ok tt
-ok_log (Ok y) x h = refl
+ok_log : (r : Result (Option Timestamp) LogError) (x : Option Timestamp) → by_log r ≡ Ok x → r ≡ Ok x
+ok_log (Ok y) x h = cc
 ok_log (Err e) x h = cc
 
-each_logged : (accepts : Judge) (logs : Ring) (now : Timestamp) (entries : List TransparencyLogEntry) (x : ⊤) → entries_judged_of accepts logs now entries ≡ Ok x
-    → AllByRecursion (Logged accepts logs now) entries
-each_logged accepts logs now [] x h = tt
-each_logged accepts logs now (entry ∷ entries) x h =
-    let s = step_ok (by_log (logged_of accepts logs now entry)) (λ _. entries_judged_of accepts logs now entries) x h in
-    ((logged_exactly accepts logs now entry).0 (ok_log (logged_of accepts logs now entry) s.0 s.1), each_logged accepts logs now entries x s.2)
+module _ (grounds : Grounds) where
+  abbrev logged : TransparencyLogEntry → Type 0
+  logged entry = Logged grounds.crypto.accepts grounds.material.logs grounds.now entry
 
-all_judged : (accepts : Judge) (logs : Ring) (now : Timestamp) (entries : List TransparencyLogEntry) → AllByRecursion (Logged accepts logs now) entries
-    → entries_judged_of accepts logs now entries ≡ Ok tt
-all_judged accepts logs now [] a = refl
-all_judged accepts logs now (entry ∷ entries) a =
-    ap (λ r. by_log r >>= λ _. entries_judged_of accepts logs now entries) ((logged_exactly accepts logs now entry).1 a.0) ∙ all_judged accepts logs now entries a.1
+  abbrev judged : TransparencyLogEntry → Result (Option Timestamp) LogError
+  judged entry = logged_of grounds.crypto.accepts grounds.material.logs grounds.now entry
 
-pub are_logged : (accepts : Judge) (logs : Ring) (now : Timestamp) (asked : Bool) (entries : List TransparencyLogEntry) (x : ⊤) → log_judged_of accepts logs now asked entries ≡ Ok x
-    → AreLogged accepts logs now asked entries
-are_logged accepts logs now true entries x h = each_logged accepts logs now entries x h
-are_logged accepts logs now false entries x h = tt
+  each_logged : (entries : List TransparencyLogEntry) (before times : List Timestamp) → entries_judged_of grounds entries before ≡ Ok times
+      → AllByRecursion (Logged grounds.crypto.accepts grounds.material.logs grounds.now) entries × (times ≡ told_onto entries before)
+  each_logged [] before times h = (tt, sym (ok_same before times h))
+  each_logged (entry ∷ entries) before times h =
+      let s = step_ok (entry_judged_of grounds entry) (λ time. entries_judged_of grounds entries (with_time time before)) times h in
+      let one = (logged_exactly grounds.crypto.accepts grounds.material.logs grounds.now entry s.0).0 (ok_log (judged entry) s.0 s.1) in
+      let rest = each_logged entries (with_time s.0 before) times s.2 in
+      ((one.0, rest.0), rest.1 ∙ ap (λ time. told_onto entries (with_time time before)) one.1)
 
-pub log_accepted : (accepts : Judge) (logs : Ring) (now : Timestamp) (asked : Bool) (entries : List TransparencyLogEntry) → AreLogged accepts logs now asked entries
-    → log_judged_of accepts logs now asked entries ≡ Ok tt
-log_accepted accepts logs now true entries a = all_judged accepts logs now entries a
-log_accepted accepts logs now false entries a = refl
+  all_judged : (entries : List TransparencyLogEntry) (before : List Timestamp)
+      → AllByRecursion (Logged grounds.crypto.accepts grounds.material.logs grounds.now) entries → entries_judged_of grounds entries before ≡ Ok (told_onto entries before)
+  all_judged [] before a = refl
+  all_judged (entry ∷ entries) before a =
+      ap (λ r. by_log r >>= λ time. entries_judged_of grounds entries (with_time time before))
+      ((logged_exactly grounds.crypto.accepts grounds.material.logs grounds.now entry (told_time entry)).1 (a.0, refl))
+      ∙ all_judged entries (with_time (told_time entry) before) a.1
 
-pub none_there : (entries : List TransparencyLogEntry) (x : ⊤) → compared_of entries ≡ Ok x → entries ≡ []
-none_there [] x h = refl
-none_there (entry ∷ entries) x h = cc
+  pub are_logged : (asked : Bool) (entries : List TransparencyLogEntry) (times : List Timestamp) → log_judged_of grounds asked entries ≡ Ok times
+      → AreLogged grounds asked entries × (times ≡ told_if asked entries)
+  are_logged true entries times h = each_logged entries [] times h
+  are_logged false entries times h = (tt, sym (ok_same [] times h))
+
+  pub log_accepted : (asked : Bool) (entries : List TransparencyLogEntry) → AreLogged grounds asked entries
+      → log_judged_of grounds asked entries ≡ Ok (told_if asked entries)
+  log_accepted true entries a = all_judged entries [] a
+  log_accepted false entries a = refl
+
+  module _ (signer : Signer) (bundle : Bundle) (artifact : Artifact) where
+    pub are_described : (entries : List TransparencyLogEntry) (x : ⊤) → entries_described_of grounds signer bundle (digest_of artifact) entries ≡ Ok x
+        → AllByRecursion (Describes grounds signer bundle artifact) entries
+    are_described [] x h = tt
+    are_described (entry ∷ entries) x h = cc
+
+    pub described_pass : (entries : List TransparencyLogEntry) → AllByRecursion (Describes grounds signer bundle artifact) entries
+        → entries_described_of grounds signer bundle (digest_of artifact) entries ≡ Ok tt
+    described_pass [] a = refl
+    described_pass (entry ∷ entries) a = absurd a.0

@@ -3,11 +3,12 @@ use Rattle.std.proofs.Common.{◌≡◌, ℕ, List, [], ◌∷◌, ◌++◌, Boo
 use Rattle.std.proofs.Common.{Result, Ok, Err, refl, sym, ap, ◌∙◌, subst}
 use Rattle.std.specs.Prelude.{⊤}
 use Rattle.std.specs.List.{list_any, list_all}
-use Rattle.foundation.specs.Results.{and_true}
+use Rattle.foundation.specs.Results.{and_true, ok_same}
 use Rattle.sigstore_types_parts.specs.HashAlgorithm.{same_algorithm, with_algorithm, with_optional}
 use Rattle.sigstore_types_parts.specs.declared.hash_algorithm.HashAlgorithm.{HashAlgorithm}
 use Rattle.sigstore_types_parts.specs.declared.hash_algorithm.HashAlgorithm.TheVariants.{Sha2256, Sha2384, Sha2512, Sha3256, Sha3384}
 use Rattle.sigstore_types.specs.declared.content.MessageDigest.{MessageDigest}
+use Rattle.sigstore_types.specs.declared.content.MessageSignature.{MessageSignature}
 use Rattle.sigstore_types.specs.declared.content.SignatureContent.{SignatureContent}
 use Rattle.sigstore_types.specs.declared.content.SignatureContent.TheVariants.{MessageSignature as OfMessage}
 use Rattle.sigstore_crypto.specs.declared.key.VerificationKey.{VerificationKey}
@@ -15,14 +16,8 @@ use Rattle.sigstore_crypto.specs.declared.scheme.SigningScheme.{SigningScheme}
 use Rattle.sigstore_crypto.specs.Digest.{is_hashed, digest_by, digests_by}
 use Rattle.sigstore_crypto.specs.Good.{Judge}
 use Rattle.sigstore_crypto.specs.Scheme.{digest_algorithm_of}
-use Rattle.sigstore_judgement.specs.declared.error.Error.TheVariants.{SignatureInvalid, ArtifactMismatch}
-use Rattle.sigstore_judgement.specs.declared.error.Error.{Error}
-use Rattle.sigstore_judgement.specs.Artifact.{Artifact, Read, Digest, digest_of, bytes_of, had_digest}
-use Rattle.sigstore_judgement.specs.Judged.{Digests, algorithm_told, algorithm_in, needed_of, is_digest, is_bound, subject_by, is_good_of, content_judged_by}
-
--- the judgement of a content by an artifact
-abbrev pub content_judged_of : Judge → VerificationKey → SignatureContent → Artifact → Result ⊤ Error
-content_judged_of accepts key content artifact = content_judged_by accepts key content (digest_of artifact) (bytes_of artifact)
+use Rattle.sigstore_judgement.specs.Artifact.{Artifact, Digests, Read, Digest, digest_of, digest_among}
+use Rattle.sigstore_judgement.specs.Content.{algorithm_told, needed_of, is_digest, is_told, subject_by, is_good_of, first_refusal, content_judged_of}
 
 pub same_is : (a b : HashAlgorithm) → same_algorithm a b ≡ true → a ≡ b
 same_is Sha2256 Sha2256 h = refl
@@ -98,7 +93,7 @@ taken_by x = x.1
 
 -- the first of the digests, or one of the others
 had_first : (bytes : List ℕ) (a b : HashAlgorithm) (bs : List HashAlgorithm) (t : Bool) → same_algorithm b a ≡ t → is_hashed b ≡ true
-    → (t ≡ false → had_digest (digests_by bs bytes) a ≡ digest_if bytes a) → had_digest (digests_by (b ∷ bs) bytes) a ≡ digest_if bytes a
+    → (t ≡ false → digest_among (digests_by bs bytes) a ≡ digest_if bytes a) → digest_among (digests_by (b ∷ bs) bytes) a ≡ digest_if bytes a
 had_first bytes a b bs true e hashed later =
     ap (λ t. option_map taken_by (cond t (Some (b, digest_by b bytes)) (find (λ (x : HashAlgorithm × List ℕ). same_algorithm x.0 a) (digests_by bs bytes)))) e
     ∙ subst (λ c. Some (digest_by b bytes) ≡ digest_if bytes c) (same_is b a e) (sym (ap (λ t. if t then Some (digest_by b bytes) else None) hashed))
@@ -108,7 +103,7 @@ had_first bytes a b bs false e hashed later =
 
 -- of an algorithm that is needed the digest was taken
 pub had_needed : (bytes : List ℕ) (a : HashAlgorithm) (needed : List HashAlgorithm) → list_all is_hashed needed ≡ true → list_any (same_algorithm a) needed ≡ true
-    → had_digest (digests_by needed bytes) a ≡ digest_if bytes a
+    → digest_among (digests_by needed bytes) a ≡ digest_if bytes a
 had_needed bytes a [] h k = cc
 had_needed bytes a (b ∷ bs) h k =
     let hashed = and_true (is_hashed b) (list_all is_hashed bs) h in
@@ -153,33 +148,37 @@ kept_optional : (a : HashAlgorithm) (o : Option HashAlgorithm) (list : List Hash
 kept_optional a None list h = h
 kept_optional a (Some b) list h = kept a b list h
 
+-- the digests that are needed of a message
+abbrev message_needs : SigningScheme → MessageSignature → List HashAlgorithm
+message_needs scheme message = with_optional (with_optional (Sha2256 ∷ []) (algorithm_told message.message_digest)) (digest_algorithm_of scheme)
+
 -- the algorithm of the scheme is needed
-scheme_needed : (scheme : SigningScheme) (content : SignatureContent) (a : HashAlgorithm) → digest_algorithm_of scheme ≡ Some a
-    → list_any (same_algorithm a) (needed_of scheme content) ≡ true
-scheme_needed scheme content a e =
-    ap (λ o. list_any (same_algorithm a) (with_optional (with_optional (Sha2256 ∷ []) (algorithm_in content)) o)) e
-    ∙ added a (with_optional (Sha2256 ∷ []) (algorithm_in content))
+scheme_needed : (scheme : SigningScheme) (message : MessageSignature) (a : HashAlgorithm) → digest_algorithm_of scheme ≡ Some a
+    → list_any (same_algorithm a) (message_needs scheme message) ≡ true
+scheme_needed scheme message a e =
+    ap (λ o. list_any (same_algorithm a) (with_optional (with_optional (Sha2256 ∷ []) (algorithm_told message.message_digest)) o)) e
+    ∙ added a (with_optional (Sha2256 ∷ []) (algorithm_told message.message_digest))
 
 -- and so is that of the digest that the bundle tells
-told_needed : (scheme : SigningScheme) (content : SignatureContent) (a : HashAlgorithm) → algorithm_in content ≡ Some a
-    → list_any (same_algorithm a) (needed_of scheme content) ≡ true
-told_needed scheme content a e =
-    kept_optional a (digest_algorithm_of scheme) (with_optional (Sha2256 ∷ []) (algorithm_in content))
+told_needed : (scheme : SigningScheme) (message : MessageSignature) (a : HashAlgorithm) → algorithm_told message.message_digest ≡ Some a
+    → list_any (same_algorithm a) (message_needs scheme message) ≡ true
+told_needed scheme message a e =
+    kept_optional a (digest_algorithm_of scheme) (with_optional (Sha2256 ∷ []) (algorithm_told message.message_digest))
     (ap (λ o. list_any (same_algorithm a) (with_optional (Sha2256 ∷ []) o)) e ∙ added a (Sha2256 ∷ []))
 
 -- ---- the judgement by the digests that were taken
 
 -- digests that are the same for what is looked at give one judgement
-judged_alike : (accepts : Judge) (key : VerificationKey) (content : SignatureContent) (one two : Digests) (bytes : Option (List ℕ))
-    → ((a : HashAlgorithm) → algorithm_in content ≡ Some a → one a ≡ two a) → ((a : HashAlgorithm) → digest_algorithm_of key.scheme ≡ Some a → one a ≡ two a)
-    → content_judged_by accepts key content one bytes ≡ content_judged_by accepts key content two bytes
-judged_alike accepts key (OfMessage message) one two bytes told signs =
-    ap (λ b. if b then (if is_good_of accepts key (subject_by (digest_algorithm_of key.scheme) one bytes) message.signature then Ok tt else Err SignatureInvalid) else Err ArtifactMismatch)
+message_alike : (accepts : Judge) (key : VerificationKey) (message : MessageSignature) (one two : Digests) (bytes : Option (List ℕ))
+    → ((a : HashAlgorithm) → algorithm_told message.message_digest ≡ Some a → one a ≡ two a) → ((a : HashAlgorithm) → digest_algorithm_of key.scheme ≡ Some a → one a ≡ two a)
+    → content_judged_of accepts key (OfMessage message) one bytes ≡ content_judged_of accepts key (OfMessage message) two bytes
+message_alike accepts key message one two bytes told signs =
+    ap (λ b. first_refusal (OfMessage message) b (is_good_of accepts key (subject_by (digest_algorithm_of key.scheme) one bytes) message.signature))
     (bound message.message_digest told)
-    ∙ ap (λ o. if is_bound message.message_digest two then (if is_good_of accepts key o message.signature then Ok tt else Err SignatureInvalid) else Err ArtifactMismatch)
+    ∙ ap (λ o. first_refusal (OfMessage message) (is_told message.message_digest two) (is_good_of accepts key o message.signature))
     (subject (digest_algorithm_of key.scheme) signs)
   where
-    bound : (o : Option MessageDigest) → ((a : HashAlgorithm) → algorithm_told o ≡ Some a → one a ≡ two a) → is_bound o one ≡ is_bound o two
+    bound : (o : Option MessageDigest) → ((a : HashAlgorithm) → algorithm_told o ≡ Some a → one a ≡ two a) → is_told o one ≡ is_told o two
     bound None f = refl
     bound (Some digest) f = ap (is_digest digest.digest) (f digest.algorithm refl)
 
@@ -188,23 +187,24 @@ judged_alike accepts key (OfMessage message) one two bytes told signs =
     subject (Some a) f = f a refl
 
 -- over the digests that are needed, of all the bytes
-pub judged_by_taken : (accepts : Judge) (key : VerificationKey) (content : SignatureContent) (kept : Option (List ℕ)) (bytes : List ℕ)
-    → list_all is_hashed (needed_of key.scheme content) ≡ true
-    → content_judged_by accepts key content (had_digest (digests_by (needed_of key.scheme content) bytes)) kept ≡ content_judged_by accepts key content (digest_of (Read bytes)) kept
-judged_by_taken accepts key content kept bytes hashed =
-    judged_alike accepts key content (had_digest (digests_by (needed_of key.scheme content) bytes)) (digest_of (Read bytes)) kept
-    (λ a e. had_needed bytes a (needed_of key.scheme content) hashed (told_needed key.scheme content a e))
-    (λ a e. had_needed bytes a (needed_of key.scheme content) hashed (scheme_needed key.scheme content a e))
+pub judged_by_taken : (accepts : Judge) (key : VerificationKey) (content : SignatureContent) (kept : Option (List ℕ)) (bytes : List ℕ) (needed : List HashAlgorithm)
+    → needed_of key.scheme content ≡ Ok needed → list_all is_hashed needed ≡ true
+    → content_judged_of accepts key content (digest_among (digests_by needed bytes)) kept ≡ content_judged_of accepts key content (digest_of (Read bytes)) kept
+judged_by_taken accepts key (OfMessage message) kept bytes needed needs hashed =
+    let same = ok_same (message_needs key.scheme message) needed needs in
+    message_alike accepts key message (digest_among (digests_by needed bytes)) (digest_of (Read bytes)) kept
+    (λ a e. had_needed bytes a needed hashed (subst (λ l. list_any (same_algorithm a) l ≡ true) same (told_needed key.scheme message a e)))
+    (λ a e. had_needed bytes a needed hashed (subst (λ l. list_any (same_algorithm a) l ≡ true) same (scheme_needed key.scheme message a e)))
 
 -- over the one digest that is handed in
 pub judged_by_one : (accepts : Judge) (key : VerificationKey) (content : SignatureContent) (given : HashAlgorithm) (digest : List ℕ)
-    → content_judged_by accepts key content (had_digest ((given, digest) ∷ [])) None ≡ content_judged_of accepts key content (Digest given digest)
-judged_by_one accepts key content given digest =
-    judged_alike accepts key content (had_digest ((given, digest) ∷ [])) (digest_of (Digest given digest)) None (λ a e. one a) (λ a e. one a)
+    → content_judged_of accepts key content (digest_among ((given, digest) ∷ [])) None ≡ content_judged_of accepts key content (digest_of (Digest given digest)) None
+judged_by_one accepts key (OfMessage message) given digest =
+    message_alike accepts key message (digest_among ((given, digest) ∷ [])) (digest_of (Digest given digest)) None (λ a e. one a) (λ a e. one a)
   where
-    one : (a : HashAlgorithm) → had_digest ((given, digest) ∷ []) a ≡ digest_of (Digest given digest) a
+    one : (a : HashAlgorithm) → digest_among ((given, digest) ∷ []) a ≡ digest_of (Digest given digest) a
     one a = by_same (same_algorithm given a) refl
       where
-        by_same : (t : Bool) → same_algorithm given a ≡ t → had_digest ((given, digest) ∷ []) a ≡ digest_of (Digest given digest) a
+        by_same : (t : Bool) → same_algorithm given a ≡ t → digest_among ((given, digest) ∷ []) a ≡ digest_of (Digest given digest) a
         by_same true e = ap (λ t. option_map (λ (x : HashAlgorithm × List ℕ). x.1) (cond t (Some (given, digest)) None)) e ∙ sym (ap (λ t. if t then Some digest else None) e)
         by_same false e = ap (λ t. option_map (λ (x : HashAlgorithm × List ℕ). x.1) (cond t (Some (given, digest)) None)) e ∙ sym (ap (λ t. if t then Some digest else None) e)

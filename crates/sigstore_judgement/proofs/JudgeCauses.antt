@@ -1,58 +1,66 @@
 -- Each refusal of the judgement has its cause.
 use Rattle.std.proofs.Common.{◌≡◌, ◌≢◌, ◌⊎◌, inl, inr, ℕ, List, [], ◌∷◌, Bool, true, false, ◌||◌, if◌then◌else◌, Option, Some, None, Result, Ok, Err, refl, sym, ap, ◌∙◌, subst}
 use Rattle.std.specs.Prelude.{⊤, ◌&&◌, is_some, Contains}
+use Rattle.std.specs.List.{list_all}
+use Rattle.std.proofs.lemmas.Slice.Eq.{bytes_eq-Decides}
+use Rattle.jiff_core.specs.declared.timestamp.Timestamp.{Timestamp}
 use Rattle.foundation.specs.Watched.{Watched}
-use Rattle.foundation.specs.Results.{err_same, refused_at}
+use Rattle.foundation.specs.Results.{err_same, refused_at, ok_same}
 use Rattle.sigstore_types_parts.specs.declared.form.Form.{Form}
 use Rattle.sigstore_types_parts.specs.declared.form.Form.TheVariants as form
+use Rattle.sigstore_types_parts.specs.declared.hash_algorithm.HashAlgorithm.{HashAlgorithm}
 use Rattle.sigstore_types_parts.specs.declared.error.TypesError.{TypesError}
 use Rattle.sigstore_types_parts.specs.declared.error.TypesError.TheVariants as types
 use Rattle.sigstore_types.specs.declared.bundle.Bundle.{Bundle}
 use Rattle.sigstore_types.specs.declared.content.MessageDigest.{MessageDigest}
 use Rattle.sigstore_types.specs.declared.content.SignatureContent.{SignatureContent}
 use Rattle.sigstore_types.specs.declared.content.SignatureContent.TheVariants.{MessageSignature as OfMessage}
+use Rattle.sigstore_types.specs.declared.trusted_root.TrustedRoot.{TrustedRoot}
 use Rattle.sigstore_types.specs.Bundle.{bundle_of_bytes, entries_in, has_proof, shown_of, structure_of}
 use Rattle.sigstore_types.specs.TrustedRoot.{trusted_root_of_bytes}
 use Rattle.sigstore_crypto.specs.declared.error.Error.{Error as CryptoError}
 use Rattle.sigstore_crypto.specs.declared.error.Error.TheVariants as crypto
-use Rattle.sigstore_crypto.specs.Key.{spki_key_of}
-use Rattle.sigstore_judgement.specs.declared.error.Error.{Error}
-use Rattle.sigstore_judgement.specs.declared.error.Error.TheVariants as verify
-use Rattle.sigstore_judgement.specs.declared.policy.PublicKeyVerificationPolicy.{PublicKeyVerificationPolicy}
-use Rattle.sigstore_judgement.specs.Error.{error_of_crypto, error_of_log, lowered}
-use Rattle.std.specs.List.{list_all}
-use Rattle.std.proofs.lemmas.Slice.Eq.{bytes_eq-Decides}
+use Rattle.sigstore_crypto.specs.declared.key.VerificationKey.{VerificationKey}
+use Rattle.sigstore_crypto.specs.declared.scheme.SigningScheme.{SigningScheme}
 use Rattle.sigstore_crypto.specs.Digest.{is_hashed}
-use Rattle.sigstore_crypto.specs.Good.{Judge}
-use Rattle.sigstore_crypto.specs.Scheme.{has_digest}
-use Rattle.sigstore_judgement.specs.declared.judge.Ready.{Ready}
-use Rattle.sigstore_judgement.specs.Accepts.{signature_in, digest_in}
-use Rattle.sigstore_judgement.specs.Artifact.{Artifact, Read, read_kind, digest_of}
-use Rattle.sigstore_types.specs.declared.trusted_root.TrustedRoot.{TrustedRoot}
-use Rattle.sigstore_judgement.specs.Trust.{logs_of, usable_of}
-use Rattle.sigstore_judgement.proofs.TrustReading.{trust_is_built}
-use Rattle.sigstore_judgement.proofs.UsableCauses.{IsFault, usable_fault}
-use Rattle.sigstore_judgement.specs.Cause.{IsRefusedAs, IsRead, HasScheme, HasBundle, LacksScheme, key_unread, no_scheme, no_hasher, LacksEntry, no_entry, no_proof, form_unread, entry_uncompared, IsUnlogged}
-use Rattle.sigstore_judgement.specs.Cause.{KeyCause, CauseUnder, JudgeCause}
-use Rattle.sigstore_judgement.specs.FromRoot.{or_fault, trust_fault, bundle_fault, JudgesBundle, trust_refused, verifier_refused, bundle_refused, judged}
-use Rattle.sigstore_judgement.specs.Given.{Asked, terms_of}
-use Rattle.sigstore_judgement.specs.Judged.{by_crypto, by_types, scheme_of, needed_of, supported_of, prepared_of, is_digest, is_bound, is_signed, judged_had, key_judged_of, judged_by, ready_of}
-use Rattle.sigstore_judgement.specs.Entries.{log_judged_of, compared_of}
-use Rattle.sigstore_judgement.specs.declared.error.TransparencyLogError.{TransparencyLogError}
-use Rattle.sigstore_judgement.specs.declared.error.TransparencyLogError.TheVariants as log
+use Rattle.sigstore_crypto.specs.Key.{spki_key_of}
 use Rattle.sigstore_entries.specs.declared.entry.TransparencyLogEntry.{TransparencyLogEntry}
 use Rattle.sigstore_log.specs.declared.error.LogError.{LogError}
 use Rattle.sigstore_log.specs.declared.error.LogError.TheVariants as entry
 use Rattle.sigstore_log.specs.Cause.{LogCause}
-use Rattle.sigstore_judgement.proofs.EntryCauses.{among_first, among_later, entries_unlogged}
-use Rattle.sigstore_judgement.proofs.Had.{content_judged_of}
+use Rattle.sigstore_judgement.specs.declared.error.Error.{Error}
+use Rattle.sigstore_judgement.specs.declared.error.Error.TheVariants as verify
+use Rattle.sigstore_judgement.specs.declared.error.TransparencyLogError.{TransparencyLogError}
+use Rattle.sigstore_judgement.specs.declared.error.TransparencyLogError.TheVariants as log
+use Rattle.sigstore_judgement.specs.declared.evidence.Evidence.{Evidence}
+use Rattle.sigstore_judgement.specs.declared.policy.PublicKeyVerificationPolicy.{PublicKeyVerificationPolicy}
+use Rattle.sigstore_judgement.specs.declared.trust.Material.{Material}
+use Rattle.sigstore_judgement.specs.Artifact.{Artifact, Read, read_kind, digest_of}
+use Rattle.sigstore_judgement.specs.Cause.{IsRefusedAs, IsRead, IsKept, HasSigner, HasScheme, LacksScheme, key_unread, no_scheme, no_hasher, LacksEntry, no_entry, no_proof, form_unread, entry_uncompared, IsUnlogged}
+use Rattle.sigstore_judgement.specs.Cause.{asks_log, SharedCause, SignedCause, JudgeCause}
+use Rattle.sigstore_judgement.specs.Content.{scheme_of, needed_of, signs_digest, supported_of, is_digest, is_told, is_bound, IsOfOther, is_signed, first_refusal, content_judged_of}
+use Rattle.sigstore_judgement.specs.Entries.{log_judged_of, entries_described_of}
+use Rattle.sigstore_judgement.specs.Error.{error_of_crypto, error_of_log, lowered, by_types, by_crypto}
+use Rattle.sigstore_judgement.specs.Grounds.{Grounds}
+use Rattle.sigstore_judgement.specs.Judged.{Ready, ready_of, prepared_of, managed_vouched_of, vouched_of, judged_had, judged_of}
 use Rattle.sigstore_judgement.specs.Policy.{Meaning, PublicKey}
 use Rattle.sigstore_judgement.specs.Promise as promise
-use Rattle.sigstore_judgement.proofs.Accepts.{ok_crypto, Prepared, prepared_means}
+use Rattle.sigstore_judgement.specs.Signer.{Signer, Managed, key_in, managed_of, signer_of, IsSigner}
+use Rattle.sigstore_judgement.specs.Trust.{material_of}
+use Rattle.sigstore_judgement.specs.Under.{or_fault, trust_fault, bundle_fault, Asked, terms_of, JudgesBundle, trust_refused, verifier_refused, bundle_refused, judged}
+use Rattle.sigstore_judgement.proofs.Accepts.{ok_crypto, signer_means, Prepared, prepared_means}
+use Rattle.sigstore_judgement.proofs.EntryCauses.{among_first, among_later, entries_unlogged}
+use Rattle.sigstore_judgement.proofs.TrustReading.{trust_is_built}
+use Rattle.sigstore_judgement.proofs.UsableCauses.{IsFault, material_fault}
+use Rattle.sigstore_judgement.proofs.Wanting.{is_want}
 
 by_fault : {T : Type 0} (fault : TypesError → Error) (r : Result T TypesError) (e : Error) → or_fault fault r ≡ Err e → IsRefusedAs fault r e
 by_fault fault (Ok x) e h = cc
 by_fault fault (Err t) e h = (t, refl, err_same (fault t) e h)
+
+pub read_of : {T : Type 0} (fault : TypesError → Error) (r : Result T TypesError) (x : T) → or_fault fault r ≡ Ok x → r ≡ Ok x
+read_of fault (Ok y) x h = let same : y ≡ x = cc in ap Ok same
+read_of fault (Err e) x h = cc
 
 pub through_crypto : {A : Type 0} (r : Result A CryptoError) (e : Error) → by_crypto r ≡ Err e → IsRefusedAs error_of_crypto r e
 through_crypto (Ok x) e h = cc
@@ -93,10 +101,10 @@ as_lowered o types.NoMemory = inl refl
 as_lowered o (types.Unbuilt f) = inr (inl (f, refl, refl))
 
 -- the artifact's digest is another than the one that is told
-told_another : {C : Type 0} (o : Option MessageDigest) (artifact : Artifact) → is_bound o (digest_of artifact) ≡ false
-    → ((told : MessageDigest) → o ≡ Some told → digest_of artifact told.algorithm ≢ Some told.digest → C) → C
-told_another None artifact h f = cc
-told_another (Some told) artifact h f = f told refl (λ same. not_it (digest_of artifact told.algorithm) h same)
+told_another : (o : Option MessageDigest) (artifact : Artifact) → is_told o (digest_of artifact) ≡ false
+    → (told : MessageDigest) × (o ≡ Some told) × (digest_of artifact told.algorithm ≢ Some told.digest)
+told_another None artifact h = cc
+told_another (Some told) artifact h = (told, refl, λ same. not_it (digest_of artifact told.algorithm) h same)
   where
     not_it : (o : Option (List ℕ)) → is_digest told.digest o ≡ false → o ≡ Some told.digest → ⊥
     not_it None h same = cc
@@ -104,6 +112,16 @@ told_another (Some told) artifact h f = f told refl (λ same. not_it (digest_of 
         let is : digest ≡ told.digest = cc in
         let equal = (bytes_eq-Decides told.digest digest).1 (sym is) in
         cc
+
+of_other : (content : SignatureContent) (artifact : Artifact) → is_bound content (digest_of artifact) ≡ false → IsOfOther content artifact
+of_other (OfMessage message) artifact h = told_another message.message_digest artifact h
+
+-- what of a content refuses
+first_refused : {C : Type 0} (content : SignatureContent) (b g : Bool) (e : Error) → first_refusal content b g ≡ Err e
+    → (b ≡ false → verify.ArtifactMismatch ≡ e → C) → (g ≡ false → verify.SignatureInvalid ≡ e → C) → C
+first_refused (OfMessage message) true true e h other unsigned = cc
+first_refused (OfMessage message) true false e h other unsigned = unsigned refl (err_same verify.SignatureInvalid e h)
+first_refused (OfMessage message) false g e h other unsigned = other refl (err_same verify.ArtifactMismatch e h)
 
 -- one of these fails the test
 not_all : {A : Type 0} (p : A → Bool) (xs : List A) → list_all p xs ≡ false → (x : A) × Contains xs x × (p x ≡ false)
@@ -132,43 +150,34 @@ lacks_bundle (x ∷ xs) e h = by (list_all has_proof (x ∷ xs)) h
     by true k = cc
     by false k = err_same verify.Bundle e k
 
-module _ (accepts : Judge) (policy : PublicKeyVerificationPolicy) (asked : Asked) (file : List ℕ) (source source' : Watched (List ℕ)) where
+module _ (asked : Asked) (file : List ℕ) (source source' : Watched (List ℕ)) where
   abbrev Cause : Error → Type 0
-  Cause e = KeyCause accepts policy asked file source source' e
+  Cause e = JudgeCause asked file source source' e
 
-  by_trust : (e : Error) (x : TypesError) → trusted_root_of_bytes file ≡ Err x → trust_fault x ≡ e → IsLowered verify.TrustRoot x → Cause e
-  by_trust e x h q (inl want) = subst Cause (sym want ∙ q) tt
-  by_trust e x h q (inr (inl (f, same, is))) = subst Cause (sym is ∙ q) (trust_is_built file f (h ∙ ap Err same))
-  by_trust e x h q (inr (inr is)) = subst Cause (sym is ∙ q) (x, h, is)
-
-  by_bundle : (e : Error) (x : TypesError) → bundle_of_bytes asked.bundle ≡ Err x → bundle_fault x ≡ e → IsLowered verify.InvalidBundle x → Cause e
-  by_bundle e x h q (inl want) = subst Cause (sym want ∙ q) tt
-  by_bundle e x h q (inr (inl (f, same, is))) = subst Cause (sym is ∙ q) (form_unread (h ∙ ap Err same))
-  by_bundle e x h q (inr (inr is)) = subst Cause (sym is ∙ q) (x, h, is)
+  wanted : Cause verify.NoMemory
+  wanted = inl tt
 
   wants : (e : Error) → (e ≢ verify.NoMemory → Cause e) → Cause e
-  wants (verify.IdentityMismatch a b) f = f (λ h. cc)
-  wants (verify.IssuerMismatch a b) f = f (λ h. cc)
-  wants verify.SignatureInvalid f = f (λ h. cc)
-  wants verify.ArtifactMismatch f = f (λ h. cc)
-  wants verify.UnsupportedArtifact f = f (λ h. cc)
-  wants (verify.Certificate a) f = f (λ h. cc)
-  wants (verify.TransparencyLog a) f = f (λ h. cc)
-  wants (verify.Timestamp a) f = f (λ h. cc)
-  wants verify.InvalidBundle f = f (λ h. cc)
-  wants verify.UnsupportedBundle f = f (λ h. cc)
-  wants verify.InvalidTrustRoot f = f (λ h. cc)
-  wants verify.Types f = f (λ h. cc)
-  wants verify.Crypto f = f (λ h. cc)
-  wants verify.Bundle f = f (λ h. cc)
-  wants verify.TrustRoot f = f (λ h. cc)
-  wants verify.TrustedCertificate f = f (λ h. cc)
-  wants (verify.ArtifactRead a) f = f (λ h. cc)
-  wants verify.NoMemory f = tt
-  wants (verify.Unbuilt a) f = f (λ h. cc)
+  wants e f = by (is_want e)
+    where
+      by : (e ≡ verify.NoMemory) ⊎ (e ≢ verify.NoMemory) → Cause e
+      by (inl is) = subst Cause (sym is) wanted
+      by (inr other) = f other
+
+  -- ---- the trust file and the bundle's bytes
+
+  by_trust : (e : Error) (x : TypesError) → trusted_root_of_bytes file ≡ Err x → trust_fault x ≡ e → IsLowered verify.TrustRoot x → Cause e
+  by_trust e x h q (inl want) = subst Cause (sym want ∙ q) wanted
+  by_trust e x h q (inr (inl (f, same, is))) = subst Cause (sym is ∙ q) (trust_is_built file f (h ∙ ap Err same))
+  by_trust e x h q (inr (inr is)) = subst Cause (sym is ∙ q) (inl (x, h, is))
+
+  by_bundle : (e : Error) (x : TypesError) → bundle_of_bytes asked.bundle ≡ Err x → bundle_fault x ≡ e → IsLowered verify.InvalidBundle x → Cause e
+  by_bundle e x h q (inl want) = subst Cause (sym want ∙ q) wanted
+  by_bundle e x h q (inr (inl (f, same, is))) = subst Cause (sym is ∙ q) (inl (form_unread (h ∙ ap Err same)))
+  by_bundle e x h q (inr (inr is)) = subst Cause (sym is ∙ q) (inl (x, h, is))
 
   -- a verifier's making, by what it may refuse
-  by_usable : (trust : TrustedRoot) (e : Error) → trusted_root_of_bytes file ≡ Ok trust → usable_of trust ≡ Err e → IsFault e → Cause e
+  by_usable : (trust : TrustedRoot) (e : Error) → trusted_root_of_bytes file ≡ Ok trust → material_of trust ≡ Err e → IsFault e → Cause e
   by_usable trust (verify.IdentityMismatch a b) t h f = absurd f
   by_usable trust (verify.IssuerMismatch a b) t h f = absurd f
   by_usable trust verify.SignatureInvalid t h f = absurd f
@@ -179,169 +188,182 @@ module _ (accepts : Judge) (policy : PublicKeyVerificationPolicy) (asked : Asked
   by_usable trust (verify.Timestamp a) t h f = absurd f
   by_usable trust verify.InvalidBundle t h f = absurd f
   by_usable trust verify.UnsupportedBundle t h f = absurd f
-  by_usable trust verify.InvalidTrustRoot t h f = (trust, t, h)
-  by_usable trust verify.Types t h f = (trust, t, h)
-  by_usable trust verify.Crypto t h f = inr (trust, t, h)
+  by_usable trust verify.InvalidTrustRoot t h f = inl (trust, t, h)
+  by_usable trust verify.Types t h f = inl (trust, t, h)
+  by_usable trust verify.Crypto t h f = inl (trust, t, h)
   by_usable trust verify.Bundle t h f = absurd f
   by_usable trust verify.TrustRoot t h f = absurd f
-  by_usable trust verify.TrustedCertificate t h f = (trust, t, h)
+  by_usable trust verify.TrustedCertificate t h f = inl (trust, t, h)
   by_usable trust (verify.ArtifactRead a) t h f = absurd f
-  by_usable trust verify.NoMemory t h f = tt
+  by_usable trust verify.NoMemory t h f = wanted
   by_usable trust (verify.Unbuilt a) t h f = absurd f
 
-  -- the refusal of a lower call, by what it is here
-  by_kind : (d e : Error) → d ≡ e → IsKind d → LacksScheme policy asked.bundle e → Cause e
-  by_kind d e same (inl is) l = subst Cause (sym (sym same ∙ is)) (inl (subst (LacksScheme policy asked.bundle) (sym same ∙ is) l))
-  by_kind d e same (inr is) l = subst Cause (sym (sym same ∙ is)) tt
+  -- ---- the signer, their key and its scheme
 
-  by_scheme : (e : Error) → LacksScheme policy asked.bundle e → Cause e
-  by_scheme e (key_unread r) = by_kind (error_of_crypto r.0) e r.2 (as_crypto r.0) (key_unread r)
-  by_scheme e (no_scheme reading key read k r) = by_kind (error_of_crypto r.0) e r.2 (as_crypto r.0) (no_scheme reading key read k r)
-  by_scheme e (no_hasher is lacking same) = subst Cause (sym same) (inl (no_hasher is lacking refl))
+  -- the refusal of a lower call, by what it is here
+  by_kind : (d e : Error) → d ≡ e → IsKind d → LacksScheme asked e → Cause e
+  by_kind d e same (inl is) l = subst Cause (sym (sym same ∙ is)) (inr (subst (LacksScheme asked) (sym same ∙ is) l))
+  by_kind d e same (inr is) l = subst Cause (sym (sym same ∙ is)) wanted
+
+  by_scheme : (e : Error) → LacksScheme asked e → Cause e
+  by_scheme e (key_unread has r) = by_kind (error_of_crypto r.0) e r.2 (as_crypto r.0) (key_unread has r)
+  by_scheme e (no_scheme has key k r) = by_kind (error_of_crypto r.0) e r.2 (as_crypto r.0) (no_scheme has key k r)
+  by_scheme e (no_hasher is needed needs lacking same) = subst Cause (sym same) (inr (no_hasher is needed needs lacking refl))
 
   -- the log is asked for
-  unshown : (reading : Bundle) → IsRead asked.bundle reading → policy.verify_tlog ≡ true → (entries : List TransparencyLogEntry) → entries_in reading ≡ entries → (e : Error)
-      → by_types (shown_of entries) ≡ Err e → LacksEntry policy asked.bundle
+  unshown : (reading : Bundle) → IsRead asked.bundle reading → asks_log asked.policy ≡ true → (entries : List TransparencyLogEntry) → entries_in reading ≡ entries → (e : Error)
+      → by_types (shown_of entries) ≡ Err e → LacksEntry asked
   unshown reading read asks [] is e h = no_entry reading read asks is
   unshown reading read asks (x ∷ xs) is e h = by (list_all has_proof (x ∷ xs)) refl h
     where
-      by : (b : Bool) → list_all has_proof (x ∷ xs) ≡ b → by_types (shown_if b) ≡ Err e → LacksEntry policy asked.bundle
+      by : (b : Bool) → list_all has_proof (x ∷ xs) ≡ b → by_types (shown_if b) ≡ Err e → LacksEntry asked
       by true all k = cc
       by false all k =
           let one = not_all has_proof (x ∷ xs) all in
           no_proof reading one.0 read asks (subst (λ entries. Contains entries one.0) (sym is) one.1) (not_some (one.0).inclusion_proof one.2)
 
-  unstructured : (reading : Bundle) → IsRead asked.bundle reading → (b : Bool) → policy.verify_tlog ≡ b → (e : Error) → by_types (structure_of reading b) ≡ Err e → Cause e
-  unstructured reading read true asks e h = subst Cause (lacks_bundle (entries_in reading) e h) (unshown reading read asks (entries_in reading) refl e h)
+  unstructured : (reading : Bundle) → IsRead asked.bundle reading → (b : Bool) → asks_log asked.policy ≡ b → (e : Error) → by_types (structure_of reading b) ≡ Err e → Cause e
+  unstructured reading read true asks e h = subst Cause (lacks_bundle (entries_in reading) e h) (inr (unshown reading read asks (entries_in reading) refl e h))
   unstructured reading read false asks e h = cc
 
-  -- the artifact can't be judged
-  unsupported : (is : HasBundle policy asked.bundle) → (a b : Bool) → has_digest is.scheme ≡ a → list_all is_hashed (needed_of is.scheme is.reading.content) ≡ b → (e : Error)
-      → ◌≡◌ {A = Result ⊤ Error} (if a || false then (if b then Ok tt else Err verify.Crypto) else Err verify.UnsupportedArtifact) (Err e) → Cause e
-  unsupported is true true has hashed e h = cc
-  unsupported is true false has hashed e h = by_scheme e (no_hasher is hashed (sym (err_same verify.Crypto e h)))
-  unsupported is false b has hashed e h = subst Cause (err_same verify.UnsupportedArtifact e h) (record { is = is; lacking = has })
+  nobody : (reading : Bundle) → IsRead asked.bundle reading → (policy : Meaning) → asked.policy ≡ policy → (e : Error) → signer_of policy reading ≡ Err e → Cause e
+  unfolding managed_of
+  nobody reading read (PublicKey policy) under e h =
+      refused_at (by_types (structure_of reading policy.verify_tlog)) _ e h (unstructured reading read policy.verify_tlog (ap asks_log under) e) (λ u p k. cc)
 
-  unprepared : (reading : Bundle) → IsRead asked.bundle reading → (e : Error) → prepared_of read_kind policy reading ≡ Err e → Cause e
+  -- the artifact can't be judged
+  unsupported : (is : HasScheme asked) (needed : List HashAlgorithm) → needed_of is.scheme is.has.reading.content ≡ Ok needed
+      → (a b : Bool) → signs_digest is.scheme is.has.reading.content ≡ a → list_all is_hashed needed ≡ b → (e : Error)
+      → ◌≡◌ {A = Result ⊤ Error} (if a || false then (if b then Ok tt else Err verify.Crypto) else Err verify.UnsupportedArtifact) (Err e) → Cause e
+  unsupported is needed needs true true has hashed e h = cc
+  unsupported is needed needs true false has hashed e h = by_scheme e (no_hasher is needed needs hashed (sym (err_same verify.Crypto e h)))
+  unsupported is needed needs false b has hashed e h = subst Cause (err_same verify.UnsupportedArtifact e h) (inr (record { is = is; lacking = has }))
+
+  -- a content always says which digests are needed
+  needs_there : (scheme : SigningScheme) (content : SignatureContent) (e : Error) → needed_of scheme content ≡ Err e → Cause e
+  needs_there scheme (OfMessage message) e h = cc
+
+  unready : (has : HasSigner asked) (e : Error) → ready_of read_kind has.signer has.reading ≡ Err e → Cause e
+  unfolding ready_of
+  unready has e h =
+      let content = has.reading.content in
+      refused_at (by_crypto (spki_key_of (key_in has.signer))) _ e h (λ q. by_scheme e (key_unread has (through_crypto (spki_key_of (key_in has.signer)) e q))) (λ (key : VerificationKey) q l.
+      let known = ok_crypto (spki_key_of (key_in has.signer)) key q in
+      refused_at (by_crypto (scheme_of key.scheme content)) _ e l (λ r. by_scheme e (no_scheme has key known (through_crypto (scheme_of key.scheme content) e r))) (λ (scheme : SigningScheme) r m.
+      let is : HasScheme asked = record { has = has; key = key; key_read = known; scheme = scheme; chosen = ok_crypto (scheme_of key.scheme content) scheme r } in
+      refused_at (needed_of scheme content) _ e m (needs_there scheme content e) (λ needed s n.
+      refused_at (supported_of read_kind (signs_digest scheme content) needed) _ e n (unsupported is needed s (signs_digest scheme content) (list_all is_hashed needed) refl refl e) (λ u t o. cc))))
+
+  unprepared : (reading : Bundle) → IsRead asked.bundle reading → (e : Error) → prepared_of read_kind asked.policy reading ≡ Err e → Cause e
   unfolding prepared_of
   unprepared reading read e h =
-      refused_at (by_types (structure_of reading policy.verify_tlog)) _ e h (unstructured reading read policy.verify_tlog refl e) (λ u p k.
-      refused_at (by_crypto (spki_key_of policy.key)) _ e k (λ q. by_scheme e (key_unread (through_crypto (spki_key_of policy.key) e q))) (λ key q l.
-      let known = ok_crypto (spki_key_of policy.key) key q in
-      refused_at (by_crypto (scheme_of key.scheme reading.content)) _ e l (λ r. by_scheme e (no_scheme reading key read known (through_crypto (scheme_of key.scheme reading.content) e r))) (λ scheme r m.
-      let has : HasScheme policy reading scheme key = record { read = known; chosen = ok_crypto (scheme_of key.scheme reading.content) scheme r } in
-      let is : HasBundle policy asked.bundle = record { reading = reading; read = read; scheme = scheme; key = key; has = has } in
-      refused_at (supported_of read_kind scheme (needed_of scheme reading.content)) _ e m (unsupported is (has_digest scheme) (list_all is_hashed (needed_of scheme reading.content)) refl refl e) (λ u s n. cc))))
+      refused_at (signer_of asked.policy reading) _ e h (nobody reading read asked.policy refl e) (λ (signer : Signer) p k.
+      unready (record { reading = reading; read = read; signer = signer; is = signer_means asked.policy reading signer p }) e k)
 
-  mismatched : (reading : Bundle) → IsRead asked.bundle reading → (ready : Ready) → Prepared read_kind policy reading ready → (bytes : List ℕ) → promise.ReadWhole source source' asked.max bytes → (content : SignatureContent) → reading.content ≡ content
-      → (b g : Bool) → is_bound (digest_in content) (digest_of (Read bytes)) ≡ b → is_signed accepts ready.key (digest_of (Read bytes)) None (signature_in content) ≡ g → (e : Error)
-      → ◌≡◌ {A = Result ⊤ Error} (if b then (if g then Ok tt else Err verify.SignatureInvalid) else Err verify.ArtifactMismatch) (Err e) → Cause e
-  mismatched reading read ready p bytes whole content is true true bound good e h = cc
-  mismatched reading read ready p bytes whole content is true false bound good e h =
-      subst Cause (err_same verify.SignatureInvalid e h) (record {
-        is = record { reading = reading; read = read; scheme = p.scheme; key = p.key; has = record { read = p.read; chosen = p.chosen } };
-        bytes = bytes;
-        whole = whole;
-        unsigned = ap (λ (r : Ready). is_signed accepts r.key (digest_of (Read bytes)) None (signature_in reading.content)) (sym p.same)
-            ∙ ap (λ c. is_signed accepts ready.key (digest_of (Read bytes)) None (signature_in c)) is ∙ good;
-      })
-  mismatched reading read ready p bytes whole content is false g bound good e h =
-      told_another (digest_in content) (Read bytes) bound (λ told tells other.
-      subst Cause (err_same verify.ArtifactMismatch e h) (record { reading = reading; read = read; told = told; tells = ap digest_in is ∙ tells; bytes = bytes; whole = whole; other = other }))
+  -- ---- by the artifact
 
-  unaccepted : (reading : Bundle) → IsRead asked.bundle reading → (ready : Ready) → Prepared read_kind policy reading ready → (bytes : List ℕ) → promise.ReadWhole source source' asked.max bytes → (content : SignatureContent) → reading.content ≡ content
-      → (e : Error) → content_judged_of accepts ready.key content (Read bytes) ≡ Err e → Cause e
-  unaccepted reading read ready p bytes whole (OfMessage message) is e h =
-      mismatched reading read ready p bytes whole (OfMessage message) is (is_bound message.message_digest (digest_of (Read bytes))) (is_signed accepts ready.key (digest_of (Read bytes)) None message.signature) refl refl e h
+  module _ (reading : Bundle) (read : IsRead asked.bundle reading) (bytes : List ℕ) (whole : promise.ReadWhole source source' asked.max bytes) where
+    -- the content is another's, or isn't signed
+    unaccepted : (ready : Ready) → Prepared read_kind asked.policy reading ready → (e : Error)
+        → content_judged_of asked.crypto.accepts ready.key reading.content (digest_of (Read bytes)) None ≡ Err e → Cause e
+    unaccepted ready p e h =
+        first_refused reading.content (is_bound reading.content (digest_of (Read bytes))) (is_signed asked.crypto.accepts ready.key reading.content (digest_of (Read bytes)) None) e h
+        (λ other same. subst Cause same (inr (record { reading = reading; read = read; bytes = bytes; whole = whole; other = of_other reading.content (Read bytes) other })))
+        (λ unsigned same. subst Cause same (inr (record {
+          is = record { has = record { reading = reading; read = read; signer = p.signer; is = p.is }; key = p.key; key_read = p.read; scheme = p.scheme; chosen = p.chosen };
+          bytes = bytes;
+          whole = whole;
+          unsigned = ap (λ (r : Ready). is_signed asked.crypto.accepts r.key reading.content (digest_of (Read bytes)) None) (sym p.same) ∙ unsigned;
+        })))
 
-  -- an entry isn't logged
-  unlogged : (trust : TrustedRoot) → trusted_root_of_bytes file ≡ Ok trust → (reading : Bundle) → IsRead asked.bundle reading → (bytes : List ℕ) → promise.ReadWhole source source' asked.max bytes
-      → (b : Bool) → policy.verify_tlog ≡ b → (e : Error) → log_judged_of accepts (logs_of trust) asked.now b (entries_in reading) ≡ Err e → Cause e
-  unlogged trust t reading read bytes whole true asks e h =
-      let u = entries_unlogged accepts (logs_of trust) asked.now (entries_in reading) e h in
-      subst Cause u.named (by_why u.entry u.among u.why u.cause)
-    where
-      as_is : (x : TransparencyLogEntry) → Contains (entries_in reading) x → (why : LogError) → LogCause accepts (logs_of trust) asked.now x why → (fault : TransparencyLogError)
-          → error_of_log why ≡ verify.TransparencyLog fault → IsUnlogged accepts policy asked file source source' fault
-      as_is x among why cause fault named = record {
-        trust = trust;
-        trust_read = t;
-        reading = reading;
-        read = read;
-        bytes = bytes;
-        whole = whole;
-        asks = asks;
-        unlogged = record { entry = x; among = among; why = why; named = named; cause = cause };
-      }
+    -- an entry isn't logged
+    unlogged : (material : Material) → IsKept file material → (b : Bool) → asks_log asked.policy ≡ b → (e : Error)
+        → log_judged_of (terms_of asked material).grounds b (entries_in reading) ≡ Err e → Cause e
+    unlogged material kept true asks e h =
+        let u = entries_unlogged (terms_of asked material).grounds (entries_in reading) [] e h in
+        subst Cause u.named (by_why u.entry u.among u.why u.cause)
+      where
+        as_is : (x : TransparencyLogEntry) → Contains (entries_in reading) x → (why : LogError) → LogCause asked.crypto.accepts material.logs asked.now x why → (fault : TransparencyLogError)
+            → error_of_log why ≡ verify.TransparencyLog fault → Cause (verify.TransparencyLog fault)
+        as_is x among why cause fault named = inr (record {
+          material = material;
+          kept = kept;
+          reading = reading;
+          read = read;
+          bytes = bytes;
+          whole = whole;
+          asks = asks;
+          unlogged = record { entry = x; among = among; why = why; named = named; cause = cause };
+        })
 
-      by_why : (x : TransparencyLogEntry) → Contains (entries_in reading) x → (why : LogError) → LogCause accepts (logs_of trust) asked.now x why → Cause (error_of_log why)
-      by_why x among entry.InclusionProof cause = as_is x among entry.InclusionProof cause log.InclusionProof refl
-      by_why x among entry.Checkpoint cause = as_is x among entry.Checkpoint cause log.Checkpoint refl
-      by_why x among entry.MalformedEntry cause = as_is x among entry.MalformedEntry cause log.MalformedEntry refl
-      by_why x among (entry.UnknownLog id) cause = as_is x among (entry.UnknownLog id) cause (log.UnknownLog id) refl
-      by_why x among entry.InclusionPromise cause = as_is x among entry.InclusionPromise cause log.InclusionPromise refl
-      by_why x among entry.IntegratedTime cause = as_is x among entry.IntegratedTime cause log.IntegratedTime refl
-      by_why x among entry.NoMemory cause = absurd cause
-  unlogged trust t reading read bytes whole false asks e h = cc
+        by_why : (x : TransparencyLogEntry) → Contains (entries_in reading) x → (why : LogError) → LogCause asked.crypto.accepts material.logs asked.now x why → Cause (error_of_log why)
+        by_why x among entry.InclusionProof cause = as_is x among entry.InclusionProof cause log.InclusionProof refl
+        by_why x among entry.Checkpoint cause = as_is x among entry.Checkpoint cause log.Checkpoint refl
+        by_why x among entry.MalformedEntry cause = as_is x among entry.MalformedEntry cause log.MalformedEntry refl
+        by_why x among (entry.UnknownLog id) cause = as_is x among (entry.UnknownLog id) cause (log.UnknownLog id) refl
+        by_why x among entry.InclusionPromise cause = as_is x among entry.InclusionPromise cause log.InclusionPromise refl
+        by_why x among entry.IntegratedTime cause = as_is x among entry.IntegratedTime cause log.IntegratedTime refl
+        by_why x among entry.NoMemory cause = absurd cause
+    unlogged material kept false asks e h = cc
 
-  -- an entry isn't compared
-  uncompared : (reading : Bundle) → IsRead asked.bundle reading → (entries : List TransparencyLogEntry) → entries_in reading ≡ entries → (e : Error) → compared_of entries ≡ Err e → Cause e
-  uncompared reading read [] is e h = cc
-  uncompared reading read (x ∷ xs) is e h = subst Cause (err_same (verify.Unbuilt form.Binding) e h) (entry_uncompared reading read (λ none. not_empty (sym is ∙ none)) refl)
-    where
-      not_empty : (x ∷ xs) ≡ [] → ⊥
-      not_empty k = cc
+    -- nothing vouches for the signer
+    unvouched : (material : Material) → IsKept file material → (policy : Meaning) → asked.policy ≡ policy → (signer : Signer) → IsSigner policy reading signer → (e : Error)
+        → vouched_of (terms_of asked material).grounds signer reading ≡ Err e → Cause e
+    unfolding managed_vouched_of
+    unvouched material kept (PublicKey policy) under signer i e h =
+        refused_at (log_judged_of (terms_of asked material).grounds policy.verify_tlog (entries_in reading)) _ e
+        (subst (λ signer. vouched_of (terms_of asked material).grounds signer reading ≡ Err e) i.is h)
+        (unlogged material kept policy.verify_tlog (ap asks_log under) e) (λ promised p k. cc)
 
-  unjudged : (trust : TrustedRoot) → trusted_root_of_bytes file ≡ Ok trust → (reading : Bundle) → IsRead asked.bundle reading → (bytes : List ℕ) → promise.ReadWhole source source' asked.max bytes
-      → (e : Error) → key_judged_of accepts (logs_of trust) asked.now policy reading (Read bytes) ≡ Err e → Cause e
-  unfolding key_judged_of judged_had
-  unjudged trust t reading read bytes whole e h =
-      refused_at (prepared_of read_kind policy reading) _ e h (unprepared reading read e) (λ (ready : Ready) p k.
-      refused_at (log_judged_of accepts (logs_of trust) asked.now policy.verify_tlog (entries_in reading)) _ e k (unlogged trust t reading read bytes whole policy.verify_tlog refl e) (λ u q l.
-      refused_at (content_judged_of accepts ready.key reading.content (Read bytes)) _ e l (unaccepted reading read ready (prepared_means read_kind policy reading ready p) bytes whole reading.content refl e) (λ v r m.
-      refused_at (compared_of (entries_in reading)) _ e m (uncompared reading read (entries_in reading) refl e) (λ w s n. cc))))
+    -- an entry isn't compared
+    undescribed : (grounds : Grounds) (signer : Signer) (entries : List TransparencyLogEntry) → entries_in reading ≡ entries → (e : Error)
+        → entries_described_of grounds signer reading (digest_of (Read bytes)) entries ≡ Err e → Cause e
+    undescribed grounds signer [] is e h = cc
+    undescribed grounds signer (x ∷ xs) is e h =
+        subst Cause (err_same (verify.Unbuilt form.Binding) e h) (inl (entry_uncompared reading read (λ none. not_empty (sym is ∙ none)) refl))
+      where
+        not_empty : (x ∷ xs) ≡ [] → ⊥
+        not_empty k = cc
 
-  before_reading : (reading : Bundle) → IsRead asked.bundle reading → (e : Error) → ready_of read_kind (PublicKey policy) reading ≡ Err e → Cause e
-  before_reading reading read e h = refused_at (prepared_of read_kind policy reading) _ e h (unprepared reading read e) (λ ready p k. cc)
+    unjudged : (material : Material) → IsKept file material → (e : Error) → judged_of (terms_of asked material) reading (Read bytes) ≡ Err e → Cause e
+    unfolding judged_of judged_had
+    unjudged material kept e h =
+        let grounds = (terms_of asked material).grounds in
+        refused_at (prepared_of read_kind asked.policy reading) _ e h (unprepared reading read e) (λ (ready : Ready) p k.
+        let q = prepared_means read_kind asked.policy reading ready p in
+        let signer = ap (λ (r : Ready). r.signer) q.same in
+        refused_at (vouched_of grounds ready.signer reading) _ e k
+        (λ v. unvouched material kept asked.policy refl q.signer q.is e (subst (λ signer. vouched_of grounds signer reading ≡ Err e) signer v)) (λ (evidence : Evidence) v l.
+        refused_at (content_judged_of asked.crypto.accepts ready.key reading.content (digest_of (Read bytes)) None) _ e l (unaccepted ready q e) (λ u r m.
+        refused_at (entries_described_of grounds ready.signer reading (digest_of (Read bytes)) (entries_in reading)) _ e m
+        (undescribed grounds ready.signer (entries_in reading) refl e) (λ w s n. cc))))
 
-file_of : (r : Result TrustedRoot TypesError) (x : TrustedRoot) → or_fault trust_fault r ≡ Ok x → r ≡ Ok x
-file_of (Ok y) x h = cc
-file_of (Err t) x h = cc
+-- ---- the whole
 
--- the judgement's refusal under a key, with the parts of what is asked named
-key_refused : (asked : Asked) (policy : PublicKeyVerificationPolicy) (file : List ℕ) (source source' : Watched (List ℕ)) (e : Error) → asked.policy ≡ PublicKey policy
-    → JudgesBundle asked file source source' (Err e) → KeyCause asked.crypto.accepts policy asked file source source' e
-key_refused asked policy file source source' e under (trust_refused d h s n) =
-    subst (Cause asked.crypto.accepts policy asked file source source') (err_same d e (sym n))
-    (wants asked.crypto.accepts policy asked file source source' d (λ other. let r = by_fault trust_fault (trusted_root_of_bytes file) d (h other) in
-    by_trust asked.crypto.accepts policy asked file source source' d r.0 r.1 r.2 (as_lowered verify.TrustRoot r.0)))
-key_refused asked policy file source source' e under (verifier_refused trust d t h s n) =
-    subst (Cause asked.crypto.accepts policy asked file source source') (err_same d e (sym n))
-    (wants asked.crypto.accepts policy asked file source source' d (λ other.
-    by_usable asked.crypto.accepts policy asked file source source' trust d (file_of (trusted_root_of_bytes file) trust t) (h other) (usable_fault trust d (h other))))
-key_refused asked policy file source source' e under (bundle_refused trust d t u h s n) =
-    subst (Cause asked.crypto.accepts policy asked file source source') (err_same d e (sym n))
-    (wants asked.crypto.accepts policy asked file source source' d (λ other. let r = by_fault bundle_fault (bundle_of_bytes asked.bundle) d (h other) in
-    by_bundle asked.crypto.accepts policy asked file source source' d r.0 r.1 r.2 (as_lowered verify.InvalidBundle r.0)))
-key_refused asked policy file source source' e under (judged trust reading t u b v) = by_stage (read_of (bundle_of_bytes asked.bundle) reading b) v.refused
-  where
-    read_of : (r : Result Bundle TypesError) (x : Bundle) → or_fault bundle_fault r ≡ Ok x → r ≡ Ok x
-    read_of (Ok y) x h = cc
-    read_of (Err t) x h = cc
-
-    by_stage : IsRead asked.bundle reading → promise.Cause (terms_of asked trust) reading source source' asked.max e → KeyCause asked.crypto.accepts policy asked file source source' e
-    by_stage read (inl want) = subst (Cause asked.crypto.accepts policy asked file source source') (sym want) tt
-    by_stage read (inr (inl before)) =
-        before_reading asked.crypto.accepts policy asked file source source' reading read e (subst (λ p. ready_of read_kind p reading ≡ Err e) under before.refusal)
-    by_stage read (inr (inr (inl within))) = subst (Cause asked.crypto.accepts policy asked file source source') (sym within.refusal.1) within.refusal.2
-    by_stage read (inr (inr (inr after))) =
-        unjudged asked.crypto.accepts policy asked file source source' trust (file_of (trusted_root_of_bytes file) trust t) reading read after.refusal.0 after.refusal.1 e
-        (subst (λ p. judged_by (terms_of asked trust) p reading (Read after.refusal.0) ≡ Err e) under after.refusal.2)
-
--- the judgement's refusal, under a policy of any kind
+-- each refusal of the judgement under a trust file has its cause
 pub judge_refused : (asked : Asked) (file : List ℕ) (source source' : Watched (List ℕ)) (e : Error) → JudgesBundle asked file source source' (Err e)
     → JudgeCause asked file source source' e
-judge_refused asked file source source' e j = by_policy asked.policy refl
+judge_refused asked file source source' e (trust_refused d h s n) =
+    subst (JudgeCause asked file source source') (err_same d e (sym n))
+    (wants asked file source source' d (λ other. let r = by_fault trust_fault (trusted_root_of_bytes file) d (h other) in
+    by_trust asked file source source' d r.0 r.1 r.2 (as_lowered verify.TrustRoot r.0)))
+judge_refused asked file source source' e (verifier_refused trust d t h s n) =
+    subst (JudgeCause asked file source source') (err_same d e (sym n))
+    (wants asked file source source' d (λ other.
+    by_usable asked file source source' trust d (read_of trust_fault (trusted_root_of_bytes file) trust t) (h other) (material_fault trust d (h other))))
+judge_refused asked file source source' e (bundle_refused trust material d t u h s n) =
+    subst (JudgeCause asked file source source') (err_same d e (sym n))
+    (wants asked file source source' d (λ other. let r = by_fault bundle_fault (bundle_of_bytes asked.bundle) d (h other) in
+    by_bundle asked file source source' d r.0 r.1 r.2 (as_lowered verify.InvalidBundle r.0)))
+judge_refused asked file source source' e (judged trust material reading t u b v) =
+    by_stage (read_of bundle_fault (bundle_of_bytes asked.bundle) reading b) v.refused
   where
-    by_policy : (p : Meaning) → asked.policy ≡ p → CauseUnder asked.policy asked file source source' e
-    by_policy (PublicKey policy) is = subst (λ p. CauseUnder p asked file source source' e) (sym is) (key_refused asked policy file source source' e is j)
+    kept : IsKept file material
+    kept = record { trust = trust; trust_read = read_of trust_fault (trusted_root_of_bytes file) trust t; usable = u }
+
+    by_stage : IsRead asked.bundle reading → promise.Cause (terms_of asked material) reading source source' asked.max e → JudgeCause asked file source source' e
+    by_stage read (inl want) = subst (JudgeCause asked file source source') (sym want) (inl tt)
+    by_stage read (inr (inl before)) = unprepared asked file source source' reading read e before.refusal
+    by_stage read (inr (inr (inl within))) = subst (JudgeCause asked file source source') (sym within.refusal.1) (inl within.refusal.2)
+    by_stage read (inr (inr (inr after))) =
+        unjudged asked file source source' reading read after.refusal.0 after.refusal.1 material kept e after.refusal.2

@@ -13,8 +13,8 @@ use Rattle.sigstore_crypto.specs.declared.error.VerificationFault.TheVariants as
 use Rattle.sigstore_crypto.specs.declared.key.VerificationKey.{VerificationKey}
 use Rattle.sigstore_crypto.specs.Good.{Judge, is_raw_key, accepted_of, judged_over, is_good_over, sized_digest_of, prehashed_of}
 use Rattle.sigstore_crypto.specs.Scheme.{key_algorithm_of, digest_algorithm_of}
-use Rattle.sigstore_judgement.specs.Artifact.{had_digest}
-use Rattle.sigstore_judgement.specs.Judged.{subject_by, is_good_of, is_signed}
+use Rattle.sigstore_judgement.specs.Artifact.{digest_among}
+use Rattle.sigstore_judgement.specs.Content.{subject_by, is_good_of, is_artifact_signed}
 use Rattle.sigstore_judgement.proofs.Had.{same_is}
 
 -- ---- the digest that is found is of the algorithm that is asked for
@@ -63,11 +63,11 @@ prehashed accepts key a digest signature e size =
 -- what the provider says of the digest that was taken is whether the artifact is signed
 pub taken_signed : (accepts : Judge) (key : VerificationKey) (digests : List (HashAlgorithm × List ℕ)) (kept : Option (List ℕ)) (a : HashAlgorithm) (d : HashAlgorithm × List ℕ) (signature : List ℕ)
     → digest_algorithm_of key.scheme ≡ Some a → find (λ taken. same_algorithm taken.0 a) digests ≡ Some d → length d.1 ≡ digest_len_of d.0
-    → is_ok (prehashed_of accepts key d.1 signature) ≡ is_signed accepts key (had_digest digests) kept signature
+    → is_ok (prehashed_of accepts key d.1 signature) ≡ is_artifact_signed accepts key (digest_among digests) kept signature
 taken_signed accepts key digests kept a d signature e f size =
     ap is_ok (prehashed accepts key a d.1 signature e (size ∙ ap digest_len_of (same_is d.0 a (found_same digests a d f))))
     ∙ over accepts key d.1 signature
     ∙ sym (
-    ap (λ o. is_good_of accepts key (subject_by o (had_digest digests) kept) signature) e
+    ap (λ o. is_good_of accepts key (subject_by o (digest_among digests) kept) signature) e
     ∙ ap (λ o. is_good_of accepts key (option_map (λ (x : HashAlgorithm × List ℕ). x.1) o) signature) f
     )

@@ -21,7 +21,7 @@ use Rattle.sigstore_judgement.specs.declared.trust.LogKind.{LogKind}
 use Rattle.sigstore_judgement.specs.declared.trust.LogKind.TheVariants.{Entries, Certificates}
 use Rattle.sigstore_judgement.specs.Error.{error_of_crypto}
 use Rattle.sigstore_judgement.specs.Trust.{window_usable, id_usable, id_new, or_refused, or_bare, log_key_of, log_added, logs_added, nonempty, or_certificate}
-use Rattle.sigstore_judgement.specs.Trust.{certificate_added, certificates_added, authority_added, authorities_added, material_of, usable_of}
+use Rattle.sigstore_judgement.specs.Trust.{certificate_added, certificates_added, authority_added, authorities_added, material_of}
 
 -- what is answered of a trust file that can't be used
 abbrev pub IsFault : Error → Type 0
@@ -117,13 +117,10 @@ authorities_fault [] anchors e h = cc
 authorities_fault (authority ∷ authorities) anchors e h =
     refused_at (authority_added authority anchors) (authorities_added authorities) e h (authority_fault authority anchors e) (λ after one rest. authorities_fault authorities after e rest)
 
-material_fault : (trust : TrustedRoot) (e : Error) → material_of trust ≡ Err e → IsFault e
+pub material_fault : (trust : TrustedRoot) (e : Error) → material_of trust ≡ Err e → IsFault e
 unfolding material_of
 material_fault trust e h =
     refused_at (logs_added Entries trust.tlogs []) _ e h (logs_fault Entries trust.tlogs [] e) (λ logs o k.
     refused_at (logs_added Certificates trust.ctlogs []) _ e k (logs_fault Certificates trust.ctlogs [] e) (λ ct_logs p l.
     refused_at (authorities_added trust.certificate_authorities []) _ e l (authorities_fault trust.certificate_authorities [] e) (λ anchors q m.
     refused_at (authorities_added trust.timestamp_authorities []) _ e m (authorities_fault trust.timestamp_authorities [] e) (λ stamping r z. cc))))
-
-pub usable_fault : (trust : TrustedRoot) (e : Error) → usable_of trust ≡ Err e → IsFault e
-usable_fault trust e h = refused_at (material_of trust) _ e h (material_fault trust e) (λ material o z. cc)

@@ -1,0 +1,15 @@
+pub mod Stages
+pub mod Accepts
+pub mod EntryCauses
+pub mod EntryLaw
+pub mod LogRefusals
+pub mod UsableCauses
+pub mod JudgeCauses
+pub mod Completing
+pub mod Had
+pub mod Signed
+pub mod Agree
+pub mod Taken
+pub mod Usable
+pub mod Wanting
+mod TrustReading
