@@ -1,6 +1,6 @@
 -- A ring of keys: a finite map from ids to keys, each with the window in which it is used, where one is given.
 use Rattle.std.specs.Prelude.{◌≡◌, ℕ, List, [], ◌∷◌, Bool, true, ◌&&◌, nat_eq, if◌then◌else◌, ⊤, Option, Some, None, Result, Err}
-use Rattle.std.specs.List.{starts_with}
+use Rattle.std.specs.List.{starts_with, list_any}
 use Rattle.std.specs.BTreeMap.{insert_entry}
 use Rattle.jiff_core.specs.declared.timestamp.Timestamp.{Timestamp}
 use Rattle.sigstore_types_parts.specs.declared.time_range.TimeRange.{TimeRange}
@@ -11,7 +11,10 @@ use Rattle.sigstore_crypto.specs.declared.error.Error.TheVariants.{Verification}
 use Rattle.sigstore_crypto.specs.declared.error.VerificationFault.TheVariants as fault
 use Rattle.sigstore_crypto.specs.declared.key.VerificationKey.{VerificationKey}
 use Rattle.sigstore_crypto.specs.declared.keyring.HeldKey.{HeldKey}
+use Rattle.sigstore_crypto.specs.declared.scheme.SigningScheme.{SigningScheme}
 use Rattle.sigstore_crypto.specs.Good.{Judge, verified_of, Good}
+use Rattle.sigstore_crypto.specs.Key.{same_sort}
+use Rattle.sigstore_crypto.specs.Scheme.{key_algorithm_of}
 
 -- the ids with what is held under each, in ascending order of the ids' bytes
 abbrev pub Ring : Type 0
@@ -63,6 +66,16 @@ abbrev pub keys_meant : List ℕ → Timestamp → Ring → List VerificationKey
 keys_meant hint time [] = []
 keys_meant hint time (entry ∷ ring) =
     if is_meant hint time entry then entry.1.key ∷ keys_meant hint time ring else keys_meant hint time ring
+
+-- ---- the sorts of keys
+
+-- the key is of the sort that signs under the scheme
+abbrev pub is_key_of : SigningScheme → HeldKey → Bool
+is_key_of scheme held = same_sort (key_algorithm_of held.key.scheme) (key_algorithm_of scheme)
+
+-- some key, under any id and at any time, is
+abbrev pub has_key_of : SigningScheme → Ring → Bool
+has_key_of scheme ring = list_any (λ entry. is_key_of scheme entry.1) ring
 
 -- ---- signatures
 

@@ -3,12 +3,13 @@ ghost use Rattle.std.specs.Prelude.{◌≡◌, ◌≢◌, None, ℕ, List, [], l
 ghost use Rattle.std.specs.List.{starts_with};
 ghost use Rattle.sigstore_crypto.specs.declared.error.Error.TheVariants.{NoMemory, Verification};
 ghost use Rattle.sigstore_crypto.specs.declared.error.VerificationFault.TheVariants.{NoKey};
-ghost use Rattle.sigstore_crypto.specs.Keyring.{held_at, with_held, is_used_at, is_used_by, key_in, key_at, key_by, is_meant, keys_meant, verified_with, GoodUnder};
+ghost use Rattle.sigstore_crypto.specs.Keyring.{held_at, with_held, is_used_at, is_used_by, key_in, key_at, key_by, is_meant, keys_meant, is_key_of, has_key_of, verified_with, GoodUnder};
 ghost use Rattle.sigstore_crypto.specs.Coming.{coming};
 
 use crate::error::{Error, VerificationFault};
 use crate::key::VerificationKey;
 use crate::provider::CryptoProvider;
+use crate::scheme::SigningScheme;
 use jiff::Timestamp;
 use sigstore_types_parts::{Hash, KeyHint, Sha256Hash, SignatureBytes, TimeRange};
 use std::alloc::Global;
@@ -152,6 +153,13 @@ impl Keyring {
     }
 }
 
+// Whether a key is of the sort that signs under a scheme.
+fn is_key_of(scheme: SigningScheme, held: &HeldKey) -> bool
+    ensures { result ≡ is_key_of scheme held.now }
+{
+    held.key.scheme.key_algorithm() == scheme.key_algorithm()
+}
+
 fn verify_with<C: CryptoProvider>(
     key: Option<&VerificationKey>,
     provider: &C,
@@ -217,6 +225,14 @@ impl Keyring {
             }
         }
         Err(Error::Verification(VerificationFault::NoKey))
+    }
+
+    /// Whether some key, under any id and at any time, is of the sort that signs under a scheme, whichever scheme
+    /// it is held with.
+    pub fn has_key_of(&self, scheme: SigningScheme) -> bool
+        ensures { result ≡ has_key_of scheme self.now }
+    {
+        self.keys.iter().any(|(_, held)| is_key_of(scheme, held))
     }
 
     /// The keys whose id begins with a hint and whose window has started by a moment, in ascending order of
