@@ -17,7 +17,7 @@ use crate::evidence::{Evidence, report};
 use crate::grounds::Grounds;
 use crate::policy::{PolicyKind, PublicKeyVerificationPolicy};
 use crate::report::VerificationResult;
-use crate::signing::{Signing, signing};
+use crate::signing::{Signing, who_signed};
 use foundation::Sequence;
 use sigstore_crypto::{CryptoProvider, VerificationKey};
 use sigstore_types::Bundle;
@@ -65,7 +65,7 @@ fn key_and_digests(
 }
 
 /// Everything that doesn't need the artifact, so that a bundle that can't be accepted costs no reading of a long
-/// file. Errors, in order: those of `signing`; `Crypto` for the signer's key and its scheme; `UnsupportedArtifact`
+/// file. Errors, in order: those of `who_signed`; `Crypto` for the signer's key and its scheme; `UnsupportedArtifact`
 /// where the scheme signs the artifact itself and its bytes aren't kept; where a digest that is needed can't be had,
 /// `UnsupportedArtifact` if one was handed in and else `Crypto`.
 #[tactic(auto, unfolding(crate::specs::Judged::prepared_of))]
@@ -78,7 +78,7 @@ pub(crate) fn prepare<'a>(
     ensures ok { IfOk result (λ ready. prepared_of (kind_in handed) (meaning_of policy.entry) bundle.now ≡ Ok (ready_as ready)) }
     ensures err { IfErr result (λ e. e ≢ Error.NoMemory → prepared_of (kind_in handed) (meaning_of policy.entry) bundle.now ≡ Err e) }
 {
-    let signer = signing(policy, bundle)?;
+    let signer = who_signed(policy, bundle)?;
     match key_and_digests(alloc, handed, &signer, bundle) {
         Ok((key, needed)) => Ok(Ready {
             signer,

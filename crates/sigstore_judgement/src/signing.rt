@@ -53,7 +53,7 @@ fn managed<'a>(
 }
 
 /// Who signed a bundle under a policy. Errors: `Bundle` where it lacks what the policy needs of the log.
-pub(crate) fn signing<'a>(policy: PolicyKind<'a>, bundle: &Bundle) -> Result<Signing<'a>, Error>
+pub(crate) fn who_signed<'a>(policy: PolicyKind<'a>, bundle: &Bundle) -> Result<Signing<'a>, Error>
     ensures ok { IfOk result (λ signer. signer_of (meaning_of policy.entry) bundle.now ≡ Ok (signer_as signer)) }
     ensures err { IfErr result (λ e. signer_of (meaning_of policy.entry) bundle.now ≡ Err e) }
 {
