@@ -126,8 +126,8 @@ module _ (accepts : Judge) (logs : Ring) (now : Timestamp) (entry : Transparency
 
     unpromised_by : promise_judged accepts logs now entry (Some promise) ≡ Err e → Cause e
     unpromised_by h =
-        refused_at (promise_of accepts logs now entry promise) (λ _. time_judged now entry) e h of_no_log (λ u p k.
-        untimely (tells_time entry.kind_version) (is_past_or_now now entry.integrated_time) refl refl k)
+        refused_at (promise_of accepts logs now entry promise) _ e h of_no_log (λ u p k.
+        refused_at (time_judged now entry) _ e k (untimely (tells_time entry.kind_version) (is_past_or_now now entry.integrated_time) refl refl) (λ v q l. cc))
 
   unpromised : (o : Option (List ℕ)) → entry.inclusion_promise ≡ o → promise_judged accepts logs now entry o ≡ Err e → Cause e
   unpromised None is h = cc

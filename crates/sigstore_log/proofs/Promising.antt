@@ -12,7 +12,7 @@ use Rattle.sigstore_entries.specs.declared.entry.TransparencyLogEntry.{Transpare
 use Rattle.sigstore_entries.specs.Promise.{payload_of}
 use Rattle.sigstore_log.specs.declared.error.LogError.{LogError}
 use Rattle.sigstore_log.specs.declared.error.LogError.TheVariants as refusal
-use Rattle.sigstore_log.specs.Promise.{id_of, key_of, is_promised, promise_of, tells_time, is_past_or_now, time_judged, promise_judged}
+use Rattle.sigstore_log.specs.Promise.{id_of, key_of, is_promised, promise_of, tells_time, is_past_or_now, time_judged, told_by, promise_judged}
 use Rattle.sigstore_log.specs.Logged.{IsPromised}
 
 -- ---- the id
@@ -83,25 +83,33 @@ time_passes false past h = refl
 -- ---- both ways
 
 module _ (accepts : Judge) (logs : Ring) (now : Timestamp) (entry : TransparencyLogEntry) where
-  pub promise_means : (o : Option (List ℕ)) (x : ⊤) → promise_judged accepts logs now entry o ≡ Ok x → IsPromised accepts logs now entry o
-  promise_means None x h = tt
-  promise_means (Some promise) x h =
-      let a = step_ok (promise_of accepts logs now entry promise) (λ _. time_judged now entry) x h in
+  abbrev after_promise : List ℕ → Result (Option Timestamp) LogError
+  after_promise promise = time_judged now entry >>= λ _. Ok (told_by entry (Some promise))
+
+  pub promise_means : (o : Option (List ℕ)) (time : Option Timestamp) → promise_judged accepts logs now entry o ≡ Ok time
+      → IsPromised accepts logs now entry o × (time ≡ told_by entry o)
+  promise_means None time h = (tt, sym (ok_same None time h))
+  promise_means (Some promise) time h =
+      let a = step_ok (promise_of accepts logs now entry promise) (λ _. after_promise promise) time h in
+      let b = step_ok (time_judged now entry) (λ _. Ok (told_by entry (Some promise))) time a.2 in
       let p = of_means accepts logs now entry promise a.0 a.1 in (
-        p.0,
-        record {
-          key = p.1.0;
-          key_is = p.1.1;
-          payload = p.1.2.0;
-          payload_is = p.1.2.1;
-          good = p.1.2.2;
-          past = time_means (tells_time entry.kind_version) (is_past_or_now now entry.integrated_time) x a.2;
-        },
+        (
+          p.0,
+          record {
+            key = p.1.0;
+            key_is = p.1.1;
+            payload = p.1.2.0;
+            payload_is = p.1.2.1;
+            good = p.1.2.2;
+            past = time_means (tells_time entry.kind_version) (is_past_or_now now entry.integrated_time) b.0 b.1;
+          },
+        ),
+        sym (ok_same (told_by entry (Some promise)) time b.2),
       )
 
-  pub promise_passes : (o : Option (List ℕ)) → IsPromised accepts logs now entry o → promise_judged accepts logs now entry o ≡ Ok tt
+  pub promise_passes : (o : Option (List ℕ)) → IsPromised accepts logs now entry o → promise_judged accepts logs now entry o ≡ Ok (told_by entry o)
   promise_passes None h = refl
   promise_passes (Some promise) h =
       let p = h.1 in
-      ap (λ r. r >>= λ _. time_judged now entry) (of_passes accepts logs now entry promise (h.0, (p.key, p.key_is, (p.payload, p.payload_is, p.good))))
-      ∙ time_passes (tells_time entry.kind_version) (is_past_or_now now entry.integrated_time) p.past
+      ap (λ r. r >>= λ _. after_promise promise) (of_passes accepts logs now entry promise (h.0, (p.key, p.key_is, (p.payload, p.payload_is, p.good))))
+      ∙ ap (λ r. r >>= λ _. Ok (told_by entry (Some promise))) (time_passes (tells_time entry.kind_version) (is_past_or_now now entry.integrated_time) p.past)

@@ -1,6 +1,6 @@
 -- When an entry of a bundle counts as logged: it stands in the tree of a trusted log, whose checkpoint the log signed, and a promise
 -- that it brings is the log's (RFC 6962, sections 2.1.1 and 3.2; C2SP tlog-checkpoint).
-use Rattle.std.specs.Prelude.{Result, ok_or, ⊤}
+use Rattle.std.specs.Prelude.{Option, Result, ok_or}
 use Rattle.foundation.specs.Steps.{◌>>=◌}
 use Rattle.jiff_core.specs.declared.timestamp.Timestamp.{Timestamp}
 use Rattle.sigstore_crypto.specs.Good.{Judge}
@@ -12,8 +12,9 @@ use Rattle.sigstore_log.specs.Inclusion.{included_of}
 use Rattle.sigstore_log.specs.Signed.{checkpoint_judged}
 use Rattle.sigstore_log.specs.Promise.{promise_judged}
 
--- The entry is logged, or the first check that fails: its proof, the checkpoint, the promise with its time.
-unfoldable pub logged_of : Judge → Ring → Timestamp → TransparencyLogEntry → Result ⊤ LogError
+-- The entry is logged, and the time that its promise tells; or the first check that fails: its proof, the checkpoint, the promise with
+-- its time.
+unfoldable pub logged_of : Judge → Ring → Timestamp → TransparencyLogEntry → Result (Option Timestamp) LogError
 logged_of accepts logs now entry = do
   proof ← ok_or entry.inclusion_proof refusal.InclusionProof
   _ ← included_of entry proof

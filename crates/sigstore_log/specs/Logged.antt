@@ -17,7 +17,7 @@ use Rattle.sigstore_entries.specs.Checkpoint.{signed_data_of}
 use Rattle.sigstore_entries.specs.Promise.{payload_of}
 use Rattle.sigstore_log.specs.Entry.{logged_of}
 use Rattle.sigstore_log.specs.Inclusion.{Place, place_of}
-use Rattle.sigstore_log.specs.Promise.{key_of, tells_time, is_past_or_now}
+use Rattle.sigstore_log.specs.Promise.{key_of, tells_time, is_past_or_now, told_time}
 
 -- some line of the checkpoint has the first four bytes of a trusted log's id, the log's window has started by now, and the line's
 -- signature is good under its key over the signed text
@@ -68,7 +68,7 @@ pub record Logged (accepts : Judge) (logs : Ring) (now : Timestamp) (entry : Tra
   pub signed : SignedBy accepts logs now checkpoint
   pub promised : IsPromised accepts logs now entry entry.inclusion_promise
 
--- the judgement accepts exactly the entries that are logged
+-- the judgement accepts exactly the entries that are logged, with the time that the promise of each tells
 abbrev pub LoggedExactly : Type 0
-LoggedExactly = (accepts : Judge) (logs : Ring) (now : Timestamp) (entry : TransparencyLogEntry)
-    → (logged_of accepts logs now entry ≡ Ok tt) ↔ Logged accepts logs now entry
+LoggedExactly = (accepts : Judge) (logs : Ring) (now : Timestamp) (entry : TransparencyLogEntry) (time : Option Timestamp)
+    → (logged_of accepts logs now entry ≡ Ok time) ↔ (Logged accepts logs now entry × (time ≡ told_time entry))

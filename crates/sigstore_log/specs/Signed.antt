@@ -28,8 +28,9 @@ use Rattle.sigstore_log.specs.declared.error.LogError.TheVariants as refusal
 abbrev pub is_good_by : Judge → List VerificationKey → List ℕ → List ℕ → Bool
 is_good_by accepts keys message signature = list_any (λ key. is_good accepts key message signature) keys
 
--- a line's signature is good under a key that its hint means: that of a log whose id begins with the hint, and whose window has
--- started by now (else a key that is only to be used later could vouch for a log of today)
+-- A line's signature is good under a key that its hint means: that of a log whose id begins with the hint, and whose window has
+-- started by now (else a key that is only to be used later could vouch for a log of today). A window that has ended still counts: a
+-- checkpoint tells no time, and what a log signed while its key was used shows its tree for ever, also after the log was closed.
 abbrev pub is_vouched : Judge → Ring → Timestamp → List ℕ → CheckpointSignature → Bool
 is_vouched accepts logs now signed line = is_good_by accepts (keys_meant line.key_id now logs) signed line.signature
 

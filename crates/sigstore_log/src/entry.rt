@@ -5,17 +5,17 @@ ghost use Rattle.sigstore_log.specs.Entry.{logged_of};
 use crate::checkpoint::check_checkpoint;
 use crate::error::LogError;
 use crate::inclusion::check_inclusion;
-use crate::promise::check_promise;
+use crate::promise::judge_promise;
 use jiff::Timestamp;
 use sigstore_crypto::{CryptoProvider, Keyring};
 use sigstore_entries::{InclusionProof, TransparencyLogEntry};
 use std::alloc::Global;
 
-/// Whether an entry counts as logged by one of these logs, at this moment. Errors, in order: `InclusionProof` where
-/// there is no proof; `Checkpoint` for an entry of hashedrekord 0.0.2 without a checkpoint; `InclusionProof` where the
-/// proof doesn't lead to the root; `Checkpoint` where the proof has no checkpoint of its tree that one of the logs
-/// signed; and of its promise, where there is one, `MalformedEntry`, `UnknownLog`, `InclusionPromise` and
-/// `IntegratedTime`.
+/// Whether an entry counts as logged by one of these logs, at this moment: then the time that its promise tells, as
+/// `told_time`. Errors, in order: `InclusionProof` where there is no proof; `Checkpoint` for an entry of hashedrekord
+/// 0.0.2 without a checkpoint; `InclusionProof` where the proof doesn't lead to the root; `Checkpoint` where the proof
+/// has no checkpoint of its tree that one of the logs signed; and those of `judge_promise`: `MalformedEntry`,
+/// `UnknownLog`, `InclusionPromise` and `IntegratedTime`.
 #[tactic(auto, unfolding(crate::specs::Entry::logged_of))]
 pub fn judge_entry<C: CryptoProvider>(
     alloc: Global,
@@ -23,8 +23,8 @@ pub fn judge_entry<C: CryptoProvider>(
     logs: &Keyring,
     now: Timestamp,
     entry: &TransparencyLogEntry,
-) -> Result<(), LogError>
-    ensures ok { IfOk result (λ x. logged_of (C.accepts provider.now) logs.now now entry.now ≡ Ok x) }
+) -> Result<Option<Timestamp>, LogError>
+    ensures ok { IfOk result (λ time. logged_of (C.accepts provider.now) logs.now now entry.now ≡ Ok time) }
     ensures err { IfErr result (λ e. e ≢ LogError.NoMemory → logged_of (C.accepts provider.now) logs.now now entry.now ≡ Err e) }
 {
     let Some(proof) = &entry.inclusion_proof else {
@@ -32,6 +32,8 @@ pub fn judge_entry<C: CryptoProvider>(
     };
     check_inclusion(entry, proof)?;
     check_checkpoint(provider, logs, now, entry.kind_version, proof)?;
-    check_promise(alloc, provider, logs, now, entry)?;
-    Ok(())
+    match judge_promise(alloc, provider, logs, now, entry) {
+        Ok(time) => Ok(time),
+        Err(refusal) => Err(refusal),
+    }
 }

@@ -4,7 +4,7 @@ ghost use Rattle.sigstore_log.specs.Logged.{LoggedExactly};
 ghost use Rattle.sigstore_log.specs.OnePlace.{OnePlaceOneBody};
 
 /// The law of logged entries: the judgement accepts exactly those that are logged, told without any order of
-/// checks.
+/// checks, and gives the time that the promise of each tells.
 pub fn logged_exactly()
     ensures { LoggedExactly }
 {}

@@ -2,7 +2,7 @@
 ghost use Rattle.std.specs.Prelude.{◌≡◌, ◌*ℤ◌, pos, ◌≢◌, Ok, Err, Option, IfOk, IfErr, MatchResult, IfSome, option_copied};
 ghost use Rattle.sigstore_types_parts.specs.Instant.{nearest, at_nanosecond};
 ghost use Rattle.sigstore_entries.specs.Promise.{payload_of};
-ghost use Rattle.sigstore_log.specs.Promise.{moment_of, id_of, key_of, is_promised, promise_of, tells_time, is_past_or_now, time_judged, promise_judged};
+ghost use Rattle.sigstore_log.specs.Promise.{moment_of, id_of, key_of, is_promised, promise_of, tells_time, is_past_or_now, time_judged, told_time, promise_judged};
 
 use crate::error::LogError;
 use jiff::Timestamp;
@@ -39,8 +39,8 @@ fn nanoseconds(second: i64) -> i128
     second as i128 * 1_000_000_000
 }
 
-// That many seconds after the start of 1970, or the nearest instant.
-fn moment(second: i64) -> Timestamp
+/// The instant that many seconds after the start of 1970, or the nearest that there is.
+pub fn moment_of_seconds(second: i64) -> Timestamp
     ensures { result ≡ moment_of second }
 {
     at_nanosecond(nanoseconds(second))
@@ -65,7 +65,7 @@ fn promise_key<'k>(
     ensures { MatchResult result (λ key. key_of logs.now now id.now time ≡ Ok key.now) (λ e. key_of logs.now now id.now time ≡ Err e) }
 {
     match time {
-        Some(second) => match logs.key_at(id, moment(second)) {
+        Some(second) => match logs.key_at(id, moment_of_seconds(second)) {
             Some(key) => Ok(key),
             None => Err(LogError::InclusionPromise),
         },
@@ -119,8 +119,8 @@ fn check_log<C: CryptoProvider>(
     }
 }
 
-// Whether the promise of an entry of this kind tells when it was logged.
-fn tells_time(kind: KindVersion) -> bool
+/// Whether the promise of an entry of this kind tells when it was logged.
+pub fn tells_time(kind: KindVersion) -> bool
     ensures { result ≡ tells_time kind }
 {
     match kind {
@@ -136,7 +136,7 @@ fn is_past_or_now(now: Timestamp, time: Option<i64>) -> bool
     ensures { result ≡ is_past_or_now now time }
 {
     match time {
-        Some(second) => moment(second) <= now,
+        Some(second) => moment_of_seconds(second) <= now,
         None => true,
     }
 }
@@ -152,26 +152,40 @@ fn check_time(now: Timestamp, entry: &TransparencyLogEntry) -> Result<(), LogErr
     }
 }
 
-/// What the log promised of an entry, where it did. Errors, in order: `MalformedEntry` for a log id that isn't of 32
-/// bytes; where the promise has a time, `InclusionPromise` where no key of that log is used at it, and else
-/// `UnknownLog` where the log isn't trusted or hasn't started by now; `InclusionPromise` for a signature that isn't
-/// good; `IntegratedTime` for a time after now.
-pub(crate) fn check_promise<C: CryptoProvider>(
+/// The time that an entry's promise tells: when it was logged, to the second. None where the entry brings no promise
+/// or no time, or where promises of its kind tell none.
+pub fn told_time(entry: &TransparencyLogEntry) -> Option<Timestamp>
+    ensures { result ≡ told_time entry.now }
+{
+    if entry.inclusion_promise.is_none() || !tells_time(entry.kind_version) {
+        return None;
+    }
+    match entry.integrated_time {
+        Some(second) => Some(moment_of_seconds(second)),
+        None => None,
+    }
+}
+
+/// What the log promised of an entry, where it did: the time that the promise tells, as `told_time`. Errors, in order:
+/// `MalformedEntry` for a log id that isn't of 32 bytes; where the promise has a time, `InclusionPromise` where no key
+/// of that log is used at it, and else `UnknownLog` where the log isn't trusted or hasn't started by now;
+/// `InclusionPromise` for a signature that isn't good; `IntegratedTime` for a time after now.
+pub fn judge_promise<C: CryptoProvider>(
     alloc: Global,
     provider: &C,
     logs: &Keyring,
     now: Timestamp,
     entry: &TransparencyLogEntry,
-) -> Result<(), LogError>
-    ensures ok { IfOk result (λ x. promise_judged (C.accepts provider.now) logs.now now entry.now entry.now.inclusion_promise ≡ Ok x) }
+) -> Result<Option<Timestamp>, LogError>
+    ensures ok { IfOk result (λ time. promise_judged (C.accepts provider.now) logs.now now entry.now entry.now.inclusion_promise ≡ Ok time) }
     ensures err { IfErr result (λ e. e ≢ LogError.NoMemory → promise_judged (C.accepts provider.now) logs.now now entry.now entry.now.inclusion_promise ≡ Err e) }
 {
     match &entry.inclusion_promise {
         Some(promise) => {
             check_log(alloc, provider, logs, now, entry, promise)?;
             check_time(now, entry)?;
-            Ok(())
+            Ok(told_time(entry))
         }
-        None => Ok(()),
+        None => Ok(None),
     }
 }
