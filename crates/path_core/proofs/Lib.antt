@@ -6,3 +6,4 @@ pub mod Levels
 pub mod Judging
 pub mod Pairs
 pub mod Room
+pub mod FirstPath

@@ -5,6 +5,7 @@ pub mod Extensions
 pub mod Judged
 pub mod Level
 pub mod Links
+pub mod Path
 pub mod Paths
 pub mod Refusal
 pub mod Search

@@ -5,6 +5,7 @@ ghost use Rattle.path_core.specs.declared.error.LeafFault.{LeafFault};
 ghost use Rattle.path_core.specs.declared.route.Route.{Route};
 ghost use Rattle.path_core.specs.Judged.{AreRight, Keeps};
 ghost use Rattle.path_core.specs.Level.{IsLevel};
+ghost use Rattle.path_core.specs.Path.{path_of};
 ghost use Rattle.path_core.specs.Paths.{IsPath, First, IsFound, setting, follows_leaf, spki_at};
 ghost use Rattle.path_core.specs.Refusal.{Refuses};
 ghost use Rattle.path_core.specs.Search.{setting_of};
@@ -139,11 +140,8 @@ fn check_leaf(leaf: &Seen, purpose: Purpose) -> Result<(), PathError>
     }
 }
 
-/// The first path from the leaf over intermediates to an anchor (RFC 5280, section 6), for a purpose at a
-/// moment: the least by the number of intermediates, then by their positions, then by the anchor's. Each
-/// certificate is read once, and each pair of certificates is judged at most once, which `steps` counts.
-/// Errors, in order: `Leaf` with the first property that the leaf lacks; `NoPath` where there is none.
-pub fn find_path<C: CryptoProvider>(
+// Each certificate is read once, and then the search.
+fn seek<C: CryptoProvider>(
     alloc: Global,
     provider: &C,
     leaf: &DerCertificate,
@@ -171,4 +169,40 @@ pub fn find_path<C: CryptoProvider>(
     };
     let route = search_anew(alloc, &given, steps)?;
     Ok(found(alloc, &given, route)?)
+}
+
+/// The first path from the leaf over intermediates to an anchor (RFC 5280, section 6), for a purpose at a
+/// moment: the least by the number of intermediates, then by their positions, then by the anchor's. Each
+/// certificate is read once, and each pair of certificates is judged at most once, which `steps` counts.
+/// Errors, in order: `Leaf` with the first property that the leaf lacks; `NoPath` where there is none.
+#[tactic(auto, using(crate::proofs::FirstPath::refused_is))]
+pub fn find_path<C: CryptoProvider>(
+    alloc: Global,
+    provider: &C,
+    leaf: &DerCertificate,
+    intermediates: &[DerCertificate],
+    anchors: &[Anchor],
+    purpose: Purpose,
+    at: Timestamp,
+    steps: &mut Steps,
+) -> Result<FoundPath, PathError>
+    ensures ok { IfOk result (IsFound (setting (C.accepts provider.now) leaf.now intermediates.now anchors.now purpose at)) }
+    ensures err { IfErr result (Refuses (setting (C.accepts provider.now) leaf.now intermediates.now anchors.now purpose at)) }
+    ensures cost { steps.new ≤ steps.old + (length intermediates.now + 1) * (length intermediates.now + length anchors.now) }
+    ensures path { IfOk result (λ p. path_of (setting (C.accepts provider.now) leaf.now intermediates.now anchors.now purpose at) ≡ Ok p) }
+    ensures refusal { IfErr result (λ e. e ≢ PathError.NoMemory → path_of (setting (C.accepts provider.now) leaf.now intermediates.now anchors.now purpose at) ≡ Err e) }
+{
+    match seek(
+        alloc,
+        provider,
+        leaf,
+        intermediates,
+        anchors,
+        purpose,
+        at,
+        steps,
+    ) {
+        Ok(found) => Ok(found),
+        Err(refusal) => Err(refusal),
+    }
 }

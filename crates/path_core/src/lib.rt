@@ -23,7 +23,7 @@ mod way;
 pub use anchor::Anchor;
 pub use error::{LeafFault, PathError};
 pub use find::find_path;
-pub use laws::first_is_one;
+pub use laws::{first_is_one, path_exactly};
 pub use purpose::Purpose;
 pub use route::{FoundPath, Route};
 pub use steps::Steps;

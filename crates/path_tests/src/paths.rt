@@ -2,7 +2,7 @@
 // intermediates' positions, `>`, the anchor's, and whose key issued the leaf. Worked out by hand by RFC 5280,
 // section 6, and what this crate's definitions ask beside it.
 use crate::words::{anchor, good, search, tables, text};
-use path_core::{LeafFault, PathError, Steps, first_is_one};
+use path_core::{LeafFault, PathError, Steps, first_is_one, path_exactly};
 use sigstore_app_parts::Tables;
 use std::process::Abort;
 
@@ -219,6 +219,7 @@ fn links_are_of_each_scheme(rt: HostRuntime) {
 #[test]
 fn pairs_are_judged_once(rt: HostRuntime) {
     check_rows(&rt, COUNTS, true);
+    path_exactly();
 }
 
 // Ends the process where an anchor's making doesn't give its answer.

@@ -11,11 +11,11 @@ use sigstore_crypto::{CryptoProvider, Keyring};
 use sigstore_entries::{InclusionProof, TransparencyLogEntry};
 use std::alloc::Global;
 
-/// Whether an entry counts as logged by one of these logs, at this moment; and the time that its promise tells, as
-/// `told_time`. Errors, in order: `InclusionProof` where there is no proof; `Checkpoint` for an entry of hashedrekord 0.0.2 without a checkpoint; `InclusionProof` where the
-/// proof doesn't lead to the root; `Checkpoint` where the proof has no checkpoint of its tree that one of the logs
-/// signed; and of its promise, where there is one, `MalformedEntry`, `UnknownLog`, `InclusionPromise` and
-/// `IntegratedTime`.
+/// Whether an entry counts as logged by one of these logs, at this moment: then the time that its promise tells, as
+/// `told_time`. Errors, in order: `InclusionProof` where there is no proof; `Checkpoint` for an entry of hashedrekord
+/// 0.0.2 without a checkpoint; `InclusionProof` where the proof doesn't lead to the root; `Checkpoint` where the proof
+/// has no checkpoint of its tree that one of the logs signed; and those of `judge_promise`: `MalformedEntry`,
+/// `UnknownLog`, `InclusionPromise` and `IntegratedTime`.
 #[tactic(auto, unfolding(crate::specs::Entry::logged_of))]
 pub fn judge_entry<C: CryptoProvider>(
     alloc: Global,
