@@ -13,7 +13,7 @@ use Rattle.sigstore_crypto.specs.declared.key.VerificationKey.{VerificationKey}
 use Rattle.sigstore_crypto.specs.Good.{Judge}
 use Rattle.sigstore_crypto.specs.Keyring.{Ring}
 use Rattle.sigstore_crypto.specs.declared.reader.ReadError.{ReadError}
-use Rattle.sigstore_tuf_parts.specs.Crypto.{Crypto}
+use Rattle.sigstore_crypto.specs.Crypto.{Crypto}
 use Rattle.sigstore_verify.specs.declared.error.Error.{Error}
 use Rattle.sigstore_verify.specs.declared.error.Error.TheVariants.{ArtifactRead, NoMemory}
 use Rattle.sigstore_verify.specs.declared.error.Error.TheVariants as verify

@@ -20,7 +20,7 @@ use Rattle.sigstore_crypto.specs.Scheme.{key_algorithm_of, digest_algorithm_of, 
 use Rattle.sigstore_crypto.specs.Key.{spki_key_of}
 use Rattle.sigstore_crypto.specs.Good.{Judge, is_good_over}
 use Rattle.sigstore_crypto.specs.Keyring.{Ring}
-use Rattle.sigstore_tuf_parts.specs.Crypto.{Crypto}
+use Rattle.sigstore_crypto.specs.Crypto.{Crypto}
 use Rattle.sigstore_verify.specs.declared.error.Error.{Error}
 use Rattle.sigstore_verify.specs.declared.error.Error.TheVariants.{SignatureInvalid, ArtifactMismatch, UnsupportedArtifact}
 use Rattle.sigstore_verify.specs.declared.error.Error.TheVariants as verify

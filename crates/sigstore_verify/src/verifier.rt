@@ -1,6 +1,6 @@
 // The verification of a bundle over an artifact.
 ghost use Rattle.std.specs.Prelude.{◌≡◌, ◌≢◌, None, Ok, Err, IfOk, IfErr, option_copied};
-ghost use Rattle.sigstore_tuf_parts.specs.By.{crypto_by};
+ghost use Rattle.sigstore_crypto.specs.Crypto.{crypto_by};
 ghost use Rattle.sigstore_verify.specs.Artifact.{Blob, Digest, artifact_of, had_digest};
 ghost use Rattle.sigstore_verify.specs.Judged.{Terms, judged_had};
 ghost use Rattle.sigstore_verify.specs.Policy.{PublicKey};

@@ -1,7 +1,7 @@
 use Rattle.std.proofs.Common.{◌≡◌, refl, sym, ap, ◌∙◌, Some, true, Result}
 use Rattle.std.specs.List.{list_all}
 use Rattle.sigstore_crypto.specs.Digest.{is_hashed, digests_by}
-use Rattle.sigstore_tuf_parts.specs.By.{crypto_by}
+use Rattle.sigstore_crypto.specs.Crypto.{crypto_by}
 use Rattle.sigstore_verify.specs.declared.error.Error.{Error}
 use Rattle.sigstore_verify.specs.declared.report.VerificationResult.{VerificationResult}
 use Rattle.sigstore_verify.specs.Artifact.{Blob, blob_kind, had_digest}

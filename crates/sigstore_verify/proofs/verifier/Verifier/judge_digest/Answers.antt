@@ -1,5 +1,5 @@
 use Rattle.std.proofs.Common.{◌≡◌, ◌≢◌, sym, ap, ◌∙◌, Result, Ok, Err, None}
-use Rattle.sigstore_tuf_parts.specs.By.{crypto_by}
+use Rattle.sigstore_crypto.specs.Crypto.{crypto_by}
 use Rattle.sigstore_verify.specs.declared.error.Error.TheVariants.{NoMemory}
 use Rattle.sigstore_verify.specs.declared.error.Error.{Error}
 use Rattle.sigstore_verify.specs.declared.report.VerificationResult.{VerificationResult}

@@ -1,7 +1,7 @@
 use Rattle.std.proofs.Common.{◌≡◌, refl, ap, subst, ◌∙◌, Ok, Err, true}
 use Rattle.std.specs.List.{list_all}
 use Rattle.sigstore_crypto.specs.Digest.{is_hashed}
-use Rattle.sigstore_tuf_parts.specs.By.{crypto_by}
+use Rattle.sigstore_crypto.specs.Crypto.{crypto_by}
 use Rattle.sigstore_verify.specs.Artifact.{read_kind}
 use Rattle.sigstore_verify.specs.Taking.{Takes}
 use Rattle.sigstore_verify.proofs.Stages.{after_reading, reading_refused, prepared_hashed}
