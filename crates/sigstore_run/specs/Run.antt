@@ -5,9 +5,9 @@ use Rattle.jiff_core.specs.declared.timestamp.Timestamp as jiff
 use Rattle.foundation.specs.Watched.{Watched, Rose}
 use Rattle.foundation.specs.declared.no_memory.NoMemory.{NoMemory}
 use Rattle.sigstore_crypto.specs.Good.{Judge}
+use Rattle.sigstore_crypto.specs.Crypto.{Crypto}
 use Rattle.sigstore_tuf_parts.specs.declared.error.Error.{Error as TufError}
 use Rattle.sigstore_tuf_parts.specs.Error as tuf
-use Rattle.sigstore_tuf_parts.specs.Crypto.{Crypto, crypto_of}
 use Rattle.sigstore_tuf.specs.Config.{default_config}
 use Rattle.sigstore_verify.specs.declared.error.Error.{Error as VerifyError}
 use Rattle.sigstore_verify.specs.Error as verify
@@ -80,7 +80,12 @@ judge_of gathered = accepts_of gathered.tables.provider.rows
 
 -- the tables' provider and armour
 abbrev pub crypto_in : Gathered → Crypto
-crypto_in gathered = crypto_of (judge_of gathered) (is_armored_by gathered.tables.armor) (armor_content gathered.tables.armor.keys)
+crypto_in gathered = record {
+  accepts = judge_of gathered;
+  armored = is_armored_by gathered.tables.armor;
+  key_in = armor_content gathered.tables.armor.keys;
+  certificate_in = armor_content gathered.tables.armor.certificates;
+}
 
 -- the instant of the words, else the clock's
 abbrev pub now_of : Layout → jiff.Timestamp → jiff.Timestamp

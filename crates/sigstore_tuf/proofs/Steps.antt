@@ -5,7 +5,7 @@ use Rattle.std.specs.Borrow.{Bor}
 use Rattle.std.specs.List.{last_or}
 use Rattle.jiff_core.specs.declared.timestamp.Timestamp as jiff
 use Rattle.foundation.specs.Watched.{Watched}
-use Rattle.sigstore_tuf_parts.specs.Crypto.{Crypto}
+use Rattle.sigstore_crypto.specs.Crypto.{Crypto}
 use Rattle.sigstore_tuf_parts.specs.declared.timestamp.MetaFile.{MetaFile}
 use Rattle.sigstore_tuf_parts.specs.Names.{versioned_name}
 use Rattle.sigstore_tuf_parts.specs.declared.error.Error.{Error}

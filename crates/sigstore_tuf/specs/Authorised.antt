@@ -12,8 +12,7 @@ use Rattle.sigstore_tuf_parts.specs.Document.{Document, content_in}
 use Rattle.sigstore_types_parts.specs.Entries.{at_name}
 use Rattle.sigstore_types_parts.specs.declared.armor.Armor as armor
 use Rattle.sigstore_crypto.specs.declared.provider.CryptoProvider as provider
-use Rattle.sigstore_tuf_parts.specs.Crypto.{Crypto}
-use Rattle.sigstore_tuf_parts.specs.By.{crypto_by}
+use Rattle.sigstore_crypto.specs.Crypto.{Crypto, crypto_by}
 use Rattle.sigstore_tuf_parts.specs.RootRoles.{MeetsRole}
 use Rattle.sigstore_tuf_parts.specs.Names.{pin_name}
 use Rattle.sigstore_tuf_parts.specs.Pinned.{Pinned, Fresh}

@@ -3,6 +3,7 @@ use Rattle.std.specs.Prelude.{◌≡◌, ◌≢◌, ◌⊎◌, ℕ, zero, suc, �
 use Rattle.std.specs.Prelude.{◌^◌, ◌==◌, if◌then◌else◌, List, [], ◌∷◌, Bool, true, false}
 use Rattle.std.specs.Prelude.{Option, Some, None, is_some, Result, Ok, Err, IfErr, OnOk, ⊤}
 use Rattle.jiff_core.specs.declared.timestamp.Timestamp as jiff
+use Rattle.sigstore_crypto.specs.Crypto.{Crypto}
 use Rattle.sigstore_tuf_parts.specs.declared.error.Error.{Error}
 use Rattle.sigstore_tuf_parts.specs.declared.error.Error.TheVariants as tuf
 use Rattle.sigstore_tuf_parts.specs.declared.error.TransportFault.TheVariants as transport
@@ -12,7 +13,6 @@ use Rattle.sigstore_tuf.specs.declared.kind.Kind.TheVariants as kind
 use Rattle.sigstore_tuf.specs.declared.step.Step.{Step}
 use Rattle.sigstore_tuf.specs.declared.step.Step.TheVariants.{WalkRoots, CheckRoot, Seed, Fetch, CheckTimestamp}
 use Rattle.sigstore_tuf.specs.declared.step.Step.TheVariants.{CheckSnapshot}
-use Rattle.sigstore_tuf_parts.specs.Crypto.{Crypto}
 use Rattle.sigstore_tuf.specs.State.{Session, State}
 use Rattle.sigstore_tuf.specs.Names.{kept_names}
 use Rattle.sigstore_tuf.specs.Adopt.{bytes_in, KeepsWhere, Adopts, Seeds}

@@ -1,7 +1,7 @@
 // The adoption of one document, from the repository or from the store.
 ghost use Rattle.std.specs.Prelude.{◌≡◌, [], ◌∷◌, option_copied};
 ghost use Rattle.foundation.specs.Watched.{Watched};
-ghost use Rattle.sigstore_tuf_parts.specs.By.{crypto_by};
+ghost use Rattle.sigstore_crypto.specs.Crypto.{crypto_by};
 ghost use Rattle.sigstore_tuf.specs.Repository.{Folders, metadata_files};
 ghost use Rattle.sigstore_tuf.specs.State.{state_of, session_by};
 ghost use Rattle.sigstore_tuf.specs.Names.{kept_name, history_name, pinned_name, both_names, kept_names};

@@ -1,7 +1,7 @@
 // The calls of the client as lists of steps: over an owned set of documents, and a lent repository and store.
 ghost use Rattle.std.specs.Prelude.{◌≡◌, ◌≢◌, ◌<◌, ◌^◌, Ok, Err, IfErr, IfSome, OnOk, option_copied};
 ghost use Rattle.foundation.specs.Watched.{Watched};
-ghost use Rattle.sigstore_tuf_parts.specs.By.{crypto_by};
+ghost use Rattle.sigstore_crypto.specs.Crypto.{crypto_by};
 ghost use Rattle.sigstore_tuf.specs.State.{state_of, session_by};
 ghost use Rattle.sigstore_tuf.specs.Client.{root_serves_of, timestamp_serves_of, snapshot_serves_of, serves, is_current};
 ghost use Rattle.sigstore_tuf.specs.Repository.{Folders};

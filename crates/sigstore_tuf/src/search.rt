@@ -1,7 +1,7 @@
 // The search for a target over delegated roles, whose documents are fetched on the way.
 ghost use Rattle.std.specs.Prelude.{◌≡◌, ◌≢◌, ◌<◌, ◌≤◌, [], ◌∷◌, Some, None, Ok, Err, IfOk, IfErr, OnOk, option_map, reverse, codes};
 ghost use Rattle.sigstore_types_parts.specs.Entries.{at_name};
-ghost use Rattle.sigstore_tuf_parts.specs.By.{crypto_by};
+ghost use Rattle.sigstore_crypto.specs.Crypto.{crypto_by};
 ghost use Rattle.sigstore_tuf.specs.Repository.{metadata_files};
 ghost use Rattle.sigstore_tuf.specs.Names.{role_name_in, role_file};
 ghost use Rattle.sigstore_tuf.specs.State.{state_of, session_by};

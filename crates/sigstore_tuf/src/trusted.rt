@@ -1,7 +1,7 @@
 // The documents in force, with who judges their signatures.
 ghost use Rattle.std.specs.Prelude.{◌≡◌, ◌≢◌, Ok, Err, IfOk, IfErr, OnOk, None, Some, codes, option_copied, option_map};
 ghost use Rattle.std.specs.List.{last_or};
-ghost use Rattle.sigstore_tuf_parts.specs.By.{crypto_by};
+ghost use Rattle.sigstore_crypto.specs.Crypto.{crypto_by};
 ghost use Rattle.sigstore_tuf_parts.specs.Document.{content_in};
 ghost use Rattle.sigstore_types_parts.specs.Entries.{at_name};
 ghost use Rattle.sigstore_tuf.specs.Documents.{content_of};
@@ -34,7 +34,7 @@ pub struct TrustedMetadataSet<'p, C: CryptoProvider, M: Armor> {
 }
 
 impl<'p, C: CryptoProvider, M: Armor> Model for TrustedMetadataSet<'p, C, M> {
-    ghost use Rattle.sigstore_tuf_parts.specs.By.{crypto_by};
+    ghost use Rattle.sigstore_crypto.specs.Crypto.{crypto_by};
     ghost use Rattle.sigstore_tuf.specs.Authorised.{IsAuthorised, TrustedSet};
     ghost use Rattle.sigstore_types_parts.specs.contracts.json_value.Json as json;
     ghost use Rattle.std.specs.Coded.{codes as coded_types};

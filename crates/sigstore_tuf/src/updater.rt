@@ -1,7 +1,7 @@
 // The client over a lent repository.
 ghost use Rattle.std.specs.Prelude.{◌≡◌, ◌≢◌, Some, None, Ok, Err, IfOk, IfErr, OnOk, OnErr, option_map, option_copied};
 ghost use Rattle.foundation.specs.Watched.{Watched};
-ghost use Rattle.sigstore_tuf_parts.specs.By.{crypto_by};
+ghost use Rattle.sigstore_crypto.specs.Crypto.{crypto_by};
 ghost use Rattle.sigstore_tuf.specs.Config.{default_config};
 ghost use Rattle.sigstore_tuf.specs.Repository.{Folders};
 ghost use Rattle.sigstore_tuf.specs.Update.{first_root_of};

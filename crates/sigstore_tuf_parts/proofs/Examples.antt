@@ -1,5 +1,5 @@
 -- Thresholds, expiries, patterns and canonical texts on tiny documents, computed.
-use Rattle.std.proofs.Common.{◌≡◌, ℕ, pos, List, [], ◌∷◌, map, replicate, true, false, bytes_eq, Some, Ok, Err, codes, refl}
+use Rattle.std.proofs.Common.{◌≡◌, ℕ, pos, List, [], ◌∷◌, map, count_by, Bool, true, false, bytes_eq, Option, Some, Result, Ok, Err, codes, refl, ap}
 use Rattle.std.specs.Prelude.{⊤}
 use Rattle.std.specs.Fmt.{digits}
 use Rattle.std.specs.Float.Numeral.{scan_numeral}
@@ -17,27 +17,32 @@ use Rattle.jiff_core.specs.declared.timestamp.Timestamp as jiff
 use Rattle.foundation.specs.Steps.{◌>>=◌}
 use Rattle.sigstore_types_parts.specs.Parse.{parsed_of}
 use Rattle.sigstore_types_parts.specs.Instant.{at_nanosecond}
+use Rattle.sigstore_crypto.specs.Crypto.{Crypto}
 use Rattle.sigstore_crypto.specs.declared.scheme.SigningScheme.TheVariants.{Ed25519}
+use Rattle.sigstore_crypto.specs.declared.key.VerificationKey.{VerificationKey}
+use Rattle.sigstore_tuf_parts.specs.declared.verification.KeyFault.{KeyFault}
+use Rattle.sigstore_tuf_parts.specs.declared.error.Error.{Error}
 use Rattle.sigstore_tuf_parts.specs.declared.error.Error.TheVariants.{Malformed, DuplicateSignature, ThresholdNotMet, Expired}
 use Rattle.sigstore_tuf_parts.specs.declared.error.Rule.TheVariants.{Threshold, Pattern}
 use Rattle.sigstore_tuf_parts.specs.declared.keys.Key.{Key}
 use Rattle.sigstore_tuf_parts.specs.declared.keys.RoleKeys.{RoleKeys}
 use Rattle.sigstore_tuf_parts.specs.declared.targets.DelegatedRole.{DelegatedRole}
-use Rattle.sigstore_tuf_parts.specs.Document.{Document, value_of}
+use Rattle.sigstore_tuf_parts.specs.Document.{Document, signatures_in, text_in, value_of}
+use Rattle.sigstore_tuf_parts.specs.Crypto.{key_of}
 use Rattle.sigstore_tuf_parts.specs.Canonical.{canonical_of}
-use Rattle.sigstore_tuf_parts.specs.Crypto.{Crypto}
 use Rattle.sigstore_tuf_parts.specs.Integrity.{fresh_of}
 use Rattle.sigstore_tuf_parts.specs.Pattern.{matches, matches_path_of}
-use Rattle.sigstore_tuf_parts.specs.Threshold.{Keys, meets_of}
+use Rattle.sigstore_tuf_parts.specs.Threshold.{Keys, counted_of, ids_of, second_after, is_accepted_under, threshold_of, no_second, enough_of, meets_of}
 
 -- ---- thresholds
 
--- accepts the signature 01 under every key
-abbrev crypto : Crypto
-crypto = record { accepts = λ scheme raw subject signature. bytes_eq signature (1 ∷ []); key_of = λ key. Ok (record { scheme = Ed25519; key = replicate 32 0 }) }
-
+-- a public key for Ed25519 as 64 hexadecimal digits (RFC 8032, section 7.1, test 1)
 abbrev key : Key
-key = record { keytype = codes "ed25519"; scheme = codes "ed25519"; keyval = record { public = codes "00"; extra = [] }; extra = [] }
+key = record { keytype = codes "ed25519"; scheme = codes "ed25519"; keyval = record { public = codes "d75a980182b10ab7d54bfed3c964073a0ee172f3daa62325af021a68f707511a"; extra = [] }; extra = [] }
+
+-- the key that it gives
+abbrev verifier : VerificationKey
+verifier = record { scheme = Ed25519; key = 215 ∷ 90 ∷ 152 ∷ 1 ∷ 130 ∷ 177 ∷ 10 ∷ 183 ∷ 213 ∷ 75 ∷ 254 ∷ 211 ∷ 201 ∷ 100 ∷ 7 ∷ 58 ∷ 14 ∷ 225 ∷ 114 ∷ 243 ∷ 218 ∷ 166 ∷ 35 ∷ 37 ∷ 175 ∷ 2 ∷ 26 ∷ 104 ∷ 247 ∷ 7 ∷ 81 ∷ 26 ∷ [] }
 
 abbrev keys : Keys
 keys = (codes "k", key) ∷ (codes "l", key) ∷ []
@@ -56,32 +61,46 @@ both = asks (codes "k" ∷ codes "l" ∷ []) 2
 abbrev one_id : RoleKeys
 one_id = asks (codes "k" ∷ []) 1
 
--- two ids that have one key
-two_ids_one_key : meets_of crypto keys both (codes "root") (signed ((codes "k", codes "01") ∷ (codes "l", codes "01") ∷ [])) ≡ Ok tt
-unfolding meets_of decode_pairs
-two_ids_one_key = refl
+-- a judge that accepts the signature 01 under every key, with an armour by which the key is read
+module _ (armored : List ℕ → Bool) (key_in certificate_in : List ℕ → Option (List ℕ)) (read : key_of armored key_in key ≡ Ok verifier) where
+  abbrev crypto : Crypto
+  crypto = record { accepts = λ scheme raw subject signature. bytes_eq signature (1 ∷ []); armored = armored; key_in = key_in; certificate_in = certificate_in }
 
-signed_twice : meets_of crypto keys both (codes "root") (signed ((codes "k", codes "01") ∷ (codes "l", codes "01") ∷ (codes "k", codes "01") ∷ [])) ≡ Err (DuplicateSignature (codes "root") (codes "k"))
-unfolding meets_of decode_pairs
-signed_twice = refl
+  -- the checks of a threshold, where each key gives this
+  abbrev meets_with : RoleKeys → Document ⊤ → Result VerificationKey KeyFault → Result ⊤ Error
+  meets_with role doc given =
+      threshold_of role.threshold >>= λ _. no_second (codes "root") (second_after [] (ids_of (counted_of role (signatures_in doc)))) >>= λ _.
+      enough_of (codes "root") (count_by (λ s. is_accepted_under crypto.accepts (text_in doc) s.sig given) (counted_of role (signatures_in doc))) role.threshold
 
-empty_first : meets_of crypto keys one_id (codes "root") (signed ((codes "k", []) ∷ (codes "k", codes "01") ∷ [])) ≡ Ok tt
-unfolding meets_of decode_pairs
-empty_first = refl
+  by_key : (role : RoleKeys) (doc : Document ⊤) → meets_with role doc (key_of armored key_in key) ≡ meets_with role doc (Ok verifier)
+  by_key role doc = ap (meets_with role doc) read
 
--- the second signature isn't hexadecimal
-unreadable_second : meets_of crypto keys one_id (codes "root") (signed ((codes "k", codes "01") ∷ (codes "k", codes "zz") ∷ [])) ≡ Err (DuplicateSignature (codes "root") (codes "k"))
-unfolding meets_of decode_pairs
-unreadable_second = refl
+  -- two ids that have one key
+  two_ids_one_key : meets_of crypto keys both (codes "root") (signed ((codes "k", codes "01") ∷ (codes "l", codes "01") ∷ [])) ≡ Ok tt
+  unfolding meets_of decode_pairs
+  two_ids_one_key = by_key both (signed ((codes "k", codes "01") ∷ (codes "l", codes "01") ∷ []))
 
-threshold_zero : meets_of crypto keys (asks [] 0) (codes "root") (signed []) ≡ Err (Malformed Threshold)
-unfolding meets_of decode_pairs
-threshold_zero = refl
+  signed_twice : meets_of crypto keys both (codes "root") (signed ((codes "k", codes "01") ∷ (codes "l", codes "01") ∷ (codes "k", codes "01") ∷ [])) ≡ Err (DuplicateSignature (codes "root") (codes "k"))
+  unfolding meets_of decode_pairs
+  signed_twice = refl
 
--- hexadecimal, and not accepted
-unaccepted : meets_of crypto keys one_id (codes "root") (signed ((codes "k", codes "02") ∷ [])) ≡ Err (ThresholdNotMet (codes "root") 0 1)
-unfolding meets_of decode_pairs
-unaccepted = refl
+  empty_first : meets_of crypto keys one_id (codes "root") (signed ((codes "k", []) ∷ (codes "k", codes "01") ∷ [])) ≡ Ok tt
+  unfolding meets_of decode_pairs
+  empty_first = by_key one_id (signed ((codes "k", []) ∷ (codes "k", codes "01") ∷ []))
+
+  -- the second signature isn't hexadecimal
+  unreadable_second : meets_of crypto keys one_id (codes "root") (signed ((codes "k", codes "01") ∷ (codes "k", codes "zz") ∷ [])) ≡ Err (DuplicateSignature (codes "root") (codes "k"))
+  unfolding meets_of decode_pairs
+  unreadable_second = refl
+
+  threshold_zero : meets_of crypto keys (asks [] 0) (codes "root") (signed []) ≡ Err (Malformed Threshold)
+  unfolding meets_of decode_pairs
+  threshold_zero = refl
+
+  -- hexadecimal, and not accepted
+  unaccepted : meets_of crypto keys one_id (codes "root") (signed ((codes "k", codes "02") ∷ [])) ≡ Err (ThresholdNotMet (codes "root") 0 1)
+  unfolding meets_of decode_pairs
+  unaccepted = by_key one_id (signed ((codes "k", codes "02") ∷ []))
 
 -- ---- expiries
 

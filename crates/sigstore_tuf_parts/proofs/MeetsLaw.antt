@@ -20,9 +20,10 @@ use Rattle.sigstore_tuf_parts.specs.declared.keys.RoleKeys.{RoleKeys}
 use Rattle.foundation.specs.Steps.{◌>>=◌}
 use Rattle.foundation.specs.Results.{and_true, not_true}
 use Rattle.sigstore_crypto.specs.declared.key.VerificationKey.{VerificationKey}
+use Rattle.sigstore_crypto.specs.Crypto.{Crypto}
 use Rattle.sigstore_tuf_parts.specs.declared.verification.KeyFault.{KeyFault}
 use Rattle.sigstore_tuf_parts.specs.Document.{Document, signatures_in, text_in}
-use Rattle.sigstore_tuf_parts.specs.Crypto.{Crypto}
+use Rattle.sigstore_tuf_parts.specs.Crypto.{key_of}
 use Rattle.sigstore_tuf_parts.specs.Threshold.{Keys, is_among, is_counted, counted_of, ids_of, second_after, is_accepted, is_accepted_by, is_accepted_under, is_accepted_raw, found_of, no_second, enough_of, meets_of}
 use Rattle.sigstore_tuf_parts.specs.Meets.{Signs, Meets}
 
@@ -104,14 +105,14 @@ length-ids_of (s ∷ xs) = ap suc (length-ids_of xs)
 -- ---- one signature
 
 module _ {T : Type 0} (crypto : Crypto) (keys : Keys) (role : RoleKeys) (doc : Document T) where
-  signs_raw : (s : Signature) → Contains (signatures_in doc) s → is_counted role s ≡ true → (key : Key) → at_name s.keyid keys ≡ Some key → (v : VerificationKey) → crypto.key_of key ≡ Ok v
+  signs_raw : (s : Signature) → Contains (signatures_in doc) s → is_counted role s ≡ true → (key : Key) → at_name s.keyid keys ≡ Some key → (v : VerificationKey) → key_of crypto.armored crypto.key_in key ≡ Ok v
       → (r : Result (List ℕ) FromHexError) → decode_of s.sig ≡ r → is_accepted_raw crypto.accepts (text_in doc) v (result_ok r) ≡ true → Signs crypto keys role doc s.keyid
   signs_raw s there is key k v u (Err e) d h = cc
   signs_raw s there is key k v u (Ok raw) d h =
       let parts = and_true (is_among role.keyids s.keyid) (not (length s.sig == 0)) is in
       record { key = key; verifier = v; signature = s; raw = raw; named = parts.0; known = k; usable = u; there = there; its = refl; nonempty = not_true (length s.sig == 0) parts.1; hexadecimal = d; good = h }
 
-  signs_under : (s : Signature) → Contains (signatures_in doc) s → is_counted role s ≡ true → (key : Key) → at_name s.keyid keys ≡ Some key → (v : Result VerificationKey KeyFault) → crypto.key_of key ≡ v
+  signs_under : (s : Signature) → Contains (signatures_in doc) s → is_counted role s ≡ true → (key : Key) → at_name s.keyid keys ≡ Some key → (v : Result VerificationKey KeyFault) → key_of crypto.armored crypto.key_in key ≡ v
       → is_accepted_under crypto.accepts (text_in doc) s.sig v ≡ true → Signs crypto keys role doc s.keyid
   signs_under s there is key k (Err fault) u h = cc
   signs_under s there is key k (Ok v) u h = signs_raw s there is key k v u (decode_of s.sig) refl h
@@ -119,7 +120,7 @@ module _ {T : Type 0} (crypto : Crypto) (keys : Keys) (role : RoleKeys) (doc : D
   signs_known : (s : Signature) → Contains (signatures_in doc) s → is_counted role s ≡ true → (key : Option Key) → at_name s.keyid keys ≡ key
       → is_accepted_by crypto (text_in doc) s.sig key ≡ true → Signs crypto keys role doc s.keyid
   signs_known s there is None k h = cc
-  signs_known s there is (Some key) k h = signs_under s there is key k (crypto.key_of key) refl h
+  signs_known s there is (Some key) k h = signs_under s there is key k (key_of crypto.armored crypto.key_in key) refl h
 
   signs_one : (s : Signature) → Contains (signatures_in doc) s → is_counted role s ≡ true → is_accepted crypto keys (text_in doc) s ≡ true → Signs crypto keys role doc s.keyid
   signs_one s there is h = signs_known s there is (at_name s.keyid keys) refl h

@@ -1,4 +1,4 @@
--- What a declared key gives, and what signatures are judged by (TUF specification, section 4.2).
+-- What a declared key gives, and what its signatures are over (TUF specification, section 4.2).
 use Rattle.std.specs.Prelude.{ℕ, List, ◌∷◌, ◌++◌, length, nat_eq, bytes_eq, Bool, true, false, ◌&&◌, if◌then◌else◌}
 use Rattle.std.specs.Prelude.{Option, Some, None, ok_or, Result, Ok, Err, codes}
 use Rattle.std.specs.Str.{trim}
@@ -14,7 +14,6 @@ use Rattle.sigstore_crypto.specs.declared.key.VerificationKey.{VerificationKey}
 use Rattle.sigstore_crypto.specs.declared.error.Error.TheVariants as crypto
 use Rattle.sigstore_crypto.specs.declared.error.Error as crypto_error
 use Rattle.sigstore_crypto.specs.Key.{key_with, spki_key_under}
-use Rattle.sigstore_crypto.specs.Good.{Judge}
 use Rattle.sigstore_tuf_parts.specs.declared.keys.Key.{Key}
 use Rattle.sigstore_tuf_parts.specs.declared.verification.KeyFault.{KeyFault}
 use Rattle.sigstore_tuf_parts.specs.declared.verification.KeyFault.TheVariants.{Unusable, Unsupported, Refused, NoMemory}
@@ -75,15 +74,6 @@ unfoldable pub key_of : (List ℕ → Bool) → (List ℕ → Option (List ℕ))
 key_of armored key_in key = do
   scheme ← ok_or (declared_scheme key.scheme) Unsupported
   text_key_of armored key_in scheme (trim key.keyval.public)
-
--- what signatures are judged by: the provider, and the key that a declared key gives
-pub record Crypto : Type 0 where
-  pub accepts : Judge
-  pub key_of : Key → Result VerificationKey KeyFault
-
--- a provider and an armour
-abbrev pub crypto_of : Judge → (List ℕ → Bool) → (List ℕ → Option (List ℕ)) → Crypto
-crypto_of accepts armored key_in = record { accepts = accepts; key_of = key_of armored key_in }
 
 abbrev pub is_ml_dsa : SigningScheme → Bool
 is_ml_dsa MlDsa44 = true

@@ -7,13 +7,14 @@ use Rattle.foundation.specs.Steps.{◌>>=◌}
 use Rattle.sigstore_crypto.specs.declared.scheme.SigningScheme.{SigningScheme}
 use Rattle.sigstore_crypto.specs.declared.key.VerificationKey.{VerificationKey}
 use Rattle.sigstore_crypto.specs.Good.{is_good}
+use Rattle.sigstore_crypto.specs.Crypto.{Crypto}
 use Rattle.sigstore_tuf_parts.specs.declared.error.Error.{Error}
 use Rattle.sigstore_tuf_parts.specs.declared.error.Error.TheVariants as tuf
 use Rattle.sigstore_tuf_parts.specs.declared.keys.Key.{Key}
 use Rattle.sigstore_tuf_parts.specs.declared.verification.KeyFault.{KeyFault}
 use Rattle.sigstore_tuf_parts.specs.declared.verification.KeyFault.TheVariants as fault
 use Rattle.sigstore_tuf_parts.specs.Canon.{canon}
-use Rattle.sigstore_tuf_parts.specs.Crypto.{Crypto, declared_scheme, signed_text}
+use Rattle.sigstore_tuf_parts.specs.Crypto.{declared_scheme, key_of, signed_text}
 
 -- the object of the key's public text alone
 abbrev pub public_object_of : Key → Data
@@ -51,5 +52,5 @@ or_crypto good = if good then Ok tt else Err tuf.Crypto
 -- a signature of a message under a declared key
 abbrev pub key_verified_of : Crypto → Key → List ℕ → List ℕ → Result ⊤ Error
 key_verified_of crypto key message signature = do
-  verifier ← or_key_error key (crypto.key_of key)
+  verifier ← or_key_error key (key_of crypto.armored crypto.key_in key)
   or_crypto (is_good crypto.accepts verifier (signed_text verifier.scheme message) signature)

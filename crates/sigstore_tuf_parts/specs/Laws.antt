@@ -2,6 +2,7 @@
 use Rattle.std.specs.Prelude.{◌≡◌, ◌↔◌, ℕ, List, true, Option, Result, Ok, Err}
 use Rattle.serde_json.specs.Data.{Data}
 use Rattle.jiff_core.specs.declared.timestamp.Timestamp.{Timestamp}
+use Rattle.sigstore_crypto.specs.Crypto.{Crypto}
 use Rattle.sigstore_tuf_parts.specs.declared.keys.RoleKeys.{RoleKeys}
 use Rattle.sigstore_tuf_parts.specs.declared.error.Error.{Error}
 use Rattle.sigstore_tuf_parts.specs.declared.root.Root.{Root}
@@ -10,7 +11,6 @@ use Rattle.sigstore_tuf_parts.specs.RootRoles.{meets_role_of}
 use Rattle.sigstore_tuf_parts.specs.Cause.{ReadCause, RoleCause, IntegrityCause, ExpiryCause}
 use Rattle.sigstore_tuf_parts.specs.Canon.{canon}
 use Rattle.sigstore_tuf_parts.specs.Exact.{IsExact}
-use Rattle.sigstore_tuf_parts.specs.Crypto.{Crypto}
 use Rattle.sigstore_tuf_parts.specs.Threshold.{Keys, meets_of}
 use Rattle.sigstore_tuf_parts.specs.Meets.{Meets}
 use Rattle.sigstore_tuf_parts.specs.Integrity.{Hashes, integrity_of, fresh_of}

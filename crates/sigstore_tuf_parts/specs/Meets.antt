@@ -5,11 +5,12 @@ use Rattle.hex.specs.Hex.{decode_of}
 use Rattle.sigstore_types_parts.specs.Entries.{at_name}
 use Rattle.sigstore_crypto.specs.declared.key.VerificationKey.{VerificationKey}
 use Rattle.sigstore_crypto.specs.Good.{Good}
+use Rattle.sigstore_crypto.specs.Crypto.{Crypto}
 use Rattle.sigstore_tuf_parts.specs.declared.document.Signature.{Signature}
 use Rattle.sigstore_tuf_parts.specs.declared.keys.Key.{Key}
 use Rattle.sigstore_tuf_parts.specs.declared.keys.RoleKeys.{RoleKeys}
 use Rattle.sigstore_tuf_parts.specs.Document.{Document, signatures_in, text_in}
-use Rattle.sigstore_tuf_parts.specs.Crypto.{Crypto, signed_text}
+use Rattle.sigstore_tuf_parts.specs.Crypto.{key_of, signed_text}
 use Rattle.sigstore_tuf_parts.specs.Threshold.{Keys, is_among, counted_of, ids_of}
 
 -- the id is one that the role names, with a key among the keys, and a signature that is hexadecimal and good under it
@@ -20,7 +21,7 @@ pub record Signs {T : Type 0} (crypto : Crypto) (keys : Keys) (role : RoleKeys) 
   pub raw : List ℕ
   pub named : is_among role.keyids id ≡ true
   pub known : at_name id keys ≡ Some key
-  pub usable : crypto.key_of key ≡ Ok verifier
+  pub usable : key_of crypto.armored crypto.key_in key ≡ Ok verifier
   pub there : Contains (signatures_in doc) signature
   pub its : signature.keyid ≡ id
   pub nonempty : (length signature.sig == 0) ≡ false

@@ -8,6 +8,7 @@ use Rattle.foundation.specs.Steps.{◌>>=◌}
 use Rattle.sigstore_types_parts.specs.Entries.{at_name}
 use Rattle.sigstore_crypto.specs.declared.key.VerificationKey.{VerificationKey}
 use Rattle.sigstore_crypto.specs.Good.{Judge, is_good}
+use Rattle.sigstore_crypto.specs.Crypto.{Crypto}
 use Rattle.sigstore_tuf_parts.specs.declared.document.Signature.{Signature}
 use Rattle.sigstore_tuf_parts.specs.declared.error.Error.{Error}
 use Rattle.sigstore_tuf_parts.specs.declared.error.Error.TheVariants as tuf
@@ -16,7 +17,7 @@ use Rattle.sigstore_tuf_parts.specs.declared.keys.Key.{Key}
 use Rattle.sigstore_tuf_parts.specs.declared.keys.RoleKeys.{RoleKeys}
 use Rattle.sigstore_tuf_parts.specs.declared.verification.KeyFault.{KeyFault}
 use Rattle.sigstore_tuf_parts.specs.Document.{Document, signatures_in, text_in}
-use Rattle.sigstore_tuf_parts.specs.Crypto.{Crypto, signed_text}
+use Rattle.sigstore_tuf_parts.specs.Crypto.{key_of, signed_text}
 
 -- the keys of a document, by their declared ids
 abbrev pub Keys : Type 0
@@ -60,7 +61,7 @@ is_accepted_under accepts text sig (Ok key) = is_accepted_raw accepts text key (
 
 abbrev pub is_accepted_by : Crypto → List ℕ → List ℕ → Option Key → Bool
 is_accepted_by crypto text sig None = false
-is_accepted_by crypto text sig (Some key) = is_accepted_under crypto.accepts text sig (crypto.key_of key)
+is_accepted_by crypto text sig (Some key) = is_accepted_under crypto.accepts text sig (key_of crypto.armored crypto.key_in key)
 
 -- the signature is hexadecimal, and good under the key that has its id
 abbrev pub is_accepted : Crypto → Keys → List ℕ → Signature → Bool

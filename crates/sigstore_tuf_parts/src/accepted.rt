@@ -4,8 +4,9 @@ ghost use Rattle.std.specs.Result.{result_ok};
 ghost use Rattle.hex.specs.Hex.{decode_of};
 ghost use Rattle.sigstore_crypto.specs.Good.{is_good, is_good_over};
 ghost use Rattle.sigstore_crypto.specs.Scheme.{has_digest, digest_size_of};
+ghost use Rattle.sigstore_crypto.specs.Crypto.{crypto_by};
 ghost use Rattle.sigstore_tuf_parts.specs.Crypto.{signed_text};
-ghost use Rattle.sigstore_tuf_parts.specs.By.{key_by, crypto_by};
+ghost use Rattle.sigstore_tuf_parts.specs.By.{key_by};
 ghost use Rattle.sigstore_tuf_parts.specs.Threshold.{is_accepted, is_accepted_raw, is_accepted_under};
 
 use crate::document::Signature;

@@ -1,6 +1,7 @@
 // What a declared key says of itself, and signatures under it.
 ghost use Rattle.std.specs.Prelude.{◌≡◌, ◌≢◌, ◌++◌, ◌∷◌, Ok, Err, IfOk, OnOk, IfErr};
-ghost use Rattle.sigstore_tuf_parts.specs.By.{key_by, crypto_by};
+ghost use Rattle.sigstore_crypto.specs.Crypto.{crypto_by};
+ghost use Rattle.sigstore_tuf_parts.specs.By.{key_by};
 ghost use Rattle.sigstore_tuf_parts.specs.Canon.{canon, quoted, comma_if};
 ghost use Rattle.sigstore_tuf_parts.specs.DeclaredKeys.{key_object_of, key_id_of, signing_scheme_of, key_error, or_key_error, key_verified_of};
 

@@ -1,6 +1,6 @@
 // Whether a document meets a role of a root.
 ghost use Rattle.std.specs.Prelude.{◌≡◌, ◌≢◌, Ok, Err, IfErr, OnOk};
-ghost use Rattle.sigstore_tuf_parts.specs.By.{crypto_by};
+ghost use Rattle.sigstore_crypto.specs.Crypto.{crypto_by};
 ghost use Rattle.sigstore_tuf_parts.specs.RootRoles.{meets_role_of};
 
 use crate::document::Metadata;

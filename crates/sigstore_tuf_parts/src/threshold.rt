@@ -1,6 +1,6 @@
 // Whether a document meets a role.
 ghost use Rattle.std.specs.Prelude.{◌≡◌, ◌≢◌, [], Ok, Err, IfOk, IfErr, map, count_by};
-ghost use Rattle.sigstore_tuf_parts.specs.By.{crypto_by};
+ghost use Rattle.sigstore_crypto.specs.Crypto.{crypto_by};
 ghost use Rattle.sigstore_tuf_parts.specs.Threshold.{ids_of, second_after, is_accepted, threshold_of, no_second, enough_of, meets_of};
 
 use crate::accepted::is_accepted;

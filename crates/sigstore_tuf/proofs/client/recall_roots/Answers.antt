@@ -1,6 +1,6 @@
 use Rattle.std.proofs.Common.{Ok, None, ap, sym, arith}
 use Rattle.foundation.specs.Watched.{untold}
-use Rattle.sigstore_tuf_parts.specs.By.{crypto_by}
+use Rattle.sigstore_crypto.specs.Crypto.{crypto_by}
 use Rattle.sigstore_tuf.specs.Adopt.{Seeds}
 use Rattle.sigstore_tuf.specs.Run.{alone, root_loop}
 use Rattle.sigstore_tuf.proofs.Steps.{seed_rises, one_less, some_left, turned, stopped}
