@@ -7,7 +7,7 @@ use crate::world::{
 use jiff::Timestamp;
 use sigstore_app_parts::{MemoryInputs, MemorySink, Which};
 use sigstore_crypto::MemorySource;
-use sigstore_questions::{Ended, ReadingStore, run_questions};
+use sigstore_questions::{ReadingStore, run_questions};
 use sigstore_run::{Status, run};
 use sigstore_tuf::{MemoryRepository, MemoryStore, MetadataStore};
 use sigstore_types_parts::{Bytes, Text};
@@ -137,7 +137,7 @@ fn verified<X: AllocGlobal + Abort>(rt: &X, change: Change) -> String {
 }
 
 // How the questions of these words over the world end, and what is written; the store has to stay empty.
-fn asked<X: AllocGlobal + Abort>(rt: &X, line: &str) -> (Ended, String) {
+fn asked<X: AllocGlobal + Abort>(rt: &X, line: &str) -> (Status, String) {
     let words = words(rt, line);
     let (mut inputs, mut repo) = (inputs(rt, NONE), repository(rt, NONE));
     let mut store = ReadingStore {
@@ -203,12 +203,12 @@ fn the_stored_world_is_asked(rt: HostRuntime) {
     let rows = good(&rt, ROWS.replace(rt.alloc(), '\n', ";"));
     check(&rt, ASK, rows.as_str(), text);
     drop(rows);
-    assert!(&rt; ended == Ended::Asked, "the questions are asked");
+    assert!(&rt; ended == Status::Accepted, "the questions are asked");
 }
 
 #[test]
 fn other_words_ask_nothing(rt: HostRuntime) {
     let (ended, text) = asked(&rt, VERIFY);
     check(&rt, VERIFY, "usage;", text);
-    assert!(&rt; ended == Ended::Usage, "verify isn't questions");
+    assert!(&rt; ended == Status::Usage, "verify isn't questions");
 }

@@ -7,6 +7,7 @@ pub mod Policy
 pub mod Rows
 pub mod RowLaws
 pub mod Tables
+pub mod Named
 pub mod Layout
 pub mod Printed
 pub mod Gather

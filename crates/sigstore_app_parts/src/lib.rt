@@ -12,6 +12,7 @@ mod layout;
 mod lines;
 mod memory_inputs;
 mod memory_sink;
+mod named;
 mod policy;
 mod printed;
 mod provider;
@@ -31,6 +32,7 @@ pub use layout::{Layout, read_asked_layout, read_layout};
 pub use lines::{ByLine, take_file};
 pub use memory_inputs::MemoryInputs;
 pub use memory_sink::MemorySink;
+pub use named::{moment_at, named_words, text_at};
 pub use policy::{PolicyFile, read_policy};
 pub use printed::{
     push_answer_line, push_decimal, push_hex_line, push_line, push_named_line, push_number_line,

@@ -9,20 +9,21 @@ use Rattle.sigstore_app_parts.specs.declared.layout.Layout.{Layout}
 use Rattle.sigstore_app_parts.specs.declared.gather.Stop.{Stop}
 use Rattle.sigstore_app_parts.specs.declared.gather.Stop.TheVariants as stop
 use Rattle.sigstore_app_parts.specs.declared.usage_fault.UsageFault.{UsageFault}
-use Rattle.sigstore_questions.specs.declared.answers.Ended.{Ended}
-use Rattle.sigstore_questions.specs.declared.answers.Ended.TheVariants.{Asked, Usage, Input}
-use Rattle.sigstore_questions.specs.declared.answers.Said.{Said}
-use Rattle.sigstore_questions.specs.Said.{said_of_stop}
-use Rattle.sigstore_questions.specs.Means.{TakesAll, rows, stopped, Decides, misworded, worded, RunsTo, unwritten, cut, written, WritesRows}
+use Rattle.sigstore_run.specs.declared.answer.Status.{Status}
+use Rattle.sigstore_run.specs.declared.answer.Status.TheVariants.{Accepted, Usage, Input}
+use Rattle.sigstore_run.specs.declared.answer.Answer.{Answer}
+use Rattle.sigstore_run.specs.Run.{stop_answer, TakesAll}
+use Rattle.sigstore_questions.specs.Means.{rows, stopped, Decides, misworded, worded, RunsTo, unwritten, cut, written, WritesRows}
 
 -- what is said of a stop doesn't end as questions do
-abbrev ended_of : Said → Ended
-ended_of said = said.ended
+abbrev status_of : Answer → Status
+status_of said = said.status
 
-not_asked : (why : Stop) (said : Said) → said_of_stop why ≡ Some said → said.ended ≡ Asked → ⊥
-not_asked stop.Words said h e = let same : Usage ≡ said.ended = ap ended_of (some_same _ said h) in cc
-not_asked (stop.Malformed which) said h e = let same : Usage ≡ said.ended = ap ended_of (some_same _ said h) in cc
-not_asked (stop.Input which) said h e = let same : Input ≡ said.ended = ap ended_of (some_same _ said h) in cc
+not_asked : (why : Stop) (said : Answer) → stop_answer why ≡ Some said → said.status ≡ Accepted → ⊥
+unfolding stop_answer
+not_asked stop.Words said h e = let same : Usage ≡ said.status = ap status_of (some_same _ said h) in cc
+not_asked (stop.Malformed which) said h e = let same : Usage ≡ said.status = ap status_of (some_same _ said h) in cc
+not_asked (stop.Input which) said h e = let same : Input ≡ said.status = ap status_of (some_same _ said h) in cc
 not_asked stop.Memory said h e = cc
 
 pub found_layout : (words : List (List ℕ)) (layout : Layout) → Some layout ≡ result_ok (asked_layout_of words) → asked_layout_of words ≡ Ok layout
@@ -33,7 +34,7 @@ found_layout words layout h = by (asked_layout_of words) h
     by (Err e) h = cc
 
 module _ (words : List (List ℕ)) (before after : Watched Held) (out out' : Watched (List ℕ)) where
-  wrote : (said : Said) → Decides words before after said → TakesAll out out' said.text → said.ended ≡ Asked → WritesRows words before after out out'
+  wrote : (said : Answer) → Decides words before after said → TakesAll out out' said.text → said.status ≡ Accepted → WritesRows words before after out out'
   wrote said (misworded none same line) takes e = absurd (not_asked stop.Words said line e)
   wrote said (worded layout is (stopped why read line)) takes e = absurd (not_asked why said line e)
   wrote said (worded layout is (rows gathered tables read reads ended)) takes e = record {
@@ -48,7 +49,7 @@ module _ (words : List (List ℕ)) (before after : Watched Held) (out out' : Wat
   }
 
   -- where questions are asked, the rows were written
-  pub asked_rows : (ended : Ended) → RunsTo words before after out out' ended → ended ≡ Asked → WritesRows words before after out out'
+  pub asked_rows : (ended : Status) → RunsTo words before after out out' ended → ended ≡ Accepted → WritesRows words before after out out'
   asked_rows ended (unwritten same is) e = cc
   asked_rows ended (cut said fault d w is) e = cc
   asked_rows ended (written said d takes is) e = wrote said d takes (sym is ∙ e)

@@ -13,35 +13,31 @@ use Rattle.sigstore_app_parts.specs.declared.gather.Stop.{Stop}
 use Rattle.sigstore_app_parts.specs.declared.gather.Stop.TheVariants.{Words}
 use Rattle.sigstore_app_parts.specs.declared.sink.SinkFault.{SinkFault}
 use Rattle.sigstore_app_parts.specs.declared.tables.Tables.{Tables}
-use Rattle.sigstore_questions.specs.declared.answers.Ended.{Ended}
-use Rattle.sigstore_questions.specs.declared.answers.Ended.TheVariants.{Asked, Output, Memory}
-use Rattle.sigstore_questions.specs.declared.answers.Said.{Said}
-use Rattle.sigstore_questions.specs.Said.{said_of_stop}
-
--- the sink took exactly the text
-abbrev pub TakesAll : Watched (List ℕ) → Watched (List ℕ) → List ℕ → Type 0
-TakesAll out out' text = WritesText {E = SinkFault} out out' text (Ok tt)
+use Rattle.sigstore_run.specs.declared.answer.Status.{Status}
+use Rattle.sigstore_run.specs.declared.answer.Status.TheVariants.{Accepted, Output, Memory}
+use Rattle.sigstore_run.specs.declared.answer.Answer.{Answer}
+use Rattle.sigstore_run.specs.Run.{stop_answer, TakesAll}
 
 -- what is said once the words are read: the rows that were noted, as a provider file; or the line of the input that is refused
-pub data Proceeds (before after : Watched Held) (said : Said) : Type 0 where
+pub data Proceeds (before after : Watched Held) (said : Answer) : Type 0 where
   rows : (gathered : Gathered) (tables : Tables) → ReadsAs asked_of before after (Ok gathered)
-      → tables_of said.text ≡ Ok tables → said.ended ≡ Asked → Proceeds before after said
-  stopped : (stop : Stop) → ReadsAs asked_of before after (Err stop) → said_of_stop stop ≡ Some said
+      → tables_of said.text ≡ Ok tables → said.status ≡ Accepted → Proceeds before after said
+  stopped : (stop : Stop) → ReadsAs asked_of before after (Err stop) → stop_answer stop ≡ Some said
       → Proceeds before after said
 
 -- what is said: the words first, then the inputs and the questions
-pub data Decides (words : List (List ℕ)) (before after : Watched Held) (said : Said) : Type 0 where
-  misworded : result_ok (asked_layout_of words) ≡ None → after ≡ before → said_of_stop Words ≡ Some said
+pub data Decides (words : List (List ℕ)) (before after : Watched Held) (said : Answer) : Type 0 where
+  misworded : result_ok (asked_layout_of words) ≡ None → after ≡ before → stop_answer Words ≡ Some said
       → Decides words before after said
   worded : (layout : Layout) → asked_layout_of words ≡ Ok layout → Proceeds before after said
       → Decides words before after said
 
 -- a run: what is said is written; nothing is where memory is wanting, and a part of the text where a write failed
-pub data RunsTo (words : List (List ℕ)) (before after : Watched Held) (out out' : Watched (List ℕ)) (ended : Ended) : Type 0 where
+pub data RunsTo (words : List (List ℕ)) (before after : Watched Held) (out out' : Watched (List ℕ)) (ended : Status) : Type 0 where
   unwritten : out' ≡ out → ended ≡ Memory → RunsTo words before after out out' ended
-  cut : (said : Said) (fault : SinkFault) → Decides words before after said → WritesText out out' said.text (Err fault)
+  cut : (said : Answer) (fault : SinkFault) → Decides words before after said → WritesText out out' said.text (Err fault)
       → ended ≡ Output → RunsTo words before after out out' ended
-  written : (said : Said) → Decides words before after said → TakesAll out out' said.text → ended ≡ said.ended
+  written : (said : Answer) → Decides words before after said → TakesAll out out' said.text → ended ≡ said.status
       → RunsTo words before after out out' ended
 
 -- what status 0 means: the words and the inputs were read, and the sink took exactly a text that is a provider file with these

@@ -2,10 +2,8 @@
 //! lines of a provider file, for a signature library to answer.
 #![tactic(auto)]
 
-mod answers;
 mod program;
 mod reading_store;
 
-pub use answers::Ended;
 pub use program::run_questions;
 pub use reading_store::ReadingStore;

@@ -2,32 +2,21 @@
 ghost use Rattle.std.specs.Prelude.{◌≡◌, Ok, IfOk, string_bytes};
 ghost use Rattle.sigstore_app_parts.specs.Tables.{tables_of};
 ghost use Rattle.sigstore_questions.specs.Means.{Proceeds, Decides, RunsTo, WritesRows};
-ghost use Rattle.sigstore_questions.specs.declared.answers.Ended.TheVariants.{Asked};
+ghost use Rattle.sigstore_run.specs.declared.answer.Status.TheVariants.{Accepted};
 
-use crate::answers::{Ended, Said, stopped};
 use crate::reading_store::ReadingStore;
 use foundation::NoMemory;
 use jiff::Timestamp;
 use sigstore_app_parts::{
-    Gathered, Inputs, PolicyFile, Sink, Stop, gather_asked, read_asked_layout, write_all,
+    Gathered, Inputs, Sink, Stop, gather_asked, read_asked_layout, write_all,
 };
 use sigstore_crypto::ArtifactSource;
 use sigstore_questions_parts::{Noted, Notes, NotingArmor, NotingProvider};
-use sigstore_tuf::{MetadataStore, Repository, UpdaterConfig};
+use sigstore_run::{Answer, Request, Status, stopped, verify_request};
+use sigstore_tuf::{MetadataStore, Repository};
 use sigstore_types_parts::Text;
-use sigstore_verify::{PublicKeyVerificationPolicy, RootFault, verify_from_root};
+use sigstore_verify::RootFault;
 use std::alloc::Global;
-
-// The greatest length of the artifact in bytes, as the verification's program has it.
-const MAX_ARTIFACT: u64 = 1_099_511_627_776;
-
-fn policy_meant(file: PolicyFile) -> PublicKeyVerificationPolicy {
-    let PolicyFile { key, skip_tlog } = file;
-    PublicKeyVerificationPolicy {
-        key,
-        verify_tlog: !skip_tlog,
-    }
-}
 
 // Runs the verification, notes what it asks, and throws its verdict away.
 fn verify_noting<R: Repository, S: MetadataStore, A: ArtifactSource>(
@@ -46,20 +35,20 @@ fn verify_noting<R: Repository, S: MetadataStore, A: ArtifactSource>(
         bundle,
     } = gathered;
     drop(tables);
-    let policy = policy_meant(policy);
-    let judged = verify_from_root(
+    let request = Request {
+        policy,
+        root,
+        bundle,
+    };
+    let judged = verify_request(
         alloc,
+        request,
         &NotingProvider::new(notes),
         &NotingArmor::new(notes),
-        root.as_bytes(),
+        now,
         repo,
         store,
-        UpdaterConfig::default(),
-        now,
-        bundle.as_bytes(),
         artifact,
-        MAX_ARTIFACT,
-        &policy,
     );
     let wants_memory = matches!(&judged, Err(RootFault::NoMemory));
     drop(judged);
@@ -84,15 +73,15 @@ fn asked<R: Repository, S: MetadataStore, A: ArtifactSource>(
 }
 
 // The text of what was noted.
-fn said(noted: Noted) -> Said
+fn said(noted: Noted) -> Answer
     ensures text { result.text ≡ string_bytes noted.text }
-    ensures ended { result.ended ≡ Asked }
+    ensures status { result.status ≡ Accepted }
     ensures rows { tables_of result.text ≡ Ok noted.tables }
 {
     let Noted { tables, text } = noted;
     drop(tables);
-    Said {
-        ended: Ended::Asked,
+    Answer {
+        status: Status::Accepted,
         text: Text::from_string(text),
     }
 }
@@ -105,7 +94,7 @@ fn proceed<I: Inputs, R: Repository, S: MetadataStore, A: ArtifactSource>(
     repo: &mut R,
     store: &mut S,
     artifact: &mut A,
-) -> Result<Said, NoMemory>
+) -> Result<Answer, NoMemory>
     ensures { IfOk result (Proceeds (I.seen inputs.old) (I.seen inputs.new)) }
 {
     match gather_asked(alloc, inputs) {
@@ -129,7 +118,7 @@ fn decide<I: Inputs, R: Repository, S: MetadataStore, A: ArtifactSource>(
     repo: &mut R,
     store: &mut S,
     artifact: &mut A,
-) -> Result<Said, NoMemory>
+) -> Result<Answer, NoMemory>
     ensures { IfOk result (Decides words.now (I.seen inputs.old) (I.seen inputs.new)) }
 {
     let found = match read_asked_layout(alloc, words) {
@@ -153,8 +142,9 @@ fn decide<I: Inputs, R: Repository, S: MetadataStore, A: ArtifactSource>(
 }
 
 /// Notes what a verification over these words, inputs and objects of the outside asks, and writes it as a
-/// provider file: each question once, in the order in which they were asked. Nothing is judged. Status 4
-/// where a write failed, 5 where memory was wanting; then nothing was written.
+/// provider file: each question once, in the order in which they were asked. Nothing is judged: the status
+/// is never Refused, and Accepted says that the questions were written. Status 4 where a write failed, 5
+/// where memory was wanting; then nothing was written.
 pub fn run_questions<I: Inputs, R: Repository, S: MetadataStore, A: ArtifactSource, K: Sink>(
     alloc: Global,
     words: &[Text],
@@ -164,16 +154,16 @@ pub fn run_questions<I: Inputs, R: Repository, S: MetadataStore, A: ArtifactSour
     store: &mut ReadingStore<S>,
     artifact: &mut A,
     out: &mut K,
-) -> Ended
+) -> Status
     ensures runs { RunsTo words.now (I.seen inputs.old) (I.seen inputs.new) (K.seen out.old) (K.seen out.new) result }
-    ensures rows { result ≡ Asked → WritesRows words.now (I.seen inputs.old) (I.seen inputs.new) (K.seen out.old) (K.seen out.new) }
+    ensures rows { result ≡ Accepted → WritesRows words.now (I.seen inputs.old) (I.seen inputs.new) (K.seen out.old) (K.seen out.new) }
 {
     let said = match decide(alloc, words, clock, inputs, repo, store, artifact) {
         Ok(said) => said,
-        Err(_) => return Ended::Memory,
+        Err(_) => return Status::Memory,
     };
     match write_all(out, said.text.as_str().as_bytes()) {
-        Ok(()) => said.ended,
-        Err(_) => Ended::Output,
+        Ok(()) => said.status,
+        Err(_) => Status::Output,
     }
 }

@@ -3,6 +3,7 @@ use Rattle.std.proofs.Common.{◌≡◌, ℕ, List, Option, Some, None, Result, 
 use Rattle.std.specs.Result.{result_ok}
 use Rattle.jiff_core.specs.declared.timestamp.Timestamp as jiff
 use Rattle.foundation.specs.declared.no_memory.NoMemory.{NoMemory}
+use Rattle.sigstore_tuf_parts.specs.Crypto.{Crypto}
 use Rattle.sigstore_tuf.specs.Config.{default_config}
 use Rattle.sigstore_tuf.specs.declared.config.UpdaterConfig.{UpdaterConfig}
 use Rattle.sigstore_verify.specs.declared.policy.PublicKeyVerificationPolicy.{PublicKeyVerificationPolicy}
@@ -20,22 +21,23 @@ use Rattle.sigstore_app_parts.specs.declared.gather.Stop.{Stop}
 use Rattle.sigstore_app_parts.specs.declared.gather.Stop.TheVariants.{Words}
 use Rattle.sigstore_app_parts.specs.declared.usage_fault.UsageFault.{UsageFault}
 use Rattle.sigstore_run.specs.declared.answer.Answer.{Answer}
+use Rattle.sigstore_run.specs.declared.meant.Request.{Request}
 use Rattle.sigstore_run.proofs.ReportThere.{report_there}
 use Rattle.sigstore_run.specs.Run as r
-use Rattle.sigstore_run.specs.Run.{answer, stop_answer, tuf_answer, verify_answer, refusal_answer, policy_meant, max_artifact, crypto_in, given_by, now_of, Command, Environment, said_of, Reports, Answers, SaysReport, Judges, Proceeds, Decides}
+use Rattle.sigstore_run.specs.Run.{answer, stop_answer, tuf_answer, verify_answer, refusal_answer, policy_meant, max_artifact, crypto_in, given_with, given_by, now_of, Command, Environment, said_of, Reports, Answers, SaysReport, Judges, Proceeds, Decides}
 
--- the verification was called on the inputs
-pub on_inputs : (g : Gathered) (now : jiff.Timestamp) (before after : Outside) (result : Result Rooted RootFault) (p : PublicKeyVerificationPolicy) (root bundle : List ℕ) (config : UpdaterConfig)
-    → p ≡ policy_meant g.policy → root ≡ g.root → bundle ≡ g.bundle → config ≡ default_config
-    → Promises (record { anchor = record { crypto = crypto_in g; root = root; config = config; now = now }; policy = PublicKey p; bundle = bundle; max = max_artifact }) before after result
-    → Promises (given_by g now) before after result
-on_inputs g now before after result p root bundle config a b c d h =
+-- the verification was called on what is asked for
+pub on_request : (crypto : Crypto) (q : Request) (now : jiff.Timestamp) (before after : Outside) (result : Result Rooted RootFault) (p : PublicKeyVerificationPolicy) (root bundle : List ℕ) (config : UpdaterConfig)
+    → p ≡ policy_meant q.policy → root ≡ q.root → bundle ≡ q.bundle → config ≡ default_config
+    → Promises (record { anchor = record { crypto = crypto; root = root; config = config; now = now }; policy = PublicKey p; bundle = bundle; max = max_artifact }) before after result
+    → Promises (given_with crypto q now) before after result
+on_request crypto q now before after result p root bundle config a b c d h =
     let at : PublicKeyVerificationPolicy → List ℕ → List ℕ → UpdaterConfig → Type 0
-    = λ (p : PublicKeyVerificationPolicy) (root bundle : List ℕ) (config : UpdaterConfig). Promises (record { anchor = record { crypto = crypto_in g; root = root; config = config; now = now }; policy = PublicKey p; bundle = bundle; max = max_artifact }) before after result in
+    = λ (p : PublicKeyVerificationPolicy) (root bundle : List ℕ) (config : UpdaterConfig). Promises (record { anchor = record { crypto = crypto; root = root; config = config; now = now }; policy = PublicKey p; bundle = bundle; max = max_artifact }) before after result in
     let h1 = subst (λ (x : PublicKeyVerificationPolicy). at x root bundle config) a h in
-    let h2 = subst (λ (x : List ℕ). at (policy_meant g.policy) x bundle config) b h1 in
-    let h3 = subst (λ (x : List ℕ). at (policy_meant g.policy) g.root x config) c h2 in
-    subst (λ (x : UpdaterConfig). at (policy_meant g.policy) g.root g.bundle x) d h3
+    let h2 = subst (λ (x : List ℕ). at (policy_meant q.policy) x bundle config) b h1 in
+    let h3 = subst (λ (x : List ℕ). at (policy_meant q.policy) q.root x config) c h2 in
+    subst (λ (x : UpdaterConfig). at (policy_meant q.policy) q.root q.bundle x) d h3
 
 -- the chain of an acceptance is trusted, so its report is what is said
 report_said : (g : Gathered) (now : jiff.Timestamp) (before after : Outside) (rooted : Rooted) (said : Answer) → IsAccepted (given_by g now) before after rooted → Reports rooted said → SaysReport rooted said

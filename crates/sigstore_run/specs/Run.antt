@@ -36,6 +36,7 @@ use Rattle.sigstore_app_parts.specs.declared.sink.SinkFault.{SinkFault}
 use Rattle.sigstore_run.specs.declared.answer.Status.{Status}
 use Rattle.sigstore_run.specs.declared.answer.Status.TheVariants as status
 use Rattle.sigstore_run.specs.declared.answer.Answer.{Answer}
+use Rattle.sigstore_run.specs.declared.meant.Request.{Request}
 use Rattle.sigstore_run.specs.Report.{report_of}
 
 abbrev pub code_of : Status → ℕ
@@ -91,14 +92,23 @@ crypto_in gathered = record {
 abbrev pub now_of : Layout → jiff.Timestamp → jiff.Timestamp
 now_of layout clock = unwrap_or layout.now clock
 
--- what the top call is given: the inputs, the program's limits, and the moment
-abbrev pub given_by : Gathered → jiff.Timestamp → Given
-given_by gathered now = record {
-  anchor = record { crypto = crypto_in gathered; root = gathered.root; config = default_config; now = now };
-  policy = PublicKey (policy_meant gathered.policy);
-  bundle = gathered.bundle;
+-- what the top call is given: who decides signatures and reads armoured texts, what is asked for, the program's limits, and the
+-- moment
+abbrev pub given_with : Crypto → Request → jiff.Timestamp → Given
+given_with crypto request now = record {
+  anchor = record { crypto = crypto; root = request.root; config = default_config; now = now };
+  policy = PublicKey (policy_meant request.policy);
+  bundle = request.bundle;
   max = max_artifact;
 }
+
+-- the inputs without the tables
+abbrev pub request_of : Gathered → Request
+request_of gathered = record { policy = gathered.policy; root = gathered.root; bundle = gathered.bundle }
+
+-- the same of the inputs, whose tables decide
+abbrev pub given_by : Gathered → jiff.Timestamp → Given
+given_by gathered now = given_with (crypto_in gathered) (request_of gathered) now
 
 -- what the program is told: its words, and the clock's instant
 pub record Command : Type 0 where

@@ -10,11 +10,13 @@ use sigstore_types_parts::Text;
 use sigstore_verify::RootFault;
 use std::alloc::Global;
 
-/// How the program ends: the bundle is accepted or refused; the words or a file are outside their
-/// grammar; an input isn't there, can't be read or is too long; a write failed; or memory was wanting.
+/// How a program ends: the bundle is accepted, or the questions are asked; the bundle is refused; the
+/// words or a file are outside their grammar; an input isn't there, can't be read or is too long; a write
+/// failed; or memory was wanting.
 #[derive(Clone, Copy, Debug, PartialEq, Eq, Drop)]
 pub enum Status {
-    /// The bundle is accepted, and the report was written whole.
+    /// The bundle is accepted, and the report was written whole; of a run that only asks: the questions
+    /// were written whole.
     Accepted,
     /// The bundle is refused, and the line that says why was written whole.
     Refused,
@@ -28,7 +30,7 @@ pub enum Status {
     Memory,
 }
 
-/// What the program says: its status where the text is taken whole, and the text.
+/// What a program says: its status where the text is taken whole, and the text.
 #[derive(Debug, PartialEq, Drop)]
 pub struct Answer {
     pub status: Status,

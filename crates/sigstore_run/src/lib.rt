@@ -3,8 +3,10 @@
 #![tactic(auto)]
 
 mod answer;
+mod meant;
 mod program;
 mod report;
 
-pub use answer::Status;
+pub use answer::{Answer, Status, stopped};
+pub use meant::{Request, verify_request};
 pub use program::run;

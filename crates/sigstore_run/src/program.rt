@@ -1,35 +1,21 @@
 // A run of the program.
-ghost use Rattle.std.specs.Prelude.{◌≡◌, IfOk};
+ghost use Rattle.std.specs.Prelude.{IfOk};
 ghost use Rattle.sigstore_app_parts.specs.Sink.{WritesText};
 ghost use Rattle.sigstore_verify.specs.Given.{Outside};
 ghost use Rattle.sigstore_run.specs.Complete.{Completes};
-ghost use Rattle.sigstore_run.specs.Run.{policy_meant, Environment, Reports, Answers, Judges, Proceeds, Decides, RunsTo, Means};
+ghost use Rattle.sigstore_run.specs.Run.{Environment, Reports, Answers, Judges, Proceeds, Decides, RunsTo, Means};
 
 use crate::answer::{Answer, Status, refused, refused_tuf, stopped};
+use crate::meant::{Request, verify_request};
 use crate::report::report;
 use foundation::NoMemory;
 use jiff::Timestamp;
-use sigstore_app_parts::{
-    Gathered, Inputs, Layout, PolicyFile, Sink, Stop, gather_inputs, read_layout, write_all,
-};
+use sigstore_app_parts::{Gathered, Inputs, Sink, Stop, gather_inputs, read_layout, write_all};
 use sigstore_crypto::ArtifactSource;
-use sigstore_tuf::{MetadataStore, Repository, UpdaterConfig};
+use sigstore_tuf::{MetadataStore, Repository};
 use sigstore_types_parts::Text;
-use sigstore_verify::{PublicKeyVerificationPolicy, RootFault, Rooted, verify_from_root};
+use sigstore_verify::{RootFault, Rooted};
 use std::alloc::Global;
-
-// The greatest length of the artifact in bytes.
-const MAX_ARTIFACT: u64 = 1_099_511_627_776;
-
-fn policy_meant(file: PolicyFile) -> PublicKeyVerificationPolicy
-    ensures { result ≡ policy_meant file }
-{
-    let PolicyFile { key, skip_tlog } = file;
-    PublicKeyVerificationPolicy {
-        key,
-        verify_tlog: !skip_tlog,
-    }
-}
 
 // The report of an acceptance, or the refusal of a document of its chain that isn't read.
 fn reported(alloc: Global, rooted: &Rooted) -> Result<Answer, NoMemory>
@@ -83,20 +69,20 @@ fn judge<R: Repository, S: MetadataStore, A: ArtifactSource>(
         root,
         bundle,
     } = gathered;
-    let policy = policy_meant(policy);
-    let judged = verify_from_root(
+    let request = Request {
+        policy,
+        root,
+        bundle,
+    };
+    let judged = verify_request(
         alloc,
+        request,
         &tables.provider,
         &tables.armor,
-        root.as_bytes(),
+        now,
         repo,
         store,
-        UpdaterConfig::default(),
-        now,
-        bundle.as_bytes(),
         artifact,
-        MAX_ARTIFACT,
-        &policy,
     );
     let said = answered(alloc, &judged);
     drop(judged);

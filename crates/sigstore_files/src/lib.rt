@@ -1,0 +1,8 @@
+//! The real objects of a program: its words, its clock, and the files and folders that a layout names.
+#![tactic(auto)]
+
+mod command;
+mod objects;
+
+pub use command::{clock_of, words_of};
+pub use objects::{Objects, objects_at};
