@@ -13,15 +13,16 @@ use Rattle.sigstore_tuf.proofs.Carrying.{Carried, attach_carried, refresh_carrie
 use Rattle.sigstore_tuf.proofs.Causes.{is_want, earlier}
 use Rattle.sigstore_tuf.proofs.Searching.{gets_serves}
 use Rattle.sigstore_tuf.proofs.TargetCauses.{target_earlier}
-use Rattle.sigstore_verify.specs.declared.error.Error.{Error}
-use Rattle.sigstore_verify.specs.declared.error.Error.TheVariants as verify
+use Rattle.sigstore_judgement.specs.declared.error.Error.{Error}
+use Rattle.sigstore_judgement.specs.declared.error.Error.TheVariants as verify
 use Rattle.sigstore_verify.specs.declared.from_root.RootFault.{RootFault}
 use Rattle.sigstore_verify.specs.Cause as cause
-use Rattle.sigstore_verify.specs.Cause.{JudgeCause, RootCause, ChainCause, state_in}
+use Rattle.sigstore_judgement.specs.Cause.{JudgeCause}
+use Rattle.sigstore_verify.specs.Cause.{RootCause, ChainCause, state_in}
 use Rattle.sigstore_verify.specs.Given.{Anchor, Given, Outside, asked_by}
 use Rattle.sigstore_verify.specs.FromRoot as top
 use Rattle.sigstore_verify.specs.FromRoot.{trust_path, session_in, TrustsChain, GivesChain, root_of_tuf, root_of_verify, Runs}
-use Rattle.sigstore_verify.proofs.JudgeCauses.{judge_refused}
+use Rattle.sigstore_judgement.proofs.JudgeCauses.{judge_refused}
 use Rattle.sigstore_verify.proofs.OnlyTop.{first_root_only, attach_only, refresh_only}
 use Rattle.sigstore_verify.proofs.RootFacts.{refreshed_authorised, searched_authorised, chain_trusts}
 

@@ -3,7 +3,6 @@ use Rattle.std.proofs.Common.{◌≡◌, Result, Ok, Err, refl, ap, sym, ◌∙�
 use Rattle.std.specs.Prelude.{⊤}
 use Rattle.foundation.specs.Watched.{Watched, IfTold}
 use Rattle.foundation.specs.Results.{ok_same, no_both}
-use Rattle.sigstore_types_parts.specs.declared.error.TypesError.{TypesError}
 use Rattle.sigstore_tuf_parts.specs.declared.error.Error.{Error as TufError}
 use Rattle.sigstore_tuf.specs.Repository.{Quiet, Files, Folders}
 use Rattle.sigstore_tuf.specs.declared.chain.TrustChain.{TrustChain}
@@ -17,25 +16,14 @@ use Rattle.sigstore_tuf.proofs.Authorised.{first_root_given, first_root_is_autho
 use Rattle.sigstore_tuf.proofs.Completing.{quiet_first, quiet_second}
 use Rattle.sigstore_tuf.proofs.Keeping.{told_each, first_kept, attach_later, refresh_later}
 use Rattle.sigstore_tuf.proofs.TargetKept.{gets_later}
-use Rattle.sigstore_verify.specs.declared.error.Error.{Error}
+use Rattle.sigstore_judgement.specs.declared.error.Error.{Error}
 use Rattle.sigstore_verify.specs.declared.from_root.Rooted.{Rooted}
-use Rattle.sigstore_types.specs.declared.bundle.Bundle.{Bundle}
-use Rattle.sigstore_verify.specs.declared.report.VerificationResult.{VerificationResult}
-use Rattle.sigstore_verify.specs.Policy.{Meaning, PublicKey}
-use Rattle.sigstore_verify.specs.Given.{Anchor, Given, Outside, asked_by, terms_of}
-use Rattle.sigstore_verify.specs.Accepts.{AcceptsBy}
-use Rattle.sigstore_verify.specs.Artifact.{Artifact, Read}
-use Rattle.sigstore_verify.specs.Judged.{Terms, judged_by}
-use Rattle.sigstore_verify.proofs.Accepts.{accepts_exactly}
-use Rattle.sigstore_verify.specs.FromRoot.{or_fault, trust_fault, bundle_fault, trust_path, TrustsChain, session_in, Begins, GivesChain, root_refused, attach_refused, refresh_refused, target_refused, chain_given, JudgesGiven, trust_refused, verifier_refused, bundle_refused, judged, IsAccepted}
-
-read_of : {T : Type 0} (fault : TypesError → Error) (r : Result T TypesError) (x : T) → or_fault fault r ≡ Ok x → r ≡ Ok x
-read_of fault (Ok y) x h = let same : y ≡ x = cc in ap Ok same
-read_of fault (Err e) x h = cc
-
-under : (terms : Terms) (policy : Meaning) (bundle : Bundle) (artifact : Artifact) (report : VerificationResult) → judged_by terms policy bundle artifact ≡ Ok report
-    → AcceptsBy terms policy bundle artifact
-under terms (PublicKey policy) bundle artifact report h = ((accepts_exactly terms.crypto.accepts terms.logs terms.now policy bundle artifact report).0 h).0
+use Rattle.sigstore_verify.specs.Given.{Anchor, Given, Outside, asked_by}
+use Rattle.sigstore_judgement.specs.Artifact.{Read}
+use Rattle.sigstore_judgement.proofs.Accepts.{accepts_exactly}
+use Rattle.sigstore_verify.specs.FromRoot.{trust_path, TrustsChain, session_in, Begins, GivesChain, root_refused, attach_refused, refresh_refused, target_refused, chain_given, JudgesGiven, IsAccepted}
+use Rattle.sigstore_judgement.specs.Under.{trust_fault, bundle_fault, terms_of, trust_refused, verifier_refused, bundle_refused, judged}
+use Rattle.sigstore_judgement.proofs.JudgeCauses.{read_of}
 
 -- what is in force in the beginning is authorised from the root
 pub begins_given : (anchor : Anchor) (repo : Watched Folders) (store store' : Watched Files) (set : InForce) → Begins anchor repo store store' set → given_in set ≡ anchor.root
@@ -100,19 +88,20 @@ module _ (given : Given) (before after : Outside) (rooted : Rooted) where
       → IsAccepted given before after rooted
   is_accepted c (trust_refused e h s n) = no_both _ e n
   is_accepted c (verifier_refused trust e t h s n) = no_both _ e n
-  is_accepted c (bundle_refused trust e t u h s n) = no_both _ e n
-  is_accepted c (judged trust reading t u b v) =
+  is_accepted c (bundle_refused trust material e t u h s n) = no_both _ e n
+  is_accepted c (judged trust material reading t u b v) =
       let a = v.accepted in
       record {
         trusted = c;
         trust = trust;
         trust_read = read_of trust_fault _ trust t;
+        material = material;
         usable = u;
         reading = reading;
         read = read_of bundle_fault _ reading b;
         bytes = a.0;
         whole = a.1.read;
         judged = a.1.judged;
-        means = under (terms_of (asked_by given) trust) given.policy reading (Read a.0) rooted.result a.1.judged;
+        means = (accepts_exactly (terms_of (asked_by given) material) reading (Read a.0) rooted.result).0 a.1.judged;
         digests = a.2;
       }

@@ -1,34 +1,24 @@
 -- When the top call has to accept, and what it answers where it hasn't to: over an offered chain, where nothing outside fails.
 use Rattle.std.specs.Prelude.{◌≡◌, ◌⊎◌, ℕ, ◌≤◌, List, length, Some, Result, Ok, Err}
-use Rattle.foundation.specs.Steps.{◌>>=◌}
 use Rattle.foundation.specs.Watched.{Watched}
-use Rattle.sigstore_crypto.specs.Digest.{digests_by}
 use Rattle.sigstore_tuf_parts.specs.Document.{content_in}
 use Rattle.sigstore_tuf.specs.Repository.{Quiet, Files, Folders}
 use Rattle.sigstore_tuf.specs.declared.chain.TrustChain.{TrustChain}
 use Rattle.sigstore_tuf.specs.Offer.{Offers, Warm}
-use Rattle.sigstore_verify.specs.declared.error.Error.{Error}
-use Rattle.sigstore_verify.specs.declared.report.Kept.{Kept}
+use Rattle.sigstore_judgement.specs.declared.error.Error.{Error}
+use Rattle.sigstore_judgement.specs.declared.report.Kept.{Kept}
 use Rattle.sigstore_verify.specs.declared.from_root.Rooted.{Rooted}
 use Rattle.sigstore_verify.specs.declared.from_root.RootFault.{RootFault}
 use Rattle.sigstore_verify.specs.declared.from_root.RootFault.TheVariants.{NoMemory}
-use Rattle.sigstore_verify.specs.Given.{Given, Outside, asked_by, terms_of}
-use Rattle.sigstore_verify.specs.Artifact.{Read}
-use Rattle.sigstore_verify.specs.Trust.{usable_of}
-use Rattle.sigstore_verify.specs.Judged.{judged_of, needed_by}
-use Rattle.sigstore_verify.specs.FromRoot.{trust_path, trust_of, bundle_of, root_of_verify}
+use Rattle.sigstore_judgement.specs.Under.{verdict_by}
+use Rattle.sigstore_verify.specs.Given.{Given, Outside, asked_by}
+use Rattle.sigstore_verify.specs.FromRoot.{trust_path, root_of_verify}
 
 -- ---- the verdict
 
--- What is made of a trust file and of an artifact's bytes: the trust file is read and can be used, the bundle is read, and it is
--- judged over the bytes; the first that refuses answers.
-unfoldable pub verdict_of : Given → List ℕ → List ℕ → Result Kept Error
-verdict_of given file bytes = do
-  trust ← trust_of file
-  _ ← usable_of trust
-  bundle ← bundle_of given.bundle
-  report ← judged_of (terms_of (asked_by given) trust) bundle (Read bytes)
-  Ok (record { result = report; digests = digests_by (needed_by given.policy bundle) bytes })
+-- what is made of a trust file and of an artifact's bytes, under what is given
+abbrev pub verdict_of : Given → List ℕ → List ℕ → Result Kept Error
+verdict_of given file bytes = verdict_by (asked_by given) file bytes
 
 -- the top call's answer by a verdict, with the chain whose trust file it is over
 abbrev pub rooted_of : TrustChain → Result Kept Error → Result Rooted RootFault

@@ -1,7 +1,6 @@
 -- The top call: from a pinned root down to one artifact.
 use Rattle.std.specs.Prelude.{◌≡◌, ◌≢◌, ℕ, List, Result, Ok, Err, codes}
 use Rattle.foundation.specs.Watched.{Watched}
-use Rattle.sigstore_types_parts.specs.declared.error.TypesError.{TypesError}
 use Rattle.sigstore_types.specs.declared.bundle.Bundle.{Bundle}
 use Rattle.sigstore_types.specs.declared.trusted_root.TrustedRoot.{TrustedRoot}
 use Rattle.sigstore_types.specs.Bundle.{bundle_of_bytes}
@@ -16,43 +15,24 @@ use Rattle.sigstore_tuf.specs.Update.{first_root_of}
 use Rattle.sigstore_tuf.specs.State.{Session, session_of, state_of}
 use Rattle.sigstore_tuf.specs.Promises.{Attached, Refreshed, Got}
 use Rattle.sigstore_tuf.specs.Trusted.{Trusted}
-use Rattle.sigstore_verify.specs.declared.error.Error.{Error}
-use Rattle.sigstore_verify.specs.declared.error.Error.TheVariants as verify
-use Rattle.sigstore_verify.specs.Error.{lowered}
-use Rattle.sigstore_verify.specs.declared.report.Kept.{Kept}
+use Rattle.sigstore_judgement.specs.declared.error.Error.{Error}
+use Rattle.sigstore_judgement.specs.declared.error.Error.TheVariants as verify
 use Rattle.sigstore_verify.specs.declared.from_root.Rooted.{Rooted}
 use Rattle.sigstore_verify.specs.declared.from_root.RootFault.{RootFault}
 use Rattle.sigstore_verify.specs.declared.from_root.RootFault.TheVariants.{Tuf, Verify, NoMemory}
-use Rattle.sigstore_verify.specs.Given.{Anchor, Given, Outside, Asked, asked_by, terms_of}
-use Rattle.sigstore_verify.specs.Accepts.{Accepts}
-use Rattle.sigstore_verify.specs.Judged.{judged_of, needed_by}
-use Rattle.sigstore_verify.specs.Artifact.{Read}
-use Rattle.sigstore_verify.specs.Trust.{usable_of}
-use Rattle.sigstore_verify.specs.Promise.{ReadWhole, VerifiesKept}
+use Rattle.sigstore_judgement.specs.Accepts.{Accepts}
+use Rattle.sigstore_judgement.specs.Artifact.{Read}
+use Rattle.sigstore_judgement.specs.declared.report.Kept.{Kept}
+use Rattle.sigstore_judgement.specs.declared.trust.Material.{Material}
+use Rattle.sigstore_judgement.specs.Judged.{judged_of, needed_by}
+use Rattle.sigstore_judgement.specs.Promise.{ReadWhole}
+use Rattle.sigstore_judgement.specs.Trust.{material_of}
+use Rattle.sigstore_judgement.specs.Under.{terms_of, JudgesBundle}
+use Rattle.sigstore_verify.specs.Given.{Anchor, Given, Outside, asked_by}
 
 -- the target that is the trust file
 abbrev pub trust_path : List ℕ
 trust_path = codes "trusted_root.json"
-
--- ---- the trust file and the bundle, from their bytes
-
--- a trust file that isn't read
-abbrev pub trust_fault : TypesError → Error
-trust_fault e = lowered verify.TrustRoot e
-
--- a bundle that isn't read
-abbrev pub bundle_fault : TypesError → Error
-bundle_fault e = lowered verify.InvalidBundle e
-
-abbrev pub or_fault : {T : Type 0} → (TypesError → Error) → Result T TypesError → Result T Error
-or_fault fault (Ok x) = Ok x
-or_fault fault (Err e) = Err (fault e)
-
-abbrev pub trust_of : List ℕ → Result TrustedRoot Error
-trust_of bytes = or_fault trust_fault (trusted_root_of_bytes bytes)
-
-abbrev pub bundle_of : List ℕ → Result Bundle Error
-bundle_of bytes = or_fault bundle_fault (bundle_of_bytes bytes)
 
 -- ---- the chain of documents
 
@@ -91,23 +71,6 @@ pub data GivesChain (anchor : Anchor) (repo repo' : Watched Folders) (store stor
 abbrev pub TrustsChain : Anchor → TrustChain → Type 0
 TrustsChain anchor chain = Trusted anchor.crypto anchor.root anchor.now anchor.config.max_delegations trust_path chain
 
--- ---- the judgement
-
--- The bundle is judged under a trust file: the file is read, a verifier is made of it, then the bundle is read, then the
--- artifact; the first that refuses answers.
-pub data JudgesBundle (asked : Asked) (file : List ℕ) (source source' : Watched (List ℕ)) (result : Result Kept Error) : Type 0 where
-  trust_refused : (e : Error) → (e ≢ verify.NoMemory → trust_of file ≡ Err e) → source' ≡ source → result ≡ Err e
-      → JudgesBundle asked file source source' result
-  verifier_refused : (trust : TrustedRoot) (e : Error) → trust_of file ≡ Ok trust
-      → (e ≢ verify.NoMemory → usable_of trust ≡ Err e) → source' ≡ source → result ≡ Err e
-      → JudgesBundle asked file source source' result
-  bundle_refused : (trust : TrustedRoot) (e : Error) → trust_of file ≡ Ok trust → usable_of trust ≡ Ok tt
-      → (e ≢ verify.NoMemory → bundle_of asked.bundle ≡ Err e) → source' ≡ source
-      → result ≡ Err e → JudgesBundle asked file source source' result
-  judged : (trust : TrustedRoot) (read : Bundle) → trust_of file ≡ Ok trust → usable_of trust ≡ Ok tt
-      → bundle_of asked.bundle ≡ Ok read → VerifiesKept (terms_of asked trust) read source source' asked.max result
-      → JudgesBundle asked file source source' result
-
 -- ---- the whole
 
 abbrev pub root_of_tuf : TufError → RootFault
@@ -136,18 +99,19 @@ pub data Runs (given : Given) (before after : Outside) (result : Result Rooted R
       (Ok (record { result = rooted.result; digests = rooted.digests })) → result ≡ Ok rooted → Runs given before after result
 
 -- What an acceptance means: the chain that is handed back is trusted from the given root; its file has a reading as the trust
--- file, which can be used, and the bundle has a reading; these bytes are exactly those that a telling source gave up to its
--- end; over them the bundle is accepted under these terms with this report; and the digests are those of these bytes that
+-- file, of which a verifier keeps this, and the bundle has a reading; these bytes are exactly those that a telling source gave up
+-- to its end; over them the bundle is accepted under these terms with this report; and the digests are those of these bytes that
 -- were needed, in their order.
 pub record IsAccepted (given : Given) (before after : Outside) (rooted : Rooted) : Type 0 where
   pub trusted : TrustsChain given.anchor rooted.chain
   pub trust : TrustedRoot
   pub trust_read : trusted_root_of_bytes rooted.chain.file ≡ Ok trust
-  pub usable : usable_of trust ≡ Ok tt
+  pub material : Material
+  pub usable : material_of trust ≡ Ok material
   pub reading : Bundle
   pub read : bundle_of_bytes given.bundle ≡ Ok reading
   pub bytes : List ℕ
   pub whole : ReadWhole before.source after.source given.max bytes
-  pub judged : judged_of (terms_of (asked_by given) trust) reading (Read bytes) ≡ Ok rooted.result
-  pub means : Accepts (terms_of (asked_by given) trust) reading (Read bytes)
+  pub judged : judged_of (terms_of (asked_by given) material) reading (Read bytes) ≡ Ok rooted.result
+  pub means : Accepts (terms_of (asked_by given) material) reading (Read bytes) rooted.result
   pub digests : rooted.digests ≡ digests_by (needed_by given.policy reading) bytes

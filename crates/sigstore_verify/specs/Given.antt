@@ -5,10 +5,8 @@ use Rattle.foundation.specs.Watched.{Watched}
 use Rattle.sigstore_crypto.specs.Crypto.{Crypto}
 use Rattle.sigstore_tuf.specs.Repository.{Files, Folders}
 use Rattle.sigstore_tuf.specs.declared.config.UpdaterConfig.{UpdaterConfig}
-use Rattle.sigstore_types.specs.declared.trusted_root.TrustedRoot.{TrustedRoot}
-use Rattle.sigstore_verify.specs.Judged.{Terms}
-use Rattle.sigstore_verify.specs.Policy.{Meaning}
-use Rattle.sigstore_verify.specs.Trust.{logs_of}
+use Rattle.sigstore_judgement.specs.Policy.{Meaning}
+use Rattle.sigstore_judgement.specs.Under.{Asked}
 
 -- from what a chain of documents is trusted: who decides signatures, the pinned root, the limits, the moment
 pub record Anchor : Type 0 where
@@ -24,14 +22,7 @@ pub record Given : Type 0 where
   pub bundle : List ℕ
   pub max : ℕ
 
--- what is asked of a bundle under a trust file that isn't read yet
-pub record Asked : Type 0 where
-  pub crypto : Crypto
-  pub policy : Meaning
-  pub now : jiff.Timestamp
-  pub bundle : List ℕ
-  pub max : ℕ
-
+-- what is asked of a bundle under a chain's trust file
 abbrev pub asked_by : Given → Asked
 asked_by given = record {
   crypto = given.anchor.crypto;
@@ -40,9 +31,6 @@ asked_by given = record {
   bundle = given.bundle;
   max = given.max;
 }
-
-abbrev pub terms_of : Asked → TrustedRoot → Terms
-terms_of asked trust = record { crypto = asked.crypto; logs = logs_of trust; policy = asked.policy; now = asked.now }
 
 -- the outside at one moment
 pub record Outside : Type 0 where

@@ -3,22 +3,18 @@ ghost use Rattle.std.specs.Prelude.{◌≡◌, ◌≢◌, ℕ, List, Ok, Err, If
 ghost use Rattle.sigstore_crypto.specs.Crypto.{crypto_by};
 ghost use Rattle.sigstore_tuf.specs.Update.{first_root_of};
 ghost use Rattle.sigstore_tuf.specs.Authorised.{crypto_in};
-ghost use Rattle.sigstore_verify.specs.FromRoot.{trust_of, bundle_of, GivesChain, JudgesBundle, root_of_tuf, root_of_verify};
-ghost use Rattle.sigstore_verify.specs.Given.{Anchor, Given, Outside, Asked};
+ghost use Rattle.sigstore_verify.specs.FromRoot.{GivesChain, root_of_tuf, root_of_verify};
+ghost use Rattle.sigstore_verify.specs.Given.{Anchor, Given, Outside};
 ghost use Rattle.sigstore_verify.specs.Promises.{Promises};
 
-use crate::error::{Error, lowered};
-use crate::policy::Policy;
-use crate::report::{Kept, VerificationResult};
-use crate::verifier::Verifier;
 use foundation::{Duplicate, NoMemory, Sequence};
 use jiff::Timestamp;
 use sigstore_crypto::{ArtifactSource, CryptoProvider};
+use sigstore_judgement::{Error, Kept, Policy, VerificationResult, judge_bundle};
 use sigstore_tuf::{
     MetadataStore, Repository, TrustChain, TrustedMetadataSet, UpdaterConfig, attach_parts,
     get_target_parts, refresh_parts,
 };
-use sigstore_types::{Bundle, TrustedRoot};
 use sigstore_types_parts::{Armor, ArtifactDigest};
 use std::alloc::Global;
 use std::fmt;
@@ -78,26 +74,6 @@ fn verify_fault(fault: Error, chain: TrustChain) -> RootFault
     }
 }
 
-fn read_trust(alloc: Global, bytes: &[u8]) -> Result<TrustedRoot, Error>
-    ensures ok { IfOk result (λ trust. trust_of bytes.now ≡ Ok trust) }
-    ensures err { IfErr result (λ e. e ≢ Error.NoMemory → trust_of bytes.now ≡ Err e) }
-{
-    match TrustedRoot::from_json(alloc, bytes) {
-        Ok(trust) => Ok(trust),
-        Err(e) => Err(lowered(e, Error::TrustRoot)),
-    }
-}
-
-fn read_bundle(alloc: Global, bytes: &[u8]) -> Result<Bundle, Error>
-    ensures ok { IfOk result (λ bundle. bundle_of bytes.now ≡ Ok bundle) }
-    ensures err { IfErr result (λ e. e ≢ Error.NoMemory → bundle_of bytes.now ≡ Err e) }
-{
-    match Bundle::from_json(alloc, bytes) {
-        Ok(bundle) => Ok(bundle),
-        Err(e) => Err(lowered(e, Error::InvalidBundle)),
-    }
-}
-
 // The chain of documents that authorises the trust file, by a client that begins with this first root.
 fn chain_by<C: CryptoProvider, M: Armor, R: Repository, S: MetadataStore>(
     alloc: Global,
@@ -147,39 +123,6 @@ fn trust_chain<C: CryptoProvider, M: Armor, R: Repository, S: MetadataStore>(
         }
         Err(e) => Err(e),
     }
-}
-
-// The judgement of a bundle under a trust file.
-fn judge_bundle<C: CryptoProvider, M: Armor, A: ArtifactSource, P: Policy>(
-    alloc: Global,
-    provider: &C,
-    armor: &M,
-    file: &[u8],
-    now: Timestamp,
-    bundle_bytes: &[u8],
-    artifact: &mut A,
-    max_artifact: u64,
-    policy: &P,
-) -> Result<Kept, Error>
-    ensures { let crypto = crypto_by C.CryptoProvider M.Armor provider.now armor.now in
-        let asked : Asked = record { crypto = crypto; policy = P.meant policy.now; now = now; bundle = bundle_bytes.now; max = max_artifact } in
-        JudgesBundle asked file.now (A.seen artifact.old) (A.seen artifact.new) result }
-{
-    let trust = match read_trust(alloc, file) {
-        Ok(trust) => trust,
-        Err(e) => return Err(e),
-    };
-    let verifier = match Verifier::new(alloc, provider, armor, &trust) {
-        Ok(verifier) => verifier,
-        Err(e) => return Err(e),
-    };
-    let bundle = match read_bundle(alloc, bundle_bytes) {
-        Ok(bundle) => bundle,
-        Err(e) => return Err(e),
-    };
-    let kept = verifier.verify_reader_kept(alloc, artifact, max_artifact, &bundle, policy, now);
-    drop(bundle);
-    kept
 }
 
 /// Verifies a bundle over an artifact from a pinned TUF root: begins a client with that root and the

@@ -1,20 +1,13 @@
-//! Verifies a bundle over an artifact under a policy and a trust file.
+//! Verifies a bundle over an artifact from a pinned TUF root, under a policy: the chain of documents that
+//! authorises the trust file, then the judgement of the bundle under it, whose names it passes on.
 #![tactic(auto)]
 
-mod entries;
-mod error;
 mod from_root;
-mod judge;
-mod laws;
-mod policy;
-mod report;
-mod taking;
-mod trust;
-mod verifier;
 
-pub use error::{CertificateError, Error, TimestampError, TransparencyLogError};
 pub use from_root::{RootFault, Rooted, verify_from_root};
-pub use laws::{accepts_exactly, blob_and_reader_agree, log_refusals_have_causes, usable_exactly};
-pub use policy::{Policy, PolicyKind, PublicKeyVerificationPolicy};
-pub use report::{Kept, VerificationResult};
-pub use verifier::{Verifier, verify};
+pub use sigstore_judgement::{
+    CertificateError, Error, Evidence, Kept, Material, Policy, PolicyKind,
+    PublicKeyVerificationPolicy, TimestampError, TransparencyLogError, VerificationResult,
+    Verifier, accepts_exactly, blob_and_reader_agree, log_refusals_have_causes, usable_exactly,
+    verify,
+};
