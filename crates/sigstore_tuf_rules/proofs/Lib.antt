@@ -1,0 +1,9 @@
+pub mod Agrees
+pub mod Authorised
+pub mod Floors
+pub mod LastPart
+pub mod Matching
+pub mod RolePuts
+pub mod Stepping
+pub mod Updates
+pub mod Walks
