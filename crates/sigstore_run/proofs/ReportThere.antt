@@ -17,7 +17,7 @@ use Rattle.sigstore_tuf_rules.specs.declared.chain.TrustChain.{TrustChain}
 use Rattle.sigstore_tuf_rules.specs.declared.chain.RoleDoc.{RoleDoc}
 use Rattle.sigstore_tuf_rules.specs.declared.visit.Visit.{Visit}
 use Rattle.sigstore_tuf_rules.specs.Trusted.{IsTrustedVisit, visit_in, documents_in, Trusted}
-use Rattle.sigstore_verify.specs.declared.report.VerificationResult.{VerificationResult}
+use Rattle.sigstore_judgement.specs.declared.report.VerificationResult.{VerificationResult}
 use Rattle.sigstore_app_parts.specs.Printed.{line_of, named_line}
 use Rattle.sigstore_run.specs.declared.report.Versions.{Versions}
 use Rattle.sigstore_run.specs.Report.{version_of, root_version, timestamp_version, snapshot_version, targets_version, versions_of, versions_text, role_added, roles_added, tail_added, report_of}

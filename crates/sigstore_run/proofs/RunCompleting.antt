@@ -7,8 +7,8 @@ use Rattle.foundation.specs.Watched.{Watched, Rose, IfTold}
 use Rattle.foundation.specs.Results.{ok_same, err_same, some_same, no_both}
 use Rattle.sigstore_tuf_rules.specs.declared.chain.TrustChain.{TrustChain}
 use Rattle.sigstore_tuf_causes.proofs.Quiet.{not_both}
-use Rattle.sigstore_verify.specs.declared.error.Error.{Error}
-use Rattle.sigstore_verify.specs.declared.report.Kept.{Kept}
+use Rattle.sigstore_judgement.specs.declared.error.Error.{Error}
+use Rattle.sigstore_judgement.specs.declared.report.Kept.{Kept}
 use Rattle.sigstore_verify.specs.declared.from_root.Rooted.{Rooted}
 use Rattle.sigstore_verify.specs.declared.from_root.RootFault.{RootFault}
 use Rattle.sigstore_verify.specs.declared.from_root.RootFault.TheVariants as root

@@ -6,8 +6,8 @@ use Rattle.foundation.specs.declared.no_memory.NoMemory.{NoMemory}
 use Rattle.sigstore_crypto.specs.Crypto.{Crypto}
 use Rattle.sigstore_tuf_rules.specs.Config.{default_config}
 use Rattle.sigstore_tuf_rules.specs.declared.config.UpdaterConfig.{UpdaterConfig}
-use Rattle.sigstore_verify.specs.declared.policy.PublicKeyVerificationPolicy.{PublicKeyVerificationPolicy}
-use Rattle.sigstore_verify.specs.Policy.{PublicKey}
+use Rattle.sigstore_judgement.specs.declared.policy.PublicKeyVerificationPolicy.{PublicKeyVerificationPolicy}
+use Rattle.sigstore_judgement.specs.Policy.{PublicKey}
 use Rattle.sigstore_verify.specs.declared.from_root.Rooted.{Rooted}
 use Rattle.sigstore_verify.specs.declared.from_root.RootFault.{RootFault}
 use Rattle.sigstore_verify.specs.Given.{Outside}

@@ -9,10 +9,10 @@ use Rattle.sigstore_crypto.specs.Crypto.{Crypto}
 use Rattle.sigstore_tuf_parts.specs.declared.error.Error.{Error as TufError}
 use Rattle.sigstore_tuf_parts.specs.Error as tuf
 use Rattle.sigstore_tuf_rules.specs.Config.{default_config}
-use Rattle.sigstore_verify.specs.declared.error.Error.{Error as VerifyError}
-use Rattle.sigstore_verify.specs.Error as verify
-use Rattle.sigstore_verify.specs.declared.policy.PublicKeyVerificationPolicy.{PublicKeyVerificationPolicy}
-use Rattle.sigstore_verify.specs.Policy.{PublicKey}
+use Rattle.sigstore_judgement.specs.declared.error.Error.{Error as VerifyError}
+use Rattle.sigstore_judgement.specs.Error as verify
+use Rattle.sigstore_judgement.specs.declared.policy.PublicKeyVerificationPolicy.{PublicKeyVerificationPolicy}
+use Rattle.sigstore_judgement.specs.Policy.{PublicKey}
 use Rattle.sigstore_verify.specs.declared.from_root.Rooted.{Rooted}
 use Rattle.sigstore_verify.specs.declared.from_root.RootFault.{RootFault}
 use Rattle.sigstore_verify.specs.declared.from_root.RootFault.TheVariants as root
