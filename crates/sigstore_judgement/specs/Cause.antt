@@ -1,6 +1,6 @@
 -- What each refusal of the judgement tells: of the trust file, the bundle, the policy and the artifact (Sigstore bundle format; FIPS 180-4,
 -- FIPS 186-5; RFC 6962).
-use Rattle.std.specs.Prelude.{◌≡◌, ◌≢◌, ◌⊎◌, ℕ, List, [], Contains, Bool, true, false, None, Result, Ok, Err, ⊤, ⊥}
+use Rattle.std.specs.Prelude.{◌≡◌, ◌≢◌, ◌⊎◌, ℕ, List, [], Contains, Bool, true, false, None, Result, Ok, Err, ⊤}
 use Rattle.std.specs.List.{list_all}
 use Rattle.foundation.specs.Watched.{Watched}
 use Rattle.sigstore_types_parts.specs.declared.form.Form.{Form}

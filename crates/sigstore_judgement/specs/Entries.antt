@@ -1,6 +1,6 @@
 -- The entries of a bundle under the logs that are trusted (RFC 6962, sections 2.1.1 and 3.2; C2SP tlog-checkpoint), and what they say of
 -- the bundle.
-use Rattle.std.specs.Prelude.{List, [], ◌∷◌, ◌++◌, Bool, true, false, Option, Some, None, Result, Ok, Err, ⊤, ⊥}
+use Rattle.std.specs.Prelude.{List, [], ◌∷◌, ◌++◌, Bool, true, false, Option, Some, None, Result, Ok, Err, ⊤}
 use Rattle.foundation.specs.Steps.{◌>>=◌}
 use Rattle.jiff_core.specs.declared.timestamp.Timestamp.{Timestamp}
 use Rattle.sigstore_types_parts.specs.declared.form.Form.TheVariants.{Binding}

@@ -1,5 +1,5 @@
 -- The refusals: their numbers and names, and what a lower crate's refusal is here.
-use Rattle.std.specs.Prelude.{ℕ, List, codes}
+use Rattle.std.specs.Prelude.{ℕ, List, codes, Result, Ok, Err}
 use Rattle.sigstore_types_parts.specs.declared.error.TypesError.{TypesError}
 use Rattle.sigstore_types_parts.specs.declared.error.TypesError.TheVariants as types
 use Rattle.sigstore_crypto.specs.declared.error.Error.{Error as CryptoError}
