@@ -25,7 +25,9 @@ use Rattle.sigstore_tuf_runs.specs.State.{Session, State}
 use Rattle.sigstore_tuf_runs.specs.Run.{said}
 use Rattle.sigstore_tuf_rules.specs.Taking.{top_targets}
 use Rattle.sigstore_tuf_runs.specs.Adopt.{LoadsNamed, Saves, save_unnamed, save_asked, SavesAll, unfetched, absent, refused, kept, adopted}
-use Rattle.sigstore_tuf_rules.specs.Order.{Visit, Walk, is_top_level}
+use Rattle.sigstore_tuf_rules.specs.declared.visit.Visit.{Visit}
+use Rattle.sigstore_tuf_rules.specs.declared.visit.Walk.{Walk}
+use Rattle.sigstore_tuf_rules.specs.Order.{is_top_level}
 use Rattle.sigstore_tuf_rules.specs.Delegated.{update_role_of}
 use Rattle.sigstore_tuf_runs.specs.Target as target
 use Rattle.sigstore_tuf_runs.specs.Target.{file_of, if_pinned, recalled_of, Recalls, TakesFile, Downloads, Obtains}

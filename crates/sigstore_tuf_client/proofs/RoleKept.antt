@@ -12,7 +12,7 @@ use Rattle.sigstore_tuf_rules.specs.declared.documents.InForce.{InForce}
 use Rattle.sigstore_tuf_outside.specs.Repository.{Files}
 use Rattle.sigstore_tuf_rules.specs.Taking.{taken_of}
 use Rattle.sigstore_tuf_runs.specs.Adopt.{Keeps, KeepsWhere}
-use Rattle.sigstore_tuf_rules.specs.Order.{Visit}
+use Rattle.sigstore_tuf_rules.specs.declared.visit.Visit.{Visit}
 use Rattle.sigstore_tuf_rules.specs.Delegated.{update_role_of}
 use Rattle.sigstore_tuf_rules.proofs.RolePuts.{role_there}
 

@@ -33,7 +33,8 @@ use Rattle.sigstore_tuf_runs.specs.Adopt.{FetchesNamed, LoadsNamed}
 use Rattle.sigstore_tuf_rules.specs.Update.{first_root_of}
 use Rattle.sigstore_tuf_runs.specs.Run.{Attaches, refresh_steps, RunsSteps}
 use Rattle.sigstore_tuf_runs.specs.Target.{within_of, recalled_of, file_of, TakesFile, differs, unsaved, given, fetch_name_of, Downloads, unnamed, unfetched, absent, fetched, Obtains, unrecalled, recalled, downloaded}
-use Rattle.sigstore_tuf_rules.specs.Order.{Visit, is_pinned}
+use Rattle.sigstore_tuf_rules.specs.declared.visit.Visit.{Visit}
+use Rattle.sigstore_tuf_rules.specs.Order.{is_pinned}
 use Rattle.sigstore_tuf_runs.specs.Search.{is_held, listed_by, entry_after}
 use Rattle.sigstore_tuf_runs.specs.Chain.{role_doc_in, chain_of, found_of, GivesChain, unlisted, unobtained, unchained, found, GetsTarget, unfound, visited}
 use Rattle.sigstore_tuf_offers.specs.Offer.{RootsEnd, IsNoneOr, later_in, AreKeptAfter, Offers, Warm}

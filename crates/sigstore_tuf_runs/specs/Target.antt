@@ -1,6 +1,7 @@
 -- How the file of an entry is had (TUF specification, section 5.7).
 use Rattle.std.specs.Prelude.{◌≡◌, ◌≢◌, ℕ, nat_lt, List, if◌then◌else◌, Bool, Option, Some, ok_or}
 use Rattle.std.specs.Prelude.{None, Result, Ok, Err, ⊤}
+use Rattle.foundation.specs.Steps.{◌>>=◌}
 use Rattle.foundation.specs.Watched.{Watched}
 use Rattle.sigstore_tuf_parts.specs.declared.error.Error.{Error}
 use Rattle.sigstore_tuf_parts.specs.declared.error.Error.TheVariants.{IntegrityMismatch, Transport, NoMemory}
