@@ -11,7 +11,7 @@ use Rattle.sigstore_tuf_parts.specs.declared.error.Error.{Error}
 use Rattle.sigstore_tuf_parts.specs.declared.error.Error.TheVariants as tuf
 use Rattle.sigstore_tuf_rules.specs.declared.documents.InForce.{InForce}
 use Rattle.sigstore_tuf_rules.specs.declared.kind.Kind.{Kind}
-use Rattle.sigstore_tuf_rules.specs.declared.kind.Kind.TheVariants.{Root, Timestamp}
+use Rattle.sigstore_tuf_rules.specs.declared.kind.Kind.TheVariants.{Root}
 use Rattle.sigstore_tuf_outside.specs.Repository.{Folders, Files, metadata_files}
 use Rattle.sigstore_tuf_rules.specs.Names.{pinned_name, file_name, max_length, kept_name, both_names, kept_names}
 use Rattle.sigstore_tuf_runs.specs.State.{Session, State, state_of}

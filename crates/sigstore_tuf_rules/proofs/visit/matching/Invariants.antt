@@ -1,4 +1,4 @@
-use Rattle.std.proofs.Common.{◌≡◌, ◌++◌, drop, Ok}
+use Rattle.std.proofs.Common.{◌≡◌, drop, Ok}
 use Rattle.foundation.specs.Steps.{◌>>=◌}
 use Rattle.sigstore_tuf_rules.specs.Order.{matching}
 use Rattle.sigstore_tuf_rules.proofs.NextNames.{after_names}
