@@ -1,6 +1,6 @@
 // What the program means by its files: what is verified, and within which limits.
 ghost use Rattle.std.specs.Prelude.{◌≡◌};
-ghost use Rattle.sigstore_tuf_parts.specs.By.{crypto_by};
+ghost use Rattle.sigstore_crypto.specs.Crypto.{crypto_by};
 ghost use Rattle.sigstore_verify.specs.Given.{Outside};
 ghost use Rattle.sigstore_verify.specs.Promises.{Promises};
 ghost use Rattle.sigstore_run.specs.Run.{policy_meant, given_with};
