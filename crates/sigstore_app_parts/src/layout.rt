@@ -70,7 +70,8 @@ fn layout_under(
     wanted: &[&str],
     words: &[Text],
 ) -> Result<Option<Layout>, NoMemory>
-    ensures { IfOk result (λ found. found ≡ result_ok (layout_under command.now (texts wanted.now) words.now)) }
+    ensures { IfOk result (λ found.
+        found ≡ result_ok (layout_under command.now (texts wanted.now) words.now)) }
 {
     match read_under(alloc, command, wanted, words) {
         Ok(layout) => Ok(Some(layout)),

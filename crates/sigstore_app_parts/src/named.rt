@@ -1,7 +1,8 @@
 // Words of the form `--name=value`.
 ghost use Rattle.std.specs.Prelude.{◌≡◌, ◌≢◌, Ok, Err, IfOk, IfErr, OnOk};
 ghost use Rattle.std.specs.List.{list_all};
-ghost use Rattle.sigstore_app_parts.specs.Named.{texts, is_among, known_by, has_name, value_placed, word_placed, words_placed, values_of, named_of, text_at, moment_at};
+ghost use Rattle.sigstore_app_parts.specs.Named.{texts, is_among, known_by, has_name, value_placed, word_placed};
+ghost use Rattle.sigstore_app_parts.specs.Named.{words_placed, values_of, named_of, text_at, moment_at};
 
 use crate::lines::cut;
 use crate::usage_fault::UsageFault;
@@ -51,8 +52,10 @@ fn place_value(
     name: &str,
     value: &str,
 ) -> Result<(), UsageFault>
-    ensures ok { OnOk result (value_placed (known_by names.now) found.old name.now value.now ≡ Ok found.new) }
-    ensures err { IfErr result (λ e. e ≢ UsageFault.NoMemory → value_placed (known_by names.now) found.old name.now value.now ≡ Err e) }
+    ensures ok { OnOk result
+        (value_placed (known_by names.now) found.old name.now value.now ≡ Ok found.new) }
+    ensures err { IfErr result (λ e. e ≢ UsageFault.NoMemory →
+        value_placed (known_by names.now) found.old name.now value.now ≡ Err e) }
 {
     if !names.know(name) || has_name(found, name) {
         return Err(UsageFault::Usage);
@@ -68,7 +71,8 @@ fn place_word(
     word: &str,
 ) -> Result<(), UsageFault>
     ensures ok { OnOk result (word_placed (known_by names.now) found.old word.now ≡ Ok found.new) }
-    ensures err { IfErr result (λ e. e ≢ UsageFault.NoMemory → word_placed (known_by names.now) found.old word.now ≡ Err e) }
+    ensures err { IfErr result (λ e. e ≢ UsageFault.NoMemory →
+        word_placed (known_by names.now) found.old word.now ≡ Err e) }
 {
     match cut(word, '=') {
         Some((_, "")) => Err(UsageFault::Usage),
@@ -87,7 +91,8 @@ fn place_words(
     words: &[Text],
 ) -> Result<(), UsageFault>
     ensures ok { OnOk result (words_placed (known_by names.now) found.old words.now ≡ Ok found.new) }
-    ensures err { IfErr result (λ e. e ≢ UsageFault.NoMemory → words_placed (known_by names.now) found.old words.now ≡ Err e) }
+    ensures err { IfErr result (λ e. e ≢ UsageFault.NoMemory →
+        words_placed (known_by names.now) found.old words.now ≡ Err e) }
 {
     'words: for word in words {
         match place_word(alloc, names, found, word.as_str()) {
@@ -111,8 +116,10 @@ fn has_each(found: &TextMap<Text>, wanted: &[&str]) -> bool
 
 // The values of the words, each wanted one among them.
 fn values_of(alloc: Global, names: &Names<'_>, words: &[Text]) -> Result<TextMap<Text>, UsageFault>
-    ensures ok { IfOk result (λ found. values_of (known_by names.now) (texts names.now.wanted.now) words.now ≡ Ok found) }
-    ensures err { IfErr result (λ e. e ≢ UsageFault.NoMemory → values_of (known_by names.now) (texts names.now.wanted.now) words.now ≡ Err e) }
+    ensures ok { IfOk result (λ found.
+        values_of (known_by names.now) (texts names.now.wanted.now) words.now ≡ Ok found) }
+    ensures err { IfErr result (λ e. e ≢ UsageFault.NoMemory →
+        values_of (known_by names.now) (texts names.now.wanted.now) words.now ≡ Err e) }
 {
     let mut found = TextMap::new(alloc);
     match place_words(alloc, names, &mut found, words) {

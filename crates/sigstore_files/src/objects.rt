@@ -1,4 +1,6 @@
 // What a run goes to.
+ghost use Rattle.std.specs.Prelude.{◌≡◌, IfSome};
+
 use sigstore_app_parts::{FileInputs, Layout, StdoutSink};
 use sigstore_crypto::FileSource;
 use sigstore_tuf::{FileRepository, FileStore};
@@ -34,9 +36,25 @@ fn nowhere(alloc: Global) -> Layout {
     }
 }
 
+fn layout_or_nowhere(alloc: Global, layout: Option<Layout>) -> Layout
+    ensures { IfSome layout (λ l. result ≡ l) }
+{
+    match layout {
+        Some(layout) => layout,
+        None => nowhere(alloc),
+    }
+}
+
 /// The objects in the files and folders that a layout names; without a layout those at empty paths, for a
 /// run that ends at its words.
-pub fn objects_at<X: Runtime + AllocGlobal>(rt: &X, layout: Option<Layout>) -> Objects<'_, X> {
+pub fn objects_at<X: Runtime + AllocGlobal>(rt: &X, layout: Option<Layout>) -> Objects<'_, X>
+    ensures root { IfSome layout (λ l. result.inputs.root ≡ l.root) }
+    ensures bundle { IfSome layout (λ l. result.inputs.bundle ≡ l.bundle) }
+    ensures policy { IfSome layout (λ l. result.inputs.policy ≡ l.policy) }
+    ensures provider { IfSome layout (λ l. result.inputs.provider ≡ l.provider) }
+    ensures repository { IfSome layout (λ l. result.repository.dir ≡ l.repository) }
+    ensures store { IfSome layout (λ l. result.store.dir ≡ l.store) }
+{
     let Layout {
         root,
         repository,
@@ -46,7 +64,7 @@ pub fn objects_at<X: Runtime + AllocGlobal>(rt: &X, layout: Option<Layout>) -> O
         policy,
         provider,
         ..
-    } = layout.unwrap_or_else(|| nowhere(rt.alloc()));
+    } = layout_or_nowhere(rt.alloc(), layout);
     Objects {
         inputs: FileInputs::new(rt, root, bundle, policy, provider),
         repository: FileRepository::new(rt, repository),

@@ -1,5 +1,5 @@
 -- Over a source that tells its bytes within the limit and doesn't fail, the judgement is the verdict, unless memory is wanting.
-use Rattle.std.proofs.Common.{◌≡◌, ◌≢◌, ◌⊎◌, inl, inr, ℕ, ◌+◌, ◌≤◌, List, ◌++◌, append-nil, length, length-append, Option, Some, None, Result, Ok, Err, refl, sym, ap, ◌∙◌, arith}
+use Rattle.std.proofs.Common.{◌≡◌, ◌≢◌, ◌⊎◌, inl, inr, ℕ, ◌+◌, ◌≤◌, List, ◌++◌, append-nil, length, length-append, Option, Some, None, Result, Ok, Err, sym, ap, ◌∙◌, arith}
 use Rattle.std.specs.Io.KnownBytes.{prepend_known, IsAtEnd}
 use Rattle.foundation.specs.Steps.{◌>>=◌}
 use Rattle.foundation.specs.Watched.{Watched, Rose}
@@ -15,7 +15,6 @@ use Rattle.sigstore_judgement.specs.declared.report.Kept.{Kept}
 use Rattle.sigstore_judgement.specs.declared.report.VerificationResult.{VerificationResult}
 use Rattle.sigstore_judgement.specs.declared.trust.Material.{Material}
 use Rattle.sigstore_judgement.specs.Artifact.{Read}
-use Rattle.sigstore_judgement.specs.Grounds.{Terms}
 use Rattle.sigstore_judgement.specs.Judged.{judged_of, needed_by}
 use Rattle.sigstore_judgement.specs.Promise.{ReadWhole, ReadCause, Cause, VerifiesKept}
 use Rattle.sigstore_judgement.specs.Trust.{material_of}

@@ -1,6 +1,6 @@
 -- A refusal of the log is of an entry that isn't logged.
-use Rattle.std.proofs.Common.{◌≡◌, suc, List, [], ◌∷◌, Option, Result, Ok, Err, refl, arith}
-use Rattle.std.specs.Prelude.{⊤, Contains}
+use Rattle.std.proofs.Common.{◌≡◌, suc, List, [], ◌∷◌, Result, Ok, Err, refl, arith}
+use Rattle.std.specs.Prelude.{Contains}
 use Rattle.jiff_core.specs.declared.timestamp.Timestamp.{Timestamp}
 use Rattle.foundation.specs.Results.{refused_at, err_same}
 use Rattle.sigstore_entries.specs.declared.entry.TransparencyLogEntry.{TransparencyLogEntry}

@@ -1,7 +1,6 @@
 -- The digests that were taken of an artifact are the artifact's, for each algorithm that is needed.
 use Rattle.std.proofs.Common.{◌≡◌, ℕ, List, [], ◌∷◌, ◌++◌, Bool, true, false, ◌||◌, cond, if◌then◌else◌, Option, Some, None, option_map, find}
-use Rattle.std.proofs.Common.{Result, Ok, Err, refl, sym, ap, ◌∙◌, subst}
-use Rattle.std.specs.Prelude.{⊤}
+use Rattle.std.proofs.Common.{Ok, refl, sym, ap, ◌∙◌, subst}
 use Rattle.std.specs.List.{list_any, list_all}
 use Rattle.foundation.specs.Results.{and_true, ok_same}
 use Rattle.sigstore_types_parts.specs.HashAlgorithm.{same_algorithm, with_algorithm, with_optional}
@@ -16,7 +15,7 @@ use Rattle.sigstore_crypto.specs.declared.scheme.SigningScheme.{SigningScheme}
 use Rattle.sigstore_crypto.specs.Digest.{is_hashed, digest_by, digests_by}
 use Rattle.sigstore_crypto.specs.Good.{Judge}
 use Rattle.sigstore_crypto.specs.Scheme.{digest_algorithm_of}
-use Rattle.sigstore_judgement.specs.Artifact.{Artifact, Digests, Read, Digest, digest_of, digest_among}
+use Rattle.sigstore_judgement.specs.Artifact.{Digests, Read, Digest, digest_of, digest_among}
 use Rattle.sigstore_judgement.specs.Content.{algorithm_told, needed_of, is_digest, is_told, subject_by, is_good_of, first_refusal, content_judged_of}
 
 pub same_is : (a b : HashAlgorithm) → same_algorithm a b ≡ true → a ≡ b

@@ -3,9 +3,8 @@ use Rattle.std.proofs.Common.{◌≡◌, ◌≢◌, ◌⊎◌, inl, inr, ℕ, Li
 use Rattle.std.specs.Prelude.{⊤, ◌&&◌, is_some, Contains}
 use Rattle.std.specs.List.{list_all}
 use Rattle.std.proofs.lemmas.Slice.Eq.{bytes_eq-Decides}
-use Rattle.jiff_core.specs.declared.timestamp.Timestamp.{Timestamp}
 use Rattle.foundation.specs.Watched.{Watched}
-use Rattle.foundation.specs.Results.{err_same, refused_at, ok_same}
+use Rattle.foundation.specs.Results.{err_same, refused_at}
 use Rattle.sigstore_types_parts.specs.declared.form.Form.{Form}
 use Rattle.sigstore_types_parts.specs.declared.form.Form.TheVariants as form
 use Rattle.sigstore_types_parts.specs.declared.hash_algorithm.HashAlgorithm.{HashAlgorithm}
@@ -33,11 +32,10 @@ use Rattle.sigstore_judgement.specs.declared.error.Error.TheVariants as verify
 use Rattle.sigstore_judgement.specs.declared.error.TransparencyLogError.{TransparencyLogError}
 use Rattle.sigstore_judgement.specs.declared.error.TransparencyLogError.TheVariants as log
 use Rattle.sigstore_judgement.specs.declared.evidence.Evidence.{Evidence}
-use Rattle.sigstore_judgement.specs.declared.policy.PublicKeyVerificationPolicy.{PublicKeyVerificationPolicy}
 use Rattle.sigstore_judgement.specs.declared.trust.Material.{Material}
 use Rattle.sigstore_judgement.specs.Artifact.{Artifact, Read, read_kind, digest_of}
-use Rattle.sigstore_judgement.specs.Cause.{IsRefusedAs, IsRead, IsKept, HasSigner, HasScheme, LacksScheme, key_unread, no_scheme, no_hasher, LacksEntry, no_entry, no_proof, form_unread, entry_uncompared, IsUnlogged}
-use Rattle.sigstore_judgement.specs.Cause.{asks_log, SharedCause, SignedCause, JudgeCause}
+use Rattle.sigstore_judgement.specs.Cause.{IsRefusedAs, IsRead, IsKept, HasSigner, HasScheme, LacksScheme, key_unread, no_scheme, no_hasher, LacksEntry, no_entry, no_proof, form_unread, entry_uncompared}
+use Rattle.sigstore_judgement.specs.Cause.{asks_log, JudgeCause}
 use Rattle.sigstore_judgement.specs.Content.{scheme_of, needed_of, signs_digest, supported_of, is_digest, is_told, is_bound, IsOfOther, is_signed, first_refusal, content_judged_of}
 use Rattle.sigstore_judgement.specs.Entries.{log_judged_of, entries_described_of}
 use Rattle.sigstore_judgement.specs.Error.{error_of_crypto, error_of_log, lowered, by_types, by_crypto}
@@ -45,7 +43,7 @@ use Rattle.sigstore_judgement.specs.Grounds.{Grounds}
 use Rattle.sigstore_judgement.specs.Judged.{Ready, ready_of, prepared_of, managed_vouched_of, vouched_of, judged_had, judged_of}
 use Rattle.sigstore_judgement.specs.Policy.{Meaning, PublicKey}
 use Rattle.sigstore_judgement.specs.Promise as promise
-use Rattle.sigstore_judgement.specs.Signer.{Signer, Managed, key_in, managed_of, signer_of, IsSigner}
+use Rattle.sigstore_judgement.specs.Signer.{Signer, key_in, managed_of, signer_of, IsSigner}
 use Rattle.sigstore_judgement.specs.Trust.{material_of}
 use Rattle.sigstore_judgement.specs.Under.{or_fault, trust_fault, bundle_fault, Asked, terms_of, JudgesBundle, trust_refused, verifier_refused, bundle_refused, judged}
 use Rattle.sigstore_judgement.proofs.Accepts.{ok_crypto, signer_means, Prepared, prepared_means}

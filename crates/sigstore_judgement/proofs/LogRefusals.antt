@@ -13,7 +13,6 @@ use Rattle.sigstore_types.specs.Bundle.{entries_in, structure_of}
 use Rattle.sigstore_crypto.specs.declared.error.Error.{Error as CryptoError}
 use Rattle.sigstore_crypto.specs.declared.key.VerificationKey.{VerificationKey}
 use Rattle.sigstore_crypto.specs.declared.scheme.SigningScheme.{SigningScheme}
-use Rattle.sigstore_crypto.specs.Good.{Judge}
 use Rattle.sigstore_crypto.specs.Key.{spki_key_of}
 use Rattle.sigstore_entries.specs.declared.entry.TransparencyLogEntry.{TransparencyLogEntry}
 use Rattle.sigstore_judgement.specs.declared.error.Error.{Error}

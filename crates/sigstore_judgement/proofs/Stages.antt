@@ -1,6 +1,6 @@
 -- What is refused or accepted by the digests that were taken.
 use Rattle.std.proofs.Common.{◌≡◌, ◌≢◌, ℕ, List, [], ◌∷◌, ap, ◌∙◌, sym, subst, Option, Some, None, Result, Ok, Err, inl, inr, refl, true, IfOk, IfErr}
-use Rattle.std.specs.Prelude.{◌⊎◌, ◌≤◌, ⊤}
+use Rattle.std.specs.Prelude.{◌⊎◌, ◌≤◌}
 use Rattle.std.specs.List.{list_all}
 use Rattle.foundation.specs.Watched.{Watched}
 use Rattle.foundation.specs.Steps.{◌>>=◌}
@@ -12,7 +12,6 @@ use Rattle.sigstore_crypto.specs.Digest.{is_hashed, digests_by}
 use Rattle.sigstore_crypto.specs.declared.reader.ReadError.{ReadError}
 use Rattle.sigstore_judgement.specs.declared.error.Error.{Error}
 use Rattle.sigstore_judgement.specs.declared.error.Error.TheVariants.{ArtifactRead, NoMemory}
-use Rattle.sigstore_judgement.specs.declared.report.Kept.{Kept}
 use Rattle.sigstore_judgement.specs.declared.report.VerificationResult.{VerificationResult}
 use Rattle.sigstore_judgement.specs.Artifact.{Artifact, Blob, Read, Digest, Digests, Kind, kind_of, read_kind, blob_kind, digest_of, bytes_of, digest_among}
 use Rattle.sigstore_judgement.specs.Content.{needed_of, content_judged_of}

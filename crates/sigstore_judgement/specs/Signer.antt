@@ -1,5 +1,5 @@
 -- Who signed: a key that its holder manages, with the policy that says what is asked of it.
-use Rattle.std.specs.Prelude.{◌≡◌, ℕ, List, Bool, ⊤, Result, Ok}
+use Rattle.std.specs.Prelude.{◌≡◌, ℕ, List, Bool, Result, Ok}
 use Rattle.foundation.specs.Steps.{◌>>=◌}
 use Rattle.sigstore_types.specs.declared.bundle.Bundle.{Bundle}
 use Rattle.sigstore_types.specs.Bundle.{structure_of}

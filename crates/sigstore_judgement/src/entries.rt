@@ -1,20 +1,22 @@
 // The entries of a bundle under the logs that are trusted, and what they say of the bundle.
 ghost use Rattle.std.specs.Prelude.{◌≡◌, ◌≢◌, Ok, Err, IfOk, IfErr, OnOk};
-ghost use Rattle.sigstore_types.specs.declared.bundle.Bundle as value;
-ghost use Rattle.sigstore_judgement.specs.Artifact.{Digests};
+ghost use Rattle.sigstore_types.specs.Bundle.{entries_in};
+ghost use Rattle.sigstore_judgement.specs.Artifact.{digest_had};
 ghost use Rattle.sigstore_judgement.specs.Entries.{entry_judged_of, with_time, entries_judged_of, log_judged_of, entry_described_of, entries_described_of};
 ghost use Rattle.sigstore_judgement.specs.Error.{error_of_log};
-ghost use Rattle.sigstore_judgement.specs.Grounds as judged;
 ghost use Rattle.sigstore_judgement.specs.Grounds.{grounds_by};
-ghost use Rattle.sigstore_judgement.specs.Signer.{Signer};
+ghost use Rattle.sigstore_judgement.specs.Signer.{signer_as};
 
+use crate::artifact::Had;
 use crate::error::{Error, TransparencyLogError};
 use crate::grounds::Grounds;
+use crate::signing::Signing;
 use foundation::{NoMemory, Sequence};
 use jiff::Timestamp;
 use sigstore_crypto::CryptoProvider;
 use sigstore_entries::TransparencyLogEntry;
 use sigstore_log::{LogError, judge_entry};
+use sigstore_types::Bundle;
 use sigstore_types_parts::{Armor, Form};
 use std::alloc::Global;
 
@@ -104,20 +106,29 @@ pub(crate) fn check_log<C: CryptoProvider, M: Armor>(
 
 // What an entry says isn't compared with its bundle, signer and artifact yet, so that it describes none: else an
 // entry of another signature would count as this one's.
-fn check_entry_described(_entry: &TransparencyLogEntry) -> Result<(), Error>
-    ensures { (grounds : judged.Grounds) (signer : Signer) (bundle : value.Bundle) (digest : Digests)
-        → result ≡ entry_described_of grounds signer bundle digest _entry.now }
+fn check_entry_described<C: CryptoProvider, M: Armor>(
+    grounds: &Grounds<'_, C, M>,
+    signer: &Signing<'_>,
+    bundle: &Bundle,
+    had: &Had<'_>,
+    entry: &TransparencyLogEntry,
+) -> Result<(), Error>
+    ensures { result ≡ entry_described_of (grounds_by C.CryptoProvider M.Armor grounds.now) (signer_as signer.now) bundle.now (digest_had had.now) entry.now }
 {
     Err(Error::Unbuilt(Form::Binding))
 }
 
-/// Whether each entry describes the bundle. Errors: `Unbuilt`, where there is an entry.
-pub(crate) fn check_described(entries: &[TransparencyLogEntry]) -> Result<(), Error>
-    ensures { (grounds : judged.Grounds) (signer : Signer) (bundle : value.Bundle) (digest : Digests)
-        → result ≡ entries_described_of grounds signer bundle digest entries.now }
+/// Whether each entry of a bundle describes it. Errors: `Unbuilt`, where there is an entry.
+pub(crate) fn check_described<C: CryptoProvider, M: Armor>(
+    grounds: &Grounds<'_, C, M>,
+    signer: &Signing<'_>,
+    bundle: &Bundle,
+    had: &Had<'_>,
+) -> Result<(), Error>
+    ensures { result ≡ entries_described_of (grounds_by C.CryptoProvider M.Armor grounds.now) (signer_as signer.now) bundle.now (digest_had had.now) (entries_in bundle.now) }
 {
-    'entries: for entry in entries {
-        check_entry_described(entry)?;
+    'entries: for entry in bundle.verification_material.tlog_entries.as_slice() {
+        check_entry_described(grounds, signer, bundle, had, entry)?;
     }
     Ok(())
 }

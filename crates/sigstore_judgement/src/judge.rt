@@ -140,7 +140,7 @@ fn accepted<C: CryptoProvider, M: Armor>(
 {
     let evidence = vouched(alloc, grounds, &ready.signer, bundle)?;
     judge_content(grounds.provider, &ready.key, &bundle.content, had)?;
-    check_described(bundle.verification_material.tlog_entries.as_slice())?;
+    check_described(grounds, &ready.signer, bundle, had)?;
     Ok(evidence)
 }
 

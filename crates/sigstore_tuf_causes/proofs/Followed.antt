@@ -16,7 +16,9 @@ use Rattle.sigstore_tuf_parts.specs.Targets.{role_keys_in}
 use Rattle.sigstore_tuf_rules.specs.declared.documents.Held.{Held}
 use Rattle.sigstore_tuf_rules.specs.declared.documents.InForce.{InForce}
 use Rattle.sigstore_tuf_rules.specs.Documents.{content_of}
-use Rattle.sigstore_tuf_rules.specs.Order.{Visit, Next, is_top_level, nothing_next, with_name, pattern_or, matching, delegated_in, by}
+use Rattle.sigstore_tuf_rules.specs.declared.visit.Visit.{Visit}
+use Rattle.sigstore_tuf_rules.specs.declared.visit.Next.{Next}
+use Rattle.sigstore_tuf_rules.specs.Order.{is_top_level, nothing_next, with_name, pattern_or, matching, delegated_in, by}
 use Rattle.sigstore_tuf_rules.specs.Trusted.{Authority, authority_in}
 use Rattle.sigstore_tuf_rules.specs.Delegated.{not_top_level_of, delegation_of}
 use Rattle.sigstore_tuf_rules.proofs.Updates.{ok_some}

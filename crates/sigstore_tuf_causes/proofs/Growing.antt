@@ -13,7 +13,8 @@ use Rattle.sigstore_tuf_rules.specs.declared.documents.InForce.{InForce}
 use Rattle.sigstore_tuf_runs.specs.State.{Session, State}
 use Rattle.sigstore_tuf_rules.specs.Taking.{top_targets}
 use Rattle.sigstore_tuf_runs.specs.Adopt.{unfetched, absent, refused, kept, adopted}
-use Rattle.sigstore_tuf_rules.specs.Order.{Visit, Walk}
+use Rattle.sigstore_tuf_rules.specs.declared.visit.Visit.{Visit}
+use Rattle.sigstore_tuf_rules.specs.declared.visit.Walk.{Walk}
 use Rattle.sigstore_tuf_rules.specs.Delegated.{update_role_of, with_role}
 use Rattle.sigstore_tuf_runs.specs.Search.{AdoptsRole, is_held, Readies, wanting, untouched, looked_at, had, Searches, ended, short, unready, gapped, visited, FindsVisits, unserved, searched}
 use Rattle.sigstore_tuf_outside.proofs.Files.{at_insert}

@@ -41,7 +41,7 @@ use Rattle.sigstore_tuf_rules.proofs.Authorised.{judged_stays}
 use Rattle.sigstore_tuf_causes.proofs.Holding.{stays_whole}
 use Rattle.sigstore_tuf_runs.proofs.Steps.{save_wants}
 use Rattle.sigstore_tuf_causes.proofs.Carrying.{loaded_had}
-use Rattle.sigstore_tuf_causes.proofs.Quiet.{quiet_first, quiet_second, not_both}
+use Rattle.sigstore_tuf_causes.proofs.Faults.{quiet_first, quiet_second, not_both}
 use Rattle.sigstore_tuf_causes.proofs.StoreNames.{kept_unversioned, never_root_file}
 use Rattle.sigstore_tuf_causes.proofs.RootNames.{same_number, never_versioned, history_good, versioned_good}
 

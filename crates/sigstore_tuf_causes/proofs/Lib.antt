@@ -1,11 +1,11 @@
 pub mod Carrying
 pub mod Causes
+pub mod Faults
 pub mod Followed
 pub mod Growing
 pub mod Holding
 pub mod Keeping
 pub mod Newest
-pub mod Quiet
 pub mod Refusals
 pub mod Replay
 pub mod RoleNames

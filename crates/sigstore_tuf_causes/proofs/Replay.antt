@@ -19,7 +19,9 @@ use Rattle.sigstore_tuf_rules.specs.Names.{role_pin_in}
 use Rattle.sigstore_tuf_outside.specs.Repository.{metadata_files}
 use Rattle.sigstore_tuf_runs.specs.State.{Session, State}
 use Rattle.sigstore_tuf_runs.specs.Adopt.{unfetched, absent, refused, kept, adopted}
-use Rattle.sigstore_tuf_rules.specs.Order.{Visit, Tree, Gap, pattern, missing, Walk, Step, is_top_level, is_pinned, lists, pattern_or, matching, with_name, delegated_in, visited as one_more, having_read, read_of, read_named, still, visit_of, pending_after}
+use Rattle.sigstore_tuf_rules.specs.declared.visit.Visit.{Visit}
+use Rattle.sigstore_tuf_rules.specs.declared.visit.Walk.{Walk}
+use Rattle.sigstore_tuf_rules.specs.Order.{Tree, Gap, pattern, missing, Step, is_top_level, is_pinned, lists, pattern_or, matching, with_name, delegated_in, visited as one_more, having_read, read_of, read_named, still, visit_of, pending_after}
 use Rattle.sigstore_tuf_rules.specs.SearchLaws.{walk_all, visits_of, tree_of}
 use Rattle.sigstore_tuf_rules.specs.Delegated.{update_role_of}
 use Rattle.sigstore_tuf_runs.specs.Search.{documents_of, tree_in, AdoptsRole, reads, IsSnapshot, IsGap, Readies, wanting, untouched, looked_at, had, Searches, ended, short, unready, gapped, visited, FindsVisits, unserved, searched}

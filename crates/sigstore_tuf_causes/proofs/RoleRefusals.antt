@@ -19,7 +19,7 @@ use Rattle.sigstore_tuf_rules.specs.declared.documents.Held.{Held}
 use Rattle.sigstore_tuf_rules.specs.declared.documents.InForce.{InForce}
 use Rattle.sigstore_tuf_rules.specs.Documents.{targets_document, content_of}
 use Rattle.sigstore_tuf_rules.specs.Names.{role_pin_in}
-use Rattle.sigstore_tuf_rules.specs.Order.{Visit}
+use Rattle.sigstore_tuf_rules.specs.declared.visit.Visit.{Visit}
 use Rattle.sigstore_tuf_rules.specs.Trusted.{Authority}
 use Rattle.sigstore_tuf_rules.specs.Delegated.{delegation_of, meets_delegation_of, role_pin_of, role_checks_of, role_document_of, update_role_of}
 use Rattle.sigstore_tuf_rules.specs.Authorised.{Serve}

@@ -24,7 +24,9 @@ use Rattle.sigstore_tuf_runs.specs.State.{Session, State}
 use Rattle.sigstore_tuf_runs.specs.Run.{said}
 use Rattle.sigstore_tuf_rules.specs.Taking.{taken_of, there_of}
 use Rattle.sigstore_tuf_runs.specs.Adopt.{FetchesNamed, fetch_unnamed, fetch_asked, SavesAll, unfetched, absent, refused, kept, adopted}
-use Rattle.sigstore_tuf_rules.specs.Order.{Visit, Gap, pattern, Walk, first_visit, first_walk, visit_of}
+use Rattle.sigstore_tuf_rules.specs.declared.visit.Visit.{Visit}
+use Rattle.sigstore_tuf_rules.specs.declared.visit.Walk.{Walk}
+use Rattle.sigstore_tuf_rules.specs.Order.{Gap, pattern, first_visit, first_walk, visit_of}
 use Rattle.sigstore_tuf_rules.specs.Trusted.{Authority}
 use Rattle.sigstore_tuf_rules.specs.Delegated.{delegation_of, meets_delegation_of, role_serves_of, update_role_of}
 use Rattle.sigstore_tuf_runs.specs.Search.{documents_of, tree_in, AdoptsRole, visit_serves_of, reads, is_held, gap_error, Readies, wanting, untouched, looked_at, had, Searches, visits_in, FindsVisits, unserved, searched}

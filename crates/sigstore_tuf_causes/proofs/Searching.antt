@@ -42,7 +42,9 @@ use Rattle.sigstore_tuf_runs.specs.State.{Session, State}
 use Rattle.sigstore_tuf_rules.specs.Taking.{top_targets}
 use Rattle.sigstore_tuf_rules.specs.SearchServing.{fresh_timestamp_of, fresh_snapshot_of, unexpired_of, pinned_version_of, pinned_by_of, all_pinned_of, search_serves_of}
 use Rattle.sigstore_tuf_runs.specs.Target.{if_pinned, recalled_of, file_of, TakesFile, differs, unsaved, given, Downloads, unnamed, unfetched, absent, fetched, Obtains, unrecalled, recalled, downloaded}
-use Rattle.sigstore_tuf_rules.specs.Order.{Visit, Gap, Walk, is_pinned, first_visit, first_walk, walk_of, search_of, order}
+use Rattle.sigstore_tuf_rules.specs.declared.visit.Visit.{Visit}
+use Rattle.sigstore_tuf_rules.specs.declared.visit.Walk.{Walk}
+use Rattle.sigstore_tuf_rules.specs.Order.{Gap, is_pinned, first_visit, first_walk, walk_of, search_of, order}
 use Rattle.sigstore_tuf_rules.specs.SearchLaws.{walk_all, visits_of, tree_of}
 use Rattle.sigstore_tuf_runs.specs.Search.{documents_of, listed_by, entry_after, Searches, visits_in, FindsVisits, unserved, searched, GivesInfo}
 use Rattle.sigstore_tuf_runs.specs.Search as search

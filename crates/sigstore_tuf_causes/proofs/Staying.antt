@@ -1,34 +1,14 @@
 -- The documents in force stay authorised in a whole call.
-use Rattle.std.proofs.Common.{◌≡◌, ◌⊎◌, inl, inr, ℕ, ◌+◌, List, [], ◌∷◌, ◌++◌, length, Bool, Option, Some, None, Result, Ok, Err, codes, refl, sym, ap, ◌∙◌, subst, arith, length-append}
-use Rattle.std.specs.Prelude.{⊤, IfSome}
-use Rattle.std.specs.List.{AllZip, last_or}
+use Rattle.std.proofs.Common.{Bool, Option, Some, None, Result, Ok}
+use Rattle.std.specs.Prelude.{⊤}
 use Rattle.jiff_core.specs.declared.timestamp.Timestamp as jiff
-use Rattle.std.specs.BTreeMap.{insert_entry}
-use Rattle.foundation.specs.Results.{step_ok, ok_same}
-use Rattle.sigstore_types_parts.specs.Entries.{text_cmp, at_name}
 use Rattle.sigstore_crypto.specs.Crypto.{Crypto}
-use Rattle.sigstore_tuf_parts.specs.declared.targets.Targets as declared_targets
 use Rattle.sigstore_tuf_parts.specs.declared.error.Error.{Error}
-use Rattle.sigstore_tuf_parts.specs.declared.root.Root as declared
-use Rattle.sigstore_tuf_parts.specs.Document.{Document, content_in}
-use Rattle.sigstore_tuf_parts.specs.RootRoles.{root_document, meets_role_of, MeetsRole, IsNextRoot, AreNextRoots, Roots}
-use Rattle.sigstore_tuf_rules.specs.declared.documents.Held.{Held}
-use Rattle.sigstore_tuf_rules.specs.declared.documents.InForce.{InForce}
 use Rattle.sigstore_tuf_rules.specs.declared.kind.Kind.{Kind}
-use Rattle.sigstore_tuf_rules.specs.declared.kind.Kind.TheVariants.{Root, Timestamp, Snapshot, Targets}
-use Rattle.sigstore_tuf_rules.specs.Update.{with_root, with_targets, first_root_of, Updates}
-use Rattle.sigstore_tuf_rules.specs.Floor.{standing_of, KeepsFloor}
 use Rattle.sigstore_tuf_runs.specs.State.{Session, State}
-use Rattle.sigstore_tuf_rules.specs.Taking.{update_of, judged_of}
 use Rattle.sigstore_tuf_runs.specs.Adopt.{Adopts, unfetched, absent, refused, kept, adopted, Seeds, unloaded, unkept, unseeded, equal, seeded}
-use Rattle.sigstore_tuf_rules.specs.Serving.{version_in}
 use Rattle.sigstore_tuf_runs.specs.Run.{said, SavesRoot, Attaches, Does, refresh_steps, RunsSteps}
 use Rattle.sigstore_tuf_runs.specs.declared.step.Step.{Step}
-use Rattle.sigstore_tuf_rules.specs.Trusted.{BeginsWith}
-use Rattle.sigstore_tuf_rules.specs.Authorised.{IsPinnedBy, AreAuthorised, first_in, given_in, StaysAuthorised, UpdatesSet}
-use Rattle.sigstore_tuf_outside.proofs.Files.{inserted}
-use Rattle.sigstore_tuf_rules.proofs.Floors.{floor_stays, floor_joins, floor_above, floor_same, timestamp_floor, snapshot_floor}
-use Rattle.sigstore_tuf_rules.proofs.Updates.{role_met, Puts, update_puts, judged_puts, top_inserted}
 use Rattle.sigstore_tuf_runs.proofs.Lift.{IsAsked, AsksNoRoot, attach_lift, does_lift, runs_lift}
 use Rattle.sigstore_tuf_rules.proofs.Authorised.{Stays, stays_same, stays_joins, judged_stays, same}
 

@@ -1,5 +1,6 @@
 -- What a store can put in force is signed, and what it can give is listed.
-use Rattle.std.proofs.Common.{◌≡◌, ℕ, List, Bool, true, false, Option, Some, Result, Ok, subst}
+use Rattle.std.proofs.Common.{◌≡◌, ℕ, List, Bool, true, false, Option, Some, None, Result, Ok, Err, sym, subst}
+use Rattle.std.specs.Prelude.{⊤}
 use Rattle.jiff_core.specs.declared.timestamp.Timestamp as jiff
 use Rattle.foundation.specs.Results.{no_both}
 use Rattle.sigstore_crypto.specs.Crypto.{Crypto}
@@ -7,10 +8,12 @@ use Rattle.sigstore_tuf_parts.specs.declared.error.Error.{Error}
 use Rattle.sigstore_tuf_parts.proofs.IntegrityLaws.{integrity_exactly}
 use Rattle.sigstore_tuf_rules.specs.declared.kind.Kind.{Kind}
 use Rattle.sigstore_tuf_rules.specs.declared.kind.Kind.TheVariants.{Root, Timestamp, Snapshot, Targets}
+use Rattle.sigstore_tuf_parts.specs.declared.targets.TargetFile.{TargetFile}
 use Rattle.sigstore_tuf_rules.specs.Documents.{timestamp_document, snapshot_document, targets_document}
 use Rattle.sigstore_tuf_runs.specs.State.{State}
 use Rattle.sigstore_tuf_rules.specs.Names.{kept_name, kept_target}
 use Rattle.sigstore_tuf_runs.specs.Adopt.{LoadsNamed, unloaded, unkept, unseeded, equal, seeded}
+use Rattle.sigstore_tuf_runs.specs.Target.{if_pinned, recalled_of, file_of}
 use Rattle.sigstore_tuf_causes.specs.Laws.{IsSignedAs, SeedsAreSigned, RecallsArePinned}
 use Rattle.sigstore_tuf_causes.proofs.Carrying.{loaded_had}
 use Rattle.sigstore_tuf_rules.proofs.Updates.{Puts, judged_puts, bytes_put}

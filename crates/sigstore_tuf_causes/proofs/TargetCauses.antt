@@ -20,7 +20,7 @@ use Rattle.sigstore_tuf_outside.specs.Repository.{Folders, Files, metadata_files
 use Rattle.sigstore_tuf_runs.specs.State.{Session, State}
 use Rattle.sigstore_tuf_rules.specs.Names.{is_consistent, role_name_in, target_name_of, kept_target}
 use Rattle.sigstore_tuf_runs.specs.Adopt.{FetchesNamed, LoadsNamed}
-use Rattle.sigstore_tuf_rules.specs.Order.{Visit}
+use Rattle.sigstore_tuf_rules.specs.declared.visit.Visit.{Visit}
 use Rattle.sigstore_tuf_runs.specs.Target as target
 use Rattle.sigstore_tuf_runs.specs.Target.{within_of, fetch_name_of, file_of, recalled_of, Recalls, TakesFile, Downloads, Obtains}
 use Rattle.sigstore_tuf_runs.specs.Search as search

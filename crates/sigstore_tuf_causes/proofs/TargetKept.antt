@@ -25,7 +25,9 @@ use Rattle.sigstore_tuf_runs.specs.State.{Session, State}
 use Rattle.sigstore_tuf_runs.specs.Run.{said}
 use Rattle.sigstore_tuf_rules.specs.Taking.{top_targets}
 use Rattle.sigstore_tuf_runs.specs.Adopt.{LoadsNamed, Saves, save_unnamed, save_asked, SavesAll, unfetched, absent, refused, kept, adopted}
-use Rattle.sigstore_tuf_rules.specs.Order.{Visit, Walk, is_top_level}
+use Rattle.sigstore_tuf_rules.specs.declared.visit.Visit.{Visit}
+use Rattle.sigstore_tuf_rules.specs.declared.visit.Walk.{Walk}
+use Rattle.sigstore_tuf_rules.specs.Order.{is_top_level}
 use Rattle.sigstore_tuf_rules.specs.Delegated.{update_role_of}
 use Rattle.sigstore_tuf_runs.specs.Target as target
 use Rattle.sigstore_tuf_runs.specs.Target.{file_of, if_pinned, recalled_of, Recalls, TakesFile, Downloads, Obtains}
@@ -35,7 +37,7 @@ use Rattle.sigstore_tuf_runs.specs.Chain as chain
 use Rattle.sigstore_tuf_runs.specs.Chain.{role_doc_in, chain_in, chain_of, GivesChain, GetsTarget}
 use Rattle.sigstore_tuf_runs.specs.Kept.{IsFiled, HasRoot, HoldsInForce, HoldsChain, StaysKept, KeepsChain}
 use Rattle.sigstore_tuf_causes.proofs.Carrying.{loaded_had}
-use Rattle.sigstore_tuf_causes.proofs.Quiet.{quiet_second}
+use Rattle.sigstore_tuf_causes.proofs.Faults.{quiet_second}
 use Rattle.sigstore_tuf_causes.proofs.Keeping.{told_moved, told_map, told_each, told_both, loaded_told, saved_later, saved_put, all_later, roots_kept, some_kept, with_this, with_other}
 use Rattle.sigstore_tuf_rules.proofs.RolePuts.{not_top, taken_some}
 use Rattle.sigstore_tuf_causes.proofs.RoleNames.{not_timestamp, not_snapshot, not_targets, not_root, not_history}

@@ -25,7 +25,10 @@ use Rattle.sigstore_tuf_runs.specs.State.{Session, State}
 use Rattle.sigstore_tuf_runs.specs.Run.{said}
 use Rattle.sigstore_tuf_rules.specs.Taking.{taken_of}
 use Rattle.sigstore_tuf_runs.specs.Adopt.{unfetched, absent, refused, kept, adopted}
-use Rattle.sigstore_tuf_rules.specs.Order.{Visit, Walk, Next, Step, by, first_visit, is_top_level, is_pinned, ended as walk_ended, visited as one_more, having_read, put_before, pending_after, delegated_in}
+use Rattle.sigstore_tuf_rules.specs.declared.visit.Visit.{Visit}
+use Rattle.sigstore_tuf_rules.specs.declared.visit.Walk.{Walk}
+use Rattle.sigstore_tuf_rules.specs.declared.visit.Next.{Next}
+use Rattle.sigstore_tuf_rules.specs.Order.{Step, by, first_visit, is_top_level, is_pinned, ended as walk_ended, visited as one_more, having_read, put_before, pending_after, delegated_in}
 use Rattle.sigstore_tuf_rules.specs.Trusted.{Authority}
 use Rattle.sigstore_tuf_rules.specs.Delegated.{delegation_of, meets_delegation_of, role_serves_of, role_checks_of, role_pin_of, role_document_of, update_role_of, with_role}
 use Rattle.sigstore_tuf_runs.specs.Search.{documents_of, AdoptsRole, visit_serves_of, reads, IsSnapshot, Readies, wanting, untouched, looked_at, had}

@@ -20,7 +20,10 @@ use Rattle.sigstore_tuf_parts.specs.Threshold.{is_among}
 use Rattle.sigstore_tuf_rules.specs.declared.chain.RoleDoc.{RoleDoc}
 use Rattle.sigstore_tuf_rules.specs.declared.documents.Held.{Held}
 use Rattle.sigstore_tuf_rules.specs.Documents.{targets_document, content_of}
-use Rattle.sigstore_tuf_rules.specs.Order.{Visit, Tree, Gap, Walk, Step, Next, ended, is_pinned, nothing_next, visit_of, put_before, pending_after, walk_each, ended_if, walk_of, search_of, order, first_visit, first_walk}
+use Rattle.sigstore_tuf_rules.specs.declared.visit.Visit.{Visit}
+use Rattle.sigstore_tuf_rules.specs.declared.visit.Walk.{Walk}
+use Rattle.sigstore_tuf_rules.specs.declared.visit.Next.{Next}
+use Rattle.sigstore_tuf_rules.specs.Order.{Tree, Gap, Step, ended, is_pinned, nothing_next, visit_of, put_before, pending_after, walk_each, ended_if, walk_of, search_of, order, first_visit, first_walk}
 use Rattle.sigstore_tuf_rules.specs.SearchLaws.{walk_all, visits_of}
 use Rattle.sigstore_tuf_rules.specs.Trusted.{visit_in, read_in, documents_in, last_in, IsTrustedRole, IsTrustedVisit}
 use Rattle.sigstore_tuf_rules.proofs.Stepping.{among_last, is_over, StepOf, passed_over, unpinned, listing, followed, step_cases, step_reads}

@@ -3,7 +3,7 @@ use Rattle.std.proofs.Common.{◌≡◌, ◌≢◌, ◌⊎◌, inl, inr, ℕ, �
 use Rattle.std.specs.Prelude.{⊤, IfErr, IfSome, ok_or, option_map}
 use Rattle.std.proofs.lemmas.Bool.Decides.{nat_tests}
 use Rattle.foundation.specs.Steps.{◌>>=◌}
-use Rattle.foundation.specs.Watched.{Watched, Rose, IfTold}
+use Rattle.foundation.specs.Watched.{Watched, IfTold}
 use Rattle.foundation.specs.Results.{ok_same, err_same, some_same, no_both}
 use Rattle.sigstore_types_parts.specs.Entries.{at_name}
 use Rattle.sigstore_crypto.specs.Crypto.{Crypto}
@@ -26,6 +26,7 @@ use Rattle.sigstore_tuf_runs.specs.State.{Session, State}
 use Rattle.sigstore_tuf_rules.specs.Taking.{judged_of, there_of}
 use Rattle.sigstore_tuf_runs.specs.Adopt.{FetchesNamed, fetch_unnamed, fetch_asked, FetchesDocument, LoadsNamed, Saves, save_unnamed, save_asked, SavesAll, absence_of, Keeps, Adopts, unfetched, absent, refused, kept, adopted}
 use Rattle.sigstore_tuf_offers.specs.Offer.{IsNoneOr}
+use Rattle.sigstore_tuf_causes.proofs.Faults.{not_both}
 use Rattle.sigstore_tuf_causes.proofs.Carrying.{fetched_since, loaded_had}
 use Rattle.sigstore_tuf_causes.proofs.Causes.{is_want}
 use Rattle.sigstore_tuf_runs.proofs.Steps.{keeps_want}

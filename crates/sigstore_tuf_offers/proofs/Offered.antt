@@ -26,7 +26,8 @@ use Rattle.sigstore_tuf_rules.specs.Authorised.{IsSigned}
 use Rattle.sigstore_tuf_rules.specs.Documents.{timestamp_document, snapshot_document, targets_document, content_of, snapshot_pin, targets_pin}
 use Rattle.sigstore_tuf_rules.specs.Names.{pinned_name, role_file, target_name_of}
 use Rattle.sigstore_tuf_offers.specs.Offer.{IsServed, AreServedAfter, IsServedRole, later_in, OffersAs, Offers}
-use Rattle.sigstore_tuf_rules.specs.Order.{Visit, order}
+use Rattle.sigstore_tuf_rules.specs.declared.visit.Visit.{Visit}
+use Rattle.sigstore_tuf_rules.specs.Order.{order}
 use Rattle.sigstore_tuf_outside.specs.Repository.{Folders}
 use Rattle.sigstore_tuf_runs.specs.State.{Session, session_of}
 use Rattle.sigstore_tuf_rules.specs.Trusted.{visit_in, documents_in, targets_bytes, last_in, Authority, root_authority, IsTrustedVisit, BeginsWith, AreRoots, Reading, TrustedAs}

@@ -37,7 +37,9 @@ use Rattle.sigstore_tuf_rules.specs.Taking.{top_targets, taken_of, there_of}
 use Rattle.sigstore_tuf_runs.specs.Adopt.{FetchesNamed, SavesAll, Keeps, unfetched, absent, refused, kept, adopted}
 use Rattle.sigstore_tuf_runs.specs.Run.{said}
 use Rattle.sigstore_tuf_offers.specs.Offer.{IsServed, IsServedRole}
-use Rattle.sigstore_tuf_rules.specs.Order.{Visit, Walk, Step, by, is_top_level, is_pinned, delegated_in, pending_after, visit_of, first_visit, first_walk}
+use Rattle.sigstore_tuf_rules.specs.declared.visit.Visit.{Visit}
+use Rattle.sigstore_tuf_rules.specs.declared.visit.Walk.{Walk}
+use Rattle.sigstore_tuf_rules.specs.Order.{Step, by, is_top_level, is_pinned, delegated_in, pending_after, visit_of, first_visit, first_walk}
 use Rattle.sigstore_tuf_rules.specs.Trusted.{visit_in, documents_in, authority_in, delegated_authority, root_authority, IsTrustedRole}
 use Rattle.sigstore_tuf_rules.specs.Delegated.{delegation_of, meets_delegation_of, with_role, role_pin_of, role_checks_of, role_document_of, update_role_of, role_serves_of}
 use Rattle.sigstore_tuf_rules.specs.SearchServing.{fresh_timestamp_of, fresh_snapshot_of, unexpired_of, pinned_version_of, pinned_by_of, all_pinned_of, search_serves_of}
@@ -55,7 +57,7 @@ use Rattle.sigstore_tuf_causes.proofs.Visits.{at_role}
 use Rattle.sigstore_tuf_causes.proofs.Replay.{ready_since, searches_since}
 use Rattle.sigstore_tuf_causes.proofs.RoleNames.{in_folder, unlike_timestamp, unlike_snapshot, unlike_targets}
 use Rattle.sigstore_tuf_offers.proofs.ChainVisits.{all_append, all_in, held_in, content_held, Along, Visits, none_more, without, with_document, Goes, goes, begins, all_done, all_visited}
-use Rattle.sigstore_tuf_causes.proofs.Quiet.{quiet_first, quiet_second}
+use Rattle.sigstore_tuf_causes.proofs.Faults.{quiet_first, quiet_second}
 use Rattle.sigstore_tuf_offers.proofs.Completing.{step_to, equal, if_true, Done, wanting, done, Answers, wants, answers, Given, fetch_given, of_given, of_ungiven, TellsSo, saved_so}
 use Rattle.sigstore_tuf_offers.proofs.Offered.{AreOf, Offered}
 use Rattle.sigstore_tuf_offers.proofs.RootsCompleting.{IsWarm, stays_warm, stays_elsewhere}

@@ -32,8 +32,9 @@ use Rattle.sigstore_tuf_runs.specs.State.{Session, State, session_of, state_of}
 use Rattle.sigstore_tuf_runs.specs.Adopt.{FetchesNamed, LoadsNamed}
 use Rattle.sigstore_tuf_rules.specs.Update.{first_root_of}
 use Rattle.sigstore_tuf_runs.specs.Run.{Attaches, refresh_steps, RunsSteps}
-use Rattle.sigstore_tuf_runs.specs.Target.{within_of, if_pinned, recalled_of, file_of, TakesFile, differs, unsaved, given, fetch_name_of, Downloads, unnamed, unfetched, absent, fetched, Obtains, unrecalled, recalled, downloaded}
-use Rattle.sigstore_tuf_rules.specs.Order.{Visit, is_pinned}
+use Rattle.sigstore_tuf_runs.specs.Target.{within_of, recalled_of, file_of, TakesFile, differs, unsaved, given, fetch_name_of, Downloads, unnamed, unfetched, absent, fetched, Obtains, unrecalled, recalled, downloaded}
+use Rattle.sigstore_tuf_rules.specs.declared.visit.Visit.{Visit}
+use Rattle.sigstore_tuf_rules.specs.Order.{is_pinned}
 use Rattle.sigstore_tuf_runs.specs.Search.{is_held, listed_by, entry_after}
 use Rattle.sigstore_tuf_runs.specs.Chain.{role_doc_in, chain_of, found_of, GivesChain, unlisted, unobtained, unchained, found, GetsTarget, unfound, visited}
 use Rattle.sigstore_tuf_offers.specs.Offer.{RootsEnd, IsNoneOr, later_in, AreKeptAfter, Offers, Warm}
@@ -41,7 +42,8 @@ use Rattle.sigstore_tuf_rules.specs.Trusted.{visit_in, documents_in, IsTrustedVi
 use Rattle.sigstore_tuf_causes.proofs.Carrying.{since_same, since_joins, fetched_since, loaded_same}
 use Rattle.sigstore_tuf_causes.proofs.Causes.{is_want}
 use Rattle.sigstore_tuf_runs.proofs.Steps.{load_wants, save_wants}
-use Rattle.sigstore_tuf_causes.proofs.Quiet.{quiet_first, quiet_second}
+use Rattle.sigstore_tuf_causes.proofs.Faults.{quiet_first, quiet_second}
+use Rattle.sigstore_tuf_causes.proofs.StoredLaws.{recalled_some}
 use Rattle.sigstore_tuf_offers.proofs.Completing.{step_to, role_ok, Done, wanting, done, Given, fetch_given, of_given, of_ungiven, TellsSo, tells_same, saved_so, loaded_is, found_wanted}
 use Rattle.sigstore_tuf_causes.proofs.Followed.{each_map}
 use Rattle.sigstore_tuf_causes.proofs.Replay.{finds_since}

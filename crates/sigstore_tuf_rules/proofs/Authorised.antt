@@ -1,5 +1,5 @@
 -- The documents in force are authorised whatever was fetched and kept.
-use Rattle.std.proofs.Common.{◌≡◌, ◌⊎◌, inl, inr, ℕ, ◌+◌, List, [], ◌∷◌, ◌++◌, length, Bool, Option, Some, None, Result, Ok, Err, codes, refl, sym, ap, ◌∙◌, subst, arith, length-append}
+use Rattle.std.proofs.Common.{◌≡◌, ◌⊎◌, inl, inr, ℕ, ◌+◌, List, [], ◌∷◌, ◌++◌, length, Option, Some, None, Result, Ok, Err, codes, refl, sym, ap, ◌∙◌, subst, arith, length-append}
 use Rattle.std.specs.Prelude.{⊤, IfSome}
 use Rattle.std.specs.List.{AllZip, last_or}
 use Rattle.jiff_core.specs.declared.timestamp.Timestamp as jiff
@@ -18,18 +18,13 @@ use Rattle.sigstore_tuf_rules.specs.declared.kind.Kind.{Kind}
 use Rattle.sigstore_tuf_rules.specs.declared.kind.Kind.TheVariants.{Root, Timestamp, Snapshot, Targets}
 use Rattle.sigstore_tuf_rules.specs.Update.{with_root, with_targets, first_root_of, Updates}
 use Rattle.sigstore_tuf_rules.specs.Floor.{standing_of, KeepsFloor}
-use Rattle.sigstore_tuf_runs.specs.State.{Session, State}
 use Rattle.sigstore_tuf_rules.specs.Taking.{update_of, judged_of}
-use Rattle.sigstore_tuf_runs.specs.Adopt.{Adopts, unfetched, absent, refused, kept, adopted, Seeds, unloaded, unkept, unseeded, equal, seeded}
 use Rattle.sigstore_tuf_rules.specs.Serving.{version_in}
-use Rattle.sigstore_tuf_runs.specs.Run.{said, SavesRoot, Attaches, Does, refresh_steps, RunsSteps}
-use Rattle.sigstore_tuf_runs.specs.declared.step.Step.{Step}
 use Rattle.sigstore_tuf_rules.specs.Trusted.{BeginsWith}
 use Rattle.sigstore_tuf_rules.specs.Authorised.{IsPinnedBy, AreAuthorised, first_in, given_in, StaysAuthorised, UpdatesSet}
 use Rattle.sigstore_tuf_outside.proofs.Files.{inserted}
 use Rattle.sigstore_tuf_rules.proofs.Floors.{floor_stays, floor_joins, floor_above, floor_same, timestamp_floor, snapshot_floor}
 use Rattle.sigstore_tuf_rules.proofs.Updates.{role_met, Puts, update_puts, judged_puts, top_inserted}
-use Rattle.sigstore_tuf_runs.proofs.Lift.{IsAsked, AsksNoRoot, attach_lift, does_lift, runs_lift}
 
 -- ---- a first root
 

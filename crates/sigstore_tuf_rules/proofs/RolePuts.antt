@@ -6,7 +6,6 @@ use Rattle.std.specs.Ordering.{is_eq}
 use Rattle.std.proofs.lemmas.Slice.Eq.{bytes_eq-Decides}
 use Rattle.std.proofs.lemmas.Map.Text.{is_eq-slice_cmp}
 use Rattle.jiff_core.specs.declared.timestamp.Timestamp as jiff
-use Rattle.foundation.specs.Watched.{Watched}
 use Rattle.foundation.specs.Results.{step_ok, ok_same}
 use Rattle.sigstore_types_parts.specs.Entries.{at_name, text_cmp}
 use Rattle.sigstore_crypto.specs.Crypto.{Crypto}
@@ -25,9 +24,7 @@ use Rattle.sigstore_tuf_rules.specs.declared.documents.Held.{Held}
 use Rattle.sigstore_tuf_rules.specs.declared.documents.InForce.{InForce}
 use Rattle.sigstore_tuf_rules.specs.Documents.{targets_document, content_of}
 use Rattle.sigstore_tuf_rules.specs.Update.{fresh_at_of, Updates}
-use Rattle.sigstore_tuf_outside.specs.Repository.{Files}
 use Rattle.sigstore_tuf_rules.specs.Taking.{top_targets, taken_of, Takes}
-use Rattle.sigstore_tuf_runs.specs.Adopt.{Keeps, KeepsWhere}
 use Rattle.sigstore_tuf_rules.specs.Order.{Visit, is_top_level}
 use Rattle.sigstore_tuf_rules.specs.Trusted.{Authority}
 use Rattle.sigstore_tuf_rules.specs.Delegated.{not_top_level_of, delegation_of, with_role, role_pin_of, role_checks_of, role_document_of, update_role_of}

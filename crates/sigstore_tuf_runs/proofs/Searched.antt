@@ -23,7 +23,9 @@ use Rattle.sigstore_tuf_runs.specs.Adopt.{unfetched, absent, refused, kept, adop
 use Rattle.sigstore_tuf_rules.specs.Delegated.{update_role_of}
 use Rattle.sigstore_tuf_rules.proofs.RolePuts.{role_put, taken_some}
 use Rattle.sigstore_tuf_rules.specs.Documents.{content_of}
-use Rattle.sigstore_tuf_rules.specs.Order.{Visit, Tree, missing, Walk, is_pinned, visited as one_more, still, having_read, read_of, read_named, visit_of, unread_of}
+use Rattle.sigstore_tuf_rules.specs.declared.visit.Visit.{Visit}
+use Rattle.sigstore_tuf_rules.specs.declared.visit.Walk.{Walk}
+use Rattle.sigstore_tuf_rules.specs.Order.{Tree, missing, is_pinned, visited as one_more, still, having_read, read_of, read_named, visit_of, unread_of}
 use Rattle.sigstore_tuf_runs.specs.Search.{tree_in, IsSnapshot, IsOpen, IsGap, gap_error, WalksOne, AdoptsRole, Readies, wanting, untouched, looked_at, had, Searches, ended, visited}
 
 pub if_ok_map : {T E : Type 0} {P Q : T → Type 0} (r : Result T E) → ((x : T) → P x → Q x) → IfOk r P → IfOk r Q

@@ -1,8 +1,7 @@
 -- What each step does, from what its calls promise.
-use Rattle.std.proofs.Common.{◌≡◌, ◌⊎◌, inl, inr, ℕ, zero, suc, ◌+◌, ◌-◌, ◌^◌, ◌<◌, ◌==◌, if◌then◌else◌, List, [], ◌∷◌, length, slice_get, get_or, drop, drop-cons, add-one, Bool, true, false, Option, Some, None, Result, Ok, Err, refl, subst, sym, ap, ◌∙◌, arith}
+use Rattle.std.proofs.Common.{◌≡◌, ◌⊎◌, inl, inr, ℕ, zero, suc, ◌+◌, ◌-◌, ◌^◌, ◌<◌, ◌==◌, if◌then◌else◌, List, [], ◌∷◌, length, get_or, drop, drop-cons, add-one, Bool, true, false, Option, Some, None, Result, Ok, Err, refl, subst, sym, ap, ◌∙◌, arith}
 use Rattle.std.specs.Prelude.{⊤, is_some, option_copied, IfErr}
 use Rattle.std.specs.Borrow.{Bor}
-use Rattle.std.specs.List.{last_or}
 use Rattle.jiff_core.specs.declared.timestamp.Timestamp as jiff
 use Rattle.foundation.specs.Watched.{Watched}
 use Rattle.sigstore_crypto.specs.Crypto.{Crypto}
@@ -12,13 +11,12 @@ use Rattle.sigstore_tuf_parts.specs.declared.error.Error.{Error}
 use Rattle.sigstore_tuf_parts.specs.declared.error.Error.TheVariants as tuf
 use Rattle.sigstore_tuf_rules.specs.declared.documents.InForce.{InForce}
 use Rattle.sigstore_tuf_rules.specs.declared.kind.Kind.{Kind}
-use Rattle.sigstore_tuf_rules.specs.declared.kind.Kind.TheVariants.{Root, Timestamp, Snapshot, Targets}
+use Rattle.sigstore_tuf_rules.specs.declared.kind.Kind.TheVariants.{Root}
 use Rattle.sigstore_tuf_outside.specs.Repository.{Folders, Files, metadata_files}
-use Rattle.sigstore_tuf_rules.specs.Update.{update_root_of, Updates}
 use Rattle.sigstore_tuf_rules.specs.Names.{pinned_name, file_name, max_length, kept_name, both_names, kept_names}
 use Rattle.sigstore_tuf_runs.specs.State.{Session, State, state_of}
 use Rattle.sigstore_tuf_runs.specs.Adopt.{FetchesNamed, FetchesDocument, loaded_of, LoadsNamed, load_unnamed, load_asked, passed_of, Saves, save_unnamed, save_asked, SavesAll, Keeps, KeepsWhere, Adopts, unfetched, absent, refused, kept, adopted, passed_over, Seeds, unloaded, unkept, unseeded, seeded, equal}
-use Rattle.sigstore_tuf_rules.specs.Taking.{there_of, there_unless_equal, bytes_in, update_of, taken_of, unless_equal, judged_of, Takes}
+use Rattle.sigstore_tuf_rules.specs.Taking.{bytes_in, judged_of, Takes}
 use Rattle.sigstore_tuf_runs.specs.Run.{Turn, Loop, IsIdle, Stops, Repeats, next_root, roots_left, said, moment_of, Reseeds, Does, Runs, Attaches}
 use Rattle.sigstore_tuf_runs.specs.declared.step.Step.{Step}
 use Rattle.sigstore_tuf_rules.specs.Serving.{version_in}
@@ -56,54 +54,6 @@ saved_as {bytes} {name} {other} {old} {new} {result} at s = subst (λ n. Saves b
 
 pub kept_as : (set : InForce) (k : Kind) {bytes : List ℕ} {names : List (List ℕ)} {old new : Watched Files} {result : Result ⊤ Error} → names ≡ kept_names set k → SavesAll bytes names old new result → Keeps (kept_names set k) bytes old new result
 kept_as set k {bytes} {names} {old} {new} {result} at s = record { saves = subst (λ n. SavesAll bytes n old new result) at s }
-
--- ---- what an update says of a document that is taken in
-
-timestamp_taken_by : (u : Result InForce Error) (old new : InForce) (updated : Result ⊤ Error) → Updates u old new updated → Takes (unless_equal u) old new (there_unless_equal updated)
-timestamp_taken_by u old new (Ok x) h = ap unless_equal h
-timestamp_taken_by u old new (Err (tuf.EqualVersion role version)) h = (ap unless_equal (h.1 (λ e. cc)), h.0)
-timestamp_taken_by u old new (Err tuf.NoMemory) h = (h.0, λ other. absurd (other refl))
-timestamp_taken_by u old new (Err tuf.Json) h = (h.0, λ other. ap unless_equal (h.1 other))
-timestamp_taken_by u old new (Err (tuf.Malformed rule)) h = (h.0, λ other. ap unless_equal (h.1 other))
-timestamp_taken_by u old new (Err tuf.NonIntegerNumber) h = (h.0, λ other. ap unless_equal (h.1 other))
-timestamp_taken_by u old new (Err (tuf.UnusableKey id)) h = (h.0, λ other. ap unless_equal (h.1 other))
-timestamp_taken_by u old new (Err (tuf.UnsupportedScheme keytype scheme)) h = (h.0, λ other. ap unless_equal (h.1 other))
-timestamp_taken_by u old new (Err (tuf.UnknownRole name)) h = (h.0, λ other. ap unless_equal (h.1 other))
-timestamp_taken_by u old new (Err (tuf.DuplicateSignature role id)) h = (h.0, λ other. ap unless_equal (h.1 other))
-timestamp_taken_by u old new (Err (tuf.ThresholdNotMet role found threshold)) h = (h.0, λ other. ap unless_equal (h.1 other))
-timestamp_taken_by u old new (Err (tuf.Rollback role trusted number)) h = (h.0, λ other. ap unless_equal (h.1 other))
-timestamp_taken_by u old new (Err (tuf.BadRootVersion trusted number)) h = (h.0, λ other. ap unless_equal (h.1 other))
-timestamp_taken_by u old new (Err (tuf.Expired role expires)) h = (h.0, λ other. ap unless_equal (h.1 other))
-timestamp_taken_by u old new (Err (tuf.IntegrityMismatch difference)) h = (h.0, λ other. ap unless_equal (h.1 other))
-timestamp_taken_by u old new (Err tuf.Crypto) h = (h.0, λ other. ap unless_equal (h.1 other))
-timestamp_taken_by u old new (Err tuf.NotRefreshed) h = (h.0, λ other. ap unless_equal (h.1 other))
-timestamp_taken_by u old new (Err (tuf.TargetNotFound path)) h = (h.0, λ other. ap unless_equal (h.1 other))
-timestamp_taken_by u old new (Err (tuf.Transport fault)) h = (h.0, λ other. ap unless_equal (h.1 other))
-
-pub other_taken_by : (u : Result InForce Error) (old new : InForce) (updated : Result ⊤ Error) → Updates u old new updated → Takes (taken_of u) old new (there_of updated)
-other_taken_by u old new (Ok x) h = ap taken_of h
-other_taken_by u old new (Err e) h = (h.0, λ other. ap taken_of (h.1 other))
-
-pub timestamp_taken : (crypto : Crypto) (old new : InForce) (bytes : List ℕ) (now : Option jiff.Timestamp) (updated : Result ⊤ Error) → Updates (update_of crypto Timestamp old bytes now) old new updated
-    → Takes (judged_of crypto Timestamp old bytes now) old new (there_unless_equal updated)
-timestamp_taken crypto old new bytes now updated h = timestamp_taken_by (update_of crypto Timestamp old bytes now) old new updated h
-
-pub other_taken : (crypto : Crypto) (k : Kind) (old new : InForce) (bytes : List ℕ) (now : Option jiff.Timestamp) (updated : Result ⊤ Error) → (k ≡ Timestamp → ⊥) → Updates (update_of crypto k old bytes now) old new updated
-    → Takes (judged_of crypto k old bytes now) old new (there_of updated)
-other_taken crypto (Root number) old new bytes now updated n h = other_taken_by (update_root_of crypto old bytes) old new updated h
-other_taken crypto Timestamp old new bytes now updated n h = absurd (n refl)
-other_taken crypto Snapshot old new bytes now updated n h = other_taken_by (update_of crypto Snapshot old bytes now) old new updated h
-other_taken crypto Targets old new bytes now updated n h = other_taken_by (update_of crypto Targets old bytes now) old new updated h
-
-pub timestamp_takes : (crypto : Crypto) (k : Kind) (old new : InForce) (bytes : List ℕ) (now : Option jiff.Timestamp) (updated : Result ⊤ Error) (result : Result Bool Error) → k ≡ Timestamp
-    → Updates (update_of crypto k old bytes now) old new updated → result ≡ there_unless_equal updated → Takes (judged_of crypto k old bytes now) old new result
-timestamp_takes crypto k old new bytes now updated result is u r =
-    subst (λ k. Takes (judged_of crypto k old bytes now) old new result) (sym is)
-    (subst (Takes (judged_of crypto Timestamp old bytes now) old new) (sym r) (timestamp_taken crypto old new bytes now updated (subst (λ k. Updates (update_of crypto k old bytes now) old new updated) is u)))
-
-pub other_takes : (crypto : Crypto) (k : Kind) (old new : InForce) (bytes : List ℕ) (now : Option jiff.Timestamp) (updated : Result ⊤ Error) (result : Result Bool Error) → (k ≡ Timestamp → ⊥)
-    → Updates (update_of crypto k old bytes now) old new updated → result ≡ there_of updated → Takes (judged_of crypto k old bytes now) old new result
-other_takes crypto k old new bytes now updated result n u r = subst (Takes (judged_of crypto k old bytes now) old new) (sym r) (other_taken crypto k old new bytes now updated n u)
 
 -- the bytes that are written are those that were judged
 pub kept_put : (session : Session) (k : Kind) (old new : InForce) (bytes : List ℕ) {store store' : Watched Files} {result : Result ⊤ Error} → judged_of session.crypto k old bytes (Some session.now) ≡ Ok (Some new)
@@ -164,14 +114,6 @@ one_less old new number next bound rises = by_test (version_in old == 2 ^ 64 - 1
     by_test : (b : Bool) → (version_in old == 2 ^ 64 - 1) ≡ b → Some number ≡ (if b then None else Some (version_in old + 1)) → roots_left old ≡ suc (roots_left new)
     by_test true e h = cc
     by_test false e h = let n : number ≡ version_in old + 1 = cc in omega (arith, n, rises, bound)
-
-pub slice_last : {A : Type 0} (xs : List A) → slice_get xs (length xs - 1) ≡ last_or None xs
-slice_last [] = refl
-slice_last (x ∷ xs) = let n : length (x ∷ xs) - 1 ≡ length xs = omega arith in ap (slice_get (x ∷ xs)) n ∙ last_from x xs
-  where
-    last_from : {A : Type 0} (x : A) (xs : List A) → slice_get (x ∷ xs) (length xs) ≡ last_or (Some x) xs
-    last_from x [] = refl
-    last_from x (y ∷ ys) = last_from y ys
 
 -- ---- the turns of a loop
 

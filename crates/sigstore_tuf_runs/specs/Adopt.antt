@@ -1,16 +1,12 @@
 -- The adoption of one document, from the repository or from the store (TUF specification, section 5).
-use Rattle.std.specs.Prelude.{◌≡◌, ◌≢◌, ◌⊎◌, ℕ, List, [], ◌∷◌, Bool, true, false, Option, Some, None, option_map}
-use Rattle.std.specs.Prelude.{Result, Ok, Err, codes, ⊤}
-use Rattle.std.specs.List.{last_or}
+use Rattle.std.specs.Prelude.{◌≡◌, ◌≢◌, ◌⊎◌, ℕ, List, [], ◌∷◌, Bool, true, false, Option, Some, None}
+use Rattle.std.specs.Prelude.{Result, Ok, Err, ⊤}
 use Rattle.jiff_core.specs.declared.timestamp.Timestamp as jiff
 use Rattle.foundation.specs.Watched.{Watched}
-use Rattle.sigstore_types_parts.specs.Entries.{at_name}
 use Rattle.sigstore_crypto.specs.Crypto.{Crypto}
 use Rattle.sigstore_tuf_parts.specs.declared.error.Error.{Error}
 use Rattle.sigstore_tuf_parts.specs.declared.error.Error.TheVariants as tuf
 use Rattle.sigstore_tuf_parts.specs.declared.error.TransportFault.TheVariants as transport
-use Rattle.sigstore_tuf_parts.specs.declared.targets.Targets as declared
-use Rattle.sigstore_tuf_rules.specs.declared.documents.Held.{Held}
 use Rattle.sigstore_tuf_rules.specs.declared.documents.InForce.{InForce}
 use Rattle.sigstore_tuf_rules.specs.declared.kind.Kind.{Kind}
 use Rattle.sigstore_tuf_rules.specs.declared.kind.Kind.TheVariants.{Root, Timestamp, Snapshot, Targets}

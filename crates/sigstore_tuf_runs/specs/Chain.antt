@@ -13,7 +13,7 @@ use Rattle.sigstore_tuf_rules.specs.declared.chain.RoleDoc.{RoleDoc}
 use Rattle.sigstore_tuf_rules.specs.declared.chain.TrustChain.{TrustChain}
 use Rattle.sigstore_tuf_rules.specs.Names.{is_consistent}
 use Rattle.sigstore_tuf_runs.specs.State.{Session, State}
-use Rattle.sigstore_tuf_rules.specs.Order.{Visit}
+use Rattle.sigstore_tuf_rules.specs.declared.visit.Visit.{Visit}
 use Rattle.sigstore_tuf_runs.specs.Search.{FindsVisits, entry_after}
 use Rattle.sigstore_tuf_runs.specs.Target.{Obtains}
 

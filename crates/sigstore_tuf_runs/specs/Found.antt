@@ -9,7 +9,8 @@ use Rattle.sigstore_tuf_rules.specs.declared.documents.Held.{Held}
 use Rattle.sigstore_tuf_rules.specs.declared.documents.InForce.{InForce}
 use Rattle.sigstore_tuf_rules.specs.Documents.{content_of}
 use Rattle.sigstore_tuf_runs.specs.State.{Session}
-use Rattle.sigstore_tuf_rules.specs.Order.{Visit, order}
+use Rattle.sigstore_tuf_rules.specs.declared.visit.Visit.{Visit}
+use Rattle.sigstore_tuf_rules.specs.Order.{order}
 use Rattle.sigstore_tuf_rules.specs.Trusted.{IsTrustedVisit}
 use Rattle.sigstore_tuf_rules.specs.Authorised.{Serve}
 use Rattle.sigstore_tuf_runs.specs.Search.{documents_of, entry_after}

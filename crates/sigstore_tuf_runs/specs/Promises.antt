@@ -15,7 +15,7 @@ use Rattle.sigstore_tuf_runs.specs.Cause.{RefreshCause}
 use Rattle.sigstore_tuf_runs.specs.SearchCause.{SearchCause, TargetCause}
 use Rattle.sigstore_tuf_runs.specs.Found.{FindsEntry}
 use Rattle.sigstore_tuf_runs.specs.Search.{GivesInfo}
-use Rattle.sigstore_tuf_runs.specs.Kept.{KeepsInForce, AttachesKept, StaysKept, KeepsChain}
+use Rattle.sigstore_tuf_runs.specs.Kept.{AttachesKept, StaysKept, KeepsChain}
 use Rattle.sigstore_tuf_runs.specs.Newest.{AreNewest}
 
 -- a store that is handed in: nothing refuses but want of memory, and the store then has what is in force

@@ -20,7 +20,9 @@ use Rattle.sigstore_tuf_rules.specs.Names.{role_pin_in, role_name_in, role_file}
 use Rattle.sigstore_tuf_runs.specs.State.{Session, State}
 use Rattle.sigstore_tuf_rules.specs.Taking.{taken_of}
 use Rattle.sigstore_tuf_runs.specs.Adopt.{Adoption, AdoptsBy}
-use Rattle.sigstore_tuf_rules.specs.Order.{Visit, Tree, Gap, Walk, Step, visit_of, pending_after, first_visit, first_walk}
+use Rattle.sigstore_tuf_rules.specs.declared.visit.Visit.{Visit}
+use Rattle.sigstore_tuf_rules.specs.declared.visit.Walk.{Walk}
+use Rattle.sigstore_tuf_rules.specs.Order.{Tree, Gap, Step, visit_of, pending_after, first_visit, first_walk}
 use Rattle.sigstore_tuf_rules.specs.Delegated.{update_role_of, role_serves_of}
 use Rattle.sigstore_tuf_runs.specs.Run.{Checks, said}
 use Rattle.sigstore_tuf_rules.specs.SearchServing.{search_serves_of}

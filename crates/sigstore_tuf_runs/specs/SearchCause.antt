@@ -26,7 +26,9 @@ use Rattle.sigstore_tuf_outside.specs.Repository.{Folders, metadata_files, targe
 use Rattle.sigstore_tuf_rules.specs.Names.{is_consistent, role_pin_in, role_name_in, target_name_of}
 use Rattle.sigstore_tuf_runs.specs.State.{Session, State}
 use Rattle.sigstore_tuf_rules.specs.Taking.{top_targets}
-use Rattle.sigstore_tuf_rules.specs.Order.{Visit, Tree, pattern, Walk, Step, visit_of, pending_after, first_visit, first_walk}
+use Rattle.sigstore_tuf_rules.specs.declared.visit.Visit.{Visit}
+use Rattle.sigstore_tuf_rules.specs.declared.visit.Walk.{Walk}
+use Rattle.sigstore_tuf_rules.specs.Order.{Tree, pattern, Step, visit_of, pending_after, first_visit, first_walk}
 use Rattle.sigstore_tuf_runs.specs.Search.{reads, is_held, tree_in, entry_after}
 use Rattle.sigstore_tuf_rules.specs.Trusted.{Authority}
 use Rattle.sigstore_tuf_rules.specs.Delegated.{delegation_of}

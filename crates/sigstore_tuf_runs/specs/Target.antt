@@ -1,29 +1,18 @@
 -- How the file of an entry is had (TUF specification, section 5.7).
 use Rattle.std.specs.Prelude.{◌≡◌, ◌≢◌, ℕ, nat_lt, List, if◌then◌else◌, Bool, Option, Some, ok_or}
-use Rattle.std.specs.Prelude.{None, Result, Ok, Err, codes, ⊤}
-use Rattle.jiff_core.specs.declared.timestamp.Timestamp as jiff
+use Rattle.std.specs.Prelude.{None, Result, Ok, Err, ⊤}
 use Rattle.foundation.specs.Steps.{◌>>=◌}
 use Rattle.foundation.specs.Watched.{Watched}
 use Rattle.sigstore_tuf_parts.specs.declared.error.Error.{Error}
-use Rattle.sigstore_tuf_parts.specs.declared.error.Error.TheVariants.{IntegrityMismatch, NotRefreshed, Transport, NoMemory}
-use Rattle.sigstore_tuf_parts.specs.declared.error.Mismatch.TheVariants.{Version, TooLong, NoDigest}
+use Rattle.sigstore_tuf_parts.specs.declared.error.Error.TheVariants.{IntegrityMismatch, Transport, NoMemory}
+use Rattle.sigstore_tuf_parts.specs.declared.error.Mismatch.TheVariants.{TooLong, NoDigest}
 use Rattle.sigstore_tuf_parts.specs.declared.error.TransportFault.TheVariants.{Absent}
-use Rattle.sigstore_tuf_parts.specs.declared.timestamp.MetaFile.{MetaFile}
-use Rattle.sigstore_tuf_parts.specs.declared.timestamp.Timestamp.{Timestamp}
-use Rattle.sigstore_tuf_parts.specs.declared.snapshot.Snapshot.{Snapshot}
-use Rattle.sigstore_tuf_parts.specs.declared.targets.Targets.{Targets}
 use Rattle.sigstore_tuf_parts.specs.declared.targets.TargetFile.{TargetFile}
-use Rattle.sigstore_tuf_parts.specs.Document.{content_in}
-use Rattle.sigstore_tuf_parts.specs.Integrity.{integrity_of, fresh_of}
+use Rattle.sigstore_tuf_parts.specs.Integrity.{integrity_of}
 use Rattle.sigstore_tuf_outside.specs.Repository.{Folders, Files, target_files}
 use Rattle.sigstore_tuf_rules.specs.declared.config.UpdaterConfig.{UpdaterConfig}
-use Rattle.sigstore_tuf_rules.specs.declared.documents.Held.{Held}
-use Rattle.sigstore_tuf_rules.specs.declared.documents.InForce.{InForce}
-use Rattle.sigstore_tuf_rules.specs.Documents.{content_of, snapshot_pin, targets_pin}
 use Rattle.sigstore_tuf_rules.specs.Names.{target_name_of, kept_target}
-use Rattle.sigstore_tuf_rules.specs.Taking.{top_targets}
 use Rattle.sigstore_tuf_runs.specs.Adopt.{FetchesNamed, LoadsNamed, Saves}
-use Rattle.sigstore_tuf_rules.specs.Serving.{has_version}
 
 -- The listed length is within the limit: else a listed length of 2^60 lets a repository send bytes without end (5.7).
 abbrev pub within_of : UpdaterConfig → TargetFile → Result ⊤ Error

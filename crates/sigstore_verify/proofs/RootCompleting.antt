@@ -16,7 +16,7 @@ use Rattle.sigstore_tuf_runs.specs.Promises.{Refreshed, Got}
 use Rattle.sigstore_tuf_offers.specs.Offer.{Offers, Warm}
 use Rattle.sigstore_tuf_causes.proofs.Carrying.{refresh_carried}
 use Rattle.sigstore_tuf_offers.proofs.Completing.{Done, wanting, done}
-use Rattle.sigstore_tuf_causes.proofs.Quiet.{quiet_first, quiet_second, not_both}
+use Rattle.sigstore_tuf_causes.proofs.Faults.{quiet_first, quiet_second, not_both}
 use Rattle.sigstore_tuf_offers.proofs.TargetCompleting.{GivenChain, chain_wanting, chain_given as is_given, gets_since, first_wants, StaysWarm as StaysTold, Going, Arrived, attached_done, refreshed_done, target_done}
 use Rattle.sigstore_judgement.specs.declared.error.Error.{Error}
 use Rattle.sigstore_judgement.specs.declared.error.Error.TheVariants as verify

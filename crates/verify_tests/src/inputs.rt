@@ -69,14 +69,25 @@ fn shown<X: AllocGlobal + Abort>(rt: &X, layout: Layout) -> String {
     shown
 }
 
-fn layout<X: AllocGlobal + Abort>(rt: &X, line: &str) -> String {
-    let words = words(rt, line);
-    let layout = good(rt, read_layout(rt.alloc(), &words));
-    drop(words);
+fn shown_or_none<X: AllocGlobal + Abort>(rt: &X, layout: Option<Layout>) -> String {
     match layout {
         Some(layout) => shown(rt, layout),
         None => string(rt, "none"),
     }
+}
+
+fn layout<X: AllocGlobal + Abort>(rt: &X, line: &str) -> String {
+    let words = words(rt, line);
+    let layout = good(rt, read_layout(rt.alloc(), &words));
+    drop(words);
+    shown_or_none(rt, layout)
+}
+
+fn asked_layout<X: AllocGlobal + Abort>(rt: &X, line: &str) -> String {
+    let words = words(rt, line);
+    let layout = good(rt, read_asked_layout(rt.alloc(), &words));
+    drop(words);
+    shown_or_none(rt, layout)
 }
 
 fn whole_layout<X: AllocGlobal + Abort>(rt: &X, more: &str) -> String {
@@ -98,11 +109,13 @@ fn provider<X: AllocGlobal + Abort>(rt: &X, text: String) -> String {
     word(rt, "tables", answer)
 }
 
-// What is read of words, of words after a whole layout, of a policy file and of a provider file.
+// What is read of words, of words after a whole layout, of words of the questions, of a policy file and of
+// a provider file.
 fn read<X: AllocGlobal + Abort>(rt: &X, row: &str) -> String {
     let (call, text) = halves(rt, row, " | ");
     match call {
         "words" => layout(rt, text),
+        "words of questions" => asked_layout(rt, text),
         "more words" => whole_layout(rt, text),
         "policy" => policy(rt, lines_of(rt, text)),
         "policy of byte ff" => debug(rt, read_policy(rt.alloc(), b"key AQI=\n#\xff\n")),
@@ -119,6 +132,12 @@ more words | --now= | none
 more words | now=2025-01-01T00:00:00Z | none
 more words | --name=a | none
 more words | --now | none
+more words | --now=2025-01-01T00:00:00Z --now=2025-01-01T00:00:00Z | none
+more words | --questions=a | none
+words of questions | questions --root=a --repository=b --store=c --bundle=d --artifact=e --policy=f | (\"a\", \"f\", None)
+words of questions | questions --root=a --repository=b --store=c --bundle=d --artifact=e --policy=f --provider=g | none
+words of questions | questions --root=a --repository=b --store=c --bundle=d --artifact=e | none
+words of questions | verify --root=a --repository=b --store=c --bundle=d --artifact=e --policy=f | none
 words |  | none
 words | verify | none
 words | verify --root=a | none

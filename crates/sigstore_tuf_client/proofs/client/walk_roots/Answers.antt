@@ -38,7 +38,7 @@ returns-in-None g c =
     let session = session_by g.C.CryptoProvider g.M.Armor c.args.session.now in
     c.loop.invariant _ _ (idles (Adopts session) (root_loop (limit session)) tt _ _ _ _ (ap alone (sym c.in-None.ensures.next), refl, refl))
 
-pub returns-in-Some-next_root : goal.returns-in-Some-next_root
-returns-in-Some-next_root g c =
+pub returns-in-Some-next_number : goal.returns-in-Some-next_number
+returns-in-Some-next_number g c =
     let session = session_by g.C.CryptoProvider g.M.Armor c.args.session.now in
-    c.loop.invariant _ _ (met (Adopts session) (root_loop (limit session)) tt _ _ _ _ _ tt (omega arith) (ap alone (sym c.in-Some-next_root.ensures.next)) refl refl)
+    c.loop.invariant _ _ (met (Adopts session) (root_loop (limit session)) tt _ _ _ _ _ tt (omega arith) (ap alone (sym c.in-Some-next_number.ensures.next)) refl refl)

@@ -2,8 +2,7 @@ use Rattle.std.proofs.Common.{refl, [], ◌∷◌}
 use Rattle.sigstore_tuf_rules.specs.Names.{role_file}
 use Rattle.sigstore_tuf_rules.proofs.RolePuts.{was_taken}
 use Rattle.sigstore_tuf_client.proofs.RoleKept.{role_kept}
-use Rattle.sigstore_tuf_runs.specs.State.{session_by}
-use Rattle.sigstore_tuf_runs.specs.Adopt.{unfetched, absent, refused, kept, adopted}
+use Rattle.sigstore_tuf_runs.specs.Adopt.{unfetched, absent, refused, adopted}
 use Rattle.sigstore_tuf_client.proofs.search.adopt_role.Goals as goal
 
 pub returns-in-Ok-save_role : goal.returns-in-Ok-save_role

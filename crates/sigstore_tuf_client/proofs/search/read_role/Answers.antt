@@ -1,4 +1,4 @@
-use Rattle.std.proofs.Common.{refl, sym, ap, subst, ◌∙◌, ◌≡◌, Ok}
+use Rattle.std.proofs.Common.{refl, sym, ap, subst, ◌∙◌}
 use Rattle.std.specs.Prelude.{option_copied}
 use Rattle.sigstore_tuf_runs.specs.Search.{tree_in, IsGap}
 use Rattle.sigstore_tuf_runs.proofs.Searched.{if_ok_map, if_err_map, named_is, none_named}

@@ -1,4 +1,4 @@
-use Rattle.std.proofs.Common.{refl, sym, ap, ◌∙◌}
+use Rattle.std.proofs.Common.{refl, sym, ◌∙◌}
 use Rattle.sigstore_tuf_runs.specs.Search.{had}
 use Rattle.sigstore_tuf_rules.proofs.RolePuts.{not_held}
 use Rattle.sigstore_tuf_client.proofs.search.ready.Goals as goal

@@ -1,6 +1,6 @@
 use Rattle.std.proofs.Common.{sym, subst}
 use Rattle.sigstore_tuf_rules.specs.Taking.{Takes}
-use Rattle.sigstore_tuf_runs.proofs.Steps.{other_taken_by}
+use Rattle.sigstore_tuf_rules.proofs.TakenIn.{other_taken_by}
 use Rattle.sigstore_tuf_client.proofs.search.take_role.Goals as goal
 
 pub returns : goal.returns

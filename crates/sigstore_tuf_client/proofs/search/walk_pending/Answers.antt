@@ -1,4 +1,3 @@
-use Rattle.std.proofs.Common.{refl}
 use Rattle.sigstore_tuf_runs.proofs.Searched.{drained, all_read, skips, goes_on, is_unread, kept_snapshot, none_left, some_left}
 use Rattle.sigstore_tuf_client.proofs.search.walk_pending.Goals as goal
 

@@ -3,7 +3,7 @@ use Rattle.std.specs.Prelude.{reverse}
 use Rattle.sigstore_tuf_parts.specs.declared.error.Error.{Error}
 use Rattle.sigstore_tuf_parts.specs.declared.snapshot.Snapshot.{Snapshot}
 use Rattle.sigstore_tuf_runs.specs.State.{State, state_of, session_by}
-use Rattle.sigstore_tuf_rules.specs.Order.{Walk}
+use Rattle.sigstore_tuf_rules.specs.declared.visit.Walk.{Walk}
 use Rattle.sigstore_tuf_runs.specs.Search.{IsSnapshot, Searches}
 use Rattle.sigstore_tuf_client.proofs.search.walk_pending.Given as goal
 

@@ -1,8 +1,8 @@
 use Rattle.std.proofs.Common.{ap, sym, ◌∙◌}
 use Rattle.std.specs.Prelude.{option_copied, option_and_then}
-use Rattle.sigstore_tuf_rules.specs.Order.{Visit}
+use Rattle.sigstore_tuf_rules.specs.declared.visit.Visit.{Visit}
 use Rattle.sigstore_tuf_runs.specs.Search.{listed_by}
-use Rattle.sigstore_tuf_runs.proofs.Steps.{slice_last}
+use Rattle.sigstore_tuf_rules.proofs.TakenIn.{slice_last}
 use Rattle.sigstore_tuf_client.proofs.target.last_entry.Goals as goal
 
 pub returns-in-Some : goal.returns-in-Some

@@ -1,7 +1,7 @@
 use Rattle.std.proofs.Common.{Some, ap, sym, ◌∙◌}
 use Rattle.std.specs.Prelude.{option_copied}
 use Rattle.sigstore_tuf_rules.specs.Taking.{bytes_in}
-use Rattle.sigstore_tuf_runs.proofs.Steps.{slice_last}
+use Rattle.sigstore_tuf_rules.proofs.TakenIn.{slice_last}
 use Rattle.sigstore_tuf_rules.proofs.taking.bytes_in.Goals as goal
 
 pub returns-in-Some : goal.returns-in-Some

@@ -1,4 +1,4 @@
-use Rattle.sigstore_tuf_runs.proofs.Steps.{timestamp_takes}
+use Rattle.sigstore_tuf_rules.proofs.TakenIn.{timestamp_takes}
 use Rattle.sigstore_tuf_rules.proofs.taking.take.Goals as goal
 
 pub returns-in-Timestamp : goal.returns-in-Timestamp

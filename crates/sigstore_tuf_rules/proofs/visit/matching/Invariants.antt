@@ -1,7 +1,7 @@
-use Rattle.std.proofs.Common.{◌≡◌, ◌++◌, drop, Ok}
+use Rattle.std.proofs.Common.{◌≡◌, drop, Ok}
 use Rattle.foundation.specs.Steps.{◌>>=◌}
 use Rattle.sigstore_tuf_rules.specs.Order.{matching}
-use Rattle.sigstore_tuf_rules.proofs.Matching.{after_names}
+use Rattle.sigstore_tuf_rules.proofs.NextNames.{after_names}
 use Rattle.sigstore_tuf_rules.proofs.visit.matching.Given as goal
 
 -- the delegations that match are those found so far, and then those of the rest

@@ -1,5 +1,5 @@
 -- The delegations that match, as they are found.
-use Rattle.std.proofs.Common.{◌≡◌, List, ℕ, ◌++◌}
+use Rattle.std.proofs.Common.{List, ℕ, ◌++◌}
 use Rattle.sigstore_tuf_rules.specs.Order.{Next}
 
 -- these names before the others
