@@ -1,10 +1,12 @@
-// A provider that accepts the signature 01 of everything, a key for it, and an armour that holds the key.
+// Providers that accept the signature 01 of everything, or what equals its subject; a key, and an armour that
+// holds it.
 ghost use Rattle.std.specs.Prelude.{[], ◌∷◌, Some, bytes_eq, true};
+ghost use Rattle.sigstore_crypto.specs.Good.{subject_of};
 
 use crate::words::key_bytes;
 use foundation::{Duplicate, NoMemory};
-use sigstore_crypto::{CryptoProvider, SigningScheme};
-use sigstore_types_parts::{Armor, Bytes};
+use sigstore_crypto::{CryptoProvider, SigningScheme, sha256, sha384, sha512};
+use sigstore_types_parts::{Armor, Bytes, HashAlgorithm};
 use std::alloc::Global;
 use std::process::Abort;
 
@@ -37,6 +39,38 @@ impl CryptoProvider for One {
         signature: &[u8],
     ) -> bool {
         signature == [1].as_slice()
+    }
+}
+
+// Accepts a signature that equals its subject.
+pub struct Echo;
+
+impl CryptoProvider for Echo {
+    ghost accepts = { λ _ scheme key subject signature. bytes_eq subject signature };
+
+    fn verify_raw(
+        &self,
+        scheme: SigningScheme,
+        _key: &[u8],
+        message: &[u8],
+        signature: &[u8],
+    ) -> bool {
+        match scheme.hash_algorithm() {
+            Some(HashAlgorithm::Sha2256) => sha256(message).as_bytes() == signature,
+            Some(HashAlgorithm::Sha2384) => sha384(message).as_bytes() == signature,
+            Some(HashAlgorithm::Sha2512) => sha512(message).as_bytes() == signature,
+            _ => message == signature,
+        }
+    }
+
+    fn verify_prehashed(
+        &self,
+        _scheme: SigningScheme,
+        _key: &[u8],
+        digest: &[u8],
+        signature: &[u8],
+    ) -> bool {
+        digest == signature
     }
 }
 

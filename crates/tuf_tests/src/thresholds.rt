@@ -2,12 +2,13 @@
 ghost use Rattle.std.specs.Prelude.{◌||◌, Some, bytes_eq, if◌then◌else◌};
 
 use crate::documents;
-use crate::key_forms::{self, octets};
-use crate::keys::Echo;
-use crate::provider::{One, p256};
-use crate::words::{filled, good, halves, hold, is_good, key_bytes, printed, text, there, word};
+use crate::provider::{Echo, One, p256};
+use crate::words::{
+    filled, good, halves, hold, is_good, key_bytes, number, printed, text, there, word,
+};
 use foundation::{Duplicate, NoMemory};
 use serde_json::Value;
+use sigstore_crypto::{VerificationKey, sha256};
 use sigstore_tuf_parts::*;
 use sigstore_types_parts::{Armor, Bytes, FromValue, SignatureBytes, Text};
 use std::alloc::Global;
@@ -218,13 +219,39 @@ const IDS: &str =
 ed25519 | é\"\\\n => Ok(Ed25519) f604d23bf42b43622bfc7e369b0aa1f4df7012d6546ef05241d8dd7a7d3a2cfd
 rsa | p => Err(UnsupportedScheme { keytype: "t", scheme: "rsa" }) ac520f1bab3aff3694d9c09e079dbfa73cfef38ca45e7b59b362a1544bbdc867"#;
 
+// The octets that words spell: in hexadecimal, or as an octet, `*` and how often it stands there.
+fn octets<X: AllocGlobal + Abort>(rt: &X, words: &str) -> Bytes {
+    let mut all = Vec::new(rt.alloc());
+    for word in words.split(' ') {
+        let (octets, count) = match word.split_once('*') {
+            Some((octet, count)) => (octet, number(rt, count)),
+            None => (word, 1),
+        };
+        let octets = good(rt, hex::decode(rt.alloc(), octets));
+        for _ in 0..count {
+            good(rt, all.extend_from_slice(octets.as_slice()));
+        }
+        drop(octets);
+    }
+    Bytes::from_vec(all)
+}
+
+fn shown<X: AllocGlobal + Abort>(rt: &X, key: VerificationKey) -> String {
+    let (scheme, length) = (key.scheme(), key.as_bytes().len());
+    let digest = good(rt, sha256(key.as_bytes()).to_hex(rt.alloc())).into_string();
+    drop(key);
+    let shown = good(rt, format!(in rt.alloc(); "{scheme:?} {length} {digest}"));
+    drop(digest);
+    shown
+}
+
 // What a declared key gives by an armour: the scheme, the length and the SHA-256 value of its raw key.
 fn given<X: AllocGlobal + Abort>(rt: &X, key: Key, armor: Three) -> String {
     let answer = key.verification_key(rt.alloc(), &armor);
     drop(key);
     drop(armor);
     match answer {
-        Ok(key) => key_forms::shown(rt, key),
+        Ok(key) => shown(rt, key),
         Err(refusal) => printed(rt, refusal),
     }
 }

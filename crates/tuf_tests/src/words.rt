@@ -1,6 +1,6 @@
 // How tables of rows are tried, and the words that they compare. A test ends the process where it
 // fails, so no helper hands a failure on.
-use crate::texts;
+use crate::refusals;
 use foundation::Duplicate;
 use sigstore_types_parts::{Bytes, DerPublicKey, Text};
 use std::fmt::{Debug, Display};
@@ -10,7 +10,7 @@ use std::process::Abort;
 pub fn hold<X: AllocGlobal + Abort>(rt: &X, call: &str, rows: &str) {
     for row in rows.lines() {
         let (given, wanted) = there(rt, row.rsplit_once(" => "));
-        check(rt, row, wanted, texts::answer(rt, call, given));
+        check(rt, row, wanted, refusals::answer(rt, call, given));
     }
 }
 
@@ -19,7 +19,7 @@ pub fn hold_filled<X: AllocGlobal + Abort>(rt: &X, call: &str, text: &str, rows:
     for row in rows.lines() {
         let (cells, wanted) = there(rt, row.rsplit_once(" => "));
         let given = filled(rt, text, cells);
-        check(rt, row, wanted, texts::answer(rt, call, given.as_str()));
+        check(rt, row, wanted, refusals::answer(rt, call, given.as_str()));
         drop(given);
     }
 }
@@ -79,11 +79,6 @@ pub fn displayed<X: AllocGlobal + Abort, D: Display + Drop>(rt: &X, value: D) ->
     good(rt, format!(in rt.alloc(); "{value}"))
 }
 
-/// A number and the display text of what has it.
-pub fn numbered<X: AllocGlobal + Abort, D: Display + Drop>(rt: &X, number: u8, value: D) -> String {
-    good(rt, format!(in rt.alloc(); "{number} {value}"))
-}
-
 /// `Ok`, or the Debug text of the refusal.
 pub fn word<X: AllocGlobal + Abort, T: Drop, E: Debug + Drop>(
     rt: &X,
@@ -117,6 +112,6 @@ pub fn key_bytes<X: AllocGlobal + Abort>(rt: &X, base64: &str) -> Bytes {
     bytes
 }
 
-pub fn key_in<X: AllocGlobal + Abort>(rt: &X, base64: &str) -> DerPublicKey {
+fn key_in<X: AllocGlobal + Abort>(rt: &X, base64: &str) -> DerPublicKey {
     good(rt, DerPublicKey::from_base64(rt.alloc(), base64))
 }

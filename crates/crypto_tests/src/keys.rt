@@ -1,17 +1,13 @@
-// The tables, digests on outside values, and each public call once.
+// Schemes, sorts of keys, digests on outside values, and keys and signatures that are judged.
 ghost use Rattle.std.specs.Prelude.{bytes_eq};
 ghost use Rattle.sigstore_crypto.specs.Good.{subject_of};
 
 use crate::key_forms;
-use crate::words::{
-    check, displayed, good, halves, hold, key_in, number, numbered, printed, text, there,
-};
+use crate::words::{displayed, good, halves, hold, key_in, numbered, printed, there};
 use foundation::Duplicate;
 use sigstore_crypto::*;
-use sigstore_types_parts::{Bytes, FailList, HashAlgorithm, SignatureBytes, Text};
+use sigstore_types_parts::{Bytes, HashAlgorithm, SignatureBytes, Text};
 use std::fmt::Debug;
-use std::fs;
-use std::num::NonZeroU32;
 use std::process::Abort;
 
 /// The answer of a call that is given a text; for any other name that of a call about keys in DER.
@@ -26,7 +22,6 @@ pub fn answer<X: AllocGlobal + Abort>(rt: &X, call: &str, given: &str) -> String
         "from_spki" => key(rt, given),
         "judgement" => judged(rt, given),
         "answers_alike" => alike(rt, given.as_bytes()),
-        "source" => source_read(rt, given),
         _ => key_forms::answer(rt, call, given),
     }
 }
@@ -140,7 +135,7 @@ MlDsa44 => ("ML_DSA_44", MlDsa44, None, false)
 MlDsa65 => ("ML_DSA_65", MlDsa65, None, false)
 MlDsa87 => ("ML_DSA_87", MlDsa87, None, false)"#;
 
-fn algorithm_of(name: &str) -> Option<KeyAlgorithm> {
+pub fn algorithm_of(name: &str) -> Option<KeyAlgorithm> {
     match name {
         "EcdsaP256" => Some(KeyAlgorithm::EcdsaP256),
         "EcdsaP384" => Some(KeyAlgorithm::EcdsaP384),
@@ -187,7 +182,8 @@ MlDsa65 SHA3_384 => Ok(MlDsa65)
 MlDsa87 default => MlDsa87
 MlDsa87 SHA3_384 => Ok(MlDsa87)";
 
-fn hexadecimal<X: Abort, E: Debug>(rt: &X, text: Result<Text, E>) -> String {
+/// The text that a digest is written as.
+pub fn hexadecimal<X: Abort, E: Debug>(rt: &X, text: Result<Text, E>) -> String {
     good(rt, text).into_string()
 }
 
@@ -289,46 +285,6 @@ fn alike<X: AllocGlobal + Abort>(rt: &X, message: &[u8]) -> String {
     )
 }
 
-// The digest of a source, by whether it is that of `hello`.
-fn digested<X: AllocGlobal + Abort>(rt: &X, source: &mut MemorySource, max: u64) -> String {
-    match sha256_reader(source, max) {
-        Ok(digest) => printed(rt, digest == sha256(b"hello")),
-        Err(fault) => printed(rt, fault),
-    }
-}
-
-fn failures<X: AllocGlobal + Abort>(rt: &X, call: u64) -> FailList {
-    let mut calls = Vec::new(rt.alloc());
-    if call > 0 {
-        good(rt, calls.push(call));
-    }
-    there(rt, FailList::new(calls))
-}
-
-// A source that gives `hello` in steps.
-fn source<X: AllocGlobal + Abort>(rt: &X, step: u32, call: u64) -> MemorySource {
-    let step = there(rt, NonZeroU32::new(step));
-    let bytes = good(rt, Bytes::new(rt.alloc(), b"hello"));
-    MemorySource::new(bytes, step, failures(rt, call))
-}
-
-fn source_read<X: AllocGlobal + Abort>(rt: &X, row: &str) -> String {
-    let (step, asked) = halves(rt, row, " ");
-    let (call, max) = halves(rt, asked, " ");
-    let step = good(rt, step.parse::<u32>());
-    let mut source = source(rt, step, number(rt, call));
-    let answer = digested(rt, &mut source, number(rt, max));
-    drop(source);
-    answer
-}
-
-// A row: how many bytes a call gives, which call fails or 0, the greatest length, and the answer.
-const SOURCES: &str = "1 0 5 => true
-7 0 18446744073709551615 => true
-1 0 4 => TooLong { max: 4 }
-1 3 5 => Failed
-2 9 5 => true";
-
 #[test]
 fn keys(rt: HostRuntime) {
     hold(&rt, "refusal of crypto", REFUSALS);
@@ -340,26 +296,4 @@ fn keys(rt: HostRuntime) {
     hold(&rt, "from_spki", KEYS);
     hold(&rt, "judgement", JUDGED);
     hold(&rt, "answers_alike", "hello => true");
-    hold(&rt, "source", SOURCES);
-}
-
-#[test]
-fn files_are_digested(rt: HostRuntime) {
-    let name = "sigstore_crypto_artifact";
-    let bytes = good(&rt, vec![in rt.alloc(); 7u8; 150000]);
-    good(&rt, fs::write(&rt, name, bytes.as_slice()));
-    let mut source = FileSource::new(&rt, text(&rt, name));
-    let is_whole = sha256_reader(&mut source, 150000) == Ok(sha256(&bytes));
-    drop(source);
-    drop(bytes);
-    good(&rt, fs::remove_file(&rt, name));
-    let mut absent = FileSource::new(&rt, text(&rt, name));
-    let other = sha256_reader(&mut absent, 1);
-    drop(absent);
-    check(
-        &rt,
-        name,
-        "(true, Err(Failed))",
-        printed(&rt, (is_whole, other)),
-    );
 }

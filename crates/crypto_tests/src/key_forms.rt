@@ -1,25 +1,25 @@
 // Keys in DER, made outside: by openssl, and those of ML-DSA by hand from their published identifiers and
 // lengths (FIPS 204, RFC 9881). The digests of raw keys are openssl's, of what it cuts out.
 use crate::keys::{Echo, scheme_of};
-use crate::refusals;
+use crate::sources;
 use crate::words::{good, halves, hold, number, printed, there};
 use sigstore_crypto::*;
 use sigstore_types_parts::{Bytes, DerPublicKey, SignatureBytes};
 use std::process::Abort;
 
-/// The answer of a call that is given a text; for any other name that of a call of sigstore_tuf_parts.
+/// The answer of a call that is given a text; for any other name that of a call about sources.
 pub fn answer<X: AllocGlobal + Abort>(rt: &X, call: &str, given: &str) -> String {
     match call {
         "key in DER" => own(rt, given),
         "key under a scheme" => under(rt, given),
         "raw key" => raw(rt, given),
         "signature in DER" => signature(rt, given),
-        _ => refusals::answer(rt, call, given),
+        _ => sources::answer(rt, call, given),
     }
 }
 
-/// The octets that words spell: in hexadecimal, or as an octet, `*` and how often it stands there.
-pub fn octets<X: AllocGlobal + Abort>(rt: &X, words: &str) -> Bytes {
+// The octets that words spell: in hexadecimal, or as an octet, `*` and how often it stands there.
+fn octets<X: AllocGlobal + Abort>(rt: &X, words: &str) -> Bytes {
     let mut all = Vec::new(rt.alloc());
     for word in words.split(' ') {
         let (octets, count) = match word.split_once('*') {
@@ -40,14 +40,14 @@ fn der<X: AllocGlobal + Abort>(rt: &X, words: &str) -> DerPublicKey {
 }
 
 // The scheme of a key, and the length and the SHA-256 value of its raw key; or its refusal.
-pub fn key_word<X: AllocGlobal + Abort>(rt: &X, key: Result<VerificationKey, Error>) -> String {
+fn key_word<X: AllocGlobal + Abort>(rt: &X, key: Result<VerificationKey, Error>) -> String {
     match key {
         Ok(key) => shown(rt, key),
         Err(refusal) => printed(rt, refusal),
     }
 }
 
-pub fn shown<X: AllocGlobal + Abort>(rt: &X, key: VerificationKey) -> String {
+fn shown<X: AllocGlobal + Abort>(rt: &X, key: VerificationKey) -> String {
     let (scheme, length) = (key.scheme(), key.as_bytes().len());
     let digest = good(rt, sha256(key.as_bytes()).to_hex(rt.alloc())).into_string();
     drop(key);

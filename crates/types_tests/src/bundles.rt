@@ -1,17 +1,16 @@
-// The refusal of each text, worked out by hand from the order of the members.
-use crate::keys;
+// Bundles: the refusal of each text, worked out by hand from the order of the members, and structures.
 use crate::words::{copied, good, hold, hold_filled, printed, word};
 use sigstore_types::*;
 use std::process::Abort;
 
-/// The answer of a call that is given a text; for any other name that of a call of sigstore_crypto.
+/// The answer of a call that is given a text.
 pub fn answer<X: AllocGlobal + Abort>(rt: &X, call: &str, given: &str) -> String {
     match call {
         "bundle" => word(rt, Bundle::from_json(rt.alloc(), given.as_bytes())),
         "bundle of byte ff" => word(rt, Bundle::from_json(rt.alloc(), &[0xff])),
         "bundle over hello" => over_hello(rt, given),
         "structure" => structure_of(rt, given),
-        _ => keys::answer(rt, call, given),
+        _ => panic!(rt; "no call {call}"),
     }
 }
 

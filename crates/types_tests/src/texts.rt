@@ -1,4 +1,4 @@
-// Display texts, and the encodings on outside values.
+// Display texts, encodings on outside values, and JSON, instants and lists in small.
 use crate::bundles;
 use crate::words::{copied, good, halves, hold, number, numbered, printed, string};
 use foundation::{Duplicate, Sequence};
@@ -6,7 +6,7 @@ use serde_json::Value;
 use sigstore_types_parts::*;
 use std::process::Abort;
 
-/// The answer of a call that is given a text; for any other name that of a call of sigstore_types.
+/// The answer of a call that is given a text; for any other name that of a call about bundles.
 pub fn answer<X: AllocGlobal + Abort>(rt: &X, call: &str, given: &str) -> String {
     match call {
         "refusal of types" => named(rt, given),

@@ -1,0 +1,157 @@
+// Rings of keys: which key an id, a hint and a moment mean, and what is verified under them.
+ghost use Rattle.std.specs.Prelude.{bytes_eq};
+
+use crate::words::{check, good, halves, number, printed, string, there, word};
+use jiff::Timestamp;
+use sigstore_crypto::*;
+use sigstore_types_parts::{Bytes, DerPublicKey, Sha256Hash, SignatureBytes, TimeRange};
+use std::process::Abort;
+
+// Accepts a signature that equals the raw key.
+struct ByKey;
+
+impl CryptoProvider for ByKey {
+    ghost accepts = { λ _ scheme key subject signature. bytes_eq key signature };
+
+    fn verify_raw(
+        &self,
+        _scheme: SigningScheme,
+        key: &[u8],
+        _message: &[u8],
+        signature: &[u8],
+    ) -> bool {
+        key == signature
+    }
+
+    fn verify_prehashed(
+        &self,
+        _scheme: SigningScheme,
+        key: &[u8],
+        _digest: &[u8],
+        signature: &[u8],
+    ) -> bool {
+        key == signature
+    }
+}
+
+fn bytes<X: AllocGlobal + Abort>(rt: &X, text: &str) -> Bytes {
+    good(rt, Bytes::new(rt.alloc(), text.as_bytes()))
+}
+
+fn key<X: AllocGlobal + Abort>(rt: &X, text: &str) -> VerificationKey {
+    VerificationKey {
+        scheme: SigningScheme::Ed25519,
+        key: bytes(rt, text),
+    }
+}
+
+fn moment<X: Abort>(rt: &X, second: i64) -> Timestamp {
+    good(rt, Timestamp::from_second(second))
+}
+
+fn id(name: &str) -> Sha256Hash {
+    sha256(name.as_bytes())
+}
+
+// Under `hello` first one key and then another, from second 10 to 20; under `world` a key at any time.
+fn ring<X: AllocGlobal + Abort>(rt: &X) -> Keyring {
+    let mut ring = Keyring::new(rt.alloc());
+    let window = TimeRange::new(moment(rt, 10), Some(moment(rt, 20)));
+    good(rt, ring.add_key(id("hello"), key(rt, "first")));
+    good(rt, ring.add_key(id("world"), key(rt, "other")));
+    good(
+        rt,
+        ring.add_key_with_validity(id("hello"), key(rt, "second"), Some(window)),
+    );
+    ring
+}
+
+fn text_or_none<X: AllocGlobal + Abort>(rt: &X, key: Option<&VerificationKey>) -> String {
+    match key {
+        Some(key) => string(rt, good(rt, str::from_utf8(key.as_bytes()))),
+        None => string(rt, "none"),
+    }
+}
+
+// The keys that the hint of a key of these octets means, each behind a blank.
+fn hinted<X: AllocGlobal + Abort>(rt: &X, ring: &Keyring, given: &str, time: Timestamp) -> String {
+    let owner = DerPublicKey::new(bytes(rt, given));
+    let hint = compute_key_hint(&owner);
+    let mut found = good(rt, hex::encode(rt.alloc(), hint.as_bytes()));
+    for key in ring.keys_by_hint(&hint, time) {
+        good(rt, found.push_str(" "));
+        good(rt, found.push_str(good(rt, str::from_utf8(key.as_bytes()))));
+    }
+    drop(owner);
+    found
+}
+
+fn any<X: AllocGlobal + Abort>(rt: &X, ring: &Keyring, signature: &SignatureBytes) -> String {
+    match ring.verify_any(&ByKey, &[], signature) {
+        Ok(id) => good(rt, hex::encode(rt.alloc(), id.as_bytes())),
+        Err(refusal) => printed(rt, refusal),
+    }
+}
+
+// A call, a name of an id, a second and the text of a signature.
+const ANSWERS: &str = "\
+key hello 0 x => second
+key world 0 x => other
+key nobody 0 x => none
+key_at hello 9 x => none
+key_at hello 10 x => second
+key_at hello 20 x => second
+key_at hello 21 x => none
+key_at world 0 x => other
+started hello 9 x => none
+started hello 10 x => second
+started hello 21 x => second
+hint hello 9 x => 2cf24dba
+hint hello 10 x => 2cf24dba second
+hint world 0 x => 486ea462 other
+verify hello 0 second => Ok
+verify hello 0 first => Verification(Refused)
+verify nobody 0 second => Verification(NoKey)
+verify_at hello 9 second => Verification(NoKey)
+verify_at hello 10 second => Ok
+verify_at hello 10 first => Verification(Refused)
+any x 0 other => 486ea46224d1bb4fb680f34f7c9ad96a8f24ec88be73ea8e5a6c65260e9cb8a7
+any x 0 first => Verification(NoKey)";
+
+fn asked<X: AllocGlobal + Abort>(rt: &X, ring: &Keyring, given: &str) -> String {
+    let (call, rest) = halves(rt, given, " ");
+    let (name, rest) = halves(rt, rest, " ");
+    let (second, text) = halves(rt, rest, " ");
+    let time = moment(rt, number(rt, second).min(1000) as i64);
+    let id = id(name);
+    let signature = SignatureBytes::new(bytes(rt, text));
+    let found = match call {
+        "key" => text_or_none(rt, ring.key(&id)),
+        "key_at" => text_or_none(rt, ring.key_at(&id, time)),
+        "started" => text_or_none(rt, ring.key_started_by(&id, time)),
+        "hint" => hinted(rt, ring, name, time),
+        "verify" => word(rt, ring.verify_with_key_id(&ByKey, &id, &[], &signature)),
+        "verify_at" => word(
+            rt,
+            ring.verify_with_key_id_at(&ByKey, &id, time, &[], &signature),
+        ),
+        "any" => any(rt, ring, &signature),
+        _ => panic!(rt; "no call {call}"),
+    };
+    drop(signature);
+    found
+}
+
+#[test]
+fn rings_answer_by_their_last_keys(rt: HostRuntime) {
+    let ring = ring(&rt);
+    for row in ANSWERS.lines() {
+        let (given, wanted) = there(&rt, row.rsplit_once(" => "));
+        check(&rt, row, wanted, asked(&rt, &ring, given));
+    }
+    let empty = Keyring::new(rt.alloc());
+    assert!(rt;
+        ring.len() == 2 && !ring.is_empty() && empty.is_empty(),
+        "two ids"
+    );
+}
