@@ -2,11 +2,11 @@
 use Rattle.std.proofs.Common.{◌≡◌, ℕ, List, Option, Some, None, Result, Ok, Err, refl, sym, ap, ◌∙◌, subst}
 use Rattle.std.specs.Prelude.{option_map}
 use Rattle.foundation.specs.Watched.{Watched, Rose, IfTold}
-use Rattle.sigstore_tuf.specs.declared.repository.FetchFault.{FetchFault}
-use Rattle.sigstore_tuf.specs.declared.store.StoreFault.{StoreFault}
-use Rattle.sigstore_tuf.specs.declared.store.StoreFault.TheVariants as store
-use Rattle.sigstore_tuf.specs.Repository.{Folders, Files, FailsOnly, WithinLimit, IsFile, Fetches}
-use Rattle.sigstore_tuf.specs.Store.{HoldsNoBadName, HasStoreCause, IsLoaded, Loads}
+use Rattle.sigstore_tuf_outside.specs.declared.repository.FetchFault.{FetchFault}
+use Rattle.sigstore_tuf_outside.specs.declared.store.StoreFault.{StoreFault}
+use Rattle.sigstore_tuf_outside.specs.declared.store.StoreFault.TheVariants as store
+use Rattle.sigstore_tuf_outside.specs.Repository.{Folders, Files, FailsOnly, WithinLimit, IsFile, Fetches}
+use Rattle.sigstore_tuf_outside.specs.Store.{HoldsNoBadName, HasStoreCause, IsLoaded, Loads}
 use Rattle.sigstore_tuf.specs.StoreRepository.{folders_in, folders_over, FetchesLoaded}
 
 module _ (part : Folders → Files) (fetched : List ℕ) (name : List ℕ) (same : (files : Files) → part (folders_in files) fetched ≡ files name) (old new : Watched Files) (max : ℕ) (tame : IfTold old.told HoldsNoBadName) where

@@ -1,12 +1,12 @@
 -- A repository over a store: what it tells, and what a fetch makes of a load.
 use Rattle.std.specs.Prelude.{◌≡◌, ℕ, ◌<◌, ◌≤◌, List, length, Option, Some, None, option_map, Result, Ok, Err}
 use Rattle.foundation.specs.Watched.{Watched}
-use Rattle.sigstore_tuf.specs.Repository.{Folders, Files}
-use Rattle.sigstore_tuf.specs.Names.{kept_target}
-use Rattle.sigstore_tuf.specs.declared.repository.FetchFault.{FetchFault}
-use Rattle.sigstore_tuf.specs.declared.repository.FetchFault.TheVariants as fetch
-use Rattle.sigstore_tuf.specs.declared.store.StoreFault.{StoreFault}
-use Rattle.sigstore_tuf.specs.declared.store.StoreFault.TheVariants as store
+use Rattle.sigstore_tuf_outside.specs.Repository.{Folders, Files}
+use Rattle.sigstore_tuf_rules.specs.Names.{kept_target}
+use Rattle.sigstore_tuf_outside.specs.declared.repository.FetchFault.{FetchFault}
+use Rattle.sigstore_tuf_outside.specs.declared.repository.FetchFault.TheVariants as fetch
+use Rattle.sigstore_tuf_outside.specs.declared.store.StoreFault.{StoreFault}
+use Rattle.sigstore_tuf_outside.specs.declared.store.StoreFault.TheVariants as store
 
 -- documents under their names, targets under their names in a store
 abbrev pub folders_in : Files → Folders

@@ -4,10 +4,10 @@ use Rattle.std.specs.Borrow.{MutBor}
 use Rattle.foundation.specs.Watched.{Watched, untold}
 use Rattle.sigstore_tuf_parts.specs.declared.error.Error.{Error}
 use Rattle.sigstore_tuf_parts.specs.declared.error.Error.TheVariants as tuf
-use Rattle.sigstore_tuf.specs.Repository.{Files}
-use Rattle.sigstore_tuf.specs.declared.chain.TrustChain.{TrustChain}
-use Rattle.sigstore_tuf.specs.State.{Session, State}
-use Rattle.sigstore_tuf.specs.Promises.{Got}
+use Rattle.sigstore_tuf_outside.specs.Repository.{Files}
+use Rattle.sigstore_tuf_rules.specs.declared.chain.TrustChain.{TrustChain}
+use Rattle.sigstore_tuf_runs.specs.State.{Session, State}
+use Rattle.sigstore_tuf_runs.specs.Promises.{Got}
 
 -- the same lent store, or none
 abbrev pub SameOption : {S : Type 0} → Option (MutBor S) → Option (MutBor S) → Type 0

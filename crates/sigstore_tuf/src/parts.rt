@@ -1,24 +1,19 @@
 // The client's calls over an owned set of documents, and a lent repository and store.
 ghost use Rattle.std.specs.Prelude.{◌≡◌, ◌≢◌, Ok, Err, IfOk, IfErr};
 ghost use Rattle.foundation.specs.Watched.{Watched};
-ghost use Rattle.sigstore_tuf.specs.Repository.{Folders};
-ghost use Rattle.sigstore_tuf.specs.State.{state_of, session_of};
-ghost use Rattle.sigstore_tuf.specs.Authorised.{IsAuthorised, crypto_in, SameJudges};
-ghost use Rattle.sigstore_tuf.specs.Promises.{Attached, Refreshed, Informed, Got};
+ghost use Rattle.sigstore_tuf_outside.specs.Repository.{Folders};
+ghost use Rattle.sigstore_tuf_runs.specs.State.{state_of, session_of};
+ghost use Rattle.sigstore_tuf_rules.specs.Authorised.{IsAuthorised, crypto_in, SameJudges};
+ghost use Rattle.sigstore_tuf_runs.specs.Promises.{Attached, Refreshed, Informed, Got};
 
-use crate::chain::TrustChain;
-use crate::client::{attach, run_steps};
-use crate::config::UpdaterConfig;
-use crate::kind::Kind;
-use crate::repository::Repository;
-use crate::session::Session;
-use crate::step::Step;
-use crate::store::MetadataStore;
-use crate::target::{find_chain, find_info};
 use crate::trusted::TrustedMetadataSet;
 use foundation::Duplicate;
 use sigstore_crypto::CryptoProvider;
+use sigstore_tuf_client::{attach, find_chain, find_info, run_steps};
+use sigstore_tuf_outside::{MetadataStore, Repository};
 use sigstore_tuf_parts::{Error, TargetFile};
+use sigstore_tuf_rules::{Kind, TrustChain, UpdaterConfig};
+use sigstore_tuf_runs::{Session, Step};
 use sigstore_types_parts::Armor;
 use std::alloc::Global;
 

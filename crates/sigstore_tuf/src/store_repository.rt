@@ -1,14 +1,13 @@
 // A repository over a store.
 ghost use Rattle.std.specs.Prelude.{◌≡◌, option_map};
 ghost use Rattle.foundation.specs.Watched.{Watched, IfTold};
-ghost use Rattle.sigstore_tuf.specs.Repository.{Folders, Files, Fetches};
-ghost use Rattle.sigstore_tuf.specs.Store.{Loads, HoldsNoBadName};
-ghost use Rattle.sigstore_tuf.specs.Names.{kept_target};
+ghost use Rattle.sigstore_tuf_outside.specs.Repository.{Folders, Files, Fetches};
+ghost use Rattle.sigstore_tuf_outside.specs.Store.{Loads, HoldsNoBadName};
+ghost use Rattle.sigstore_tuf_rules.specs.Names.{kept_target};
 ghost use Rattle.sigstore_tuf.specs.StoreRepository.{folders_over, FetchesLoaded};
 
-use crate::names::kept_target;
-use crate::repository::{FetchFault, Repository};
-use crate::store::{MetadataStore, StoreFault};
+use sigstore_tuf_outside::{FetchFault, MetadataStore, Repository, StoreFault};
+use sigstore_tuf_rules::kept_target;
 use sigstore_types_parts::Bytes;
 use std::alloc::Global;
 

@@ -4,22 +4,20 @@ ghost use Rattle.std.specs.List.{last_or};
 ghost use Rattle.sigstore_crypto.specs.Crypto.{crypto_by};
 ghost use Rattle.sigstore_tuf_parts.specs.Document.{content_in};
 ghost use Rattle.sigstore_types_parts.specs.Entries.{at_name};
-ghost use Rattle.sigstore_tuf.specs.Documents.{content_of};
-ghost use Rattle.sigstore_tuf.specs.Update.{first_root_of, update_root_of, update_timestamp_of, update_snapshot_of, update_targets_of};
-ghost use Rattle.sigstore_tuf.specs.Order.{by};
-ghost use Rattle.sigstore_tuf.specs.Delegated.{update_role_of, role_serves_of};
-ghost use Rattle.sigstore_tuf.specs.Target.{fresh_timestamp_of, fresh_snapshot_of};
+ghost use Rattle.sigstore_tuf_rules.specs.Documents.{content_of};
+ghost use Rattle.sigstore_tuf_rules.specs.Update.{first_root_of, update_root_of, update_timestamp_of, update_snapshot_of, update_targets_of};
+ghost use Rattle.sigstore_tuf_rules.specs.Order.{by};
+ghost use Rattle.sigstore_tuf_rules.specs.Delegated.{update_role_of, role_serves_of};
+ghost use Rattle.sigstore_tuf_rules.specs.SearchServing.{fresh_timestamp_of, fresh_snapshot_of};
 ghost use Rattle.sigstore_tuf_parts.specs.Integrity.{fresh_of};
-ghost use Rattle.sigstore_tuf.specs.Authorised.{IsAuthorised, crypto_in, SameJudges, UpdatesSet};
+ghost use Rattle.sigstore_tuf_rules.specs.Authorised.{IsAuthorised, crypto_in, SameJudges, UpdatesSet};
 
-use crate::adopt::update_copied;
-use crate::delegated::{serving_role, update_role_copied};
-use crate::documents::InForce;
-use crate::kind::Kind;
-use crate::target::{check_fresh_snapshot, check_fresh_timestamp};
-use crate::update::first_root;
 use sigstore_crypto::CryptoProvider;
 use sigstore_tuf_parts::{Error, Role, Root, Snapshot, Targets, Timestamp};
+use sigstore_tuf_rules::{
+    InForce, Kind, check_fresh_snapshot, check_fresh_timestamp, first_root, serving_role,
+    update_copied, update_role_copied,
+};
 use sigstore_types_parts::Armor;
 use std::alloc::Global;
 use std::marker::Model;
@@ -35,7 +33,7 @@ pub struct TrustedMetadataSet<'p, C: CryptoProvider, M: Armor> {
 
 impl<'p, C: CryptoProvider, M: Armor> Model for TrustedMetadataSet<'p, C, M> {
     ghost use Rattle.sigstore_crypto.specs.Crypto.{crypto_by};
-    ghost use Rattle.sigstore_tuf.specs.Authorised.{IsAuthorised, TrustedSet};
+    ghost use Rattle.sigstore_tuf_rules.specs.Authorised.{IsAuthorised, TrustedSet};
     ghost use Rattle.sigstore_types_parts.specs.contracts.json_value.Json as json;
     ghost use Rattle.std.specs.Coded.{codes as coded_types};
 

@@ -1,9 +1,10 @@
 use Rattle.std.proofs.Common.{sym}
 use Rattle.foundation.specs.Watched.{untold}
-use Rattle.sigstore_tuf.proofs.Authorised.{is_stay, attach_stays}
-use Rattle.sigstore_tuf.proofs.Holding.{attach_authorised}
-use Rattle.sigstore_tuf.proofs.Keeping.{attach_kept}
-use Rattle.sigstore_tuf.proofs.Steps.{attach_wants}
+use Rattle.sigstore_tuf_rules.proofs.Authorised.{is_stay}
+use Rattle.sigstore_tuf_causes.proofs.Staying.{attach_stays}
+use Rattle.sigstore_tuf_causes.proofs.Holding.{attach_authorised}
+use Rattle.sigstore_tuf_causes.proofs.Keeping.{attach_kept}
+use Rattle.sigstore_tuf_runs.proofs.Steps.{attach_wants}
 use Rattle.sigstore_tuf.proofs.parts.attach_parts.Goals as goal
 
 pub invariant_of-set : goal.invariant_of-set

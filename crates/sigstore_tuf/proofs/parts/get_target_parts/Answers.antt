@@ -1,8 +1,8 @@
 use Rattle.std.proofs.Common.{sym}
-use Rattle.sigstore_tuf.proofs.Authorised.{is_stay}
-use Rattle.sigstore_tuf.proofs.Searching.{chain_trusted, gets_stays, gets_authorised}
-use Rattle.sigstore_tuf.proofs.TargetCauses.{gets_cause}
-use Rattle.sigstore_tuf.proofs.TargetKept.{gets_stay, gets_kept}
+use Rattle.sigstore_tuf_rules.proofs.Authorised.{is_stay}
+use Rattle.sigstore_tuf_causes.proofs.Searching.{chain_trusted, gets_stays, gets_authorised}
+use Rattle.sigstore_tuf_causes.proofs.TargetCauses.{gets_cause}
+use Rattle.sigstore_tuf_causes.proofs.TargetKept.{gets_stay, gets_kept}
 use Rattle.sigstore_tuf.proofs.parts.get_target_parts.Goals as goal
 
 pub invariant_of-set : goal.invariant_of-set

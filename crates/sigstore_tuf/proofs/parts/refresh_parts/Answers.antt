@@ -1,10 +1,11 @@
 use Rattle.std.proofs.Common.{sym}
-use Rattle.sigstore_tuf.proofs.Authorised.{is_stay, refresh_stays}
-use Rattle.sigstore_tuf.proofs.Holding.{refresh_authorised}
-use Rattle.sigstore_tuf.proofs.Keeping.{refresh_kept}
-use Rattle.sigstore_tuf.proofs.Newest.{on_refresh_newest}
-use Rattle.sigstore_tuf.proofs.Serving.{on_refresh}
-use Rattle.sigstore_tuf.proofs.Causes.{refresh_cause}
+use Rattle.sigstore_tuf_rules.proofs.Authorised.{is_stay}
+use Rattle.sigstore_tuf_causes.proofs.Staying.{refresh_stays}
+use Rattle.sigstore_tuf_causes.proofs.Holding.{refresh_authorised}
+use Rattle.sigstore_tuf_causes.proofs.Keeping.{refresh_kept}
+use Rattle.sigstore_tuf_causes.proofs.Newest.{on_refresh_newest}
+use Rattle.sigstore_tuf_causes.proofs.Serving.{on_refresh}
+use Rattle.sigstore_tuf_causes.proofs.Causes.{refresh_cause}
 use Rattle.sigstore_tuf.proofs.parts.refresh_parts.Goals as goal
 
 pub invariant_of-set : goal.invariant_of-set

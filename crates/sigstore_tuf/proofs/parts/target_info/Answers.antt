@@ -1,8 +1,8 @@
 use Rattle.std.proofs.Common.{sym}
-use Rattle.sigstore_tuf.proofs.Authorised.{is_stay}
-use Rattle.sigstore_tuf.proofs.Searching.{info_found, info_stays_authorised, info_authorised}
-use Rattle.sigstore_tuf.proofs.TargetCauses.{info_cause}
-use Rattle.sigstore_tuf.proofs.TargetKept.{info_stays}
+use Rattle.sigstore_tuf_rules.proofs.Authorised.{is_stay}
+use Rattle.sigstore_tuf_causes.proofs.Searching.{info_found, info_stays_authorised, info_authorised}
+use Rattle.sigstore_tuf_causes.proofs.TargetCauses.{info_cause}
+use Rattle.sigstore_tuf_causes.proofs.TargetKept.{info_stays}
 use Rattle.sigstore_tuf.proofs.parts.target_info.Goals as goal
 
 pub invariant_of-set : goal.invariant_of-set

@@ -1,4 +1,4 @@
-use Rattle.sigstore_tuf.proofs.Authorised.{first_root_is_authorised}
+use Rattle.sigstore_tuf_rules.proofs.Authorised.{first_root_is_authorised}
 use Rattle.sigstore_tuf.proofs.trusted.TrustedMetadataSet.from_root.Goals as goal
 
 pub invariant_of-result : goal.invariant_of-result

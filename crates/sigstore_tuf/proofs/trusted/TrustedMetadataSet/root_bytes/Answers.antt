@@ -1,6 +1,6 @@
 use Rattle.std.proofs.Common.{Some, ap, sym, ◌∙◌}
 use Rattle.std.specs.Prelude.{option_copied}
-use Rattle.sigstore_tuf.proofs.Steps.{slice_last}
+use Rattle.sigstore_tuf_rules.proofs.TakenIn.{slice_last}
 use Rattle.sigstore_tuf.proofs.trusted.TrustedMetadataSet.root_bytes.Goals as goal
 
 pub returns-in-Some : goal.returns-in-Some

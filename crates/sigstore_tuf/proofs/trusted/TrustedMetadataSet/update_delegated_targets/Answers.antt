@@ -1,5 +1,5 @@
 use Rattle.std.proofs.Common.{Some, sym}
-use Rattle.sigstore_tuf.proofs.RolePuts.{role_updates_set}
+use Rattle.sigstore_tuf_rules.proofs.RolePuts.{role_updates_set}
 use Rattle.sigstore_tuf.proofs.trusted.TrustedMetadataSet.update_delegated_targets.Goals as goal
 
 pub invariant_of-self : goal.invariant_of-self

@@ -1,6 +1,6 @@
 use Rattle.std.proofs.Common.{Some, sym}
-use Rattle.sigstore_tuf.specs.declared.kind.Kind.TheVariants.{Timestamp}
-use Rattle.sigstore_tuf.proofs.Authorised.{updates_set}
+use Rattle.sigstore_tuf_rules.specs.declared.kind.Kind.TheVariants.{Timestamp}
+use Rattle.sigstore_tuf_rules.proofs.Authorised.{updates_set}
 use Rattle.sigstore_tuf.proofs.trusted.TrustedMetadataSet.update_timestamp.Goals as goal
 
 pub invariant_of-self : goal.invariant_of-self

@@ -1,6 +1,0 @@
-use Rattle.std.proofs.Common.{◌∙◌}
-use Rattle.sigstore_tuf.proofs.Steps.{fetched_as}
-use Rattle.sigstore_tuf.proofs.adopt.fetch_pinned.Goals as goal
-
-pub returns-in-Ok : goal.returns-in-Ok
-returns-in-Ok g c = fetched_as (c.as_str.ensures ∙ c.in-Ok.ensures) c.fetch_named.ensures

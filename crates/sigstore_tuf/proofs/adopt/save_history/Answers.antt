@@ -1,6 +1,0 @@
-use Rattle.std.proofs.Common.{◌∙◌}
-use Rattle.sigstore_tuf.proofs.Steps.{saved_as}
-use Rattle.sigstore_tuf.proofs.adopt.save_history.Goals as goal
-
-pub returns-in-Ok : goal.returns-in-Ok
-returns-in-Ok g c = saved_as (c.as_str.ensures ∙ c.in-Ok.ensures) c.save.ensures

@@ -1,5 +1,0 @@
-use Rattle.sigstore_tuf.proofs.Steps.{timestamp_takes}
-use Rattle.sigstore_tuf.proofs.adopt.take.Goals as goal
-
-pub returns-in-Timestamp : goal.returns-in-Timestamp
-returns-in-Timestamp g c = timestamp_takes _ c.args.kind _ _ _ _ _ _ c.in-Timestamp.is c.update-updated.ensures c.unless_equal.ensures

@@ -1,9 +1,0 @@
-use Rattle.sigstore_tuf.specs.Run.{roots_unrecalled, roots_recalled}
-use Rattle.std.proofs.Common.{refl}
-use Rattle.sigstore_tuf.proofs.client.attach.Goals as goal
-
-pub returns-in-Ok : goal.returns-in-Ok
-returns-in-Ok g c = λ repo. roots_recalled _ (c.in-Ok.ensures repo) (c.save_root.ensures repo)
-
-pub returns-in-Err : goal.returns-in-Err
-returns-in-Err g c = λ repo. roots_unrecalled _ (c.in-Err.ensures repo) refl

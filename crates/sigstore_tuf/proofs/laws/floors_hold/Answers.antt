@@ -1,5 +1,0 @@
-use Rattle.sigstore_tuf.proofs.Floors.{floors_hold}
-use Rattle.sigstore_tuf.proofs.laws.floors_hold.Goals as goal
-
-pub returns : goal.returns
-returns c = floors_hold

@@ -1,8 +1,0 @@
-use Rattle.std.proofs.Common.{◌≡◌, ◌++◌}
-use Rattle.std.specs.Prelude.{string_bytes}
-use Rattle.sigstore_tuf.specs.Names.{escaped}
-use Rattle.sigstore_tuf.proofs.names.escaped.Given as goal
-
--- what was written, and then what is left
-abbrev pub invariant-loop-byte : goal.invariant-loop-byte
-invariant-loop-byte l = string_bytes l.out ++ escaped l.byte-iterator.rest.now ≡ escaped l.name

@@ -1,8 +1,0 @@
-use Rattle.sigstore_tuf.specs.Search.{short}
-use Rattle.sigstore_tuf.proofs.search.walk_all.Goals as goal
-
-pub returns-in-Ok : goal.returns-in-Ok
-returns-in-Ok g c = λ snapshot at. rw (c.in-Ok.ensures, c.first_walk-walk.ensures) at (c.walk_pending.ensures snapshot at)
-
-pub returns-in-Err : goal.returns-in-Err
-returns-in-Err g c = λ snapshot at. rw c.from.ensures (short _ _ _)

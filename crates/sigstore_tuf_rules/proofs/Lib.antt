@@ -1,0 +1,10 @@
+pub mod Agrees
+pub mod Authorised
+pub mod Floors
+pub mod LastPart
+pub mod NextNames
+pub mod RolePuts
+pub mod Stepping
+pub mod TakenIn
+pub mod Updates
+pub mod Walks

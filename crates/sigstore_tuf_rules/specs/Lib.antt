@@ -1,0 +1,13 @@
+pub mod Authorised
+pub mod Config
+pub mod Delegated
+pub mod Documents
+pub mod Floor
+pub mod Names
+pub mod Order
+pub mod SearchLaws
+pub mod SearchServing
+pub mod Serving
+pub mod Taking
+pub mod Trusted
+pub mod Update

@@ -1,0 +1,3 @@
+pub mod Lift
+pub mod Searched
+pub mod Steps

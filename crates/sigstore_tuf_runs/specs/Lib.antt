@@ -1,0 +1,12 @@
+pub mod Adopt
+pub mod Cause
+pub mod Chain
+pub mod Found
+pub mod Kept
+pub mod Newest
+pub mod Promises
+pub mod Run
+pub mod Search
+pub mod SearchCause
+pub mod State
+pub mod Target
