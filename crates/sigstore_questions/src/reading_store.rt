@@ -1,7 +1,7 @@
 // A store that is only read.
 ghost use Rattle.std.specs.Prelude.{◌≡◌};
 ghost use Rattle.foundation.specs.Watched.{untold};
-ghost use Rattle.sigstore_tuf.specs.Store.{Loads, Stores};
+ghost use Rattle.sigstore_tuf_outside.specs.Store.{Loads, Stores};
 
 use sigstore_tuf::{MetadataStore, NoStore, StoreFault};
 use sigstore_types_parts::Bytes;

@@ -12,11 +12,11 @@ use Rattle.sigstore_tuf_parts.specs.declared.snapshot.Snapshot.{Snapshot}
 use Rattle.sigstore_tuf_parts.specs.declared.targets.Targets.{Targets}
 use Rattle.sigstore_tuf_parts.specs.Document.{Document, content_in}
 use Rattle.sigstore_tuf_parts.specs.RootRoles.{root_document}
-use Rattle.sigstore_tuf.specs.Documents.{timestamp_document, snapshot_document, targets_document}
-use Rattle.sigstore_tuf.specs.declared.chain.TrustChain.{TrustChain}
-use Rattle.sigstore_tuf.specs.declared.chain.RoleDoc.{RoleDoc}
-use Rattle.sigstore_tuf.specs.declared.visit.Visit.{Visit}
-use Rattle.sigstore_tuf.specs.Trusted.{IsTrustedVisit, visit_in, documents_in, Trusted}
+use Rattle.sigstore_tuf_rules.specs.Documents.{timestamp_document, snapshot_document, targets_document}
+use Rattle.sigstore_tuf_rules.specs.declared.chain.TrustChain.{TrustChain}
+use Rattle.sigstore_tuf_rules.specs.declared.chain.RoleDoc.{RoleDoc}
+use Rattle.sigstore_tuf_rules.specs.declared.visit.Visit.{Visit}
+use Rattle.sigstore_tuf_rules.specs.Trusted.{IsTrustedVisit, visit_in, documents_in, Trusted}
 use Rattle.sigstore_verify.specs.declared.report.VerificationResult.{VerificationResult}
 use Rattle.sigstore_app_parts.specs.Printed.{line_of, named_line}
 use Rattle.sigstore_run.specs.declared.report.Versions.{Versions}

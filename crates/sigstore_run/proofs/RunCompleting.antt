@@ -5,8 +5,8 @@ use Rattle.std.specs.Result.{result_ok}
 use Rattle.jiff_core.specs.declared.timestamp.Timestamp as jiff
 use Rattle.foundation.specs.Watched.{Watched, Rose, IfTold}
 use Rattle.foundation.specs.Results.{ok_same, err_same, some_same, no_both}
-use Rattle.sigstore_tuf.specs.declared.chain.TrustChain.{TrustChain}
-use Rattle.sigstore_tuf.proofs.Completing.{not_both}
+use Rattle.sigstore_tuf_rules.specs.declared.chain.TrustChain.{TrustChain}
+use Rattle.sigstore_tuf_causes.proofs.Faults.{not_both}
 use Rattle.sigstore_verify.specs.declared.error.Error.{Error}
 use Rattle.sigstore_verify.specs.declared.report.Kept.{Kept}
 use Rattle.sigstore_verify.specs.declared.from_root.Rooted.{Rooted}

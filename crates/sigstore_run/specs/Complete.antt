@@ -1,7 +1,7 @@
 -- When a run of the program has to accept, and what it says where it hasn't to: over an offered chain, where nothing outside fails.
 use Rattle.std.specs.Prelude.{◌≡◌, ◌⊎◌, ℕ, List, Some, Result, Ok, Err}
 use Rattle.foundation.specs.Watched.{Watched, Rose}
-use Rattle.sigstore_tuf.specs.declared.chain.TrustChain.{TrustChain}
+use Rattle.sigstore_tuf_rules.specs.declared.chain.TrustChain.{TrustChain}
 use Rattle.sigstore_verify.specs.declared.from_root.Rooted.{Rooted}
 use Rattle.sigstore_verify.specs.declared.from_root.RootFault.{RootFault}
 use Rattle.sigstore_verify.specs.Given.{Given}

@@ -17,8 +17,8 @@ use Rattle.sigstore_tuf_parts.specs.Root.{root_of}
 use Rattle.sigstore_tuf_parts.specs.Timestamp.{timestamp_of}
 use Rattle.sigstore_tuf_parts.specs.Snapshot.{snapshot_of}
 use Rattle.sigstore_tuf_parts.specs.Targets.{targets_of}
-use Rattle.sigstore_tuf.specs.declared.chain.TrustChain.{TrustChain}
-use Rattle.sigstore_tuf.specs.declared.chain.RoleDoc.{RoleDoc}
+use Rattle.sigstore_tuf_rules.specs.declared.chain.TrustChain.{TrustChain}
+use Rattle.sigstore_tuf_rules.specs.declared.chain.RoleDoc.{RoleDoc}
 use Rattle.sigstore_verify.specs.declared.report.VerificationResult.{VerificationResult}
 use Rattle.sigstore_app_parts.specs.Printed.{line_of, pair_line, number_line, text_line, named_line, hex_line, answer_line}
 use Rattle.sigstore_run.specs.declared.report.Versions.{Versions}

@@ -8,7 +8,7 @@ use Rattle.sigstore_crypto.specs.Good.{Judge}
 use Rattle.sigstore_crypto.specs.Crypto.{Crypto}
 use Rattle.sigstore_tuf_parts.specs.declared.error.Error.{Error as TufError}
 use Rattle.sigstore_tuf_parts.specs.Error as tuf
-use Rattle.sigstore_tuf.specs.Config.{default_config}
+use Rattle.sigstore_tuf_rules.specs.Config.{default_config}
 use Rattle.sigstore_verify.specs.declared.error.Error.{Error as VerifyError}
 use Rattle.sigstore_verify.specs.Error as verify
 use Rattle.sigstore_verify.specs.declared.policy.PublicKeyVerificationPolicy.{PublicKeyVerificationPolicy}

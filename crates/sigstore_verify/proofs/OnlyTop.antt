@@ -9,17 +9,17 @@ use Rattle.sigstore_tuf_parts.specs.declared.error.Error.{Error}
 use Rattle.sigstore_tuf_parts.specs.Document.{content_in}
 use Rattle.sigstore_tuf_parts.specs.RootRoles.{root_document, meets_role_of}
 use Rattle.sigstore_tuf_parts.specs.declared.targets.Targets as declared
-use Rattle.sigstore_tuf.specs.declared.documents.Held.{Held}
-use Rattle.sigstore_tuf.specs.declared.documents.InForce.{InForce}
-use Rattle.sigstore_tuf.specs.declared.kind.Kind.{Kind}
-use Rattle.sigstore_tuf.specs.declared.kind.Kind.TheVariants.{Root, Timestamp, Snapshot, Targets}
-use Rattle.sigstore_tuf.specs.State.{Session, State}
-use Rattle.sigstore_tuf.specs.Update.{first_root_of}
-use Rattle.sigstore_tuf.specs.Adopt.{Adopts, unfetched, absent, refused, kept, adopted, Seeds, unloaded, unkept, unseeded, equal, seeded}
-use Rattle.sigstore_tuf.specs.Run.{said, Attaches, refresh_steps, RunsSteps}
-use Rattle.sigstore_tuf.proofs.Files.{inserted}
-use Rattle.sigstore_tuf.proofs.Updates.{Puts, judged_puts}
-use Rattle.sigstore_tuf.proofs.Lift.{IsAsked, attach_lift, runs_lift}
+use Rattle.sigstore_tuf_rules.specs.declared.documents.Held.{Held}
+use Rattle.sigstore_tuf_rules.specs.declared.documents.InForce.{InForce}
+use Rattle.sigstore_tuf_rules.specs.declared.kind.Kind.{Kind}
+use Rattle.sigstore_tuf_rules.specs.declared.kind.Kind.TheVariants.{Root, Timestamp, Snapshot, Targets}
+use Rattle.sigstore_tuf_runs.specs.State.{Session, State}
+use Rattle.sigstore_tuf_rules.specs.Update.{first_root_of}
+use Rattle.sigstore_tuf_runs.specs.Adopt.{Adopts, unfetched, absent, refused, kept, adopted, Seeds, unloaded, unkept, unseeded, equal, seeded}
+use Rattle.sigstore_tuf_runs.specs.Run.{said, Attaches, refresh_steps, RunsSteps}
+use Rattle.sigstore_tuf_outside.proofs.Files.{inserted}
+use Rattle.sigstore_tuf_rules.proofs.Updates.{Puts, judged_puts}
+use Rattle.sigstore_tuf_runs.proofs.Lift.{IsAsked, attach_lift, runs_lift}
 use Rattle.sigstore_verify.specs.Cause.{OnlyTop}
 
 pub first_root_only : (crypto : Crypto) (bytes : List ℕ) (set : InForce) → first_root_of crypto bytes ≡ Ok set → OnlyTop set

@@ -4,15 +4,15 @@ use Rattle.foundation.specs.Watched.{Watched}
 use Rattle.foundation.specs.Results.{err_same}
 use Rattle.sigstore_tuf_parts.specs.declared.error.Error.{Error as TufError}
 use Rattle.sigstore_tuf_parts.specs.declared.error.Error.TheVariants as tuf
-use Rattle.sigstore_tuf.specs.declared.chain.TrustChain.{TrustChain}
-use Rattle.sigstore_tuf.specs.declared.documents.InForce.{InForce}
-use Rattle.sigstore_tuf.specs.Repository.{Files}
-use Rattle.sigstore_tuf.specs.State.{state_of}
-use Rattle.sigstore_tuf.proofs.Refusals.{first_refusal}
-use Rattle.sigstore_tuf.proofs.Carrying.{Carried, attach_carried, refresh_carried}
-use Rattle.sigstore_tuf.proofs.Causes.{is_want, earlier}
-use Rattle.sigstore_tuf.proofs.Searching.{gets_serves}
-use Rattle.sigstore_tuf.proofs.TargetCauses.{target_earlier}
+use Rattle.sigstore_tuf_rules.specs.declared.chain.TrustChain.{TrustChain}
+use Rattle.sigstore_tuf_rules.specs.declared.documents.InForce.{InForce}
+use Rattle.sigstore_tuf_outside.specs.Repository.{Files}
+use Rattle.sigstore_tuf_runs.specs.State.{state_of}
+use Rattle.sigstore_tuf_causes.proofs.Refusals.{first_refusal}
+use Rattle.sigstore_tuf_causes.proofs.Carrying.{Carried, attach_carried, refresh_carried}
+use Rattle.sigstore_tuf_causes.proofs.Causes.{is_want, earlier}
+use Rattle.sigstore_tuf_causes.proofs.Searching.{gets_serves}
+use Rattle.sigstore_tuf_causes.proofs.TargetCauses.{target_earlier}
 use Rattle.sigstore_verify.specs.declared.error.Error.{Error}
 use Rattle.sigstore_verify.specs.declared.error.Error.TheVariants as verify
 use Rattle.sigstore_verify.specs.declared.from_root.RootFault.{RootFault}

@@ -13,18 +13,19 @@ use Rattle.sigstore_crypto.specs.declared.reader.ReadError.TheVariants.{Failed, 
 use Rattle.sigstore_tuf_parts.specs.declared.error.Error.{Error as TufError}
 use Rattle.sigstore_tuf_parts.specs.declared.error.Error.TheVariants as tuf
 use Rattle.sigstore_tuf_parts.specs.Document.{content_in}
-use Rattle.sigstore_tuf.specs.declared.chain.TrustChain.{TrustChain}
-use Rattle.sigstore_tuf.specs.declared.documents.InForce.{InForce}
-use Rattle.sigstore_tuf.specs.Repository.{Quiet, Files, Folders}
-use Rattle.sigstore_tuf.specs.State.{State, state_of}
-use Rattle.sigstore_tuf.specs.Update.{first_root_of}
-use Rattle.sigstore_tuf.specs.Run.{Attaches}
-use Rattle.sigstore_tuf.specs.Promises.{Refreshed, Got}
-use Rattle.sigstore_tuf.specs.Offer.{Offers, Warm}
-use Rattle.sigstore_tuf.proofs.Carrying.{refresh_carried}
-use Rattle.sigstore_tuf.proofs.Completing.{step_to, quiet_first, quiet_second, not_both, Done, wanting, done}
-use Rattle.sigstore_tuf.proofs.RefreshCompleting.{step_err}
-use Rattle.sigstore_tuf.proofs.TargetCompleting.{GivenChain, chain_wanting, chain_given as is_given, gets_since, first_wants, StaysWarm as StaysTold, Going, Arrived, attached_done, refreshed_done, target_done}
+use Rattle.sigstore_tuf_rules.specs.declared.chain.TrustChain.{TrustChain}
+use Rattle.sigstore_tuf_rules.specs.declared.documents.InForce.{InForce}
+use Rattle.sigstore_tuf_outside.specs.Repository.{Quiet, Files, Folders}
+use Rattle.sigstore_tuf_runs.specs.State.{State, state_of}
+use Rattle.sigstore_tuf_rules.specs.Update.{first_root_of}
+use Rattle.sigstore_tuf_runs.specs.Run.{Attaches}
+use Rattle.sigstore_tuf_runs.specs.Promises.{Refreshed, Got}
+use Rattle.sigstore_tuf_offers.specs.Offer.{Offers, Warm}
+use Rattle.sigstore_tuf_causes.proofs.Carrying.{refresh_carried}
+use Rattle.sigstore_tuf_offers.proofs.Completing.{step_to, Done, wanting, done}
+use Rattle.sigstore_tuf_causes.proofs.Faults.{quiet_first, quiet_second, not_both}
+use Rattle.sigstore_tuf_offers.proofs.RefreshCompleting.{step_err}
+use Rattle.sigstore_tuf_offers.proofs.TargetCompleting.{GivenChain, chain_wanting, chain_given as is_given, gets_since, first_wants, StaysWarm as StaysTold, Going, Arrived, attached_done, refreshed_done, target_done}
 use Rattle.sigstore_verify.specs.declared.error.Error.{Error}
 use Rattle.sigstore_verify.specs.declared.error.Error.TheVariants as verify
 use Rattle.sigstore_verify.specs.declared.report.Kept.{Kept}

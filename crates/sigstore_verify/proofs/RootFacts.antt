@@ -5,18 +5,18 @@ use Rattle.foundation.specs.Watched.{Watched, IfTold}
 use Rattle.foundation.specs.Results.{ok_same, no_both}
 use Rattle.sigstore_types_parts.specs.declared.error.TypesError.{TypesError}
 use Rattle.sigstore_tuf_parts.specs.declared.error.Error.{Error as TufError}
-use Rattle.sigstore_tuf.specs.Repository.{Quiet, Files, Folders}
-use Rattle.sigstore_tuf.specs.declared.chain.TrustChain.{TrustChain}
-use Rattle.sigstore_tuf.specs.declared.documents.InForce.{InForce}
-use Rattle.sigstore_tuf.specs.State.{state_of}
-use Rattle.sigstore_tuf.specs.Trusted.{Trusted}
-use Rattle.sigstore_tuf.specs.Authorised.{AreAuthorised, given_in}
-use Rattle.sigstore_tuf.specs.Promises.{Refreshed, Got}
-use Rattle.sigstore_tuf.specs.Kept.{HoldsAdopted, HoldsChain}
-use Rattle.sigstore_tuf.proofs.Authorised.{first_root_given, first_root_is_authorised}
-use Rattle.sigstore_tuf.proofs.Completing.{quiet_first, quiet_second}
-use Rattle.sigstore_tuf.proofs.Keeping.{told_each, first_kept, attach_later, refresh_later}
-use Rattle.sigstore_tuf.proofs.TargetKept.{gets_later}
+use Rattle.sigstore_tuf_outside.specs.Repository.{Quiet, Files, Folders}
+use Rattle.sigstore_tuf_rules.specs.declared.chain.TrustChain.{TrustChain}
+use Rattle.sigstore_tuf_rules.specs.declared.documents.InForce.{InForce}
+use Rattle.sigstore_tuf_runs.specs.State.{state_of}
+use Rattle.sigstore_tuf_rules.specs.Trusted.{Trusted}
+use Rattle.sigstore_tuf_rules.specs.Authorised.{AreAuthorised, given_in}
+use Rattle.sigstore_tuf_runs.specs.Promises.{Refreshed, Got}
+use Rattle.sigstore_tuf_runs.specs.Kept.{HoldsAdopted, HoldsChain}
+use Rattle.sigstore_tuf_rules.proofs.Authorised.{first_root_given, first_root_is_authorised}
+use Rattle.sigstore_tuf_causes.proofs.Faults.{quiet_first, quiet_second}
+use Rattle.sigstore_tuf_causes.proofs.Keeping.{told_each, first_kept, attach_later, refresh_later}
+use Rattle.sigstore_tuf_causes.proofs.TargetKept.{gets_later}
 use Rattle.sigstore_verify.specs.declared.error.Error.{Error}
 use Rattle.sigstore_verify.specs.declared.from_root.Rooted.{Rooted}
 use Rattle.sigstore_types.specs.declared.bundle.Bundle.{Bundle}

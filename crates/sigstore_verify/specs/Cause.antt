@@ -22,13 +22,13 @@ use Rattle.sigstore_entries.specs.declared.entry.TransparencyLogEntry.{Transpare
 use Rattle.sigstore_tuf_parts.specs.declared.error.Error.TheVariants as tuf
 use Rattle.sigstore_tuf_parts.specs.declared.error.Error.{Error as TufError}
 use Rattle.sigstore_tuf_parts.specs.declared.targets.Targets.{Targets}
-use Rattle.sigstore_tuf.specs.Cause.{FirstCause, RefreshCause}
-use Rattle.sigstore_tuf.specs.SearchCause.{TargetCause}
-use Rattle.sigstore_tuf.specs.Authorised.{AreAuthorised, Serve}
-use Rattle.sigstore_tuf.specs.declared.documents.Held.{Held}
-use Rattle.sigstore_tuf.specs.declared.documents.InForce.{InForce}
-use Rattle.sigstore_tuf.specs.State.{State, state_of}
-use Rattle.sigstore_tuf.specs.Update.{first_root_of}
+use Rattle.sigstore_tuf_runs.specs.Cause.{FirstCause, RefreshCause}
+use Rattle.sigstore_tuf_runs.specs.SearchCause.{TargetCause}
+use Rattle.sigstore_tuf_rules.specs.Authorised.{AreAuthorised, Serve}
+use Rattle.sigstore_tuf_rules.specs.declared.documents.Held.{Held}
+use Rattle.sigstore_tuf_rules.specs.declared.documents.InForce.{InForce}
+use Rattle.sigstore_tuf_runs.specs.State.{State, state_of}
+use Rattle.sigstore_tuf_rules.specs.Update.{first_root_of}
 use Rattle.sigstore_verify.specs.declared.error.Error.{Error}
 use Rattle.sigstore_verify.specs.declared.error.TransparencyLogError.{TransparencyLogError}
 use Rattle.sigstore_verify.specs.declared.error.Error.TheVariants as verify

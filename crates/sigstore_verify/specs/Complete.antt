@@ -4,9 +4,9 @@ use Rattle.foundation.specs.Steps.{◌>>=◌}
 use Rattle.foundation.specs.Watched.{Watched}
 use Rattle.sigstore_crypto.specs.Digest.{digests_by}
 use Rattle.sigstore_tuf_parts.specs.Document.{content_in}
-use Rattle.sigstore_tuf.specs.Repository.{Quiet, Files, Folders}
-use Rattle.sigstore_tuf.specs.declared.chain.TrustChain.{TrustChain}
-use Rattle.sigstore_tuf.specs.Offer.{Offers, Warm}
+use Rattle.sigstore_tuf_outside.specs.Repository.{Quiet, Files, Folders}
+use Rattle.sigstore_tuf_rules.specs.declared.chain.TrustChain.{TrustChain}
+use Rattle.sigstore_tuf_offers.specs.Offer.{Offers, Warm}
 use Rattle.sigstore_verify.specs.declared.error.Error.{Error}
 use Rattle.sigstore_verify.specs.declared.report.Kept.{Kept}
 use Rattle.sigstore_verify.specs.declared.from_root.Rooted.{Rooted}

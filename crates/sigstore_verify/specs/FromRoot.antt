@@ -9,13 +9,13 @@ use Rattle.sigstore_types.specs.TrustedRoot.{trusted_root_of_bytes}
 use Rattle.sigstore_crypto.specs.Digest.{digests_by}
 use Rattle.sigstore_tuf_parts.specs.declared.error.Error.{Error as TufError}
 use Rattle.sigstore_tuf_parts.specs.declared.error.Error.TheVariants as tuf
-use Rattle.sigstore_tuf.specs.Repository.{Files, Folders}
-use Rattle.sigstore_tuf.specs.declared.documents.InForce.{InForce}
-use Rattle.sigstore_tuf.specs.declared.chain.TrustChain.{TrustChain}
-use Rattle.sigstore_tuf.specs.Update.{first_root_of}
-use Rattle.sigstore_tuf.specs.State.{Session, session_of, state_of}
-use Rattle.sigstore_tuf.specs.Promises.{Attached, Refreshed, Got}
-use Rattle.sigstore_tuf.specs.Trusted.{Trusted}
+use Rattle.sigstore_tuf_outside.specs.Repository.{Files, Folders}
+use Rattle.sigstore_tuf_rules.specs.declared.documents.InForce.{InForce}
+use Rattle.sigstore_tuf_rules.specs.declared.chain.TrustChain.{TrustChain}
+use Rattle.sigstore_tuf_rules.specs.Update.{first_root_of}
+use Rattle.sigstore_tuf_runs.specs.State.{Session, session_of, state_of}
+use Rattle.sigstore_tuf_runs.specs.Promises.{Attached, Refreshed, Got}
+use Rattle.sigstore_tuf_rules.specs.Trusted.{Trusted}
 use Rattle.sigstore_verify.specs.declared.error.Error.{Error}
 use Rattle.sigstore_verify.specs.declared.error.Error.TheVariants as verify
 use Rattle.sigstore_verify.specs.Error.{lowered}

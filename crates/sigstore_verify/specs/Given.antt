@@ -3,8 +3,8 @@ use Rattle.std.specs.Prelude.{ℕ, List}
 use Rattle.jiff_core.specs.declared.timestamp.Timestamp as jiff
 use Rattle.foundation.specs.Watched.{Watched}
 use Rattle.sigstore_crypto.specs.Crypto.{Crypto}
-use Rattle.sigstore_tuf.specs.Repository.{Files, Folders}
-use Rattle.sigstore_tuf.specs.declared.config.UpdaterConfig.{UpdaterConfig}
+use Rattle.sigstore_tuf_outside.specs.Repository.{Files, Folders}
+use Rattle.sigstore_tuf_rules.specs.declared.config.UpdaterConfig.{UpdaterConfig}
 use Rattle.sigstore_types.specs.declared.trusted_root.TrustedRoot.{TrustedRoot}
 use Rattle.sigstore_verify.specs.Judged.{Terms}
 use Rattle.sigstore_verify.specs.Policy.{Meaning}

@@ -1,8 +1,8 @@
 -- What the top call promises, whole: the theorem that users rest on.
 use Rattle.std.specs.Prelude.{Result, IfOk, IfErr}
 use Rattle.foundation.specs.Watched.{IfTold}
-use Rattle.sigstore_tuf.specs.Repository.{Quiet}
-use Rattle.sigstore_tuf.specs.Kept.{HoldsChain}
+use Rattle.sigstore_tuf_outside.specs.Repository.{Quiet}
+use Rattle.sigstore_tuf_runs.specs.Kept.{HoldsChain}
 use Rattle.sigstore_verify.specs.declared.from_root.Rooted.{Rooted}
 use Rattle.sigstore_verify.specs.declared.from_root.RootFault.{RootFault}
 use Rattle.sigstore_verify.specs.Given.{Given, Outside}

@@ -1,8 +1,8 @@
 // The top call: from a pinned root down to one artifact.
 ghost use Rattle.std.specs.Prelude.{◌≡◌, ◌≢◌, ℕ, List, Ok, Err, IfOk, IfErr};
 ghost use Rattle.sigstore_crypto.specs.Crypto.{crypto_by};
-ghost use Rattle.sigstore_tuf.specs.Update.{first_root_of};
-ghost use Rattle.sigstore_tuf.specs.Authorised.{crypto_in};
+ghost use Rattle.sigstore_tuf_rules.specs.Update.{first_root_of};
+ghost use Rattle.sigstore_tuf_rules.specs.Authorised.{crypto_in};
 ghost use Rattle.sigstore_verify.specs.FromRoot.{trust_of, bundle_of, GivesChain, JudgesBundle, root_of_tuf, root_of_verify};
 ghost use Rattle.sigstore_verify.specs.Given.{Anchor, Given, Outside, Asked};
 ghost use Rattle.sigstore_verify.specs.Promises.{Promises};
