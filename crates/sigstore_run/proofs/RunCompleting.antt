@@ -1,12 +1,12 @@
 -- A run over an offered chain says the verdict, unless memory is wanting or the sink fails.
-use Rattle.std.proofs.Common.{◌≡◌, ◌≢◌, ◌⊎◌, inl, inr, ℕ, List, Option, Some, None, Result, Ok, Err, refl, sym, ap, ◌∙◌, subst}
+use Rattle.std.proofs.Common.{◌≡◌, ◌≢◌, ◌⊎◌, inl, inr, ℕ, List, Option, Some, None, Result, Ok, Err, refl, sym, ap, ◌∙◌, subst, arith}
 use Rattle.std.specs.Prelude.{⊤, IfOk, IfErr}
 use Rattle.std.specs.Result.{result_ok}
 use Rattle.jiff_core.specs.declared.timestamp.Timestamp as jiff
 use Rattle.foundation.specs.Watched.{Watched, Rose, IfTold}
 use Rattle.foundation.specs.Results.{ok_same, err_same, some_same, no_both}
 use Rattle.sigstore_tuf_rules.specs.declared.chain.TrustChain.{TrustChain}
-use Rattle.sigstore_tuf_causes.proofs.Faults.{not_both}
+use Rattle.sigstore_tuf_outside.specs.Repository.{Quiet}
 use Rattle.sigstore_judgement.specs.declared.error.Error.{Error}
 use Rattle.sigstore_judgement.specs.declared.report.Kept.{Kept}
 use Rattle.sigstore_verify.specs.declared.from_root.Rooted.{Rooted}
@@ -89,7 +89,7 @@ module _ (command : Command) (before after : Environment) (chain : TrustChain) (
   proceeds_says layout said same p = by_proceeds (subst (λ (l : Layout). Proceeds (now_of l command.clock) before after (Ok said)) same p)
     where
       quiet : Rose before.inputs.faults after.inputs.faults → ⊥
-      quiet rose = not_both before.inputs.faults after.inputs.faults rose f.inputs.quiet
+      quiet rose = let still : Quiet before.inputs.faults after.inputs.faults = f.inputs.quiet in omega arith
 
       by_proceeds : Proceeds (now_of f.layout command.clock) before after (Ok said) → T said
       by_proceeds (want_inputs stop e r s eq) = no_both said e eq
