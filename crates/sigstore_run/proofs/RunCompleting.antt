@@ -1,14 +1,10 @@
 -- A run over an offered chain says the verdict, unless memory is wanting or the sink fails.
-use Rattle.std.proofs.Common.{◌≡◌, ◌≢◌, ◌⊎◌, inl, inr, ℕ, List, Option, Some, None, Result, Ok, Err, refl, sym, ap, ◌∙◌, subst}
-use Rattle.std.specs.Prelude.{⊤, IfOk, IfErr}
+use Rattle.std.proofs.Common.{◌≡◌, ◌⊎◌, inl, inr, ℕ, List, Some, None, Result, Ok, Err, sym, ap, ◌∙◌, subst, arith}
 use Rattle.std.specs.Result.{result_ok}
-use Rattle.jiff_core.specs.declared.timestamp.Timestamp as jiff
 use Rattle.foundation.specs.Watched.{Watched, Rose, IfTold}
-use Rattle.foundation.specs.Results.{ok_same, err_same, some_same, no_both}
+use Rattle.foundation.specs.Results.{ok_same, err_same, no_both}
 use Rattle.sigstore_tuf_rules.specs.declared.chain.TrustChain.{TrustChain}
-use Rattle.sigstore_tuf_causes.proofs.Faults.{not_both}
-use Rattle.sigstore_judgement.specs.declared.error.Error.{Error}
-use Rattle.sigstore_judgement.specs.declared.report.Kept.{Kept}
+use Rattle.sigstore_tuf_outside.specs.Repository.{Quiet}
 use Rattle.sigstore_verify.specs.declared.from_root.Rooted.{Rooted}
 use Rattle.sigstore_verify.specs.declared.from_root.RootFault.{RootFault}
 use Rattle.sigstore_verify.specs.declared.from_root.RootFault.TheVariants as root
@@ -17,17 +13,15 @@ use Rattle.sigstore_verify.specs.FromRoot.{Runs}
 use Rattle.sigstore_verify.specs.Complete.{verdict_of, rooted_of, Favours, StaysWarm}
 use Rattle.sigstore_verify.proofs.RootCompleting.{runs_complete}
 use Rattle.sigstore_app_parts.specs.Inputs.{Held}
-use Rattle.sigstore_app_parts.specs.Layout.{layout_of}
 use Rattle.sigstore_app_parts.specs.Gather.{gathered_of, ReadsAs}
 use Rattle.sigstore_app_parts.specs.declared.layout.Layout.{Layout}
 use Rattle.sigstore_app_parts.specs.declared.gather.Gathered.{Gathered}
 use Rattle.sigstore_app_parts.specs.declared.gather.Stop.{Stop}
 use Rattle.sigstore_app_parts.specs.declared.gather.Stop.TheVariants.{Words, Malformed, Input, Memory}
 use Rattle.sigstore_run.specs.declared.answer.Status.{Status}
-use Rattle.sigstore_run.specs.declared.answer.Status.TheVariants as status
 use Rattle.sigstore_run.specs.declared.answer.Answer.{Answer}
-use Rattle.sigstore_run.specs.Run.{stop_answer, refusal_answer, given_by, now_of, Command, Environment, SaysReport, Judges, want_judging, refused, reported, Proceeds, want_inputs, stopped, judged, Decides, want_words, misworded, worded, RunsTo, unwritten, cut, written}
-use Rattle.sigstore_run.specs.Complete.{Favoured, Says, given_in, SaysVerdict, Completes}
+use Rattle.sigstore_run.specs.Run.{stop_answer, refusal_answer, now_of, Command, Environment, SaysReport, Judges, want_judging, refused, reported, Proceeds, want_inputs, stopped, judged, Decides, want_words, misworded, worded, RunsTo, unwritten, cut, written}
+use Rattle.sigstore_run.specs.Complete.{Favoured, Says, given_in, Completes}
 
 no_answer : (said : Answer) → refusal_answer root.NoMemory ≡ Some said → ⊥
 unfolding refusal_answer
@@ -89,7 +83,7 @@ module _ (command : Command) (before after : Environment) (chain : TrustChain) (
   proceeds_says layout said same p = by_proceeds (subst (λ (l : Layout). Proceeds (now_of l command.clock) before after (Ok said)) same p)
     where
       quiet : Rose before.inputs.faults after.inputs.faults → ⊥
-      quiet rose = not_both before.inputs.faults after.inputs.faults rose f.inputs.quiet
+      quiet rose = let still : Quiet before.inputs.faults after.inputs.faults = f.inputs.quiet in omega arith
 
       by_proceeds : Proceeds (now_of f.layout command.clock) before after (Ok said) → T said
       by_proceeds (want_inputs stop e r s eq) = no_both said e eq

@@ -1,5 +1,5 @@
 -- What an acceptance of the top call means.
-use Rattle.std.proofs.Common.{◌≡◌, Result, Ok, Err, refl, ap, sym, ◌∙◌, subst, le_trans}
+use Rattle.std.proofs.Common.{◌≡◌, Result, Ok, refl, sym, ◌∙◌, subst, le_trans}
 use Rattle.std.specs.Prelude.{⊤}
 use Rattle.foundation.specs.Watched.{Watched, IfTold}
 use Rattle.foundation.specs.Results.{ok_same, no_both}
@@ -16,7 +16,6 @@ use Rattle.sigstore_tuf_rules.proofs.Authorised.{first_root_given, first_root_is
 use Rattle.sigstore_tuf_causes.proofs.Faults.{quiet_first, quiet_second}
 use Rattle.sigstore_tuf_causes.proofs.Keeping.{told_each, first_kept, attach_later, refresh_later}
 use Rattle.sigstore_tuf_causes.proofs.TargetKept.{gets_later}
-use Rattle.sigstore_judgement.specs.declared.error.Error.{Error}
 use Rattle.sigstore_verify.specs.declared.from_root.Rooted.{Rooted}
 use Rattle.sigstore_verify.specs.Given.{Anchor, Given, Outside, asked_by}
 use Rattle.sigstore_judgement.specs.Artifact.{Read}

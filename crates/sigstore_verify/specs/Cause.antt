@@ -1,7 +1,6 @@
 -- What each refusal of the top call tells: of the root and the repository, or of the trust file, the bundle, the policy and the
 -- artifact (TUF specification, section 5; Sigstore bundle format; FIPS 180-4, FIPS 186-5).
-use Rattle.std.specs.Prelude.{◌≡◌, ◌≢◌, ◌⊎◌, ℕ, List, [], Contains, true, false, Some, None, Result, Ok, Err, codes, ⊤}
-use Rattle.foundation.specs.Watched.{Watched}
+use Rattle.std.specs.Prelude.{◌≡◌, ℕ, List, Some, Ok, codes, ⊤}
 use Rattle.sigstore_types_parts.specs.Entries.{at_name}
 use Rattle.sigstore_tuf_parts.specs.declared.error.Error.TheVariants as tuf
 use Rattle.sigstore_tuf_parts.specs.declared.error.Error.{Error as TufError}
@@ -13,7 +12,6 @@ use Rattle.sigstore_tuf_rules.specs.declared.documents.Held.{Held}
 use Rattle.sigstore_tuf_rules.specs.declared.documents.InForce.{InForce}
 use Rattle.sigstore_tuf_runs.specs.State.{State, state_of}
 use Rattle.sigstore_tuf_rules.specs.Update.{first_root_of}
-use Rattle.sigstore_judgement.specs.declared.error.Error.{Error}
 use Rattle.sigstore_judgement.specs.declared.error.Error.TheVariants as verify
 use Rattle.sigstore_verify.specs.declared.from_root.RootFault.{RootFault}
 use Rattle.sigstore_verify.specs.declared.from_root.RootFault.TheVariants as refusal

@@ -1,0 +1,52 @@
+# Completes the words of `ratmanganese` and `verify-real` in bash.
+_ratmanganese() {
+    local word=${COMP_WORDS[COMP_CWORD]} before=${COMP_WORDS[COMP_CWORD - 1]} command names name
+    command=${COMP_WORDS[0]##*/}
+    COMPREPLY=()
+    # (bash parts a word at `=`)
+    if [ "$word" = = ]; then
+        name=$before word=
+    elif [ "$before" = = ]; then
+        name=${COMP_WORDS[COMP_CWORD - 2]}
+    else
+        name=
+    fi
+    case $name in
+    --repository | --store)
+        mapfile -t COMPREPLY < <(compgen -d -- "$word")
+        compopt -o filenames
+        return
+        ;;
+    --root | --bundle | --artifact | --policy | --provider)
+        mapfile -t COMPREPLY < <(compgen -f -- "$word")
+        compopt -o filenames
+        return
+        ;;
+    --*) return ;;
+    esac
+    names="--root= --repository= --store= --bundle= --artifact= --policy= --now="
+    if [ "$command" = verify-real ]; then
+        names="$names --json --help"
+    elif [ "$COMP_CWORD" = 1 ]; then
+        mapfile -t COMPREPLY < <(compgen -W "verify questions explain build install version help" -- "$word")
+        return
+    else
+        case ${COMP_WORDS[1]} in
+        verify) names="$names --provider=" ;;
+        questions) ;;
+        explain)
+            [ "$COMP_CWORD" != 2 ] || mapfile -t COMPREPLY < <(compgen -W "tuf verify status" -- "$word")
+            return
+            ;;
+        install)
+            mapfile -t COMPREPLY < <(compgen -d -- "$word")
+            compopt -o filenames
+            return
+            ;;
+        *) return ;;
+        esac
+    fi
+    mapfile -t COMPREPLY < <(compgen -W "$names" -- "$word")
+    [[ ${COMPREPLY[0]} != *= ]] || compopt -o nospace
+}
+complete -F _ratmanganese ratmanganese verify-real
