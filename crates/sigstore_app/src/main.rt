@@ -4,7 +4,7 @@
 
 use foundation::NoMemory;
 use sigstore_app_parts::read_layout;
-use sigstore_files::{clock_of, objects_at, words_of};
+use sigstore_files::{Objects, clock_of, objects_at, words_of};
 use sigstore_run::{Status, run};
 use std::process::ExitCode;
 use std::rt::Runtime;
@@ -12,16 +12,22 @@ use std::rt::Runtime;
 // Runs the program over the real objects that its words name.
 fn status_of<X: Runtime + AllocGlobal>(rt: &X) -> Result<Status, NoMemory> {
     let words = words_of(rt)?;
-    let mut objects = objects_at(rt, read_layout(rt.alloc(), &words)?);
+    let Objects {
+        mut inputs,
+        mut repository,
+        mut store,
+        mut artifact,
+        mut out,
+    } = objects_at(rt, read_layout(rt.alloc(), &words)?);
     Ok(run(
         rt.alloc(),
         &words,
         clock_of(rt),
-        &mut objects.inputs,
-        &mut objects.repository,
-        &mut objects.store,
-        &mut objects.artifact,
-        &mut objects.out,
+        &mut inputs,
+        &mut repository,
+        &mut store,
+        &mut artifact,
+        &mut out,
     ))
 }
 
