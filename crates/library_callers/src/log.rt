@@ -1,0 +1,31 @@
+//! A caller of `sigstore_log`.
+use jiff::Timestamp;
+use sigstore_crypto::{CryptoProvider, Error, Keyring, VerificationKey, sha256};
+use sigstore_entries::TransparencyLogEntry;
+use sigstore_log::{LogError, judge_entry};
+use sigstore_types_parts::DerPublicKey;
+use std::alloc::Global;
+
+/// The logs that are trusted, each under the SHA-256 value of its key in DER.
+pub fn logs_of(alloc: Global, keys: &[DerPublicKey]) -> Result<Keyring, Error> {
+    let mut logs = Keyring::new(alloc);
+    for spki in keys {
+        let key = VerificationKey::from_spki(alloc, spki)?;
+        logs.add_key(sha256(spki.as_bytes()), key)?;
+    }
+    Ok(logs)
+}
+
+/// How many of some entries one of the logs took; the first that counts as logged by none is refused.
+pub fn count_logged<C: CryptoProvider>(
+    alloc: Global,
+    provider: &C,
+    logs: &Keyring,
+    now: Timestamp,
+    entries: &[TransparencyLogEntry],
+) -> Result<usize, LogError> {
+    for entry in entries {
+        judge_entry(alloc, provider, logs, now, entry)?;
+    }
+    Ok(entries.len())
+}
