@@ -18,7 +18,8 @@ pub fn key_of(alloc: Global, spki: &[u8]) -> Result<VerificationKey, Error> {
     VerificationKey::from_spki(alloc, &spki)
 }
 
-/// Reads a file of at most `max` bytes, and judges the signature of its SHA-256 value.
+/// Reads a file of at most `max` bytes, and judges the signature of its SHA-256 value; a key whose scheme has
+/// another digest is refused.
 pub fn check_file<C: CryptoProvider, A: ArtifactSource>(
     provider: &C,
     key: &VerificationKey,

@@ -16,16 +16,16 @@ pub fn logs_of(alloc: Global, keys: &[DerPublicKey]) -> Result<Keyring, Error> {
     Ok(logs)
 }
 
-/// How many of some entries one of the logs took; the first that counts as logged by none is refused.
-pub fn count_logged<C: CryptoProvider>(
+/// Whether each of these entries counts as logged by one of the logs; the first that doesn't is refused.
+pub fn check_logged<C: CryptoProvider>(
     alloc: Global,
     provider: &C,
     logs: &Keyring,
     now: Timestamp,
     entries: &[TransparencyLogEntry],
-) -> Result<usize, LogError> {
+) -> Result<(), LogError> {
     for entry in entries {
         judge_entry(alloc, provider, logs, now, entry)?;
     }
-    Ok(entries.len())
+    Ok(())
 }
