@@ -1,0 +1,37 @@
+//! A caller of `sigstore_judgement`.
+use jiff::Timestamp;
+use sigstore_crypto::CryptoProvider;
+use sigstore_judgement::{Error, PublicKeyVerificationPolicy, VerificationResult, Verifier};
+use sigstore_types::{Bundle, TrustedRoot};
+use sigstore_types_parts::{Armor, Artifact, TypesError};
+use std::alloc::Global;
+
+/// A verifier under a trust file; it serves for any number of bundles.
+pub fn verifier_of<'p, C: CryptoProvider, M: Armor>(
+    alloc: Global,
+    provider: &'p C,
+    armor: &'p M,
+    trust_file: &[u8],
+) -> Result<Verifier<'p, C, M>, Error> {
+    match TrustedRoot::from_json(alloc, trust_file) {
+        Ok(trusted) => Verifier::new(alloc, provider, armor, &trusted),
+        Err(TypesError::NoMemory) => Err(Error::NoMemory),
+        Err(_) => Err(Error::TrustRoot),
+    }
+}
+
+/// Judges a bundle over an artifact that is in memory.
+pub fn check_release<C: CryptoProvider, M: Armor>(
+    alloc: Global,
+    verifier: &Verifier<'_, C, M>,
+    policy: &PublicKeyVerificationPolicy,
+    bundle: &[u8],
+    artifact: &[u8],
+    now: Timestamp,
+) -> Result<VerificationResult, Error> {
+    match Bundle::from_json(alloc, bundle) {
+        Ok(bundle) => verifier.verify(alloc, Artifact::Blob(artifact), &bundle, policy, now),
+        Err(TypesError::NoMemory) => Err(Error::NoMemory),
+        Err(_) => Err(Error::InvalidBundle),
+    }
+}

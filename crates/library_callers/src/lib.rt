@@ -1,0 +1,11 @@
+//! Callers of the libraries, as somebody writes them who takes one library alone. docs/LIBRARIES.md shows them.
+#![tactic(auto)]
+
+pub mod crypto;
+pub mod der;
+pub mod judgement;
+pub mod log;
+pub mod merkle;
+pub mod path;
+pub mod tuf;
+pub mod verify;

@@ -1,0 +1,34 @@
+//! A caller of `sigstore_tuf`.
+use jiff::Timestamp;
+use sigstore_crypto::CryptoProvider;
+use sigstore_tuf::{Error, MetadataStore, Repository, Updater};
+use sigstore_types_parts::{Armor, Bytes};
+use std::alloc::Global;
+
+fn file_by<C: CryptoProvider, M: Armor, R: Repository, S: MetadataStore>(
+    alloc: Global,
+    client: &mut Updater<'_, C, M, R, S>,
+    path: &str,
+    now: Timestamp,
+) -> Result<Bytes, Error> {
+    client.refresh(alloc, now)?;
+    client.get_target(alloc, path, now)
+}
+
+/// The newest file of a target in a repository, trusted from this root on; the store keeps what was adopted.
+pub fn newest_file<C: CryptoProvider, M: Armor, R: Repository, S: MetadataStore>(
+    alloc: Global,
+    provider: &C,
+    armor: &M,
+    root: &[u8],
+    repo: &mut R,
+    store: &mut S,
+    path: &str,
+    now: Timestamp,
+) -> Result<Bytes, Error> {
+    let client = Updater::<C, M, R, S>::new(alloc, provider, armor, repo, root)?;
+    let mut client = client.with_store(alloc, store)?;
+    let file = file_by(alloc, &mut client, path, now);
+    drop(client);
+    file
+}
