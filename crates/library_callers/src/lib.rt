@@ -6,6 +6,7 @@ pub mod der;
 pub mod judgement;
 pub mod log;
 pub mod merkle;
+pub mod message;
 pub mod path;
 pub mod tuf;
 pub mod verify;
