@@ -17,7 +17,8 @@ pub record AreRight (w : Setting) (j : Judgements) : Type 0 where
   pub within : All (λ k. k < (length w.intermediates + 1) * width_of w) (keys j.judged)
   pub ordered : IsOrdered nat_cmp j.judged
 
--- what is kept stays right, and each step is a judgement more
+-- what is kept stays right, each step is a judgement more, and no step is taken back
 pub record Keeps (w : Setting) (old new : Judgements) : Type 0 where
   pub right : AreRight w new
   pub counted : new.steps + btree_map_len old.judged ≤ old.steps + btree_map_len new.judged
+  pub rises : old.steps ≤ new.steps

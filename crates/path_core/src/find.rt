@@ -23,7 +23,7 @@ use crate::steps::Steps;
 use crate::way::Way;
 use foundation::{NoMemory, Sequence};
 use jiff::Timestamp;
-use sigstore_crypto::CryptoProvider;
+use sigstore_crypto_parts::CryptoProvider;
 use sigstore_types_parts::{Bytes, DerCertificate};
 use std::alloc::Global;
 
@@ -122,6 +122,7 @@ fn search_anew<C: CryptoProvider>(
     ensures first { IfOk result (First (setting_of C.accepts given.now)) }
     ensures refused { IfErr result (Refuses (setting_of C.accepts given.now)) }
     ensures cost { steps.new ≤ steps.old + (length given.now.intermediates.now + 1) * (length given.now.intermediates.now + length given.now.anchors.now) }
+    ensures rises { steps.old ≤ steps.new }
 {
     let mut made = Judgements::new(alloc, steps.copied());
     let found = search(alloc, given, &mut made);
@@ -154,6 +155,7 @@ fn seek<C: CryptoProvider>(
     ensures ok { IfOk result (IsFound (setting (C.accepts provider.now) leaf.now intermediates.now anchors.now purpose at)) }
     ensures err { IfErr result (Refuses (setting (C.accepts provider.now) leaf.now intermediates.now anchors.now purpose at)) }
     ensures cost { steps.new ≤ steps.old + (length intermediates.now + 1) * (length intermediates.now + length anchors.now) }
+    ensures rises { steps.old ≤ steps.new }
 {
     let leaf = read(alloc, leaf.as_bytes())?;
     check_leaf(&leaf, purpose)?;
@@ -173,7 +175,8 @@ fn seek<C: CryptoProvider>(
 
 /// The first path from the leaf over intermediates to an anchor (RFC 5280, section 6), for a purpose at a
 /// moment: the least by the number of intermediates, then by their positions, then by the anchor's. Each
-/// certificate is read once, and each pair of certificates is judged at most once, which `steps` counts.
+/// certificate is read once, and `steps`, the count of judgements, never falls and grows by at most one for each
+/// pair of certificates.
 /// Errors, in order: `Leaf` with the first property that the leaf lacks; `NoPath` where there is none.
 #[tactic(auto, using(crate::proofs::FirstPath::refused_is))]
 pub fn find_path<C: CryptoProvider>(
@@ -189,6 +192,7 @@ pub fn find_path<C: CryptoProvider>(
     ensures ok { IfOk result (IsFound (setting (C.accepts provider.now) leaf.now intermediates.now anchors.now purpose at)) }
     ensures err { IfErr result (Refuses (setting (C.accepts provider.now) leaf.now intermediates.now anchors.now purpose at)) }
     ensures cost { steps.new ≤ steps.old + (length intermediates.now + 1) * (length intermediates.now + length anchors.now) }
+    ensures rises { steps.old ≤ steps.new }
     ensures path { IfOk result (λ p. path_of (setting (C.accepts provider.now) leaf.now intermediates.now anchors.now purpose at) ≡ Ok p) }
     ensures refusal { IfErr result (λ e. e ≢ PathError.NoMemory → path_of (setting (C.accepts provider.now) leaf.now intermediates.now anchors.now purpose at) ≡ Err e) }
 {

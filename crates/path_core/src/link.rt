@@ -1,13 +1,14 @@
 // Whether one certificate was issued by the next.
 ghost use Rattle.std.specs.Prelude.{◌≡◌, option_copied};
-ghost use Rattle.x509_core_parts.specs.Spki.{spki_view_of};
-ghost use Rattle.x509_core_parts.specs.Views.{certificate_parts, spki_parts};
-ghost use Rattle.sigstore_crypto.specs.Pairs.{pair_of};
+ghost use Rattle.spki_core.specs.Spki.{spki_view_of};
+ghost use Rattle.spki_core.specs.Views.{spki_parts};
+ghost use Rattle.x509_core_parts.specs.Views.{certificate_parts};
+ghost use Rattle.sigstore_crypto_parts.specs.Pairs.{pair_of};
 ghost use Rattle.path_core.specs.Links.{is_pair, scheme_of, good_under, is_signed, is_issued, links};
 ghost use Rattle.path_core.specs.Seen.{IsKey};
 
 use crate::seen::Seen;
-use sigstore_crypto::{
+use sigstore_crypto_parts::{
     CryptoProvider, SignatureAlgorithm, SigningScheme, validate_raw_public_key,
     webpki_verification_algs,
 };

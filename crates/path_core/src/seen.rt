@@ -1,8 +1,8 @@
 // Certificates that were read once.
 ghost use Rattle.std.specs.Prelude.{◌≡◌, IfOk, IfErr, Ok, Err, option_copied};
 ghost use Rattle.x509_core_parts.specs.Certificates.{certificate_of};
-ghost use Rattle.x509_core_parts.specs.Reading.{Reading};
-ghost use Rattle.x509_core_parts.specs.Spki.{spki_view_of};
+ghost use Rattle.spki_core.specs.Reading.{Reading};
+ghost use Rattle.spki_core.specs.Spki.{spki_view_of};
 ghost use Rattle.x509_core_parts.specs.Views.{certificate_parts};
 ghost use Rattle.path_core.specs.Anchors.{TrustAnchor, opens};
 ghost use Rattle.path_core.specs.Links.{spki_of};

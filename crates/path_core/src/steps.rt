@@ -1,5 +1,5 @@
 // The count of judgements.
-ghost use Rattle.std.specs.Prelude.{◌≡◌, ◌+◌, ◌-◌, ◌^◌, min};
+ghost use Rattle.std.specs.Prelude.{◌≡◌, ◌+◌, ◌-◌, ◌^◌, ◌≤◌, min};
 
 use std::marker::Model;
 
@@ -41,7 +41,8 @@ impl Steps {
 
     /// One more.
     pub(crate) fn tick(&mut self)
-        ensures { self.new ≡ min (self.old + 1) (2 ^ 128 - 1) }
+        ensures once { self.new ≡ min (self.old + 1) (2 ^ 128 - 1) }
+        ensures rises { self.old ≤ self.new }
     {
         self.made = self.made.saturating_add(1);
     }

@@ -5,7 +5,7 @@
 use foundation::NoMemory;
 use sigstore_app_parts::read_layout;
 use sigstore_files::{Objects, clock_of, objects_at, words_of};
-use sigstore_run::{Status, run};
+use sigstore_run::{Status, exit_code, run};
 use std::process::ExitCode;
 use std::rt::Runtime;
 
@@ -32,8 +32,5 @@ fn status_of<X: Runtime + AllocGlobal>(rt: &X) -> Result<Status, NoMemory> {
 }
 
 fn main(rt: HostRuntime) -> ExitCode {
-    match status_of(&rt) {
-        Ok(status) => ExitCode::from(status.code()),
-        Err(NoMemory) => ExitCode::from(Status::Memory.code()),
-    }
+    ExitCode::from(exit_code(status_of(&rt)))
 }

@@ -10,7 +10,7 @@ use Rattle.std.specs.List.Sorted.{IsStrictlySortedBy}
 use Rattle.std.specs.Map.{keys_of, lookup, remove_entry}
 use Rattle.sigstore_types_parts.specs.Entries.{text_cmp, at_name}
 use Rattle.sigstore_app_parts.specs.ByteMap.{keyed}
-use Rattle.sigstore_app_parts.specs.Rows.{AcceptRows, rows_under, with_accept_row}
+use Rattle.sigstore_app_parts.specs.Rows.{SubjectRows, of_subject, with_subject_row, AcceptRows, of_signature, with_accept_row}
 use Rattle.sigstore_app_parts.specs.declared.rows.AcceptRow.{AcceptRow}
 
 abbrev pub vec_cmp : {A : Type 0} → Vec ℕ A → Vec ℕ A → Ordering
@@ -87,10 +87,18 @@ module _ {T : Type 0} where
   put_back k v [] h = refl
   put_back k v (e ∷ es) h = put_at k v e es (text_cmp k e.0) refl h.0 (put_back k v es h.1)
 
+-- the rows of a subject were taken out, and are put back with one more
+pub subject_row_added : (old mid new : SubjectRows) (key : List ℕ) (rows : List AcceptRow) (row : AcceptRow) → key ≡ row.subject
+    → mid ≡ remove_entry (is_at (text_cmp key)) old → IsStrictlySortedBy text_cmp (keys_of old) → rows ≡ of_subject key old ++ row ∷ []
+    → new ≡ insert_entry text_cmp mid key rows → new ≡ with_subject_row old row
+subject_row_added old mid new key rows row is taken sorted more put =
+    put ∙ ap (λ es. insert_entry text_cmp es key rows) taken ∙ put_back key rows old sorted ∙ ap (insert_entry text_cmp old key) more
+    ∙ ap (λ k. insert_entry text_cmp old k (of_subject k old ++ row ∷ [])) is
+
 -- the rows of a signature were taken out, and are put back with one more
-pub row_added : (old mid new : AcceptRows) (key : List ℕ) (rows : List AcceptRow) (row : AcceptRow) → key ≡ row.signature
-    → mid ≡ remove_entry (is_at (text_cmp key)) old → IsStrictlySortedBy text_cmp (keys_of old) → rows ≡ rows_under key old ++ row ∷ []
+pub row_added : (old mid new : AcceptRows) (key : List ℕ) (rows : SubjectRows) (row : AcceptRow) → key ≡ row.signature
+    → mid ≡ remove_entry (is_at (text_cmp key)) old → IsStrictlySortedBy text_cmp (keys_of old) → rows ≡ with_subject_row (of_signature key old) row
     → new ≡ insert_entry text_cmp mid key rows → new ≡ with_accept_row old row
 row_added old mid new key rows row is taken sorted more put =
     put ∙ ap (λ es. insert_entry text_cmp es key rows) taken ∙ put_back key rows old sorted ∙ ap (insert_entry text_cmp old key) more
-    ∙ ap (λ k. insert_entry text_cmp old k (rows_under k old ++ row ∷ [])) is
+    ∙ ap (λ k. insert_entry text_cmp old k (with_subject_row (of_signature k old) row)) is

@@ -4,4 +4,4 @@ mod Keyed
 mod Pieces
 mod Printing
 mod Readings
-mod RowFacts
+pub mod RowFacts

@@ -2,8 +2,8 @@
 use Rattle.std.proofs.Common.{◌≡◌, ◌≢◌, ◌⊎◌, inl, inr, ℕ, ◌<◌, ◌≤◌, List, length, Option, Some, None, Result, Ok, Err, refl, sym, ap, ◌∙◌, subst, arith}
 use Rattle.std.proofs.lemmas.Grind.{common_steps}
 use Rattle.foundation.specs.Steps.{◌>>=◌}
-use Rattle.foundation.specs.Watched.{Watched, Rose, IfTold, Since}
-use Rattle.sigstore_app_parts.specs.Inputs.{Held, Gives}
+use Rattle.foundation.specs.Watched.{Rose, IfTold, Since}
+use Rattle.sigstore_app_parts.specs.Inputs.{Held, Supply, watched, Gives}
 use Rattle.sigstore_app_parts.specs.Policy.{policy_of}
 use Rattle.sigstore_app_parts.specs.Tables.{no_rows, tables_of}
 use Rattle.sigstore_app_parts.specs.Gather.{limit_of, within_limit, input_of, stop_of, by_form, policy_in, signed_in, asked_of, IsMalformed, MalformedCause, StopCause, ReadsAs}
@@ -40,7 +40,7 @@ is_over : (which : Which) (bytes : List ℕ) → limit_of which < length bytes �
 is_over which bytes h = grind (arith, common_steps)
 
 -- an input was given
-given : (which : Which) (old new : Watched Held) (bytes : List ℕ) → Gives which old new (limit_of which) (Ok bytes) → ReadsAs (input_of which) old new (Ok bytes)
+given : (which : Which) (old new : Supply) (bytes : List ℕ) → Gives which old new (limit_of which) (Ok bytes) → ReadsAs (input_of which) old new (Ok bytes)
 unfolding input_of
 given which old new bytes g = record {
   since = record { same = g.same; later = g.later };
@@ -49,11 +49,11 @@ given which old new bytes g = record {
   cause = tt;
 }
 
-pub input_given : (which : Which) (old new : Watched Held) (bytes : List ℕ) (max : ℕ) → max ≡ limit_of which → Gives which old new max (Ok bytes) → ReadsAs (input_of which) old new (Ok bytes)
+pub input_given : (which : Which) (old new : Supply) (bytes : List ℕ) (max : ℕ) → max ≡ limit_of which → Gives which old new max (Ok bytes) → ReadsAs (input_of which) old new (Ok bytes)
 input_given which old new bytes max e g = given which old new bytes (subst (λ m. Gives which old new m (Ok bytes)) e g)
 
 -- an input wasn't given: the count rose, or told inputs lack it or hold it longer than its limit
-why_refused : (which : Which) (old new : Watched Held) (f : InputFault) → f ≢ fault.NoMemory → Gives which old new (limit_of which) (Err f)
+why_refused : (which : Which) (old new : Supply) (f : InputFault) → f ≢ fault.NoMemory → Gives which old new (limit_of which) (Err f)
     → Rose old.faults new.faults ⊎ IfTold old.told (λ held. input_of which held ≡ Err (Input which))
 unfolding input_of
 why_refused which old new fault.Failed n g = inl g.failed
@@ -64,21 +64,21 @@ why_refused which old new (fault.TooLong seen) n g =
     (λ held is. ap (within_limit which) is.1 ∙ is_over which is.0 (subst (λ n. limit_of which < n) is.2 g.limit)))
 why_refused which old new fault.NoMemory n g = absurd (n refl)
 
-refused : (which : Which) (old new : Watched Held) (f : InputFault) → f ≢ fault.NoMemory → Gives which old new (limit_of which) (Err f) → ReadsAs (input_of which) old new (Err (Input which))
+refused : (which : Which) (old new : Supply) (f : InputFault) → f ≢ fault.NoMemory → Gives which old new (limit_of which) (Err f) → ReadsAs (input_of which) old new (Err (Input which))
 refused which old new f n g =
-    let why = why_refused which old new f n g in record { since = record { same = g.same; later = g.later }; ok = tt; err = λ m. why; cause = why }
+    let why = why_refused which old new f n g in record { since = record { same = g.same; later = g.later }; ok = tt; err = λ m. why; cause = (g.named, why) }
 
-refused_as : (which : Which) (old new : Watched Held) (f : InputFault) → Gives which old new (limit_of which) (Err f) → ReadsAs (input_of which) old new (Err (stop_of which f))
+refused_as : (which : Which) (old new : Supply) (f : InputFault) → Gives which old new (limit_of which) (Err f) → ReadsAs (input_of which) old new (Err (stop_of which f))
 refused_as which old new fault.Failed g = refused which old new fault.Failed (λ e. cc) g
 refused_as which old new fault.Absent g = refused which old new fault.Absent (λ e. cc) g
 refused_as which old new (fault.TooLong seen) g = refused which old new (fault.TooLong seen) (λ e. cc) g
 refused_as which old new fault.NoMemory g = record { since = record { same = g.same; later = g.later }; ok = tt; err = λ m. absurd (m refl); cause = tt }
 
-pub input_refused : (which : Which) (old new : Watched Held) (f : InputFault) (s : Stop) (max : ℕ) → max ≡ limit_of which → s ≡ stop_of which f → Gives which old new max (Err f) → ReadsAs (input_of which) old new (Err s)
+pub input_refused : (which : Which) (old new : Supply) (f : InputFault) (s : Stop) (max : ℕ) → max ≡ limit_of which → s ≡ stop_of which f → Gives which old new max (Err f) → ReadsAs (input_of which) old new (Err s)
 input_refused which old new f s max e is g = subst (λ t. ReadsAs (input_of which) old new (Err t)) (sym is) (refused_as which old new f (subst (λ m. Gives which old new m (Err f)) e g))
 
 -- the first reading is refused
-pub first_refused : {A B : Type 0} (f : Held → Result A Stop) (k : A → Held → Result B Stop) (old new : Watched Held) (e : Stop)
+pub first_refused : {A B : Type 0} (f : Held → Result A Stop) (k : A → Held → Result B Stop) (old new : Supply) (e : Stop)
     → ReadsAs f old new (Err e) → ReadsAs (λ held. f held >>= λ a. k a held) old new (Err e)
 first_refused f k old new e r = record {
   since = r.since;
@@ -88,24 +88,24 @@ first_refused f k old new e r = record {
 }
 
 -- a cause after other readings is one after all
-malformed_earlier : {A : Type 0} (which : Which) (reads : List ℕ → Result A UsageFault) (old mid : Watched Held) → mid.told ≡ old.told → IsMalformed which reads mid → IsMalformed which reads old
+malformed_earlier : {A : Type 0} (which : Which) (reads : List ℕ → Result A UsageFault) (old mid : Supply) → mid.told ≡ old.told → IsMalformed which reads mid → IsMalformed which reads old
 malformed_earlier which reads old mid e m = record { bytes = m.bytes; there = told_as (λ held. input_of which held ≡ Ok m.bytes) old.told mid.told e m.there; malformed = m.malformed }
 
-form_earlier : (which : Which) (old mid : Watched Held) → mid.told ≡ old.told → MalformedCause which mid → MalformedCause which old
+form_earlier : (which : Which) (old mid : Supply) → mid.told ≡ old.told → MalformedCause which mid → MalformedCause which old
 form_earlier Policy old mid e c = malformed_earlier Policy policy_of old mid e c
 form_earlier Provider old mid e c = malformed_earlier Provider tables_of old mid e c
 form_earlier Root old mid e c = absurd c
 form_earlier Bundle old mid e c = absurd c
 
-cause_earlier : (old mid new : Watched Held) (s : Stop) → Since old mid → StopCause mid new s → StopCause old new s
+cause_earlier : (old mid new : Supply) (s : Stop) → Since (watched old) (watched mid) → StopCause mid new s → StopCause old new s
 cause_earlier old mid new Words since c = absurd c
 cause_earlier old mid new (Malformed which) since c = form_earlier which old mid since.same c
-cause_earlier old mid new (Input which) since (inl rose) = inl (rose_later old.faults mid.faults new.faults since.later rose)
-cause_earlier old mid new (Input which) since (inr is) = inr (told_as (λ held. input_of which held ≡ Err (Input which)) old.told mid.told since.same is)
+cause_earlier old mid new (Input which) since (named, inl rose) = (named, inl (rose_later old.faults mid.faults new.faults since.later rose))
+cause_earlier old mid new (Input which) since (named, inr is) = (named, inr (told_as (λ held. input_of which held ≡ Err (Input which)) old.told mid.told since.same is))
 cause_earlier old mid new Memory since c = tt
 
 -- the first reading gave a value, and the others follow
-pub then_reads : {A B : Type 0} (f : Held → Result A Stop) (k : A → Held → Result B Stop) (old mid new : Watched Held) (a : A) (result : Result B Stop)
+pub then_reads : {A B : Type 0} (f : Held → Result A Stop) (k : A → Held → Result B Stop) (old mid new : Supply) (a : A) (result : Result B Stop)
     → ReadsAs f old mid (Ok a) → ReadsAs (k a) mid new result → ReadsAs (λ held. f held >>= λ x. k x held) old new result
 then_reads f k old mid new a (Ok b) p q = record {
   since = record { same = q.since.same ∙ p.since.same; later = omega arith };
@@ -128,11 +128,11 @@ everywhere None P f = tt
 everywhere (Some a) P f = f a
 
 -- nothing more is read
-pub then_ok : {A B : Type 0} (f : Held → Result A Stop) (k : A → Held → Result B Stop) (old new : Watched Held) (a : A) (b : B)
+pub then_ok : {A B : Type 0} (f : Held → Result A Stop) (k : A → Held → Result B Stop) (old new : Supply) (a : A) (b : B)
     → ReadsAs f old new (Ok a) → ((held : Held) → k a held ≡ Ok b) → ReadsAs (λ held. f held >>= λ x. k x held) old new (Ok b)
 then_ok f k old new a b p h = then_reads f k old new new a (Ok b) p (record { since = record { same = refl; later = omega arith }; ok = everywhere new.told (λ held. k a held ≡ Ok b) h; err = tt; cause = tt })
 
-then_err : {A B : Type 0} (f : Held → Result A Stop) (k : A → Held → Result B Stop) (old new : Watched Held) (a : A) (e : Stop)
+then_err : {A B : Type 0} (f : Held → Result A Stop) (k : A → Held → Result B Stop) (old new : Supply) (a : A) (e : Stop)
     → ReadsAs f old new (Ok a) → (e ≢ Memory → (held : Held) → k a held ≡ Err e) → StopCause old new e → ReadsAs (λ held. f held >>= λ x. k x held) old new (Err e)
 then_err f k old new a e p h c = record {
   since = p.since;
@@ -142,7 +142,7 @@ then_err f k old new a e p h c = record {
 }
 
 -- a file that was read is outside its grammar
-formed_cause : {A : Type 0} (which : Which) (reads : List ℕ → Result A UsageFault) (old new : Watched Held) (bytes : List ℕ) (e : Stop) → (IsMalformed which reads old → MalformedCause which old)
+formed_cause : {A : Type 0} (which : Which) (reads : List ℕ → Result A UsageFault) (old new : Supply) (bytes : List ℕ) (e : Stop) → (IsMalformed which reads old → MalformedCause which old)
     → IfTold old.told (λ held. input_of which held ≡ Ok bytes) → (e ≢ Memory → by_form which (reads bytes) ≡ Err e) → StopCause old new e
 formed_cause {A = A} which reads old new bytes e f there h = by_stop e h
   where
@@ -161,13 +161,13 @@ formed_cause {A = A} which reads old new bytes e f there h = by_stop e h
     by_stop Memory h = tt
 
 -- the first reading gave a file that is outside its grammar
-pub then_malformed : {A : Type 0} (which : Which) (reads : List ℕ → Result A UsageFault) (old new : Watched Held) (bytes : List ℕ) (e : Stop) → (IsMalformed which reads old → MalformedCause which old)
+pub then_malformed : {A : Type 0} (which : Which) (reads : List ℕ → Result A UsageFault) (old new : Supply) (bytes : List ℕ) (e : Stop) → (IsMalformed which reads old → MalformedCause which old)
     → ReadsAs (input_of which) old new (Ok bytes) → (e ≢ Memory → by_form which (reads bytes) ≡ Err e) → ReadsAs (λ held. input_of which held >>= λ b. by_form which (reads b)) old new (Err e)
 then_malformed which reads old new bytes e f p h =
     then_err (input_of which) (λ b held. by_form which (reads b)) old new bytes e p (λ m held. h m) (formed_cause which reads old new bytes e f p.ok h)
 
 -- the policy was read, and the root and the bundle follow
-pub asked_reads : (policy : PolicyFile) (tables : Tables) (old mid new : Watched Held) (result : Result Gathered Stop) → tables ≡ no_rows
+pub asked_reads : (policy : PolicyFile) (tables : Tables) (old mid new : Supply) (result : Result Gathered Stop) → tables ≡ no_rows
     → ReadsAs policy_in old mid (Ok policy) → ReadsAs (signed_in policy tables) mid new result → ReadsAs asked_of old new result
 unfolding asked_of
 asked_reads policy tables old mid new result e p q =

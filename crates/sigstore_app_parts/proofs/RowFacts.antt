@@ -7,8 +7,8 @@ use Rattle.std.specs.Ordering.{is_eq, ordering_reverse, match_ordering}
 use Rattle.std.specs.BTreeMap.{insert_entry}
 use Rattle.std.specs.List.{list_any}
 use Rattle.sigstore_types_parts.specs.Entries.{text_cmp, at_name}
-use Rattle.sigstore_crypto.specs.declared.scheme.SigningScheme.{SigningScheme}
-use Rattle.sigstore_app_parts.specs.Rows.{AcceptRows, is_row, rows_under, accepts_of}
+use Rattle.sigstore_crypto_parts.specs.declared.scheme.SigningScheme.{SigningScheme}
+use Rattle.sigstore_app_parts.specs.Rows.{SubjectRows, of_subject, with_subject_row, AcceptRows, of_signature, is_row, rows_under, accepts_of}
 use Rattle.sigstore_app_parts.specs.RowLaws.{AddsSignature, AddsText}
 use Rattle.sigstore_app_parts.specs.declared.rows.AcceptRow.{AcceptRow}
 
@@ -23,7 +23,7 @@ self_reverse Greater h = cc
 same_key : (k : List ℕ) → text_cmp k k ≡ Equal
 same_key k = self_reverse (text_cmp k k) (nat_list_cmp_total.antisymm k k)
 
-equal_of : (o : Ordering) → is_eq o ≡ true → o ≡ Equal
+pub equal_of : (o : Ordering) → is_eq o ≡ true → o ≡ Equal
 equal_of Less h = cc
 equal_of Equal h = refl
 equal_of Greater h = cc
@@ -81,7 +81,11 @@ and_false : (a b : Bool) → b ≡ false → (a && b) ≡ false
 and_false true b h = h
 and_false false b h = refl
 
-abbrev unwrapped : Option (List AcceptRow) → List AcceptRow
+first_false : (a b : Bool) → a ≡ false → (a && b) ≡ false
+first_false true b h = cc h
+first_false false b h = refl
+
+abbrev unwrapped : {A : Type 0} → Option (List A) → List A
 unwrapped r = unwrap_or r []
 
 is_eq-reverse : (o : Ordering) → is_eq (ordering_reverse o) ≡ is_eq o
@@ -89,19 +93,37 @@ is_eq-reverse Less = refl
 is_eq-reverse Equal = refl
 is_eq-reverse Greater = refl
 
-by_key : (rows : AcceptRows) (row : AcceptRow) (s : SigningScheme) (key subject signature : List ℕ) (b : Bool) → is_eq (text_cmp signature row.signature) ≡ b
-    → list_any (is_row s key subject signature) (unwrapped (cond b (Some (rows_under row.signature rows ++ row ∷ [])) (at_name signature rows)))
+-- a text that isn't found at a key isn't the key
+another : (q k : List ℕ) → is_eq (text_cmp q k) ≡ false → bytes_eq k q ≡ false
+another q k h = sym (same_test k q) ∙ ap is_eq (nat_list_cmp_total.antisymm k q) ∙ is_eq-reverse (text_cmp q k) ∙ h
+
+-- under one signature: the rows of the row's subject have it besides
+by_subject : (rows : SubjectRows) (row : AcceptRow) (s : SigningScheme) (key subject signature : List ℕ) (b : Bool) → is_eq (text_cmp subject row.subject) ≡ b
+    → list_any (is_row s key subject signature) (unwrapped (cond b (Some (of_subject row.subject rows ++ row ∷ [])) (at_name subject rows)))
+    ≡ (list_any (is_row s key subject signature) (of_subject subject rows) || is_row s key subject signature row)
+by_subject rows row s key subject signature true h =
+    let same : subject ≡ row.subject = exact_bytes subject row.subject (equal_of _ h) in
+    any_last (is_row s key subject signature) (of_subject row.subject rows) row
+    ∙ ap (λ g. list_any (is_row s key subject signature) (of_subject g rows) || is_row s key subject signature row) (sym same)
+by_subject rows row s key subject signature false h = or_false _ _ (first_false _ _ (and_false _ _ (another subject row.subject h)))
+
+adds_subject : (rows : SubjectRows) (row : AcceptRow) (s : SigningScheme) (key subject signature : List ℕ)
+    → list_any (is_row s key subject signature) (of_subject subject (with_subject_row rows row))
+    ≡ (list_any (is_row s key subject signature) (of_subject subject rows) || is_row s key subject signature row)
+adds_subject rows row s key subject signature =
+    ap (λ r. list_any (is_row s key subject signature) (unwrapped r)) (found subject row.subject (of_subject row.subject rows ++ row ∷ []) rows)
+    ∙ by_subject rows row s key subject signature (is_eq (text_cmp subject row.subject)) refl
+
+by_signature : (rows : AcceptRows) (row : AcceptRow) (s : SigningScheme) (key subject signature : List ℕ) (b : Bool) → is_eq (text_cmp signature row.signature) ≡ b
+    → list_any (is_row s key subject signature) (of_subject subject (unwrapped (cond b (Some (with_subject_row (of_signature row.signature rows) row)) (at_name signature rows))))
     ≡ (accepts_of rows s key subject signature || is_row s key subject signature row)
-by_key rows row s key subject signature true h =
+by_signature rows row s key subject signature true h =
     let same : signature ≡ row.signature = exact_bytes signature row.signature (equal_of _ h) in
-    any_last (is_row s key subject signature) (rows_under row.signature rows) row
-    ∙ ap (λ g. list_any (is_row s key subject signature) (rows_under g rows) || is_row s key subject signature row) (sym same)
-by_key rows row s key subject signature false h =
-    let other : bytes_eq row.signature signature ≡ false =
-    sym (same_test row.signature signature) ∙ ap is_eq (nat_list_cmp_total.antisymm row.signature signature) ∙ is_eq-reverse (text_cmp signature row.signature) ∙ h in
-    or_false _ _ (and_false _ _ other)
+    adds_subject (of_signature row.signature rows) row s key subject signature
+    ∙ ap (λ g. list_any (is_row s key subject signature) (rows_under g subject rows) || is_row s key subject signature row) (sym same)
+by_signature rows row s key subject signature false h = or_false _ _ (and_false _ _ (another signature row.signature h))
 
 pub adds_signature : AddsSignature
 adds_signature rows row s key subject signature =
-    ap (λ r. list_any (is_row s key subject signature) (unwrapped r)) (found signature row.signature (rows_under row.signature rows ++ row ∷ []) rows)
-    ∙ by_key rows row s key subject signature (is_eq (text_cmp signature row.signature)) refl
+    ap (λ r. list_any (is_row s key subject signature) (of_subject subject (unwrapped r))) (found signature row.signature (with_subject_row (of_signature row.signature rows) row) rows)
+    ∙ by_signature rows row s key subject signature (is_eq (text_cmp signature row.signature)) refl

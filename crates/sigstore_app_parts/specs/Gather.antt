@@ -2,8 +2,8 @@
 use Rattle.std.specs.Prelude.{◌≡◌, ◌≢◌, ◌⊎◌, ℕ, List, length, codes, nat_lt, if◌then◌else◌, Option, Some, None, Result}
 use Rattle.std.specs.Prelude.{Ok, Err, IfOk, IfErr, ⊤}
 use Rattle.foundation.specs.Steps.{◌>>=◌}
-use Rattle.foundation.specs.Watched.{Watched, Rose, IfTold, Since}
-use Rattle.sigstore_app_parts.specs.Inputs.{Held}
+use Rattle.foundation.specs.Watched.{Rose, IfTold, Since}
+use Rattle.sigstore_app_parts.specs.Inputs.{Held, Supply, watched}
 use Rattle.sigstore_app_parts.specs.Policy.{policy_of}
 use Rattle.sigstore_app_parts.specs.Tables.{no_rows, tables_of}
 use Rattle.sigstore_app_parts.specs.declared.usage_fault.UsageFault.{UsageFault}
@@ -82,30 +82,32 @@ asked_of held =
     signed_in policy no_rows held
 
 -- bytes that told inputs hold within their limit, and that are outside their grammar
-pub record IsMalformed {A : Type 0} (which : Which) (reads : List ℕ → Result A UsageFault) (seen : Watched Held) : Type 0 where
+pub record IsMalformed {A : Type 0} (which : Which) (reads : List ℕ → Result A UsageFault) (seen : Supply) : Type 0 where
   pub bytes : List ℕ
   pub there : IfTold seen.told (λ held. input_of which held ≡ Ok bytes)
   pub malformed : reads bytes ≡ Err usage.Usage
 
 -- the policy or the provider's file is outside its grammar
-abbrev pub MalformedCause : Which → Watched Held → Type 0
+abbrev pub MalformedCause : Which → Supply → Type 0
 MalformedCause Policy seen = IsMalformed Policy policy_of seen
 MalformedCause Provider seen = IsMalformed Provider tables_of seen
 MalformedCause Root seen = ⊥
 MalformedCause Bundle seen = ⊥
 
--- Why the inputs stop a run: one is outside its grammar; or the count of faults rose, or told inputs lack one or hold it longer
--- than its limit; or memory is wanting.
-abbrev pub StopCause : Watched Held → Watched Held → Stop → Type 0
+-- Why the inputs stop a run: one is outside its grammar; or one is the last that wasn't given, and the count of faults rose, or told
+-- inputs lack it or hold it longer than its limit; or memory is wanting.
+abbrev pub StopCause : Supply → Supply → Stop → Type 0
 StopCause old new Words = ⊥
 StopCause old new (Malformed which) = MalformedCause which old
-StopCause old new (Input which) = Rose old.faults new.faults ⊎ IfTold old.told (λ held. input_of which held ≡ Err (Input which))
+StopCause old new (Input which) =
+    (new.missing ≡ Some which)
+    × (Rose old.faults new.faults ⊎ IfTold old.told (λ held. input_of which held ≡ Err (Input which)))
 StopCause old new Memory = ⊤
 
 -- The promise of a reading: over told inputs the answer is this one, unless a reading failed or memory was wanting; and what
 -- stops the run has its cause.
-pub record ReadsAs {A : Type 0} (of : Held → Result A Stop) (old new : Watched Held) (result : Result A Stop) : Type 0 where
-  pub since : Since old new
+pub record ReadsAs {A : Type 0} (of : Held → Result A Stop) (old new : Supply) (result : Result A Stop) : Type 0 where
+  pub since : Since (watched old) (watched new)
   pub ok : IfOk result (λ x. IfTold old.told (λ held. of held ≡ Ok x))
   pub err : IfErr result (λ e. e ≢ Memory → Rose old.faults new.faults ⊎ IfTold old.told (λ held. of held ≡ Err e))
   pub cause : IfErr result (StopCause old new)

@@ -17,9 +17,25 @@ held_of root bundle policy provider Bundle = bundle
 held_of root bundle policy provider Policy = policy
 held_of root bundle policy provider Provider = provider
 
+-- What contracts see of inputs: those that are there, where they are told, how often a reading failed, and which input was the
+-- last that was asked for and not given.
+pub record Supply : Type 0 where
+  pub told : Option Held
+  pub faults : ℕ
+  pub missing : Option Which
+
+-- the same without the last
+abbrev pub watched : Supply → Watched Held
+watched supply = record { told = supply.told; faults = supply.faults }
+
 -- what four inputs in memory tell
-abbrev pub told_inputs : Option (List ℕ) → Option (List ℕ) → Option (List ℕ) → Option (List ℕ) → ℕ → Watched Held
-told_inputs root bundle policy provider faults = record { told = Some (held_of root bundle policy provider); faults = faults }
+abbrev pub told_inputs : Option (List ℕ) → Option (List ℕ) → Option (List ℕ) → Option (List ℕ) → ℕ → Option Which → Supply
+told_inputs root bundle policy provider faults missing =
+    record { told = Some (held_of root bundle policy provider); faults = faults; missing = missing }
+
+-- inputs that tell nothing of what is there
+abbrev pub untold_inputs : ℕ → Option Which → Supply
+untold_inputs faults missing = record { told = None; faults = faults; missing = missing }
 
 -- the path of an input, of four paths
 abbrev pub path_of : List ℕ → List ℕ → List ℕ → List ℕ → Which → List ℕ
@@ -51,10 +67,16 @@ FailsOnly P (Err Absent) = ⊤
 FailsOnly P (Err (TooLong seen)) = ⊤
 FailsOnly P (Err NoMemory) = ⊤
 
+-- an input that isn't given is the last one that wasn't
+abbrev pub IsMissing : Which → Option Which → Option Which → Result (List ℕ) InputFault → Type 0
+IsMissing which old new (Ok bytes) = new ≡ old
+IsMissing which old new (Err fault) = new ≡ Some which
+
 -- the promise of a reading of an input
-pub record Gives (which : Which) (old new : Watched Held) (max : ℕ) (result : Result (List ℕ) InputFault) : Type 0 where
+pub record Gives (which : Which) (old new : Supply) (max : ℕ) (result : Result (List ℕ) InputFault) : Type 0 where
   pub same : new.told ≡ old.told
   pub later : old.faults ≤ new.faults
   pub failed : FailsOnly (Rose old.faults new.faults) result
   pub limit : WithinLimit max result
+  pub named : IsMissing which old.missing new.missing result
   pub input : IfTold old.told (λ held. IsInput (held which) result)

@@ -2,7 +2,7 @@
 use Rattle.std.specs.Prelude.{◌≡◌, ℕ, List, bytes_eq, ◌||◌, if◌then◌else◌, Some}
 use Rattle.std.specs.BTreeMap.{insert_entry}
 use Rattle.sigstore_types_parts.specs.Entries.{text_cmp, at_name}
-use Rattle.sigstore_crypto.specs.declared.scheme.SigningScheme.{SigningScheme}
+use Rattle.sigstore_crypto_parts.specs.declared.scheme.SigningScheme.{SigningScheme}
 use Rattle.sigstore_app_parts.specs.Rows.{AcceptRows, ArmorRows, is_row, with_accept_row, accepts_of}
 use Rattle.sigstore_app_parts.specs.declared.rows.AcceptRow.{AcceptRow}
 

@@ -5,8 +5,8 @@ use Rattle.std.specs.List.{list_any}
 use Rattle.std.specs.BTreeMap.{insert_entry}
 use Rattle.foundation.specs.Steps.{◌>>=◌}
 use Rattle.sigstore_types_parts.specs.Entries.{text_cmp, at_name}
-use Rattle.sigstore_crypto.specs.declared.scheme.SigningScheme.{SigningScheme}
-use Rattle.sigstore_crypto.specs.Scheme.{scheme_name_of, scheme_named, has_digest, digest_size_of}
+use Rattle.sigstore_crypto_parts.specs.declared.scheme.SigningScheme.{SigningScheme}
+use Rattle.sigstore_crypto_parts.specs.Scheme.{scheme_name_of, scheme_named, has_digest, digest_size_of}
 use Rattle.sigstore_app_parts.specs.Lines.{cut_of}
 use Rattle.sigstore_app_parts.specs.Fields.{field_of}
 use Rattle.sigstore_app_parts.specs.declared.usage_fault.UsageFault.{UsageFault}
@@ -57,21 +57,37 @@ is_row scheme key subject signature row =
     bytes_eq (scheme_name_of row.scheme) (scheme_name_of scheme) && bytes_eq row.key key && bytes_eq row.subject subject
     && bytes_eq row.signature signature
 
--- the rows that are accepted, by their signatures
+-- the rows of one signature, by their subjects
+abbrev pub SubjectRows : Type 0
+SubjectRows = List (List ℕ × List AcceptRow)
+
+-- those of a subject
+abbrev pub of_subject : List ℕ → SubjectRows → List AcceptRow
+of_subject subject rows = unwrap_or (at_name subject rows) []
+
+-- one more row, under its subject
+abbrev pub with_subject_row : SubjectRows → AcceptRow → SubjectRows
+with_subject_row rows row = insert_entry text_cmp rows row.subject (of_subject row.subject rows ++ row ∷ [])
+
+-- the rows that are accepted, by their signatures and then by their subjects: many rows may have one signature
 abbrev pub AcceptRows : Type 0
-AcceptRows = List (List ℕ × List AcceptRow)
+AcceptRows = List (List ℕ × SubjectRows)
 
--- the rows of a signature
-abbrev pub rows_under : List ℕ → AcceptRows → List AcceptRow
-rows_under signature rows = unwrap_or (at_name signature rows) []
+-- those of a signature
+abbrev pub of_signature : List ℕ → AcceptRows → SubjectRows
+of_signature signature rows = unwrap_or (at_name signature rows) []
 
--- one more row
+-- the rows of a signature over a subject
+abbrev pub rows_under : List ℕ → List ℕ → AcceptRows → List AcceptRow
+rows_under signature subject rows = of_subject subject (of_signature signature rows)
+
+-- one more row, under its signature and its subject
 abbrev pub with_accept_row : AcceptRows → AcceptRow → AcceptRows
-with_accept_row rows row = insert_entry text_cmp rows row.signature (rows_under row.signature rows ++ row ∷ [])
+with_accept_row rows row = insert_entry text_cmp rows row.signature (with_subject_row (of_signature row.signature rows) row)
 
 -- some row is that of these
 abbrev pub accepts_of : AcceptRows → SigningScheme → List ℕ → List ℕ → List ℕ → Bool
-accepts_of rows scheme key subject signature = list_any (is_row scheme key subject signature) (rows_under signature rows)
+accepts_of rows scheme key subject signature = list_any (is_row scheme key subject signature) (rows_under signature subject rows)
 
 -- what armoured texts hold, by the texts
 abbrev pub ArmorRows : Type 0

@@ -1,14 +1,14 @@
 // Inputs in files.
-ghost use Rattle.std.specs.Prelude.{◌≡◌, OnOk, OnErr};
-ghost use Rattle.foundation.specs.Watched.{Rose, untold};
-ghost use Rattle.sigstore_app_parts.specs.Inputs.{Gives, WithinLimit, path_of};
+ghost use Rattle.std.specs.Prelude.{◌≡◌, None, OnOk, OnErr};
+ghost use Rattle.foundation.specs.Watched.{Rose};
+ghost use Rattle.sigstore_app_parts.specs.Inputs.{Gives, WithinLimit, path_of, untold_inputs};
 
 use crate::inputs::{InputFault, Inputs, Which};
 use sigstore_types_parts::{Bytes, FileFault, Text, read_file};
 use std::alloc::Global;
 use std::rt::Files;
 
-/// Inputs in files; they tell nothing.
+/// Inputs in files; they tell nothing but which one was last not given.
 #[derive(Drop)]
 pub struct FileInputs<'r, X: Files> {
     rt: &'r X,
@@ -17,6 +17,7 @@ pub struct FileInputs<'r, X: Files> {
     policy: Text,
     provider: Text,
     faults: u64,
+    missing: Option<Which>,
 }
 
 impl<'r, X: Files> FileInputs<'r, X> {
@@ -33,6 +34,7 @@ impl<'r, X: Files> FileInputs<'r, X> {
         ensures policy { result.policy ≡ policy }
         ensures provider { result.provider ≡ provider }
         ensures faults { result.faults ≡ 0 }
+        ensures missing { result.missing ≡ None }
     {
         FileInputs {
             rt,
@@ -41,6 +43,7 @@ impl<'r, X: Files> FileInputs<'r, X> {
             policy,
             provider,
             faults: 0,
+            missing: None,
         }
     }
 
@@ -69,16 +72,17 @@ fn read_input<X: Files>(rt: &X, alloc: Global, path: &str, max: u64) -> Result<B
 }
 
 impl<X: Files> Inputs for FileInputs<'_, X> {
-    ghost seen = { λ i. untold i.faults };
+    ghost seen = { λ i. untold_inputs i.faults i.missing };
 
     fn read(&mut self, alloc: Global, which: Which, max: u64) -> Result<Bytes, InputFault>
-        ensures gives { Gives which (untold self.old.faults) (untold self.new.faults) max result }
+        ensures gives { Gives which (untold_inputs self.old.faults self.old.missing) (untold_inputs self.new.faults self.new.missing) max result }
         ensures fails { OnErr result (Rose self.old.faults self.new.faults) }
         ensures serves { OnOk result (self.new.faults ≡ self.old.faults) }
     {
         let answer = read_input(self.rt, alloc, self.path(which), max);
         if answer.is_err() {
             self.faults = self.faults.saturating_add(1);
+            self.missing = Some(which);
         }
         answer
     }

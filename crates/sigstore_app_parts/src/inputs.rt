@@ -1,7 +1,6 @@
 // Where the program's inputs come from.
 ghost use Rattle.std.specs.Prelude.{◌≡◌};
-ghost use Rattle.foundation.specs.Watched.{Watched};
-ghost use Rattle.sigstore_app_parts.specs.Inputs.{Held, Gives};
+ghost use Rattle.sigstore_app_parts.specs.Inputs.{Supply, Gives};
 ghost use Rattle.sigstore_app_parts.specs.declared.inputs.InputFault.TheVariants.{NoMemory};
 
 use foundation::NoMemory;
@@ -41,8 +40,8 @@ impl From<NoMemory> for InputFault {
 
 /// Gives the program's inputs.
 pub trait Inputs {
-    /// The inputs, where they are told, and how often a reading failed.
-    ghost seen: { Self → Watched Held };
+    /// The inputs, where they are told, how often a reading failed, and which input was last not given.
+    ghost seen: { Self → Supply };
 
     /// An input of at most `max` bytes. Errors: `Failed`, `Absent`, `TooLong` above `max`, `NoMemory`.
     fn read(&mut self, alloc: Global, which: Which, max: u64) -> Result<Bytes, InputFault>

@@ -19,6 +19,7 @@ pub struct MemoryInputs {
     policy: Option<Bytes>,
     provider: Option<Bytes>,
     calls: Calls,
+    missing: Option<Which>,
 }
 
 impl MemoryInputs {
@@ -28,6 +29,7 @@ impl MemoryInputs {
         ensures failures { result.calls.failures ≡ failures }
         ensures made { result.calls.made ≡ 0 }
         ensures faults { result.calls.faults ≡ 0 }
+        ensures missing { result.missing ≡ None }
     {
         MemoryInputs {
             root: None,
@@ -35,12 +37,14 @@ impl MemoryInputs {
             policy: None,
             provider: None,
             calls: Calls::new(failures),
+            missing: None,
         }
     }
 
     /// Sets an input; the others stay.
     pub fn put(&mut self, which: Which, bytes: Bytes)
         ensures calls { self.new.calls ≡ self.old.calls }
+        ensures missing { self.new.missing ≡ self.old.missing }
         ensures put { held_of self.new.root self.new.bundle self.new.policy self.new.provider which ≡ Some bytes }
         ensures others { (other : Which) → other ≢ which → held_of self.new.root self.new.bundle self.new.policy self.new.provider other ≡ held_of self.old.root self.old.bundle self.old.policy self.old.provider other }
     {
@@ -65,16 +69,19 @@ impl MemoryInputs {
 }
 
 impl Inputs for MemoryInputs {
-    ghost seen = { λ i. told_inputs i.root i.bundle i.policy i.provider i.calls.faults };
+    ghost seen = { λ i. told_inputs i.root i.bundle i.policy i.provider i.calls.faults i.missing };
 
     fn read(&mut self, alloc: Global, which: Which, max: u64) -> Result<Bytes, InputFault>
-        ensures gives { Gives which (told_inputs self.old.root self.old.bundle self.old.policy self.old.provider self.old.calls.faults) (told_inputs self.new.root self.new.bundle self.new.policy self.new.provider self.new.calls.faults) max result }
+        ensures gives { Gives which (told_inputs self.old.root self.old.bundle self.old.policy self.old.provider self.old.calls.faults self.old.missing) (told_inputs self.new.root self.new.bundle self.new.policy self.new.provider self.new.calls.faults self.new.missing) max result }
         ensures failures { self.new.calls.failures ≡ self.old.calls.failures }
         ensures made { self.new.calls.made ≡ min (self.old.calls.made + 1) (2 ^ 64 - 1) }
         ensures fails { fails_next self.old.calls.failures self.old.calls.made ≡ true → (result ≡ Err InputFault.Failed) × Rose self.old.calls.faults self.new.calls.faults }
         ensures serves { fails_next self.old.calls.failures self.old.calls.made ≡ false → (result ≢ Err InputFault.Failed) × (self.new.calls.faults ≡ self.old.calls.faults) }
         ensures never { self.old.calls.failures ≡ [] → (result ≢ Err InputFault.Failed) × (self.new.calls.faults ≡ self.old.calls.faults) }
     {
+        // (it counts as missing until it is given)
+        let before = self.missing;
+        self.missing = Some(which);
         if self.calls.next_fails() {
             return Err(InputFault::Failed);
         }
@@ -85,7 +92,9 @@ impl Inputs for MemoryInputs {
                 if seen > max {
                     return Err(InputFault::TooLong { seen });
                 }
-                Ok(input.duplicate(alloc)?)
+                let copy = input.duplicate(alloc)?;
+                self.missing = before;
+                Ok(copy)
             }
         }
     }

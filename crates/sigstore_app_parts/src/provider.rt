@@ -1,21 +1,41 @@
 // What the tables of a provider file answer.
 ghost use Rattle.std.specs.Prelude.{◌≡◌};
-ghost use Rattle.sigstore_app_parts.specs.Rows.{accepts_of};
+ghost use Rattle.sigstore_app_parts.specs.Rows.{is_row, of_subject, accepts_of};
 ghost use Rattle.sigstore_app_parts.specs.Tables.{is_armored_by, armor_content};
+ghost use Rattle.std.specs.List.{list_any};
 ghost use Rattle.std.specs.Result.{result_ok};
 ghost use Rattle.base64.specs.Engines.{standard};
 ghost use Rattle.base64.specs.GeneralPurpose.{decode_of};
 ghost use Rattle.std.specs.Prelude.{IfOk};
 
 use crate::byte_map::ByteMap;
-use crate::rows::is_der;
+use crate::rows::{AcceptRow, is_der};
 use crate::tables::{TableArmor, TableProvider};
 use base64::DecodeAllocError;
 use base64::engine::general_purpose::STANDARD;
-use foundation::{Duplicate, NoMemory};
-use sigstore_crypto::{CryptoProvider, SigningScheme, sha256, sha384, sha512};
+use foundation::{Duplicate, NoMemory, Sequence};
+use sigstore_crypto_parts::{CryptoProvider, SigningScheme, sha256, sha384, sha512};
 use sigstore_types_parts::{Armor, Bytes, HashAlgorithm};
 use std::alloc::Global;
+
+// Whether some of these rows is that of a scheme, a raw key, a subject and a signature.
+fn has_row(
+    rows: &ByteMap<Sequence<AcceptRow>>,
+    scheme: SigningScheme,
+    key: &[u8],
+    subject: &[u8],
+    signature: &[u8],
+) -> bool
+    ensures { result ≡ list_any (is_row scheme key.now subject.now signature.now) (of_subject subject.now rows.now) }
+{
+    match rows.get(subject) {
+        Some(rows) => rows
+            .as_slice()
+            .iter()
+            .any(|row| row.is_of(scheme, key, subject, signature)),
+        None => false,
+    }
+}
 
 impl TableProvider {
     /// Whether some row is that of a scheme, a raw key, a subject and a signature.
@@ -29,10 +49,7 @@ impl TableProvider {
         ensures { result ≡ accepts_of self.now.rows scheme key.now subject.now signature.now }
     {
         match self.rows.get(signature) {
-            Some(rows) => rows
-                .as_slice()
-                .iter()
-                .any(|row| row.is_of(scheme, key, subject, signature)),
+            Some(subjects) => has_row(subjects, scheme, key, subject, signature),
             None => false,
         }
     }

@@ -5,7 +5,7 @@ ghost use Rattle.sigstore_app_parts.specs.Rows.{parted_of, is_subject, accepted_
 use crate::fields::field;
 use crate::lines::cut;
 use crate::usage_fault::UsageFault;
-use sigstore_crypto::SigningScheme;
+use sigstore_crypto_parts::SigningScheme;
 use sigstore_types_parts::Bytes;
 use std::alloc::Global;
 

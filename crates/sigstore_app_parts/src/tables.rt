@@ -4,7 +4,7 @@ ghost use Rattle.std.specs.BTreeMap.{is_at};
 ghost use Rattle.std.specs.List.Sorted.{IsStrictlySortedBy};
 ghost use Rattle.std.specs.Map.{keys_of, remove_entry};
 ghost use Rattle.sigstore_types_parts.specs.Entries.{text_cmp};
-ghost use Rattle.sigstore_app_parts.specs.Rows.{rows_under, with_accept_row};
+ghost use Rattle.sigstore_app_parts.specs.Rows.{of_subject, with_subject_row, of_signature, with_accept_row};
 ghost use Rattle.sigstore_app_parts.specs.Tables.{with_armor_row, armor_line_of, accept_line_of, table_line_of, no_rows, tables_of};
 
 use crate::byte_map::ByteMap;
@@ -15,10 +15,11 @@ use foundation::{Duplicate, NoMemory, Sequence};
 use sigstore_types_parts::Bytes;
 use std::alloc::Global;
 
-/// Judges signatures: accepts exactly its rows, which stand by their signatures.
+/// Judges signatures: accepts exactly its rows, which stand by their signatures and then by their
+/// subjects. (A bundle may have thousands of entries with one signature.)
 #[derive(Drop)]
 pub struct TableProvider {
-    pub rows: ByteMap<Sequence<AcceptRow>>,
+    pub rows: ByteMap<ByteMap<Sequence<AcceptRow>>>,
 }
 
 /// Reads armoured texts: `der:` with base64, and its rows' texts, with what each holds.
@@ -52,19 +53,50 @@ impl Tables {
     }
 }
 
-// The rows of a signature, taken out.
+// The rows of a subject, taken out.
 fn taken_rows(
     alloc: Global,
     rows: &mut ByteMap<Sequence<AcceptRow>>,
-    signature: &[u8],
+    subject: &[u8],
 ) -> Sequence<AcceptRow>
-    ensures taken { result ≡ rows_under signature.now rows.old }
+    ensures taken { result ≡ of_subject subject.now rows.old }
+    ensures others { rows.new ≡ remove_entry (is_at (text_cmp subject.now)) rows.old }
+    ensures ordered { IsStrictlySortedBy text_cmp (keys_of rows.old) }
+{
+    match rows.take(subject) {
+        Some(taken) => taken,
+        None => Sequence::new(alloc),
+    }
+}
+
+// Adds a row under its subject.
+fn add_under_subject(
+    alloc: Global,
+    rows: &mut ByteMap<Sequence<AcceptRow>>,
+    row: AcceptRow,
+) -> Result<(), NoMemory>
+    ensures { OnOk result (rows.new ≡ with_subject_row rows.old row) }
+{
+    let subject = row.subject.duplicate(alloc)?;
+    let mut others = taken_rows(alloc, rows, subject.as_bytes());
+    others.push(row)?;
+    rows.insert(subject, others)?;
+    Ok(())
+}
+
+// The rows of a signature, taken out.
+fn taken_subjects(
+    alloc: Global,
+    rows: &mut ByteMap<ByteMap<Sequence<AcceptRow>>>,
+    signature: &[u8],
+) -> ByteMap<Sequence<AcceptRow>>
+    ensures taken { result ≡ of_signature signature.now rows.old }
     ensures others { rows.new ≡ remove_entry (is_at (text_cmp signature.now)) rows.old }
     ensures ordered { IsStrictlySortedBy text_cmp (keys_of rows.old) }
 {
     match rows.take(signature) {
-        Some(taken) => taken,
-        None => Sequence::new(alloc),
+        Some(subjects) => subjects,
+        None => ByteMap::new(alloc),
     }
 }
 
@@ -74,9 +106,9 @@ impl TableProvider {
         ensures { OnOk result (self.new.rows ≡ with_accept_row self.old.rows row) }
     {
         let signature = row.signature.duplicate(alloc)?;
-        let mut others = taken_rows(alloc, &mut self.rows, signature.as_bytes());
-        others.push(row)?;
-        self.rows.insert(signature, others)?;
+        let mut subjects = taken_subjects(alloc, &mut self.rows, signature.as_bytes());
+        add_under_subject(alloc, &mut subjects, row)?;
+        self.rows.insert(signature, subjects)?;
         Ok(())
     }
 }

@@ -1,8 +1,1 @@
-pub mod Parts
-pub mod SoFar
-pub mod Subjects
-pub mod Feeding
-pub mod Rings
-pub mod Schemes
 pub mod NameFacts
-pub mod PublicKeys

@@ -5,9 +5,9 @@ use Rattle.der_core_parts.specs.Outcome.{Outcome}
 use Rattle.der_core_parts.specs.Grammar.{read_all}
 use Rattle.der_core.specs.Strings.{utf8_type}
 use Rattle.x509_core_parts.specs.Extensions.{OneExtension}
-use Rattle.sigstore_crypto.specs.declared.error.Error.{Error}
-use Rattle.sigstore_crypto.specs.declared.error.Error.TheVariants.{InvalidCertificate}
-use Rattle.sigstore_crypto.specs.declared.error.CertificateFault.TheVariants as fault
+use Rattle.sigstore_crypto_parts.specs.declared.error.Error.{Error}
+use Rattle.sigstore_crypto_parts.specs.declared.error.Error.TheVariants.{InvalidCertificate}
+use Rattle.sigstore_crypto_parts.specs.declared.error.CertificateFault.TheVariants as fault
 use Rattle.sigstore_crypto.specs.declared.claims.FulcioCiClaims.{FulcioCiClaims}
 use Rattle.sigstore_crypto.specs.declared.claims.DeprecatedGitHubClaims.{DeprecatedGitHubClaims}
 

@@ -11,7 +11,7 @@ use Rattle.x509_core.specs.declared.general_name.GeneralName.{GeneralName}
 use Rattle.x509_core.specs.declared.general_name.GeneralName.TheVariants.{Rfc822Name, Other}
 use Rattle.x509_core.specs.declared.general_name.GeneralName.TheVariants as name
 use Rattle.x509_core.specs.Types.{general_name_type}
-use Rattle.x509_core_parts.specs.declared.error.X509Error.{X509Error}
+use Rattle.spki_core.specs.declared.error.X509Error.{X509Error}
 use Rattle.x509_core_parts.specs.Certificates.{Certificate, certificate_of}
 use Rattle.x509_core_parts.specs.Extensions.{OneExtension}
 use Rattle.x509_core_parts.specs.Walk.{all_extensions, walk_of}
@@ -19,11 +19,11 @@ use Rattle.sigstore_types_parts.specs.Instant.{at_nanosecond}
 use Rattle.sigstore_crypto.specs.declared.certificate_info.CertificateInfo.{CertificateInfo}
 use Rattle.sigstore_crypto.specs.declared.certificate_info.SubjectAltName.{SubjectAltName}
 use Rattle.sigstore_crypto.specs.declared.certificate_info.SubjectAltName.TheVariants.{Email, Uri}
-use Rattle.sigstore_crypto.specs.declared.error.Error.{Error}
-use Rattle.sigstore_crypto.specs.declared.error.Error.TheVariants.{InvalidCertificate}
-use Rattle.sigstore_crypto.specs.declared.error.CertificateFault.TheVariants as fault
+use Rattle.sigstore_crypto_parts.specs.declared.error.Error.{Error}
+use Rattle.sigstore_crypto_parts.specs.declared.error.Error.TheVariants.{InvalidCertificate}
+use Rattle.sigstore_crypto_parts.specs.declared.error.CertificateFault.TheVariants as fault
 use Rattle.sigstore_crypto.specs.Claims.{value_of, issuer_of, claims_of}
-use Rattle.sigstore_crypto.specs.KeyAlgorithm.{algorithm_of_spki}
+use Rattle.sigstore_crypto_parts.specs.KeyAlgorithm.{algorithm_of_spki}
 
 abbrev pub text_of : SubjectAltName → List ℕ
 text_of (Email text) = text

@@ -1,17 +1,3 @@
 pub mod Claims
-pub mod Coming
-pub mod Crypto
-pub mod Digest
-pub mod Error
-pub mod Good
-pub mod Hasher
 pub mod Info
-pub mod Key
-pub mod KeyAlgorithm
-pub mod KeyPair
-pub mod Keyring
 pub mod Names
-pub mod Pairs
-pub mod Reader
-pub mod Scheme
-pub mod Source

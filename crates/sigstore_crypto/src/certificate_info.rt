@@ -1,23 +1,24 @@
 // What a certificate says of its owner.
-ghost use Rattle.std.specs.Prelude.{◌≡◌, ◌≢◌, IfOk, IfErr, Ok, Err, option_copied};
-ghost use Rattle.sigstore_crypto.specs.declared.error.Error.TheVariants.{NoMemory};
+ghost use Rattle.std.specs.Prelude.{◌≡◌, ◌≢◌, IfOk, IfErr, Ok, Err, Some, option_copied};
+ghost use Rattle.sigstore_crypto_parts.specs.declared.error.Error.TheVariants as errors;
 ghost use Rattle.x509_core_parts.specs.Views.{certificate_parts};
 ghost use Rattle.x509_core_parts.specs.Walk.{coming};
 ghost use Rattle.sigstore_crypto.specs.Info.{text_of, identity_in, identity_of, moment_of, info_of_parts, info_of};
 ghost use Rattle.sigstore_crypto.specs.Names.{said};
 
 use crate::claims::{FulcioCiClaims, read_claims, read_issuer, value_of};
-use crate::error::{CertificateFault, Error};
 use crate::names::{FoundName, read_names};
-use crate::scheme::KeyAlgorithm;
 use der_core::Civil;
+use foundation::{Duplicate, NoMemory};
 use jiff::Timestamp;
+use sigstore_crypto_parts::{CertificateFault, Error, KeyAlgorithm};
 use sigstore_types_parts::{DerCertificate, DerPublicKey, Text};
 use std::alloc::Global;
+use std::fmt;
 use x509_core_parts::{CertView, Extensions, X509Error};
 
 /// Who a certificate was issued to, by its subject alternative name (RFC 5280, 4.2.1.6).
-#[derive(Debug, PartialEq, Eq, Drop)]
+#[derive(Debug, PartialEq, Eq, Hash, Drop)]
 pub enum SubjectAltName {
     /// A mail address.
     Email(Text),
@@ -33,6 +34,23 @@ impl SubjectAltName {
         match self {
             SubjectAltName::Email(text) => text.as_str(),
             SubjectAltName::Uri(text) => text.as_str(),
+        }
+    }
+}
+
+impl fmt::Display for SubjectAltName {
+    ghost output = { λ name. Some (text_of name) };
+
+    fn fmt<W: fmt::Write>(&self, f: &mut fmt::Formatter<W>) -> fmt::Result {
+        fmt::Display::fmt(&self.as_str(), f)
+    }
+}
+
+impl Duplicate for SubjectAltName {
+    fn duplicate(&self, alloc: Global) -> Result<SubjectAltName, NoMemory> {
+        match self {
+            SubjectAltName::Email(text) => Ok(SubjectAltName::Email(text.duplicate(alloc)?)),
+            SubjectAltName::Uri(text) => Ok(SubjectAltName::Uri(text.duplicate(alloc)?)),
         }
     }
 }
@@ -53,7 +71,7 @@ pub struct CertificateInfo {
 
 fn owned(alloc: Global, name: Option<FoundName>) -> Result<Option<SubjectAltName>, Error>
     ensures ok { IfOk result (λ identity. identity ≡ said name.entry) }
-    ensures err { IfErr result (λ e. e ≡ NoMemory) }
+    ensures err { IfErr result (λ e. e ≡ errors.NoMemory) }
 {
     match name {
         Some(FoundName::Email(text)) => Ok(Some(SubjectAltName::Email(Text::new(alloc, text)?))),

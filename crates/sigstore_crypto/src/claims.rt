@@ -3,11 +3,11 @@ ghost use Rattle.std.specs.Prelude.{◌≡◌, ◌≢◌, ◌↔◌, true, None,
 ghost use Rattle.der_core_parts.specs.Grammar.{read_all};
 ghost use Rattle.der_core.specs.Strings.{utf8_type};
 ghost use Rattle.x509_core_parts.specs.Walk.{coming};
-ghost use Rattle.sigstore_crypto.specs.declared.error.Error.TheVariants.{NoMemory};
+ghost use Rattle.sigstore_crypto_parts.specs.declared.error.Error.TheVariants.{NoMemory};
 ghost use Rattle.sigstore_crypto.specs.Claims.{value_of, fulcio_value, utf8_string_of, old_text_of, new_claim, old_claim, claim_of, old_claim_of, old_claims_of, claims_of, no_old_claims, no_claims, or_issuer, issuer_of};
 
-use crate::error::{CertificateFault, Error};
 use der_core::{DerError, Reader, tag};
+use sigstore_crypto_parts::{CertificateFault, Error};
 use sigstore_types_parts::Text;
 use std::alloc::Global;
 use x509_core_parts::Extensions;

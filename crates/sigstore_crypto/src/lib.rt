@@ -1,40 +1,18 @@
-//! Signature schemes and keys, digests, who judges signatures, and where an artifact is read from.
+//! What certificates of signers say, and the names of `sigstore_crypto_parts`: schemes, keys, digests and sources.
 #![tactic(auto)]
 
 mod certificate_info;
 mod claims;
-mod digest;
-mod error;
-mod file_source;
-mod hasher;
-mod key;
-mod key_algorithm;
-mod key_pair;
-mod keyring;
-mod memory_source;
 mod names;
-mod pairs;
-mod provider;
-mod raw_key;
-mod reader;
-mod scheme;
-mod signature;
-mod source;
 
 pub use certificate_info::{CertificateInfo, SubjectAltName, parse_certificate_info};
 pub use claims::{DeprecatedGitHubClaims, FulcioCiClaims};
-pub use digest::{compute_key_hint, sha256, sha384, sha512};
-pub use error::{CertificateFault, CheckpointFault, Error, KeyRule, VerificationFault};
-pub use file_source::FileSource;
-pub use hasher::{ArtifactHasher, HashUpdate, Sha256Hasher};
-pub use key::VerificationKey;
-pub use key_pair::{KeyPair, SigningKeyPair, public_key_is_read};
-pub use keyring::{Keyring, KeysByHint};
-pub use memory_source::MemorySource;
-pub use pairs::{SignatureAlgorithm, webpki_verification_algs};
-pub use provider::{CryptoProvider, answers_alike};
-pub use raw_key::validate_raw_public_key;
-pub use reader::{ReadError, hash_reader, sha256_reader};
-pub use scheme::{KeyAlgorithm, SigningScheme};
-pub use signature::{verify_signature, verify_signature_prehashed};
-pub use source::{ArtifactSource, ReadFault};
+pub use sigstore_crypto_parts::{
+    ArtifactHasher, ArtifactSource, CertificateFault, CheckpointFault, CryptoProvider, Error,
+    FileSource, HashUpdate, HashedMessage, KeyAlgorithm, KeyPair, KeyRule, Keyring, KeysByHint,
+    MemorySource, ReadError, ReadFault, Sha256Hasher, SignatureAlgorithm, SigningKeyPair,
+    SigningScheme, VerificationFault, VerificationKey, answers_alike, compute_key_hint,
+    hash_reader, public_key_is_read, sha256, sha256_reader, sha384, sha512,
+    validate_raw_public_key, verify_signature, verify_signature_prehashed,
+    webpki_verification_algs,
+};

@@ -4,5 +4,5 @@
 mod command;
 mod objects;
 
-pub use command::{clock_of, words_of};
+pub use command::{clock_of, told_or_latest, words_of};
 pub use objects::{Objects, objects_at};

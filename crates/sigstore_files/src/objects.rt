@@ -2,7 +2,7 @@
 ghost use Rattle.std.specs.Prelude.{◌≡◌, IfSome};
 
 use sigstore_app_parts::{FileInputs, Layout, StdoutSink};
-use sigstore_crypto::FileSource;
+use sigstore_crypto_parts::FileSource;
 use sigstore_tuf_outside::{FileRepository, FileStore};
 use sigstore_types_parts::Text;
 use std::alloc::Global;

@@ -13,12 +13,12 @@ use Rattle.sigstore_types.specs.declared.content.SignatureContent.{SignatureCont
 use Rattle.sigstore_types.specs.declared.content.SignatureContent.TheVariants.{MessageSignature as OfMessage}
 use Rattle.sigstore_types.specs.declared.content.MessageDigest.{MessageDigest}
 use Rattle.sigstore_types.specs.Bundle.{entries_in, structure_of}
-use Rattle.sigstore_crypto.specs.declared.error.Error.{Error as CryptoError}
-use Rattle.sigstore_crypto.specs.declared.scheme.SigningScheme.{SigningScheme}
-use Rattle.sigstore_crypto.specs.declared.key.VerificationKey.{VerificationKey}
-use Rattle.sigstore_crypto.specs.Digest.{is_hashed}
-use Rattle.sigstore_crypto.specs.Key.{spki_key_of}
-use Rattle.sigstore_crypto.specs.Good.{Judge, is_good_over}
+use Rattle.sigstore_crypto_parts.specs.declared.error.Error.{Error as CryptoError}
+use Rattle.sigstore_crypto_parts.specs.declared.scheme.SigningScheme.{SigningScheme}
+use Rattle.sigstore_crypto_parts.specs.declared.key.VerificationKey.{VerificationKey}
+use Rattle.sigstore_crypto_parts.specs.Digest.{is_hashed}
+use Rattle.sigstore_crypto_parts.specs.Key.{spki_key_of}
+use Rattle.sigstore_crypto_parts.specs.Good.{Judge, is_good_over}
 use Rattle.sigstore_judgement.specs.declared.error.Error.{Error}
 use Rattle.sigstore_judgement.specs.declared.error.Error.TheVariants.{UnsupportedArtifact}
 use Rattle.sigstore_judgement.specs.declared.evidence.Evidence.{Evidence}

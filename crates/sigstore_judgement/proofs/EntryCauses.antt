@@ -1,7 +1,8 @@
 -- A refusal of the log is of an entry that isn't logged.
 use Rattle.std.proofs.Common.{◌≡◌, suc, List, [], ◌∷◌, Result, Ok, Err, refl, arith}
 use Rattle.std.specs.Prelude.{Contains}
-use Rattle.jiff_core.specs.declared.timestamp.Timestamp.{Timestamp}
+use Rattle.std.specs.List.{cons_option}
+use Rattle.foundation.specs.Steps.{◌>>=◌}
 use Rattle.foundation.specs.Results.{refused_at, err_same}
 use Rattle.sigstore_entries.specs.declared.entry.TransparencyLogEntry.{TransparencyLogEntry}
 use Rattle.sigstore_log.specs.declared.error.LogError.{LogError}
@@ -9,7 +10,7 @@ use Rattle.sigstore_log.specs.Cause.{LogCause}
 use Rattle.sigstore_log.specs.Entry.{logged_of}
 use Rattle.sigstore_log.proofs.CauseLaw.{refusals_have_causes}
 use Rattle.sigstore_judgement.specs.declared.error.Error.{Error}
-use Rattle.sigstore_judgement.specs.Entries.{entry_judged_of, with_time, entries_judged_of}
+use Rattle.sigstore_judgement.specs.Entries.{entry_judged_of, entries_judged_of}
 use Rattle.sigstore_judgement.specs.Error.{by_log, error_of_log}
 use Rattle.sigstore_judgement.specs.Grounds.{Grounds}
 
@@ -31,12 +32,13 @@ pub record Unlogged (grounds : Grounds) (entries : List TransparencyLogEntry) (e
   pub named : error_of_log why ≡ e
   pub cause : LogCause grounds.crypto.accepts grounds.material.logs grounds.now entry why
 
-pub entries_unlogged : (grounds : Grounds) (entries : List TransparencyLogEntry) (before : List Timestamp) (e : Error) → entries_judged_of grounds entries before ≡ Err e
+pub entries_unlogged : (grounds : Grounds) (entries : List TransparencyLogEntry) (e : Error) → entries_judged_of grounds entries ≡ Err e
     → Unlogged grounds entries e
-entries_unlogged grounds [] before e h = cc
-entries_unlogged grounds (x ∷ xs) before e h =
-    refused_at (entry_judged_of grounds x) (λ time. entries_judged_of grounds xs (with_time time before)) e h here
-    (λ time p k. later (entries_unlogged grounds xs (with_time time before) e k))
+entries_unlogged grounds [] e h = cc
+entries_unlogged grounds (x ∷ xs) e h =
+    refused_at (entry_judged_of grounds x) (λ time. entries_judged_of grounds xs >>= λ times. Ok (cons_option time times)) e h here
+    (λ time p k. refused_at (entries_judged_of grounds xs) (λ times. Ok (cons_option time times)) e k
+    (λ r. later (entries_unlogged grounds xs e r)) (λ times q j. cc))
   where
     here : entry_judged_of grounds x ≡ Err e → Unlogged grounds (x ∷ xs) e
     here r =

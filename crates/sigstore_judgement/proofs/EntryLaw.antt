@@ -1,7 +1,7 @@
 -- Every entry is logged exactly where the judgement of all says so, and the times that are found are those that promises tell.
 use Rattle.std.proofs.Common.{◌≡◌, List, [], ◌∷◌, Bool, true, false, Option, Result, Ok, Err, refl, sym, ap, ◌∙◌}
-use Rattle.std.specs.Prelude.{⊤}
-use Rattle.std.specs.List.{AllByRecursion}
+use Rattle.std.specs.Prelude.{⊤, filter_map}
+use Rattle.std.specs.List.{AllByRecursion, cons_option}
 use Rattle.jiff_core.specs.declared.timestamp.Timestamp.{Timestamp}
 use Rattle.foundation.specs.Steps.{◌>>=◌}
 use Rattle.foundation.specs.Results.{step_ok, ok_same}
@@ -14,7 +14,7 @@ use Rattle.sigstore_log.specs.Promise.{told_time}
 use Rattle.sigstore_log.proofs.LoggedLaw.{logged_exactly}
 use Rattle.sigstore_judgement.specs.Accepts.{AreLogged}
 use Rattle.sigstore_judgement.specs.Artifact.{Artifact, digest_of}
-use Rattle.sigstore_judgement.specs.Entries.{entry_judged_of, with_time, entries_judged_of, log_judged_of, told_onto, told_if, entries_described_of, Describes}
+use Rattle.sigstore_judgement.specs.Entries.{entry_judged_of, entries_judged_of, log_judged_of, told_if, entries_described_of, Describes}
 use Rattle.sigstore_judgement.specs.Error.{by_log}
 use Rattle.sigstore_judgement.specs.Grounds.{Grounds}
 use Rattle.sigstore_judgement.specs.Signer.{Signer}
@@ -30,31 +30,32 @@ module _ (grounds : Grounds) where
   abbrev judged : TransparencyLogEntry → Result (Option Timestamp) LogError
   judged entry = logged_of grounds.crypto.accepts grounds.material.logs grounds.now entry
 
-  each_logged : (entries : List TransparencyLogEntry) (before times : List Timestamp) → entries_judged_of grounds entries before ≡ Ok times
-      → AllByRecursion (Logged grounds.crypto.accepts grounds.material.logs grounds.now) entries × (times ≡ told_onto entries before)
-  each_logged [] before times h = (tt, sym (ok_same before times h))
-  each_logged (entry ∷ entries) before times h =
-      let s = step_ok (entry_judged_of grounds entry) (λ time. entries_judged_of grounds entries (with_time time before)) times h in
+  each_logged : (entries : List TransparencyLogEntry) (times : List Timestamp) → entries_judged_of grounds entries ≡ Ok times
+      → AllByRecursion (Logged grounds.crypto.accepts grounds.material.logs grounds.now) entries × (times ≡ filter_map told_time entries)
+  each_logged [] times h = (tt, sym (ok_same [] times h))
+  each_logged (entry ∷ entries) times h =
+      let s = step_ok (entry_judged_of grounds entry) (λ time. entries_judged_of grounds entries >>= λ rest. Ok (cons_option time rest)) times h in
+      let r = step_ok (entries_judged_of grounds entries) (λ rest. Ok (cons_option s.0 rest)) times s.2 in
       let one = (logged_exactly grounds.crypto.accepts grounds.material.logs grounds.now entry s.0).0 (ok_log (judged entry) s.0 s.1) in
-      let rest = each_logged entries (with_time s.0 before) times s.2 in
-      ((one.0, rest.0), rest.1 ∙ ap (λ time. told_onto entries (with_time time before)) one.1)
+      let rest = each_logged entries r.0 r.1 in
+      ((one.0, rest.0), sym (ok_same (cons_option s.0 r.0) times r.2) ∙ ap (λ time. cons_option time r.0) one.1 ∙ ap (cons_option (told_time entry)) rest.1)
 
-  all_judged : (entries : List TransparencyLogEntry) (before : List Timestamp)
-      → AllByRecursion (Logged grounds.crypto.accepts grounds.material.logs grounds.now) entries → entries_judged_of grounds entries before ≡ Ok (told_onto entries before)
-  all_judged [] before a = refl
-  all_judged (entry ∷ entries) before a =
-      ap (λ r. by_log r >>= λ time. entries_judged_of grounds entries (with_time time before))
+  all_judged : (entries : List TransparencyLogEntry) → AllByRecursion (Logged grounds.crypto.accepts grounds.material.logs grounds.now) entries
+      → entries_judged_of grounds entries ≡ Ok (filter_map told_time entries)
+  all_judged [] a = refl
+  all_judged (entry ∷ entries) a =
+      ap (λ r. by_log r >>= λ time. entries_judged_of grounds entries >>= λ rest. Ok (cons_option time rest))
       ((logged_exactly grounds.crypto.accepts grounds.material.logs grounds.now entry (told_time entry)).1 (a.0, refl))
-      ∙ all_judged entries (with_time (told_time entry) before) a.1
+      ∙ ap (λ r. r >>= λ rest. Ok (cons_option (told_time entry) rest)) (all_judged entries a.1)
 
   pub are_logged : (asked : Bool) (entries : List TransparencyLogEntry) (times : List Timestamp) → log_judged_of grounds asked entries ≡ Ok times
       → AreLogged grounds asked entries × (times ≡ told_if asked entries)
-  are_logged true entries times h = each_logged entries [] times h
+  are_logged true entries times h = each_logged entries times h
   are_logged false entries times h = (tt, sym (ok_same [] times h))
 
   pub log_accepted : (asked : Bool) (entries : List TransparencyLogEntry) → AreLogged grounds asked entries
       → log_judged_of grounds asked entries ≡ Ok (told_if asked entries)
-  log_accepted true entries a = all_judged entries [] a
+  log_accepted true entries a = all_judged entries a
   log_accepted false entries a = refl
 
   module _ (signer : Signer) (bundle : Bundle) (artifact : Artifact) where

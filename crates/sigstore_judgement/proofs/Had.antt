@@ -10,11 +10,11 @@ use Rattle.sigstore_types.specs.declared.content.MessageDigest.{MessageDigest}
 use Rattle.sigstore_types.specs.declared.content.MessageSignature.{MessageSignature}
 use Rattle.sigstore_types.specs.declared.content.SignatureContent.{SignatureContent}
 use Rattle.sigstore_types.specs.declared.content.SignatureContent.TheVariants.{MessageSignature as OfMessage}
-use Rattle.sigstore_crypto.specs.declared.key.VerificationKey.{VerificationKey}
-use Rattle.sigstore_crypto.specs.declared.scheme.SigningScheme.{SigningScheme}
-use Rattle.sigstore_crypto.specs.Digest.{is_hashed, digest_by, digests_by}
-use Rattle.sigstore_crypto.specs.Good.{Judge}
-use Rattle.sigstore_crypto.specs.Scheme.{digest_algorithm_of}
+use Rattle.sigstore_crypto_parts.specs.declared.key.VerificationKey.{VerificationKey}
+use Rattle.sigstore_crypto_parts.specs.declared.scheme.SigningScheme.{SigningScheme}
+use Rattle.sigstore_crypto_parts.specs.Digest.{is_hashed, digest_by, digests_by}
+use Rattle.sigstore_crypto_parts.specs.Good.{Judge}
+use Rattle.sigstore_crypto_parts.specs.Scheme.{digest_algorithm_of}
 use Rattle.sigstore_judgement.specs.Artifact.{Digests, Read, Digest, digest_of, digest_among}
 use Rattle.sigstore_judgement.specs.Content.{algorithm_told, needed_of, is_digest, is_told, subject_by, is_good_of, first_refusal, content_judged_of}
 

@@ -17,12 +17,12 @@ use Rattle.sigstore_types.specs.declared.content.SignatureContent.TheVariants.{M
 use Rattle.sigstore_types.specs.declared.trusted_root.TrustedRoot.{TrustedRoot}
 use Rattle.sigstore_types.specs.Bundle.{bundle_of_bytes, entries_in, has_proof, shown_of, structure_of}
 use Rattle.sigstore_types.specs.TrustedRoot.{trusted_root_of_bytes}
-use Rattle.sigstore_crypto.specs.declared.error.Error.{Error as CryptoError}
-use Rattle.sigstore_crypto.specs.declared.error.Error.TheVariants as crypto
-use Rattle.sigstore_crypto.specs.declared.key.VerificationKey.{VerificationKey}
-use Rattle.sigstore_crypto.specs.declared.scheme.SigningScheme.{SigningScheme}
-use Rattle.sigstore_crypto.specs.Digest.{is_hashed}
-use Rattle.sigstore_crypto.specs.Key.{spki_key_of}
+use Rattle.sigstore_crypto_parts.specs.declared.error.Error.{Error as CryptoError}
+use Rattle.sigstore_crypto_parts.specs.declared.error.Error.TheVariants as crypto
+use Rattle.sigstore_crypto_parts.specs.declared.key.VerificationKey.{VerificationKey}
+use Rattle.sigstore_crypto_parts.specs.declared.scheme.SigningScheme.{SigningScheme}
+use Rattle.sigstore_crypto_parts.specs.Digest.{is_hashed}
+use Rattle.sigstore_crypto_parts.specs.Key.{spki_key_of}
 use Rattle.sigstore_entries.specs.declared.entry.TransparencyLogEntry.{TransparencyLogEntry}
 use Rattle.sigstore_log.specs.declared.error.LogError.{LogError}
 use Rattle.sigstore_log.specs.declared.error.LogError.TheVariants as entry
@@ -278,7 +278,7 @@ module _ (asked : Asked) (file : List ℕ) (source source' : Watched (List ℕ))
     unlogged : (material : Material) → IsKept file material → (b : Bool) → asks_log asked.policy ≡ b → (e : Error)
         → log_judged_of (terms_of asked material).grounds b (entries_in reading) ≡ Err e → Cause e
     unlogged material kept true asks e h =
-        let u = entries_unlogged (terms_of asked material).grounds (entries_in reading) [] e h in
+        let u = entries_unlogged (terms_of asked material).grounds (entries_in reading) e h in
         subst Cause u.named (by_why u.entry u.among u.why u.cause)
       where
         as_is : (x : TransparencyLogEntry) → Contains (entries_in reading) x → (why : LogError) → LogCause asked.crypto.accepts material.logs asked.now x why → (fault : TransparencyLogError)

@@ -1,6 +1,7 @@
 pub mod Stages
 pub mod Accepts
 pub mod EntryCauses
+mod Behind
 pub mod EntryLaw
 pub mod LogRefusals
 pub mod UsableCauses
@@ -12,4 +13,5 @@ pub mod Agree
 pub mod Taken
 pub mod Usable
 pub mod Wanting
+pub mod Within
 mod TrustReading

@@ -10,10 +10,10 @@ use Rattle.sigstore_types.specs.declared.bundle.Bundle.{Bundle}
 use Rattle.sigstore_types.specs.declared.content.SignatureContent.{SignatureContent}
 use Rattle.sigstore_types.specs.declared.content.SignatureContent.TheVariants.{MessageSignature as OfMessage}
 use Rattle.sigstore_types.specs.Bundle.{entries_in, structure_of}
-use Rattle.sigstore_crypto.specs.declared.error.Error.{Error as CryptoError}
-use Rattle.sigstore_crypto.specs.declared.key.VerificationKey.{VerificationKey}
-use Rattle.sigstore_crypto.specs.declared.scheme.SigningScheme.{SigningScheme}
-use Rattle.sigstore_crypto.specs.Key.{spki_key_of}
+use Rattle.sigstore_crypto_parts.specs.declared.error.Error.{Error as CryptoError}
+use Rattle.sigstore_crypto_parts.specs.declared.key.VerificationKey.{VerificationKey}
+use Rattle.sigstore_crypto_parts.specs.declared.scheme.SigningScheme.{SigningScheme}
+use Rattle.sigstore_crypto_parts.specs.Key.{spki_key_of}
 use Rattle.sigstore_entries.specs.declared.entry.TransparencyLogEntry.{TransparencyLogEntry}
 use Rattle.sigstore_judgement.specs.declared.error.Error.{Error}
 use Rattle.sigstore_judgement.specs.declared.error.Error.TheVariants as verify
@@ -104,7 +104,7 @@ module _ (terms : Terms) (bundle : Bundle) (artifact : Artifact) (fault : Transp
 
   log_unlogged : (asked : Bool) → log_judged_of terms.grounds asked (entries_in bundle) ≡ Err (verify.TransparencyLog fault) → Has
   log_unlogged true h =
-      let u = entries_unlogged terms.grounds (entries_in bundle) [] (verify.TransparencyLog fault) h in
+      let u = entries_unlogged terms.grounds (entries_in bundle) (verify.TransparencyLog fault) h in
       record { entry = u.entry; among = u.among; why = u.why; named = u.named; cause = u.cause }
   log_unlogged false h = cc
 

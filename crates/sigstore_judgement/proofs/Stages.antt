@@ -8,8 +8,8 @@ use Rattle.sigstore_types_parts.specs.declared.hash_algorithm.HashAlgorithm.{Has
 use Rattle.sigstore_types.specs.declared.bundle.Bundle.{Bundle}
 use Rattle.sigstore_types.specs.Bundle.{entries_in}
 use Rattle.sigstore_entries.specs.declared.entry.TransparencyLogEntry.{TransparencyLogEntry}
-use Rattle.sigstore_crypto.specs.Digest.{is_hashed, digests_by}
-use Rattle.sigstore_crypto.specs.declared.reader.ReadError.{ReadError}
+use Rattle.sigstore_crypto_parts.specs.Digest.{is_hashed, digests_by}
+use Rattle.sigstore_crypto_parts.specs.declared.reader.ReadError.{ReadError}
 use Rattle.sigstore_judgement.specs.declared.error.Error.{Error}
 use Rattle.sigstore_judgement.specs.declared.error.Error.TheVariants.{ArtifactRead, NoMemory}
 use Rattle.sigstore_judgement.specs.declared.report.VerificationResult.{VerificationResult}
@@ -24,6 +24,7 @@ use Rattle.sigstore_judgement.specs.Promise.{ReadCause, Cause, VerifiesKept, Ver
 use Rattle.sigstore_judgement.specs.Signer.{Signer}
 use Rattle.sigstore_judgement.specs.Taking.{Takes}
 use Rattle.sigstore_judgement.proofs.Accepts.{prepared_means, all_hashed}
+use Rattle.sigstore_judgement.proofs.Within.{took_nothing}
 use Rattle.sigstore_judgement.proofs.Had.{judged_by_taken, judged_by_one}
 use Rattle.sigstore_judgement.proofs.Wanting.{wanting}
 
@@ -94,11 +95,11 @@ module _ (terms : Terms) (bundle : Bundle) where
 
   pub unprepared : (old new : Watched (List ℕ)) (max : ℕ) (e : Error) → old.faults ≤ new.faults → new ≡ old → (e ≢ NoMemory → prepared_of read_kind terms.policy bundle ≡ Err e)
       → VerifiesKept terms bundle old new max (Err e)
-  unprepared old new max e l s f = record { later = l; accepted = tt; refused = wanting e (λ n. inl (record { unread = s; refusal = f n })) }
+  unprepared old new max e l s f = record { later = l; within = took_nothing old new max s; accepted = tt; refused = wanting e (λ n. inl (record { unread = s; refusal = f n })) }
 
   pub reading_refused : (old new : Watched (List ℕ)) (max : ℕ) (ready : Ready) (e : Error) → prepared_of read_kind terms.policy bundle ≡ Ok ready
       → Takes old new max ready.needed (Err e) → VerifiesKept terms bundle old new max (Err e)
-  reading_refused old new max ready e p t = record { later = t.later; accepted = tt; refused = why t.refused }
+  reading_refused old new max ready e p t = record { later = t.later; within = t.within; accepted = tt; refused = why t.refused }
     where
       why : (e ≡ NoMemory) ⊎ ((fault : ReadError) × (e ≡ ArtifactRead fault) × ReadCause old new max fault) → Cause terms bundle old new max e
       why (inl want) = inl want
@@ -111,6 +112,7 @@ module _ (terms : Terms) (bundle : Bundle) where
       let w = t.taken in
       record {
         later = t.later;
+        within = t.within;
         accepted = tt;
         refused = wanting e (λ n. inr (inr (record { ready = ready; prepared = p; refusal = (w.0, w.1, read_judged w.0 ready digests p w.2 ∙ r n) })));
       }
@@ -123,6 +125,7 @@ module _ (terms : Terms) (bundle : Bundle) where
       let w = t.taken in
       record {
         later = t.later;
+        within = t.within;
         accepted = (
           w.0,
           record { read = w.1; judged = read_judged w.0 ready digests p w.2 ∙ a },

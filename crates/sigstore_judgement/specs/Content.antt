@@ -1,7 +1,7 @@
 -- What is signed, by cases on the bundle's content (Sigstore bundle format; FIPS 180-4, FIPS 186-5): the four questions that the judgement
 -- asks of it, and the order in which its answers refuse.
-use Rattle.std.specs.Prelude.{◌≡◌, ◌≢◌, ℕ, List, [], ◌∷◌, Bool, true, false, ◌||◌, ⊤, bytes_eq, if◌then◌else◌, Option, Some, None}
-use Rattle.std.specs.Prelude.{Result, Ok, Err}
+use Rattle.std.specs.Prelude.{◌≡◌, ◌≢◌, ℕ, List, [], ◌∷◌, bytes_eq, Bool, true, false, ◌||◌, if◌then◌else◌}
+use Rattle.std.specs.Prelude.{⊤, Option, Some, None, Result, Ok, Err}
 use Rattle.std.specs.List.{list_all}
 use Rattle.sigstore_types_parts.specs.HashAlgorithm.{with_optional}
 use Rattle.sigstore_types_parts.specs.declared.hash_algorithm.HashAlgorithm.{HashAlgorithm}
@@ -9,11 +9,11 @@ use Rattle.sigstore_types_parts.specs.declared.hash_algorithm.HashAlgorithm.TheV
 use Rattle.sigstore_types.specs.declared.content.SignatureContent.{SignatureContent}
 use Rattle.sigstore_types.specs.declared.content.SignatureContent.TheVariants.{MessageSignature as OfMessage}
 use Rattle.sigstore_types.specs.declared.content.MessageDigest.{MessageDigest}
-use Rattle.sigstore_crypto.specs.declared.error.Error.{Error as CryptoError}
-use Rattle.sigstore_crypto.specs.declared.scheme.SigningScheme.{SigningScheme}
-use Rattle.sigstore_crypto.specs.declared.key.VerificationKey.{VerificationKey}
-use Rattle.sigstore_crypto.specs.Scheme.{key_algorithm_of, digest_algorithm_of, has_digest, resolved_of}
-use Rattle.sigstore_crypto.specs.Good.{Judge, is_good_over}
+use Rattle.sigstore_crypto_parts.specs.declared.error.Error.{Error as CryptoError}
+use Rattle.sigstore_crypto_parts.specs.declared.scheme.SigningScheme.{SigningScheme}
+use Rattle.sigstore_crypto_parts.specs.declared.key.VerificationKey.{VerificationKey}
+use Rattle.sigstore_crypto_parts.specs.Scheme.{key_algorithm_of, digest_algorithm_of, has_digest, resolved_of}
+use Rattle.sigstore_crypto_parts.specs.Good.{Judge, is_good_over}
 use Rattle.sigstore_judgement.specs.declared.error.Error.{Error}
 use Rattle.sigstore_judgement.specs.declared.error.Error.TheVariants.{SignatureInvalid, ArtifactMismatch, UnsupportedArtifact}
 use Rattle.sigstore_judgement.specs.Artifact.{Artifact, Digests, digest_of, Kind}

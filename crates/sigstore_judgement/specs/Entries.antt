@@ -1,6 +1,7 @@
 -- The entries of a bundle under the logs that are trusted (RFC 6962, sections 2.1.1 and 3.2; C2SP tlog-checkpoint), and what they say of
 -- the bundle.
-use Rattle.std.specs.Prelude.{List, [], ◌∷◌, ◌++◌, Bool, true, false, Option, Some, None, Result, Ok, Err, ⊤}
+use Rattle.std.specs.Prelude.{List, [], ◌∷◌, ◌++◌, filter_map, Bool, true, false, Option, Some, None, Result, Ok, Err, ⊤}
+use Rattle.std.specs.List.{cons_option}
 use Rattle.foundation.specs.Steps.{◌>>=◌}
 use Rattle.jiff_core.specs.declared.timestamp.Timestamp.{Timestamp}
 use Rattle.sigstore_types_parts.specs.declared.form.Form.TheVariants.{Binding}
@@ -21,30 +22,35 @@ use Rattle.sigstore_judgement.specs.Signer.{Signer}
 abbrev pub entry_judged_of : Grounds → TransparencyLogEntry → Result (Option Timestamp) Error
 entry_judged_of grounds entry = by_log (logged_of grounds.crypto.accepts grounds.material.logs grounds.now entry)
 
+-- the times that logs promised, in the entries' order; each entry is logged (else a good one would cover for one that is made up), and the
+-- first that isn't refuses
+abbrev pub entries_judged_of : Grounds → List TransparencyLogEntry → Result (List Timestamp) Error
+entries_judged_of grounds [] = Ok []
+entries_judged_of grounds (entry ∷ entries) = do
+  time ← entry_judged_of grounds entry
+  times ← entries_judged_of grounds entries
+  Ok (cons_option time times)
+
+-- where the policy verifies the log
+abbrev pub log_judged_of : Grounds → Bool → List TransparencyLogEntry → Result (List Timestamp) Error
+log_judged_of grounds true entries = entries_judged_of grounds entries
+log_judged_of grounds false entries = Ok []
+
+-- the times that entries tell, where the policy verifies the log
+abbrev pub told_if : Bool → List TransparencyLogEntry → List Timestamp
+told_if true entries = filter_map told_time entries
+told_if false entries = []
+
+-- ---- as they are gathered
+
+-- times, and behind them one
 abbrev pub with_time : Option Timestamp → List Timestamp → List Timestamp
 with_time None times = times
 with_time (Some time) times = times ++ time ∷ []
 
--- times, and behind them those that logs promised, in the entries' order; each entry is logged (else a good one would cover for one that is
--- made up), and the first that isn't refuses
-abbrev pub entries_judged_of : Grounds → List TransparencyLogEntry → List Timestamp → Result (List Timestamp) Error
-entries_judged_of grounds [] times = Ok times
-entries_judged_of grounds (entry ∷ entries) times =
-    entry_judged_of grounds entry >>= λ time. entries_judged_of grounds entries (with_time time times)
-
--- where the policy verifies the log
-abbrev pub log_judged_of : Grounds → Bool → List TransparencyLogEntry → Result (List Timestamp) Error
-log_judged_of grounds true entries = entries_judged_of grounds entries []
-log_judged_of grounds false entries = Ok []
-
--- the times that entries tell, behind others
-abbrev pub told_onto : List TransparencyLogEntry → List Timestamp → List Timestamp
-told_onto [] times = times
-told_onto (entry ∷ entries) times = told_onto entries (with_time (told_time entry) times)
-
-abbrev pub told_if : Bool → List TransparencyLogEntry → List Timestamp
-told_if true entries = told_onto entries []
-told_if false entries = []
+-- times, and behind them those of a judgement
+abbrev pub behind : List Timestamp → Result (List Timestamp) Error → Result (List Timestamp) Error
+behind before judged = judged >>= λ times. Ok (before ++ times)
 
 -- ---- each is of this bundle
 

@@ -6,10 +6,10 @@ use Rattle.foundation.specs.Watched.{Watched, Rose}
 use Rattle.jiff_core.specs.declared.timestamp.Timestamp.{Timestamp}
 use Rattle.sigstore_types.specs.declared.bundle.Bundle.{Bundle}
 use Rattle.sigstore_types.specs.declared.trusted_root.TrustedRoot.{TrustedRoot}
-use Rattle.sigstore_crypto.specs.Crypto.{Crypto}
-use Rattle.sigstore_crypto.specs.Digest.{digests_by}
-use Rattle.sigstore_crypto.specs.declared.reader.ReadError.{ReadError}
-use Rattle.sigstore_crypto.specs.declared.reader.ReadError.TheVariants.{Failed, TooLong}
+use Rattle.sigstore_crypto_parts.specs.Crypto.{Crypto}
+use Rattle.sigstore_crypto_parts.specs.Digest.{digests_by}
+use Rattle.sigstore_crypto_parts.specs.declared.reader.ReadError.{ReadError}
+use Rattle.sigstore_crypto_parts.specs.declared.reader.ReadError.TheVariants.{Failed, TooLong}
 use Rattle.sigstore_judgement.specs.declared.error.Error.{Error}
 use Rattle.sigstore_judgement.specs.declared.error.Error.TheVariants.{ArtifactRead, NoMemory}
 use Rattle.sigstore_judgement.specs.declared.report.VerificationResult.{VerificationResult}
@@ -25,6 +25,10 @@ pub record ReadWhole (old new : Watched (List ℕ)) (max : ℕ) (bytes : List �
   pub given : old.told ≡ prepend_known bytes new.told
   pub ended : IsAtEnd new.told
   pub short : length bytes ≤ max
+
+-- what was taken of the source are its first bytes, at most one more than the limit: whatever refuses, no more is read
+abbrev pub TookWithin : Watched (List ℕ) → Watched (List ℕ) → ℕ → Type 0
+TookWithin old new max = (bytes : List ℕ) × (old.told ≡ prepend_known bytes new.told) × (length bytes ≤ max + 1)
 
 -- why the reading failed: a read did, or more bytes than the limit were given
 abbrev pub ReadCause : Watched (List ℕ) → Watched (List ℕ) → ℕ → ReadError → Type 0
@@ -65,12 +69,14 @@ pub record Accepted (terms : Terms) (bundle : Bundle) (old new : Watched (List �
 pub record Verifies (terms : Terms) (bundle : Bundle) (old new : Watched (List ℕ)) (max : ℕ)
     (result : Result VerificationResult Error) : Type 0 where
   pub later : old.faults ≤ new.faults
+  pub within : TookWithin old new max
   pub accepted : IfOk result (λ report. (bytes : List ℕ) × Accepted terms bundle old new max report bytes)
   pub refused : IfErr result (Cause terms bundle old new max)
 
 -- the promise of one that keeps the digests: they are those that were needed, in their order, of the same bytes
 pub record VerifiesKept (terms : Terms) (bundle : Bundle) (old new : Watched (List ℕ)) (max : ℕ) (result : Result Kept Error) : Type 0 where
   pub later : old.faults ≤ new.faults
+  pub within : TookWithin old new max
   pub accepted : IfOk result (λ kept. (bytes : List ℕ) × Accepted terms bundle old new max kept.result bytes
       × (kept.digests ≡ digests_by (needed_by terms.policy bundle) bytes))
   pub refused : IfErr result (Cause terms bundle old new max)

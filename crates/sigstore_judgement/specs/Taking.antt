@@ -2,15 +2,16 @@
 use Rattle.std.specs.Prelude.{◌≡◌, ◌⊎◌, ℕ, ◌≤◌, List, Result, IfOk, IfErr}
 use Rattle.foundation.specs.Watched.{Watched}
 use Rattle.sigstore_types_parts.specs.declared.hash_algorithm.HashAlgorithm.{HashAlgorithm}
-use Rattle.sigstore_crypto.specs.Digest.{digests_by}
-use Rattle.sigstore_crypto.specs.declared.reader.ReadError.{ReadError}
+use Rattle.sigstore_crypto_parts.specs.Digest.{digests_by}
+use Rattle.sigstore_crypto_parts.specs.declared.reader.ReadError.{ReadError}
 use Rattle.sigstore_judgement.specs.declared.error.Error.{Error}
 use Rattle.sigstore_judgement.specs.declared.error.Error.TheVariants.{ArtifactRead, NoMemory}
-use Rattle.sigstore_judgement.specs.Promise.{ReadWhole, ReadCause}
+use Rattle.sigstore_judgement.specs.Promise.{ReadWhole, ReadCause, TookWithin}
 
 -- the digests are those of bytes that were read to the end; a refusal is the reading's, or want of memory
 pub record Takes (old new : Watched (List ℕ)) (max : ℕ) (algorithms : List HashAlgorithm)
     (result : Result (List (HashAlgorithm × List ℕ)) Error) : Type 0 where
   pub later : old.faults ≤ new.faults
+  pub within : TookWithin old new max
   pub taken : IfOk result (λ digests. (bytes : List ℕ) × ReadWhole old new max bytes × (digests ≡ digests_by algorithms bytes))
   pub refused : IfErr result (λ e. (e ≡ NoMemory) ⊎ ((fault : ReadError) × (e ≡ ArtifactRead fault) × ReadCause old new max fault))

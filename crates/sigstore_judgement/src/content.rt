@@ -8,7 +8,7 @@ ghost use Rattle.sigstore_judgement.specs.Content.{scheme_of, algorithm_told, ne
 use crate::artifact::{Had, Handed, has_all, taken};
 use crate::error::Error;
 use foundation::{NoMemory, Sequence};
-use sigstore_crypto::{CryptoProvider, SigningScheme, VerificationKey};
+use sigstore_crypto_parts::{CryptoProvider, SigningScheme, VerificationKey};
 use sigstore_types::{MessageDigest, SignatureContent};
 use sigstore_types_parts::{ArtifactDigest, HashAlgorithm, SignatureBytes};
 use std::alloc::Global;
@@ -18,7 +18,7 @@ use std::alloc::Global;
 pub(crate) fn scheme_of(
     scheme: SigningScheme,
     content: &SignatureContent,
-) -> Result<SigningScheme, sigstore_crypto::Error>
+) -> Result<SigningScheme, sigstore_crypto_parts::Error>
     ensures { result ≡ scheme_of scheme content.now }
 {
     match content {

@@ -2,7 +2,7 @@
 ghost use Rattle.std.specs.Prelude.{◌≡◌, ◌≢◌, Ok, Err, IfOk, IfErr, OnOk};
 ghost use Rattle.sigstore_types.specs.Bundle.{entries_in};
 ghost use Rattle.sigstore_judgement.specs.Artifact.{digest_had};
-ghost use Rattle.sigstore_judgement.specs.Entries.{entry_judged_of, with_time, entries_judged_of, log_judged_of, entry_described_of, entries_described_of};
+ghost use Rattle.sigstore_judgement.specs.Entries.{entry_judged_of, with_time, behind, entries_judged_of, log_judged_of, entry_described_of, entries_described_of};
 ghost use Rattle.sigstore_judgement.specs.Error.{error_of_log};
 ghost use Rattle.sigstore_judgement.specs.Grounds.{grounds_by};
 ghost use Rattle.sigstore_judgement.specs.Signer.{signer_as};
@@ -13,7 +13,7 @@ use crate::grounds::Grounds;
 use crate::signing::Signing;
 use foundation::{NoMemory, Sequence};
 use jiff::Timestamp;
-use sigstore_crypto::CryptoProvider;
+use sigstore_crypto_parts::CryptoProvider;
 use sigstore_entries::TransparencyLogEntry;
 use sigstore_log::{LogError, judge_entry};
 use sigstore_types::Bundle;
@@ -70,14 +70,16 @@ fn add_time(time: Option<Timestamp>, times: &mut Sequence<Timestamp>) -> Result<
 }
 
 // Each entry has to be logged: a good one doesn't cover for one that is made up.
+#[tactic(auto, using(crate::proofs::Behind::behind_one, crate::proofs::Behind::behind_all))]
 fn check_entries<C: CryptoProvider, M: Armor>(
     alloc: Global,
     grounds: &Grounds<'_, C, M>,
     entries: &[TransparencyLogEntry],
     times: &mut Sequence<Timestamp>,
 ) -> Result<(), Error>
-    ensures ok { OnOk result (entries_judged_of (grounds_by C.CryptoProvider M.Armor grounds.now) entries.now times.old ≡ Ok times.new) }
-    ensures err { IfErr result (λ e. e ≢ Error.NoMemory → entries_judged_of (grounds_by C.CryptoProvider M.Armor grounds.now) entries.now times.old ≡ Err e) }
+    ensures ok { OnOk result (behind times.old (entries_judged_of (grounds_by C.CryptoProvider M.Armor grounds.now) entries.now) ≡ Ok times.new) }
+    ensures err { IfErr result (λ e. e ≢ Error.NoMemory →
+        behind times.old (entries_judged_of (grounds_by C.CryptoProvider M.Armor grounds.now) entries.now) ≡ Err e) }
 {
     'entries: for entry in entries {
         let time = check_entry(alloc, grounds, entry)?;
@@ -88,6 +90,7 @@ fn check_entries<C: CryptoProvider, M: Armor>(
 
 /// Where the log is to be verified, whether each entry is logged by the trusted logs at this moment, and the times
 /// that they promised. Errors: those of the first entry that isn't.
+#[tactic(auto, using(crate::proofs::Behind::behind_nothing))]
 pub(crate) fn check_log<C: CryptoProvider, M: Armor>(
     alloc: Global,
     grounds: &Grounds<'_, C, M>,

@@ -5,7 +5,7 @@ ghost use Rattle.sigstore_judgement.specs.declared.error.Error.TheVariants.{NoMe
 
 use foundation::NoMemory;
 use jiff::Timestamp;
-use sigstore_crypto::ReadError;
+use sigstore_crypto_parts::ReadError;
 use sigstore_types_parts::{Form, Sha256Hash, Text, TypesError};
 use std::{error, fmt};
 
@@ -257,12 +257,12 @@ impl From<NoMemory> for Error {
     }
 }
 
-impl From<sigstore_crypto::Error> for Error {
+impl From<sigstore_crypto_parts::Error> for Error {
     ghost from_gives = { λ fault e. e ≡ error_of_crypto fault };
 
-    fn from(fault: sigstore_crypto::Error) -> Error {
+    fn from(fault: sigstore_crypto_parts::Error) -> Error {
         match fault {
-            sigstore_crypto::Error::NoMemory => Error::NoMemory,
+            sigstore_crypto_parts::Error::NoMemory => Error::NoMemory,
             _ => Error::Crypto,
         }
     }

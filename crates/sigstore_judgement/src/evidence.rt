@@ -8,7 +8,7 @@ use crate::signing::Signing;
 use foundation::Sequence;
 use jiff::Timestamp;
 
-/// What vouches for a signer shows.
+/// What was found that vouches for a signer.
 #[derive(Drop)]
 pub struct Evidence {
     /// The times that logs promised, each of an entry that is logged, in the entries' order.

@@ -1,6 +1,6 @@
 // The judgement of a bundle, before and after its artifact is had.
 ghost use Rattle.std.specs.Prelude.{◌≡◌, ◌≢◌, Ok, Err, IfOk, IfErr};
-ghost use Rattle.sigstore_crypto.specs.Key.{spki_key_of};
+ghost use Rattle.sigstore_crypto_parts.specs.Key.{spki_key_of};
 ghost use Rattle.sigstore_judgement.specs.Artifact.{kind_in, digest_had, bytes_had};
 ghost use Rattle.sigstore_judgement.specs.Error.{by_crypto};
 ghost use Rattle.sigstore_judgement.specs.Evidence.{report_of};
@@ -19,7 +19,7 @@ use crate::policy::{PolicyKind, PublicKeyVerificationPolicy};
 use crate::report::VerificationResult;
 use crate::signing::{Signing, who_signed};
 use foundation::Sequence;
-use sigstore_crypto::{CryptoProvider, VerificationKey};
+use sigstore_crypto_parts::{CryptoProvider, VerificationKey};
 use sigstore_types::Bundle;
 use sigstore_types_parts::{Armor, DerPublicKey, HashAlgorithm};
 use std::alloc::Global;
@@ -40,7 +40,7 @@ fn key_of(alloc: Global, der: &DerPublicKey) -> Result<VerificationKey, Error>
 {
     match VerificationKey::from_spki(alloc, der) {
         Ok(key) => Ok(key),
-        Err(sigstore_crypto::Error::NoMemory) => Err(Error::NoMemory),
+        Err(sigstore_crypto_parts::Error::NoMemory) => Err(Error::NoMemory),
         Err(_) => Err(Error::Crypto),
     }
 }

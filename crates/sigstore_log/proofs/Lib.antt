@@ -2,6 +2,7 @@ pub mod Among
 pub mod CauseLaw
 pub mod Including
 pub mod LoggedLaw
+pub mod Looking
 pub mod Moments
 pub mod OnePlaceLaw
 pub mod Promising

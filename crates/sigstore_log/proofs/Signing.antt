@@ -3,14 +3,14 @@ use Rattle.std.proofs.Common.{◌≡◌, ℕ, List, [], ◌∷◌, Bool, true, f
 use Rattle.std.specs.List.{list_any}
 use Rattle.foundation.specs.Results.{and_true}
 use Rattle.jiff_core.specs.declared.timestamp.Timestamp.{Timestamp}
-use Rattle.sigstore_crypto.specs.declared.key.VerificationKey.{VerificationKey}
-use Rattle.sigstore_crypto.specs.declared.keyring.HeldKey.{HeldKey}
-use Rattle.sigstore_crypto.specs.Good.{Judge, is_good}
-use Rattle.sigstore_crypto.specs.Keyring.{Ring, is_meant, keys_meant}
+use Rattle.sigstore_crypto_parts.specs.declared.key.VerificationKey.{VerificationKey}
+use Rattle.sigstore_crypto_parts.specs.declared.keyring.HeldKey.{HeldKey}
+use Rattle.sigstore_crypto_parts.specs.Good.{Judge, is_good}
+use Rattle.sigstore_crypto_parts.specs.Keyring.{Ring, is_meant, keys_meant}
 use Rattle.sigstore_entries.specs.declared.checkpoint.Checkpoint.{Checkpoint}
 use Rattle.sigstore_entries.specs.declared.signature_line.CheckpointSignature.{CheckpointSignature}
 use Rattle.sigstore_entries.specs.Checkpoint.{signed_data_of}
-use Rattle.sigstore_log.specs.Signed.{is_vouched, is_signed_by}
+use Rattle.sigstore_log.specs.Signed.{is_vouched, is_signed_by, looked_at}
 use Rattle.sigstore_log.specs.Logged.{SignedBy}
 use Rattle.sigstore_log.proofs.Among.{among_from_any, any_from_among}
 
@@ -45,7 +45,7 @@ module _ (accepts : Judge) (logs : Ring) (now : Timestamp) (checkpoint : Checkpo
 
   pub signed_means : is_signed_by accepts logs now checkpoint ≡ true → SignedBy accepts logs now checkpoint
   signed_means h =
-      let one = among_from_any (is_vouched accepts logs now Signed) checkpoint.signatures h in
+      let one = among_from_any (is_vouched accepts logs now Signed) (looked_at checkpoint.signatures) h in
       let line = one.0 in
       let two = among_from_any (is_its line) logs (sym (any_meant (is_good_line line) line.key_id now logs) ∙ one.2) in
       let log = two.0 in
@@ -56,4 +56,4 @@ module _ (accepts : Judge) (logs : Ring) (now : Timestamp) (checkpoint : Checkpo
   signed_passes s =
       let its = ap (λ b. b && is_good_line s.line s.log.key) s.meant ∙ s.good in
       let vouched = any_meant (is_good_line s.line) s.line.key_id now logs ∙ any_from_among (is_its s.line) logs (s.id, s.log) s.trusted its in
-      any_from_among (is_vouched accepts logs now Signed) checkpoint.signatures s.line s.among vouched
+      any_from_among (is_vouched accepts logs now Signed) (looked_at checkpoint.signatures) s.line s.among vouched

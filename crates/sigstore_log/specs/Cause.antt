@@ -1,9 +1,9 @@
 -- What each refusal of an entry tells of it (RFC 6962, sections 2.1.1 and 3.2; C2SP tlog-checkpoint).
 use Rattle.std.specs.Prelude.{◌≡◌, ◌≢◌, ℕ, ℤ, List, length, true, false, Some, None, Ok, Err, int_lt}
 use Rattle.jiff_core.specs.declared.timestamp.Timestamp.{Timestamp}
-use Rattle.sigstore_crypto.specs.declared.key.VerificationKey.{VerificationKey}
-use Rattle.sigstore_crypto.specs.Good.{Judge}
-use Rattle.sigstore_crypto.specs.Keyring.{Ring, key_at, key_by}
+use Rattle.sigstore_crypto_parts.specs.declared.key.VerificationKey.{VerificationKey}
+use Rattle.sigstore_crypto_parts.specs.Good.{Judge}
+use Rattle.sigstore_crypto_parts.specs.Keyring.{Ring, key_at, key_by}
 use Rattle.sigstore_merkle.specs.Tree.{leaf_hash, root_from}
 use Rattle.sigstore_entries.specs.declared.checkpoint.Checkpoint.{Checkpoint}
 use Rattle.sigstore_entries.specs.declared.inclusion_proof.InclusionProof.{InclusionProof}

@@ -1,10 +1,10 @@
 -- What it means that an entry is logged, told without any order of checks (RFC 6962, sections 2.1.1 and 3.2; C2SP tlog-checkpoint).
 use Rattle.std.specs.Prelude.{◌≡◌, ◌↔◌, ℕ, List, length, true, ⊤, Option, Some, None, Ok, IsTrue, Contains}
 use Rattle.jiff_core.specs.declared.timestamp.Timestamp.{Timestamp}
-use Rattle.sigstore_crypto.specs.declared.key.VerificationKey.{VerificationKey}
-use Rattle.sigstore_crypto.specs.declared.keyring.HeldKey.{HeldKey}
-use Rattle.sigstore_crypto.specs.Good.{Judge, is_good}
-use Rattle.sigstore_crypto.specs.Keyring.{Ring, is_meant}
+use Rattle.sigstore_crypto_parts.specs.declared.key.VerificationKey.{VerificationKey}
+use Rattle.sigstore_crypto_parts.specs.declared.keyring.HeldKey.{HeldKey}
+use Rattle.sigstore_crypto_parts.specs.Good.{Judge, is_good}
+use Rattle.sigstore_crypto_parts.specs.Keyring.{Ring, is_meant}
 use Rattle.sigstore_merkle.specs.Tree.{leaf_hash, root_from}
 use Rattle.sigstore_entries.specs.declared.checkpoint.Checkpoint.{Checkpoint}
 use Rattle.sigstore_entries.specs.declared.inclusion_proof.InclusionProof.{InclusionProof}
@@ -17,13 +17,14 @@ use Rattle.sigstore_entries.specs.Checkpoint.{signed_data_of}
 use Rattle.sigstore_entries.specs.Promise.{payload_of}
 use Rattle.sigstore_log.specs.Entry.{logged_of}
 use Rattle.sigstore_log.specs.Inclusion.{Place, place_of}
+use Rattle.sigstore_log.specs.Signed.{looked_at}
 use Rattle.sigstore_log.specs.Promise.{key_of, tells_time, is_past_or_now, told_time}
 
--- some line of the checkpoint has the first four bytes of a trusted log's id, the log's window has started by now, and the line's
+-- some line that is looked at has the first four bytes of a trusted log's id, the log's window has started by now, and the line's
 -- signature is good under its key over the signed text
 pub record SignedBy (accepts : Judge) (logs : Ring) (now : Timestamp) (checkpoint : Checkpoint) : Type 0 where
   pub line : CheckpointSignature
-  pub among : Contains checkpoint.signatures line
+  pub among : Contains (looked_at checkpoint.signatures) line
   pub id : List ℕ
   pub log : HeldKey
   pub trusted : Contains logs (id, log)

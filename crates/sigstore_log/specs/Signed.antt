@@ -5,13 +5,13 @@ use Rattle.std.specs.List.{list_any}
 use Rattle.sha2.specs.Sha256.{sha256}
 use Rattle.foundation.specs.Steps.{◌>>=◌}
 use Rattle.jiff_core.specs.declared.timestamp.Timestamp.{Timestamp}
-use Rattle.sigstore_crypto.specs.declared.error.Error.{Error as CryptoError}
-use Rattle.sigstore_crypto.specs.declared.error.Error.TheVariants as crypto
-use Rattle.sigstore_crypto.specs.declared.error.CheckpointFault.TheVariants as fault
-use Rattle.sigstore_crypto.specs.declared.key.VerificationKey.{VerificationKey}
-use Rattle.sigstore_crypto.specs.Good.{Judge, is_good}
-use Rattle.sigstore_crypto.specs.Key.{spki_key_of}
-use Rattle.sigstore_crypto.specs.Keyring.{Ring, keys_meant}
+use Rattle.sigstore_crypto_parts.specs.declared.error.Error.{Error as CryptoError}
+use Rattle.sigstore_crypto_parts.specs.declared.error.Error.TheVariants as crypto
+use Rattle.sigstore_crypto_parts.specs.declared.error.CheckpointFault.TheVariants as fault
+use Rattle.sigstore_crypto_parts.specs.declared.key.VerificationKey.{VerificationKey}
+use Rattle.sigstore_crypto_parts.specs.Good.{Judge, is_good}
+use Rattle.sigstore_crypto_parts.specs.Key.{spki_key_of}
+use Rattle.sigstore_crypto_parts.specs.Keyring.{Ring, keys_meant}
 use Rattle.sigstore_entries.specs.declared.checkpoint.Checkpoint.{Checkpoint}
 use Rattle.sigstore_entries.specs.declared.inclusion_proof.InclusionProof.{InclusionProof}
 use Rattle.sigstore_entries.specs.declared.kind_version.KindVersion.{KindVersion}
@@ -21,6 +21,11 @@ use Rattle.sigstore_entries.specs.declared.signature_line.CheckpointSignature.{C
 use Rattle.sigstore_entries.specs.Checkpoint.{signed_data_of}
 use Rattle.sigstore_log.specs.declared.error.LogError.{LogError}
 use Rattle.sigstore_log.specs.declared.error.LogError.TheVariants as refusal
+
+-- The lines that are looked at: the first hundred. A checkpoint has a line of its log and one of each witness; without a bound whoever
+-- writes a bundle could have a long text judged for each of half a million lines. (The note package of Go refuses a note with more.)
+abbrev pub looked_at : List CheckpointSignature → List CheckpointSignature
+looked_at lines = take 100 lines
 
 -- ---- under the keys of trusted logs
 
@@ -36,7 +41,7 @@ is_vouched accepts logs now signed line = is_good_by accepts (keys_meant line.ke
 
 -- some line's is: whoever else signed doesn't count, and takes nothing away
 abbrev pub is_signed_by : Judge → Ring → Timestamp → Checkpoint → Bool
-is_signed_by accepts logs now checkpoint = list_any (is_vouched accepts logs now (signed_data_of checkpoint)) checkpoint.signatures
+is_signed_by accepts logs now checkpoint = list_any (is_vouched accepts logs now (signed_data_of checkpoint)) (looked_at checkpoint.signatures)
 
 -- ---- the checkpoint of a proof
 
@@ -70,8 +75,8 @@ is_line_good accepts key hint signed line = has_hint hint line && is_good accept
 -- a line with the hint is there, and the signature of one with it is good
 abbrev pub hinted_of : Judge → VerificationKey → List ℕ → Checkpoint → Result ⊤ CryptoError
 hinted_of accepts key hint checkpoint =
-    if list_any (has_hint hint) checkpoint.signatures then
-    (if list_any (is_line_good accepts key hint (signed_data_of checkpoint)) checkpoint.signatures then Ok tt
+    if list_any (has_hint hint) (looked_at checkpoint.signatures) then
+    (if list_any (is_line_good accepts key hint (signed_data_of checkpoint)) (looked_at checkpoint.signatures) then Ok tt
     else Err (crypto.Checkpoint fault.Refused))
     else Err (crypto.Checkpoint fault.NoHint)
 

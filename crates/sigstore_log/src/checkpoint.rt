@@ -1,17 +1,18 @@
 // Whose signatures a checkpoint has.
 ghost use Rattle.std.specs.Prelude.{◌≡◌, ◌≢◌, Ok, Err, IfOk, IfErr, Result, ⊤, List, ℕ};
 ghost use Rattle.std.specs.List.{list_any};
-ghost use Rattle.sigstore_crypto.specs.Coming.{coming};
-ghost use Rattle.sigstore_crypto.specs.Good.{Judge, is_good};
-ghost use Rattle.sigstore_crypto.specs.declared.error.Error.{Error as CryptoError};
-ghost use Rattle.sigstore_crypto.specs.declared.error.Error.TheVariants as crypto;
+ghost use Rattle.sigstore_crypto_parts.specs.Coming.{coming};
+ghost use Rattle.sigstore_crypto_parts.specs.Good.{Judge, is_good};
+ghost use Rattle.sigstore_crypto_parts.specs.declared.error.Error.{Error as CryptoError};
+ghost use Rattle.sigstore_crypto_parts.specs.declared.error.Error.TheVariants as crypto;
 ghost use Rattle.sigstore_entries.specs.Checkpoint.{signed_data_of};
-ghost use Rattle.sigstore_log.specs.Signed.{is_good_by, is_vouched, is_signed_by, is_of_tree, checkpoint_judged, has_hint, is_line_good, hinted_of, verified_of};
+ghost use Rattle.sigstore_log.specs.Signed.{is_good_by, is_vouched, is_signed_by, is_of_tree, checkpoint_judged, has_hint, is_line_good, hinted_of, looked_at, verified_of};
 
 use crate::error::LogError;
 use jiff::Timestamp;
-use sigstore_crypto::{
-    CheckpointFault, CryptoProvider, Error, Keyring, KeysByHint, VerificationKey, compute_key_hint,
+use sigstore_crypto_parts::{
+    CheckpointFault, CryptoProvider, Error, HashedMessage, Keyring, KeysByHint, VerificationKey,
+    compute_key_hint,
 };
 use sigstore_entries::{Checkpoint, CheckpointSignature, InclusionProof, KindVersion};
 use sigstore_types_parts::{DerPublicKey, KeyHint, SignatureBytes};
@@ -21,13 +22,13 @@ use std::alloc::Global;
 fn is_good_by<C: CryptoProvider>(
     provider: &C,
     keys: KeysByHint<'_>,
-    message: &[u8],
+    message: &HashedMessage<'_>,
     signature: &SignatureBytes,
 ) -> bool
     ensures { result ≡ is_good_by (C.accepts provider.now) (coming keys.entry) message.now signature.now }
 {
     'keys: for key in keys {
-        if key.verify(provider, message, signature).is_ok() {
+        if key.verify_hashed(provider, message, signature).is_ok() {
             return true;
         }
     }
@@ -39,7 +40,7 @@ fn is_vouched<C: CryptoProvider>(
     provider: &C,
     logs: &Keyring,
     now: Timestamp,
-    signed: &[u8],
+    signed: &HashedMessage<'_>,
     line: &CheckpointSignature,
 ) -> bool
     ensures { result ≡ is_vouched (C.accepts provider.now) logs.now now signed.now line.now }
@@ -48,9 +49,18 @@ fn is_vouched<C: CryptoProvider>(
     is_good_by(provider, keys, signed, &line.signature)
 }
 
-/// Whether one of these logs signed a checkpoint: some line has the first four bytes of a log's id, the log's
-/// window has started by now, and the line's signature is good under its key (C2SP tlog-checkpoint over
-/// signed-note).
+// The lines that are looked at.
+#[tactic(auto, using(crate::proofs::Looking::first_hundred))]
+fn looked_at(lines: &[CheckpointSignature]) -> &[CheckpointSignature]
+    ensures { result.now ≡ looked_at lines.now }
+{
+    let (first, _) = lines.split_at(100usize.min(lines.len()));
+    first
+}
+
+/// Whether one of these logs signed a checkpoint: of its first hundred lines some line has the first four bytes of
+/// a log's id, the log's window has started by now, and the line's signature is good under its key (C2SP
+/// tlog-checkpoint over signed-note). The text's digests are taken once.
 pub fn is_signed_by<C: CryptoProvider>(
     provider: &C,
     logs: &Keyring,
@@ -59,11 +69,10 @@ pub fn is_signed_by<C: CryptoProvider>(
 ) -> bool
     ensures { result ≡ is_signed_by (C.accepts provider.now) logs.now now checkpoint.now }
 {
-    let signed = checkpoint.signed_data();
-    checkpoint
-        .signatures()
+    let signed = HashedMessage::new(checkpoint.signed_data());
+    looked_at(checkpoint.signatures())
         .iter()
-        .any(|line| is_vouched(provider, logs, now, signed, line))
+        .any(|line| is_vouched(provider, logs, now, &signed, line))
 }
 
 // Whether a proof is of a checkpoint's tree.
@@ -115,12 +124,12 @@ fn is_line_good<C: CryptoProvider>(
     provider: &C,
     key: &VerificationKey,
     hint: &KeyHint,
-    signed: &[u8],
+    signed: &HashedMessage<'_>,
     line: &CheckpointSignature,
 ) -> bool
     ensures { result ≡ is_line_good (C.accepts provider.now) key.now hint.now signed.now line.now }
 {
-    has_hint(hint, line) && key.verify(provider, signed, &line.signature).is_ok()
+    has_hint(hint, line) && key.verify_hashed(provider, signed, &line.signature).is_ok()
 }
 
 fn has_good<C: CryptoProvider>(
@@ -129,13 +138,12 @@ fn has_good<C: CryptoProvider>(
     hint: &KeyHint,
     checkpoint: &Checkpoint,
 ) -> bool
-    ensures { result ≡ list_any (is_line_good (C.accepts provider.now) key.now hint.now (signed_data_of checkpoint.now)) checkpoint.now.signatures }
+    ensures { result ≡ list_any (is_line_good (C.accepts provider.now) key.now hint.now (signed_data_of checkpoint.now)) (looked_at checkpoint.now.signatures) }
 {
-    let signed = checkpoint.signed_data();
-    checkpoint
-        .signatures()
+    let signed = HashedMessage::new(checkpoint.signed_data());
+    looked_at(checkpoint.signatures())
         .iter()
-        .any(|line| is_line_good(provider, key, hint, signed, line))
+        .any(|line| is_line_good(provider, key, hint, &signed, line))
 }
 
 fn check_hinted<C: CryptoProvider>(
@@ -146,7 +154,7 @@ fn check_hinted<C: CryptoProvider>(
 ) -> Result<(), Error>
     ensures { result ≡ hinted_of (C.accepts provider.now) key.now hint.now checkpoint.now }
 {
-    if !has_any(hint, checkpoint.signatures()) {
+    if !has_any(hint, looked_at(checkpoint.signatures())) {
         return Err(Error::Checkpoint(CheckpointFault::NoHint));
     }
     if has_good(provider, key, hint, checkpoint) {
@@ -161,8 +169,9 @@ pub trait CheckpointVerifyExt {
     ghost verified: { Judge → List ℕ → Self → Result ⊤ CryptoError };
 
     /// Whether a signature line with the hint of this key, which is a SubjectPublicKeyInfo in DER, has a good
-    /// signature. Errors, in order: `InvalidKey` where the key isn't read, `Checkpoint(NoHint)` where no line has its
-    /// hint, `Checkpoint(Refused)` where no line with it is good.
+    /// signature; of a text with more lines the first hundred are looked at. Errors, in order: `InvalidKey` where the
+    /// key isn't read, `Checkpoint(NoHint)` where no line has its hint, `Checkpoint(Refused)` where no line with it
+    /// is good.
     fn verify_signature<C: CryptoProvider>(
         &self,
         alloc: Global,

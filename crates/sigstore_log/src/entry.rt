@@ -7,7 +7,7 @@ use crate::error::LogError;
 use crate::inclusion::check_inclusion;
 use crate::promise::judge_promise;
 use jiff::Timestamp;
-use sigstore_crypto::{CryptoProvider, Keyring};
+use sigstore_crypto_parts::{CryptoProvider, Keyring};
 use sigstore_entries::{InclusionProof, TransparencyLogEntry};
 use std::alloc::Global;
 

@@ -6,7 +6,7 @@ ghost use Rattle.sigstore_log.specs.Promise.{moment_of, id_of, key_of, is_promis
 
 use crate::error::LogError;
 use jiff::Timestamp;
-use sigstore_crypto::{CryptoProvider, Keyring, VerificationKey};
+use sigstore_crypto_parts::{CryptoProvider, Keyring, VerificationKey};
 use sigstore_entries::{KindVersion, TransparencyLogEntry, promise_payload};
 use sigstore_types_parts::{LogKeyId, Sha256Hash, SignatureBytes, SignedTimestamp};
 use std::alloc::Global;

@@ -1,13 +1,14 @@
 -- What two inclusions show (RFC 6962, section 2.1.1).
 use Rattle.std.specs.Prelude.{◌≡◌, ◌≢◌, ◌⊎◌, ⊤, ℕ, ◌-◌, nat_lt, cond, List, [], ◌∷◌, reverse, length}
 use Rattle.std.specs.Prelude.{Option, Some, None, IsSome, MatchOption, bytes_eq}
-use Rattle.std.specs.Option.{unwrap_or}
+use Rattle.std.specs.Option.{unwrap_or, option_map}
 use Rattle.sha2.specs.Sha256.{sha256}
 use Rattle.sigstore_merkle.specs.Tree.{leaf_input, node_input, leaf_hash, split, root_from}
 use Rattle.sigstore_merkle.specs.Inclusion.{ShapeFault}
 use Rattle.sigstore_merkle.specs.Differing.{pair_of}
 use Rattle.sigstore_merkle.specs.declared.collision.Inclusion.{Inclusion}
 use Rattle.sigstore_merkle.specs.declared.collision.Collision.{Collision}
+use Rattle.sigstore_merkle.specs.declared.collision.Difference.{Difference}
 use Rattle.sigstore_merkle.specs.declared.together.Together.{Together}
 use Rattle.sigstore_merkle.specs.declared.error.MerkleError.{MerkleError}
 use Rattle.sigstore_merkle.specs.declared.error.MerkleError.TheVariants.{IndexOutOfTree, PathLength, RootMismatch, NoMemory}
@@ -93,6 +94,14 @@ shown_by a b differing = unwrap_or differing (leaf_input a, leaf_input b)
 
 abbrev pub shown_of : Inclusion → Inclusion → Together → List ℕ × List ℕ
 shown_of a b t = shown_by a.body b.body (pair_of t.differing)
+
+-- what is hashed there for two bodies
+abbrev pub hashed_at : List ℕ → List ℕ → Difference → Collision
+hashed_at a b d = record { left = (shown_by a b (pair_of d.nodes)).0; right = (shown_by a b (pair_of d.nodes)).1 }
+
+-- a difference exactly where the two have one index, size and root and different bodies; what is hashed there is a collision
+abbrev pub IsDifferenceAnswer : Inclusion → Inclusion → Option Difference → Type 0
+IsDifferenceAnswer a b difference = IsCollisionAnswer a b (option_map (hashed_at a.body b.body) difference)
 
 -- both roots, and the first inputs that differ, which are a collision where the roots are one
 pub record DifferAtFirst (a b : Inclusion) (t : Together) : Type 0 where

@@ -1,9 +1,8 @@
 // The collision that two inclusions at one place with one root and different bodies show.
-ghost use Rattle.std.specs.Prelude.{◌≡◌, ◌↔◌, IsTrue, IfOk, OnOk, IfErr, ◌<◌, length};
+ghost use Rattle.std.specs.Prelude.{◌≡◌, ◌≢◌, ◌↔◌, IsTrue, IfOk, OnOk, IfErr, ◌<◌, length};
 ghost use Rattle.sigstore_merkle.specs.Tree.{IsPathLength, leaf_input};
 ghost use Rattle.sigstore_merkle.specs.Climb.{input_at};
-ghost use Rattle.sigstore_merkle.specs.Differing.{pair_of};
-ghost use Rattle.sigstore_merkle.specs.Collision.{IsComparable, HasRoot, IsCollisionAnswer, CollisionFault, DifferAtFirst, shown_by};
+ghost use Rattle.sigstore_merkle.specs.Collision.{IsComparable, HasRoot, IsCollisionAnswer, IsDifferenceAnswer, CollisionFault, DifferAtFirst, hashed_at};
 
 use crate::error::MerkleError;
 use crate::hashing::hash_leaf;
@@ -90,24 +89,29 @@ fn climbed_together(a: &Inclusion, b: &Inclusion) -> Together
     climb
 }
 
-/// The two inputs of the differing nodes, or else of the leaves.
-fn shown(
-    alloc: Global,
-    a: &[u8],
-    b: &[u8],
-    differing: Option<NodePair>,
-) -> Result<Collision, NoMemory>
-    ensures { IfOk result (λ c. (c.left, c.right) ≡ shown_by a.now b.now (pair_of differing)) }
-{
-    match differing {
-        Some(pair) => Ok(Collision {
-            left: node_bytes(alloc, pair.side, &pair.a, &pair.a_sibling)?,
-            right: node_bytes(alloc, pair.side, &pair.b, &pair.b_sibling)?,
-        }),
-        None => Ok(Collision {
-            left: leaf_bytes(alloc, a)?,
-            right: leaf_bytes(alloc, b)?,
-        }),
+/// Where two inclusions with one root differ first on the way down from it: in these nodes, or, where there are
+/// none, in the leaves.
+#[derive(Debug, PartialEq, Eq, Drop)]
+pub struct Difference {
+    /// The highest nodes in which the paths differ.
+    pub nodes: Option<NodePair>,
+}
+
+impl Difference {
+    /// What was hashed there for two inclusions with these bodies.
+    pub fn hashed(&self, alloc: Global, a: &[u8], b: &[u8]) -> Result<Collision, NoMemory>
+        ensures { IfOk result (λ c. c ≡ hashed_at a.now b.now self.now) }
+    {
+        match &self.nodes {
+            Some(pair) => Ok(Collision {
+                left: node_bytes(alloc, pair.side, &pair.a, &pair.a_sibling)?,
+                right: node_bytes(alloc, pair.side, &pair.b, &pair.b_sibling)?,
+            }),
+            None => Ok(Collision {
+                left: leaf_bytes(alloc, a)?,
+                right: leaf_bytes(alloc, b)?,
+            }),
+        }
     }
 }
 
@@ -141,22 +145,16 @@ fn node_bytes(
     Ok(Bytes::from_vec(bytes))
 }
 
-/// Two different byte strings with one SHA-256 value, where two inclusions have one index, size and
-/// root and different bodies: what was hashed at the highest place where the two paths differ. None
-/// in every other case, also for equal bodies, whatever their paths. So who shows two bodies at one
-/// place of one tree has shown a break of SHA-256, and without the comparison of roots two honest
-/// trees would pass for one.
-/// Errors, in order: `IndexOutOfTree` and `PathLength` for the first inclusion, then for the second;
-/// `NoMemory`.
-pub fn extract_collision(
-    alloc: Global,
-    a: &Inclusion,
-    b: &Inclusion,
-) -> Result<Option<Collision>, MerkleError>
-    ensures found { IfOk result (IsCollisionAnswer a.now b.now) }
+/// Where two inclusions with one index, size and root and different bodies differ: what was hashed there is two
+/// different byte strings with one SHA-256 value. None in every other case, also for equal bodies, whatever
+/// their paths. So who shows two bodies at one place of one tree has shown a break of SHA-256, and without the
+/// comparison of roots two honest trees would pass for one. No memory is taken.
+/// Errors, in order: `IndexOutOfTree` and `PathLength` for the first inclusion, then for the second.
+pub fn find_difference(a: &Inclusion, b: &Inclusion) -> Result<Option<Difference>, MerkleError>
+    ensures found { IfOk result (IsDifferenceAnswer a.now b.now) }
     ensures rooted { OnOk result (HasRoot a.now) }
     ensures rooted_too { OnOk result (HasRoot b.now) }
-    ensures refused { IfErr result (CollisionFault a.now b.now) }
+    ensures refused { IfErr result (λ e. (e ≢ MerkleError.NoMemory) × CollisionFault a.now b.now e) }
 {
     check_shape(a.index, a.size, a.hashes.len())?;
     check_shape(b.index, b.size, b.hashes.len())?;
@@ -167,5 +165,28 @@ pub fn extract_collision(
     if climb.a != climb.b {
         return Ok(None);
     }
-    Ok(Some(shown(alloc, a.body.as_bytes(), b.body.as_bytes(), climb.differing)?))
+    let Together { differing, .. } = climb;
+    Ok(Some(Difference { nodes: differing }))
+}
+
+/// What was hashed where two inclusions differ (`find_difference`): two different byte strings with one SHA-256
+/// value, or none. Errors: as there, then `NoMemory`.
+pub fn extract_collision(
+    alloc: Global,
+    a: &Inclusion,
+    b: &Inclusion,
+) -> Result<Option<Collision>, MerkleError>
+    ensures found { IfOk result (IsCollisionAnswer a.now b.now) }
+    ensures rooted { OnOk result (HasRoot a.now) }
+    ensures rooted_too { OnOk result (HasRoot b.now) }
+    ensures refused { IfErr result (CollisionFault a.now b.now) }
+{
+    match find_difference(a, b)? {
+        Some(difference) => {
+            let collision = difference.hashed(alloc, a.body.as_bytes(), b.body.as_bytes());
+            drop(difference);
+            Ok(Some(collision?))
+        }
+        None => Ok(None),
+    }
 }

@@ -36,8 +36,9 @@ fn climbed(leaf: &Sha256Hash, index: u64, size: u64, hashes: &[Sha256Hash]) -> S
 /// could name a place that the tree doesn't have; `PathLength` where the path has another number of
 /// hashes than lead there, without which a shorter path would show a node as a leaf, and a longer one
 /// could carry hashes that nothing judges; `RootMismatch` where the leaf and its path give another
-/// root, without which anything would stand in the tree. The root doesn't tell the size, so both have
-/// to come from one signed text: some paths are accepted under a root with more than one size.
+/// root, without which anything would stand in the tree. The root doesn't tell the size: some paths
+/// are accepted under a root with more than one size. So where the index is used, size and root have to come
+/// from one signed text.
 pub fn verify_inclusion_proof(
     leaf: &Sha256Hash,
     index: u64,

@@ -11,8 +11,10 @@ mod shape;
 mod side;
 mod together;
 
-pub use collision::{Collision, Inclusion, extract_collision};
+pub use collision::{Collision, Difference, Inclusion, extract_collision, find_difference};
 pub use error::MerkleError;
 pub use hashing::{hash_leaf, hash_node};
 pub use inclusion::verify_inclusion_proof;
 pub use laws::{one_root_one_leaf, split_is_largest};
+pub use side::Side;
+pub use together::NodePair;

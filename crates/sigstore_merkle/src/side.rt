@@ -6,9 +6,11 @@ use crate::hashing::hash_node;
 use sigstore_types_parts::Sha256Hash;
 
 /// The side of a node on which its sibling stands.
-#[derive(Clone, Copy)]
+#[derive(Clone, Copy, Debug, PartialEq, Eq, Drop)]
 pub enum Side {
+    /// The sibling is hashed before the node.
     Left,
+    /// The sibling is hashed behind the node.
     Right,
 }
 

@@ -8,7 +8,7 @@ use crate::side::{Side, node_at};
 use sigstore_types_parts::Sha256Hash;
 
 /// What was hashed at two nodes: on each a hash and its sibling, which stands on one side.
-#[derive(Drop)]
+#[derive(Debug, PartialEq, Eq, Drop)]
 pub struct NodePair {
     pub side: Side,
     pub a: Sha256Hash,

@@ -3,7 +3,7 @@ use Rattle.std.proofs.Common.{◌≡◌, ℕ, List, Some, Ok, Err, sym, ap, ◌�
 use Rattle.std.specs.Result.{result_ok}
 use Rattle.foundation.specs.Watched.{Watched}
 use Rattle.foundation.specs.Results.{some_same}
-use Rattle.sigstore_app_parts.specs.Inputs.{Held}
+use Rattle.sigstore_app_parts.specs.Inputs.{Supply}
 use Rattle.sigstore_app_parts.specs.Layout.{asked_layout_of}
 use Rattle.sigstore_app_parts.specs.declared.layout.Layout.{Layout}
 use Rattle.sigstore_app_parts.specs.declared.gather.Stop.{Stop}
@@ -33,7 +33,7 @@ found_layout words layout h = by (asked_layout_of words) h
     by (Ok x) h = ap Ok (sym (some_same layout x h))
     by (Err e) h = cc
 
-module _ (words : List (List ℕ)) (before after : Watched Held) (out out' : Watched (List ℕ)) where
+module _ (words : List (List ℕ)) (before after : Supply) (out out' : Watched (List ℕ)) where
   wrote : (said : Answer) → Decides words before after said → TakesAll out out' said.text → said.status ≡ Accepted → WritesRows words before after out out'
   wrote said (misworded none same line) takes e = absurd (not_asked stop.Words said line e)
   wrote said (worded layout is (stopped why read line)) takes e = absurd (not_asked why said line e)

@@ -2,7 +2,7 @@
 use Rattle.std.specs.Prelude.{◌≡◌, ℕ, List, Some, None, Ok, Err}
 use Rattle.std.specs.Result.{result_ok}
 use Rattle.foundation.specs.Watched.{Watched}
-use Rattle.sigstore_app_parts.specs.Inputs.{Held}
+use Rattle.sigstore_app_parts.specs.Inputs.{Supply}
 use Rattle.sigstore_app_parts.specs.Sink.{WritesText}
 use Rattle.sigstore_app_parts.specs.Layout.{asked_layout_of}
 use Rattle.sigstore_app_parts.specs.Tables.{tables_of}
@@ -13,41 +13,50 @@ use Rattle.sigstore_app_parts.specs.declared.gather.Stop.{Stop}
 use Rattle.sigstore_app_parts.specs.declared.gather.Stop.TheVariants.{Words}
 use Rattle.sigstore_app_parts.specs.declared.sink.SinkFault.{SinkFault}
 use Rattle.sigstore_app_parts.specs.declared.tables.Tables.{Tables}
+use Rattle.sigstore_questions_parts.specs.Notes.{Asked}
+use Rattle.sigstore_questions_parts.specs.Holds.{TextsHold, HasRowsAlone}
 use Rattle.sigstore_run.specs.declared.answer.Status.{Status}
 use Rattle.sigstore_run.specs.declared.answer.Status.TheVariants.{Accepted, Output, Memory}
 use Rattle.sigstore_run.specs.declared.answer.Answer.{Answer}
 use Rattle.sigstore_run.specs.Run.{stop_answer, TakesAll}
 
+-- A text of questions: it is read as these tables and holds what may be noted, each armoured text in it holds what its row says,
+-- and each of its lines is a row's.
+pub record IsQuestions (text : List ℕ) (tables : Tables) : Type 0 where
+  pub read : tables_of text ≡ Ok tables
+  pub asked : ∥ Asked (record { tables = tables; text = text }) ∥₁
+  pub texts : TextsHold tables
+  pub alone : HasRowsAlone text
+
 -- what is said once the words are read: the rows that were noted, as a provider file; or the line of the input that is refused
-pub data Proceeds (before after : Watched Held) (said : Answer) : Type 0 where
+pub data Proceeds (before after : Supply) (said : Answer) : Type 0 where
   rows : (gathered : Gathered) (tables : Tables) → ReadsAs asked_of before after (Ok gathered)
-      → tables_of said.text ≡ Ok tables → said.status ≡ Accepted → Proceeds before after said
+      → IsQuestions said.text tables → said.status ≡ Accepted → Proceeds before after said
   stopped : (stop : Stop) → ReadsAs asked_of before after (Err stop) → stop_answer stop ≡ Some said
       → Proceeds before after said
 
 -- what is said: the words first, then the inputs and the questions
-pub data Decides (words : List (List ℕ)) (before after : Watched Held) (said : Answer) : Type 0 where
+pub data Decides (words : List (List ℕ)) (before after : Supply) (said : Answer) : Type 0 where
   misworded : result_ok (asked_layout_of words) ≡ None → after ≡ before → stop_answer Words ≡ Some said
       → Decides words before after said
   worded : (layout : Layout) → asked_layout_of words ≡ Ok layout → Proceeds before after said
       → Decides words before after said
 
 -- a run: what is said is written; nothing is where memory is wanting, and a part of the text where a write failed
-pub data RunsTo (words : List (List ℕ)) (before after : Watched Held) (out out' : Watched (List ℕ)) (ended : Status) : Type 0 where
+pub data RunsTo (words : List (List ℕ)) (before after : Supply) (out out' : Watched (List ℕ)) (ended : Status) : Type 0 where
   unwritten : out' ≡ out → ended ≡ Memory → RunsTo words before after out out' ended
   cut : (said : Answer) (fault : SinkFault) → Decides words before after said → WritesText out out' said.text (Err fault)
       → ended ≡ Output → RunsTo words before after out out' ended
   written : (said : Answer) → Decides words before after said → TakesAll out out' said.text → ended ≡ said.status
       → RunsTo words before after out out' ended
 
--- what status 0 means: the words and the inputs were read, and the sink took exactly a text that is a provider file with these
--- tables
-pub record WritesRows (words : List (List ℕ)) (before after : Watched Held) (out out' : Watched (List ℕ)) : Type 0 where
+-- what status 0 means: the words and the inputs were read, and the sink took exactly a text of questions
+pub record WritesRows (words : List (List ℕ)) (before after : Supply) (out out' : Watched (List ℕ)) : Type 0 where
   pub layout : Layout
   pub worded : asked_layout_of words ≡ Ok layout
   pub gathered : Gathered
   pub inputs : ReadsAs asked_of before after (Ok gathered)
   pub tables : Tables
   pub text : List ℕ
-  pub rows : tables_of text ≡ Ok tables
+  pub rows : IsQuestions text tables
   pub written : TakesAll out out' text

@@ -1,9 +1,13 @@
 //! The questions of a run: which signatures and armoured texts a verification from a root asks for, as
-//! lines of a provider file, for a signature library to answer.
+//! lines of a provider file, for a signature library to answer; and what a refusal holds, for a reader's eye.
 #![tactic(auto)]
 
+mod details;
+mod last_asked;
 mod program;
 mod reading_store;
 
+pub use details::run_details;
+pub use last_asked::LastAsked;
 pub use program::run_questions;
 pub use reading_store::ReadingStore;

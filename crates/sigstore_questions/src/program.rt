@@ -1,7 +1,6 @@
 // A run that notes what a verification asks.
-ghost use Rattle.std.specs.Prelude.{◌≡◌, Ok, IfOk, string_bytes};
-ghost use Rattle.sigstore_app_parts.specs.Tables.{tables_of};
-ghost use Rattle.sigstore_questions.specs.Means.{Proceeds, Decides, RunsTo, WritesRows};
+ghost use Rattle.std.specs.Prelude.{◌≡◌, IfOk, string_bytes};
+ghost use Rattle.sigstore_questions.specs.Means.{IsQuestions, Proceeds, Decides, RunsTo, WritesRows};
 ghost use Rattle.sigstore_run.specs.declared.answer.Status.TheVariants.{Accepted};
 
 use crate::reading_store::ReadingStore;
@@ -10,7 +9,7 @@ use jiff::Timestamp;
 use sigstore_app_parts::{
     Gathered, Inputs, Sink, Stop, gather_asked, read_asked_layout, write_all,
 };
-use sigstore_crypto::ArtifactSource;
+use sigstore_crypto_parts::ArtifactSource;
 use sigstore_questions_parts::{Noted, Notes, NotingArmor, NotingProvider};
 use sigstore_run::{Answer, Request, Status, stopped, verify_request};
 use sigstore_tuf::{MetadataStore, Repository};
@@ -76,7 +75,7 @@ fn asked<R: Repository, S: MetadataStore, A: ArtifactSource>(
 fn said(noted: Noted) -> Answer
     ensures text { result.text ≡ string_bytes noted.text }
     ensures status { result.status ≡ Accepted }
-    ensures rows { tables_of result.text ≡ Ok noted.tables }
+    ensures rows { IsQuestions result.text noted.tables }
 {
     let Noted { tables, text } = noted;
     drop(tables);

@@ -7,11 +7,20 @@ use sigstore_tuf::{MetadataStore, NoStore, StoreFault};
 use sigstore_types_parts::Bytes;
 use std::alloc::Global;
 
-/// A store whose files are read and never written: what is put into it is let go. It tells nothing.
+/// A store whose files are read and never written: what is put into it is let go. It tells nothing, and
+/// nothing else reaches the store within.
 #[derive(Drop)]
 pub struct ReadingStore<S: MetadataStore> {
-    /// The store that is read.
-    pub inner: S,
+    inner: S,
+}
+
+impl<S: MetadataStore> ReadingStore<S> {
+    /// This store, which is only read from now on.
+    pub fn new(inner: S) -> ReadingStore<S>
+        ensures { result.inner ≡ inner }
+    {
+        ReadingStore { inner }
+    }
 }
 
 impl<S: MetadataStore> MetadataStore for ReadingStore<S> {

@@ -1,40 +1,68 @@
 //! Writes which signatures and armoured texts a verification from a pinned TUF root asks for, as lines of a
-//! provider file: `questions` and seven options. It judges nothing.
+//! provider file: `questions` and seven options. With the words of a verification it writes what the refusal
+//! holds, for a reader's eye. It judges nothing.
 #![tactic(auto)]
 
 use foundation::NoMemory;
-use sigstore_app_parts::read_asked_layout;
+use sigstore_app_parts::{Layout, read_asked_layout, read_layout};
 use sigstore_files::{Objects, clock_of, objects_at, words_of};
-use sigstore_questions::{ReadingStore, run_questions};
-use sigstore_run::Status;
+use sigstore_questions::{LastAsked, ReadingStore, run_details, run_questions};
+use sigstore_run::{Status, exit_code};
+use sigstore_types_parts::Text;
 use std::process::ExitCode;
 use std::rt::Runtime;
 
 // Runs over the real objects that the words name. The store is read, and nothing is written to it.
-fn status_of<X: Runtime + AllocGlobal>(rt: &X) -> Result<Status, NoMemory> {
-    let words = words_of(rt)?;
+fn asked<X: Runtime + AllocGlobal>(rt: &X, words: &[Text], layout: Option<Layout>) -> Status {
     let Objects {
         mut inputs,
         mut repository,
         store,
         mut artifact,
         mut out,
-    } = objects_at(rt, read_asked_layout(rt.alloc(), &words)?);
-    Ok(run_questions(
+    } = objects_at(rt, layout);
+    run_questions(
         rt.alloc(),
-        &words,
+        words,
         clock_of(rt),
         &mut inputs,
         &mut repository,
-        &mut ReadingStore { inner: store },
+        &mut ReadingStore::new(store),
         &mut artifact,
         &mut out,
-    ))
+    )
+}
+
+// The same for what a refusal holds.
+fn detailed<X: Runtime + AllocGlobal>(rt: &X, words: &[Text], layout: Option<Layout>) -> Status {
+    let Objects {
+        mut inputs,
+        repository,
+        store,
+        mut artifact,
+        mut out,
+    } = objects_at(rt, layout);
+    run_details(
+        rt.alloc(),
+        words,
+        clock_of(rt),
+        &mut inputs,
+        &mut LastAsked::new(rt.alloc(), repository),
+        &mut ReadingStore::new(store),
+        &mut artifact,
+        &mut out,
+    )
+}
+
+fn status_of<X: Runtime + AllocGlobal>(rt: &X) -> Result<Status, NoMemory> {
+    let words = words_of(rt)?;
+    let layout = read_layout(rt.alloc(), &words)?;
+    if layout.is_some() {
+        return Ok(detailed(rt, &words, layout));
+    }
+    Ok(asked(rt, &words, read_asked_layout(rt.alloc(), &words)?))
 }
 
 fn main(rt: HostRuntime) -> ExitCode {
-    match status_of(&rt) {
-        Ok(status) => ExitCode::from(status.code()),
-        Err(NoMemory) => ExitCode::from(Status::Memory.code()),
-    }
+    ExitCode::from(exit_code(status_of(&rt)))
 }

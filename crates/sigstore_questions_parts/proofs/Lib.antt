@@ -1,4 +1,5 @@
 mod AddFacts
+pub mod AskedFacts
 mod FieldFacts
 mod LineFacts
 mod ReadFacts

@@ -54,7 +54,8 @@ begun_more x ls None both more e h = cc e
 begun_more x ls (Some []) both more e h = cc e
 begun_more x ls (Some (l ∷ ms)) both more e h = ap (begun x) (h (l ∷ ms) refl) ∙ begun_behind x l ls ms more e
 
-lines_more : (a b : List ℕ) (ls : List (List ℕ)) → lines_of a ≡ Some ls → lines_of (a ++ b) ≡ behind ls (lines_of b)
+-- what is behind a text has its lines behind those of the text
+pub lines_more : (a b : List ℕ) (ls : List (List ℕ)) → lines_of a ≡ Some ls → lines_of (a ++ b) ≡ behind ls (lines_of b)
 lines_more [] b ls e = let none : [] ≡ ls = cc in sym (behind_none (lines_of b)) ∙ ap (λ k. behind k (lines_of b)) none
 lines_more (x ∷ a) b ls e =
     let go = elim (x == 10) as (λ v. cond v (option_map (λ lines. [] ∷ lines) (lines_of a)) (begun x (lines_of a)) ≡ Some ls

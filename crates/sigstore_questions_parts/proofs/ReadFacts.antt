@@ -1,24 +1,26 @@
 -- A line that is written is read, and adds its row to those before it.
-use Rattle.std.proofs.Common.{◌≡◌, ℕ, ◌==◌, List, [], ◌∷◌, ◌++◌, length, true, false, is_some, codes, Ok, refl, sym, ap, ◌∙◌, subst, append_assoc, IsAscii, arith, Some}
+use Rattle.std.proofs.Common.{◌≡◌, ℕ, ◌==◌, List, [], ◌∷◌, ◌++◌, length, true, false, is_some, codes, option_map, Option, None, Ok, refl, sym, ap, ◌∙◌, subst, append_assoc, IsAscii, arith, Some}
 use Rattle.std.proofs.lemmas.Bool.{eq-eqb}
 use Rattle.std.proofs.lemmas.Str.Ascii.{IsAscii-nil, IsAscii-cons}
 use Rattle.std.proofs.lemmas.Str.{IsAscii-append, IsUtf8-from_ascii, utf8_valid_len-IsUtf8}
 use Rattle.std.specs.Str.Lossy.{utf8_valid_len}
 use Rattle.base64.specs.GeneralPurpose.{IsBytes}
 use Rattle.sigstore_types_parts.specs.Entries.{at_name}
-use Rattle.sigstore_crypto.specs.declared.scheme.SigningScheme.{SigningScheme}
-use Rattle.sigstore_crypto.specs.declared.scheme.SigningScheme.TheVariants as scheme
-use Rattle.sigstore_crypto.specs.Scheme.{scheme_name_of, scheme_named}
-use Rattle.sigstore_app_parts.specs.Lines.{cut_of, counted, text_folded_of}
+use Rattle.sigstore_crypto_parts.specs.declared.scheme.SigningScheme.{SigningScheme}
+use Rattle.sigstore_crypto_parts.specs.declared.scheme.SigningScheme.TheVariants as scheme
+use Rattle.sigstore_crypto_parts.specs.Scheme.{scheme_name_of, scheme_named}
+use Rattle.sigstore_app_parts.specs.Lines.{cut_of, lines_of, counted, text_folded_of}
 use Rattle.sigstore_app_parts.specs.Rows.{is_der, is_subject, armor_row_of, accept_row_of, accepted_row_of}
 use Rattle.sigstore_app_parts.specs.Tables.{table_line_of, no_rows, tables_of}
 use Rattle.sigstore_app_parts.specs.declared.tables.Tables.{Tables}
-use Rattle.sigstore_app_parts.proofs.Folds.{folded_more, folded_empty}
+use Rattle.std.proofs.lemmas.List.Folds.{list_all-append}
+use Rattle.sigstore_app_parts.proofs.Folds.{lines_cut, folded_more, folded_empty}
 use Rattle.sigstore_questions_parts.specs.Lines.{field_text, armor_line, accept_line}
 use Rattle.sigstore_questions_parts.specs.Reads.{IsReadAs}
+use Rattle.sigstore_questions_parts.specs.Holds.{is_row_line, are_row_lines, HasRowsAlone}
 use Rattle.sigstore_questions_parts.specs.Notes.{keys_with, certificates_with, row_of, rows_with}
 use Rattle.sigstore_questions_parts.proofs.FieldFacts.{are_plain, plain_ascii, below_ascii, both_of, left_of, right_of, field_plain, field_read}
-use Rattle.sigstore_questions_parts.proofs.LineFacts.{lacks, cut_front, folded_behind}
+use Rattle.sigstore_questions_parts.proofs.LineFacts.{lacks, cut_front, lines_more, folded_behind}
 
 -- a plain text has no line feed, and no blank
 no_feed : (s : List ℕ) → are_plain s ≡ true → lacks 10 s ≡ true
@@ -204,3 +206,34 @@ signature_read before line s key subject signature tables is fits k m g r =
     let feed : lacks 10 body ≡ true = lacks_append (codes "accept ") fields refl (accept_feed s key subject signature) in
     line_read before line body tables (rows_with (row_of s key subject signature) tables) r whole feed (subst IsAscii (sym whole) (plain_line body plain))
     (signature_taken s key subject signature tables fits k m g)
+
+-- ---- lines of rows alone
+
+-- a line of a row more
+row_more : (before line body : List ℕ) → line ≡ body ++ 10 ∷ [] → lacks 10 body ≡ true → is_row_line body ≡ true → HasRowsAlone before → HasRowsAlone (before ++ line)
+row_more before line body is feed row h = by (lines_of before) refl h
+  where
+    cut : cut_of 10 line ≡ Some (body, [])
+    cut = ap (cut_of 10) is ∙ cut_front 10 refl body [] feed
+
+    by : (o : Option (List (List ℕ))) → lines_of before ≡ o → are_row_lines o ≡ true → HasRowsAlone (before ++ line)
+    by None e k = cc k
+    by (Some lines) e k =
+        ap are_row_lines (lines_more before line lines e ∙ ap (option_map (λ ms. lines ++ ms)) (lines_cut line body [] cut)) ∙ list_all-append is_row_line lines (body ∷ [])
+        ∙ both_of _ _ k (both_of _ _ row refl)
+
+pub key_line_more : (before text der : List ℕ) → HasRowsAlone before → HasRowsAlone (before ++ armor_line (codes "key") text der)
+unfolding armor_line
+key_line_more before text der h =
+    row_more before (armor_line (codes "key") text der) (codes "armor key " ++ pair_fields text der) refl (lacks_append (codes "armor key ") (pair_fields text der) refl (pair_feed text der)) refl h
+
+pub certificate_line_more : (before text der : List ℕ) → HasRowsAlone before → HasRowsAlone (before ++ armor_line (codes "certificate") text der)
+unfolding armor_line
+certificate_line_more before text der h =
+    row_more before (armor_line (codes "certificate") text der) (codes "armor certificate " ++ pair_fields text der) refl (lacks_append (codes "armor certificate ") (pair_fields text der) refl (pair_feed text der)) refl h
+
+pub signature_line_more : (before : List ℕ) (s : SigningScheme) (key subject signature : List ℕ) → HasRowsAlone before → HasRowsAlone (before ++ accept_line s key subject signature)
+unfolding accept_line
+signature_line_more before s key subject signature h =
+    let fields : List ℕ = accept_fields s key subject signature in
+    row_more before (accept_line s key subject signature) (codes "accept " ++ fields) (ap (λ t. (codes "accept " ++ t) ++ 10 ∷ []) (accept_end s key subject signature)) (lacks_append (codes "accept ") fields refl (accept_feed s key subject signature)) refl h

@@ -1,3 +1,5 @@
 pub mod Lines
 pub mod Reads
 pub mod Notes
+pub mod Seen
+pub mod Holds

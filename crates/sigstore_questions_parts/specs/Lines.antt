@@ -2,8 +2,8 @@
 use Rattle.std.specs.Prelude.{ℕ, List, [], ◌∷◌, ◌++◌, codes}
 use Rattle.base64.specs.Engines.{standard}
 use Rattle.base64.specs.GeneralPurpose.{encode_of}
-use Rattle.sigstore_crypto.specs.declared.scheme.SigningScheme.{SigningScheme}
-use Rattle.sigstore_crypto.specs.Scheme.{scheme_name_of}
+use Rattle.sigstore_crypto_parts.specs.declared.scheme.SigningScheme.{SigningScheme}
+use Rattle.sigstore_crypto_parts.specs.Scheme.{scheme_name_of}
 
 -- a field: base64 (RFC 4648, section 4), or a dash for no bytes
 abbrev pub field_text : List ℕ → List ℕ

@@ -1,21 +1,19 @@
--- What a question adds to what was noted: a row and its line, where it isn't noted yet and can be a row.
-use Rattle.std.specs.Prelude.{ℕ, List, ◌++◌, codes, not, ◌||◌, if◌then◌else◌, is_some, string_bytes}
+-- What a question adds to what was noted: a row and its line, where it isn't noted yet and can be a row. And what may be noted.
+use Rattle.std.specs.Prelude.{◌≡◌, ℕ, List, [], ◌++◌, codes, not, ◌||◌, if◌then◌else◌, is_some, Some}
 use Rattle.std.specs.BTreeMap.{insert_entry}
 use Rattle.sigstore_types_parts.specs.Entries.{text_cmp, at_name}
-use Rattle.sigstore_crypto.specs.declared.scheme.SigningScheme.{SigningScheme}
+use Rattle.sigstore_crypto_parts.specs.declared.scheme.SigningScheme.{SigningScheme}
 use Rattle.sigstore_app_parts.specs.Rows.{is_der, is_subject, accepts_of, with_accept_row}
+use Rattle.sigstore_app_parts.specs.Tables.{no_rows}
 use Rattle.sigstore_app_parts.specs.declared.rows.AcceptRow.{AcceptRow}
 use Rattle.sigstore_app_parts.specs.declared.tables.Tables.{Tables}
+use Rattle.sigstore_pem.specs.Pem.{content_of, key_label, certificate_label}
 use Rattle.sigstore_questions_parts.specs.Lines.{armor_line, accept_line}
-use Rattle.sigstore_questions_parts.specs.declared.noted.Noted.{Noted}
 
 -- the rows, and the text of their lines in the order in which they were asked
 pub record Seen : Type 0 where
   pub tables : Tables
   pub text : List ℕ
-
-abbrev pub seen_of : Noted → Seen
-seen_of noted = record { tables = noted.tables; text = string_bytes noted.text }
 
 -- a key row more
 abbrev pub keys_with : List ℕ → List ℕ → Tables → Tables
@@ -58,3 +56,18 @@ signature_noted scheme key subject signature seen =
       tables = rows_with (row_of scheme key subject signature) seen.tables;
       text = seen.text ++ accept_line scheme key subject signature;
     }
+
+-- no question yet
+abbrev pub nothing_asked : Seen
+nothing_asked = record { tables = no_rows; text = [] }
+
+-- What may be noted: nothing, or one question more than what was noted before. A text is noted for a key only with the octets
+-- that its first block holds under the label of keys, and for a certificate only with those under the label of certificates.
+pub data Asked : Seen → Type 0 where
+  nothing : Asked nothing_asked
+  one_key : (before : Seen) (text der : List ℕ) → Asked before → content_of key_label text ≡ Some der
+      → Asked (key_noted text der before)
+  one_certificate : (before : Seen) (text der : List ℕ) → Asked before → content_of certificate_label text ≡ Some der
+      → Asked (certificate_noted text der before)
+  one_signature : (before : Seen) (scheme : SigningScheme) (key subject signature : List ℕ) → Asked before
+      → Asked (signature_noted scheme key subject signature before)

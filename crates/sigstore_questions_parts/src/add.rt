@@ -1,13 +1,15 @@
 // What one more question adds to what was noted.
-ghost use Rattle.std.specs.Prelude.{◌≡◌, [], IfOk, string_bytes};
+ghost use Rattle.std.specs.Prelude.{◌≡◌, [], Some, IfOk, string_bytes};
 ghost use Rattle.sigstore_app_parts.specs.Tables.{no_rows};
-ghost use Rattle.sigstore_questions_parts.specs.Notes.{seen_of, key_noted, certificate_noted, signature_noted};
+ghost use Rattle.sigstore_questions_parts.specs.Notes.{key_noted, certificate_noted, signature_noted};
+ghost use Rattle.sigstore_questions_parts.specs.Seen.{seen_of};
+ghost use Rattle.sigstore_pem.specs.Pem.{content_of, key_label, certificate_label};
 
 use crate::lines::{push_accept_line, push_armor_line};
 use crate::noted::Noted;
 use foundation::NoMemory;
 use sigstore_app_parts::{AcceptRow, Tables, is_der, is_subject};
-use sigstore_crypto::SigningScheme;
+use sigstore_crypto_parts::SigningScheme;
 use sigstore_types_parts::Bytes;
 use std::alloc::Global;
 
@@ -25,6 +27,7 @@ impl Noted {
 
     /// Notes that an armoured text holds a key, where the text isn't noted yet and can be a row's.
     pub fn with_key(self, alloc: Global, text: &[u8], der: &[u8]) -> Result<Noted, NoMemory>
+        requires { content_of key_label text.now ≡ Some der.now }
         ensures { IfOk result (λ noted. seen_of noted ≡ key_noted text.now der.now (seen_of self)) }
     {
         if is_der(text) || self.tables.armor.keys.get(text).is_some() {
@@ -47,6 +50,7 @@ impl Noted {
 
     /// Notes that an armoured text holds a certificate, where the text isn't noted yet and can be a row's.
     pub fn with_certificate(self, alloc: Global, text: &[u8], der: &[u8]) -> Result<Noted, NoMemory>
+        requires { content_of certificate_label text.now ≡ Some der.now }
         ensures { IfOk result (λ noted. seen_of noted ≡ certificate_noted text.now der.now (seen_of self)) }
     {
         if is_der(text) || self.tables.armor.certificates.get(text).is_some() {

@@ -4,7 +4,7 @@ ghost use Rattle.sigstore_questions_parts.specs.Lines.{field_text, armor_line, a
 
 use base64::engine::general_purpose::STANDARD;
 use foundation::NoMemory;
-use sigstore_crypto::SigningScheme;
+use sigstore_crypto_parts::SigningScheme;
 use std::alloc::Global;
 
 // A field: base64, or a dash for no bytes.

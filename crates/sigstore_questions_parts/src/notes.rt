@@ -1,7 +1,10 @@
 // Where questions are noted behind a shared reference.
+ghost use Rattle.std.specs.Prelude.{◌≡◌, Some};
+ghost use Rattle.sigstore_pem.specs.Pem.{content_of, key_label, certificate_label};
+
 use crate::noted::Noted;
 use foundation::NoMemory;
-use sigstore_crypto::SigningScheme;
+use sigstore_crypto_parts::SigningScheme;
 use std::alloc::Global;
 use std::cell::RefCell;
 
@@ -51,14 +54,18 @@ impl Notes {
     }
 
     /// Notes that an armoured text holds a key.
-    pub fn note_key(&self, text: &[u8], der: &[u8]) {
+    pub fn note_key(&self, text: &[u8], der: &[u8])
+        requires { content_of key_label text.now ≡ Some der.now }
+    {
         if let Some(noted) = self.take_for(text.len().saturating_add(der.len())) {
             self.put(noted.with_key(self.alloc, text, der));
         }
     }
 
     /// Notes that an armoured text holds a certificate.
-    pub fn note_certificate(&self, text: &[u8], der: &[u8]) {
+    pub fn note_certificate(&self, text: &[u8], der: &[u8])
+        requires { content_of certificate_label text.now ≡ Some der.now }
+    {
         if let Some(noted) = self.take_for(text.len().saturating_add(der.len())) {
             self.put(noted.with_certificate(self.alloc, text, der));
         }

@@ -2,7 +2,7 @@
 ghost use Rattle.std.specs.Prelude.{◌≡◌, true};
 
 use crate::notes::Notes;
-use sigstore_crypto::{CryptoProvider, SigningScheme, sha256, sha384, sha512};
+use sigstore_crypto_parts::{CryptoProvider, SigningScheme, sha256, sha384, sha512};
 use sigstore_types_parts::HashAlgorithm;
 
 /// Accepts every signature and notes each question: what is judged by it is no verdict.

@@ -12,7 +12,7 @@ use Rattle.sigstore_verify.specs.Given.{Given, Outside}
 use Rattle.sigstore_verify.specs.FromRoot.{Runs}
 use Rattle.sigstore_verify.specs.Complete.{verdict_of, rooted_of, Favours, StaysWarm}
 use Rattle.sigstore_verify.proofs.RootCompleting.{runs_complete}
-use Rattle.sigstore_app_parts.specs.Inputs.{Held}
+use Rattle.sigstore_app_parts.specs.Inputs.{Held, Supply}
 use Rattle.sigstore_app_parts.specs.Gather.{gathered_of, ReadsAs}
 use Rattle.sigstore_app_parts.specs.declared.layout.Layout.{Layout}
 use Rattle.sigstore_app_parts.specs.declared.gather.Gathered.{Gathered}
@@ -32,7 +32,7 @@ unfolding stop_answer
 unsaid said h = cc
 
 -- told inputs that are read without a fault don't stop the run
-module _ (before after : Watched Held) (held : Held) (gathered : Gathered) (told : before.told ≡ Some held) (quiet : Rose before.faults after.faults → ⊥) (is : gathered_of held ≡ Ok gathered) where
+module _ (before after : Supply) (held : Held) (gathered : Gathered) (told : before.told ≡ Some held) (quiet : Rose before.faults after.faults → ⊥) (is : gathered_of held ≡ Ok gathered) where
   never_stopped : (stop : Stop) (said : Answer) → ReadsAs gathered_of before after (Err stop) → stop_answer stop ≡ Some said → ⊥
   never_stopped stop said r h = by_stop stop r h
     where

@@ -3,7 +3,7 @@ use Rattle.std.proofs.Common.{◌≡◌, ℕ, List, Option, Some, None, Result, 
 use Rattle.std.specs.Result.{result_ok}
 use Rattle.jiff_core.specs.declared.timestamp.Timestamp as jiff
 use Rattle.foundation.specs.declared.no_memory.NoMemory.{NoMemory}
-use Rattle.sigstore_crypto.specs.Crypto.{Crypto}
+use Rattle.sigstore_crypto_parts.specs.Crypto.{Crypto}
 use Rattle.sigstore_tuf_rules.specs.Config.{default_config}
 use Rattle.sigstore_tuf_rules.specs.declared.config.UpdaterConfig.{UpdaterConfig}
 use Rattle.sigstore_judgement.specs.declared.policy.PublicKeyVerificationPolicy.{PublicKeyVerificationPolicy}

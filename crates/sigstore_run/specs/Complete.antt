@@ -6,7 +6,7 @@ use Rattle.sigstore_verify.specs.declared.from_root.Rooted.{Rooted}
 use Rattle.sigstore_verify.specs.declared.from_root.RootFault.{RootFault}
 use Rattle.sigstore_verify.specs.Given.{Given}
 use Rattle.sigstore_verify.specs.Complete.{verdict_of, rooted_of, TellsQuietly, Favours, StaysWarm}
-use Rattle.sigstore_app_parts.specs.Inputs.{Held}
+use Rattle.sigstore_app_parts.specs.Inputs.{Held, watched}
 use Rattle.sigstore_app_parts.specs.Layout.{layout_of}
 use Rattle.sigstore_app_parts.specs.Gather.{gathered_of}
 use Rattle.sigstore_app_parts.specs.declared.layout.Layout.{Layout}
@@ -22,7 +22,7 @@ pub record Favoured (command : Command) (before after : Environment) (chain : Tr
   pub layout : Layout
   pub worded : layout_of command.words ≡ Ok layout
   pub held : Held
-  pub inputs : TellsQuietly before.inputs after.inputs held
+  pub inputs : TellsQuietly (watched before.inputs) (watched after.inputs) held
   pub gathered : Gathered
   pub gathered_is : gathered_of held ≡ Ok gathered
   pub outside : Favours (given_by gathered (now_of layout command.clock)) before.outside after.outside chain bytes

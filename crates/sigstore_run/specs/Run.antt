@@ -4,10 +4,10 @@ use Rattle.std.specs.Result.{result_ok}
 use Rattle.jiff_core.specs.declared.timestamp.Timestamp as jiff
 use Rattle.foundation.specs.Watched.{Watched, Rose}
 use Rattle.foundation.specs.declared.no_memory.NoMemory.{NoMemory}
-use Rattle.sigstore_crypto.specs.Good.{Judge}
-use Rattle.sigstore_crypto.specs.Crypto.{Crypto}
-use Rattle.sigstore_tuf_parts.specs.declared.error.Error.{Error as TufError}
-use Rattle.sigstore_tuf_parts.specs.Error as tuf
+use Rattle.sigstore_crypto_parts.specs.Good.{Judge}
+use Rattle.sigstore_crypto_parts.specs.Crypto.{Crypto}
+use Rattle.sigstore_tuf_text.specs.declared.error.Error.{Error as TufError}
+use Rattle.sigstore_tuf_text.specs.Error as tuf
 use Rattle.sigstore_tuf_rules.specs.Config.{default_config}
 use Rattle.sigstore_judgement.specs.declared.error.Error.{Error as VerifyError}
 use Rattle.sigstore_judgement.specs.Error as verify
@@ -19,7 +19,7 @@ use Rattle.sigstore_verify.specs.declared.from_root.RootFault.TheVariants as roo
 use Rattle.sigstore_verify.specs.Given.{Given, Outside}
 use Rattle.sigstore_verify.specs.FromRoot.{Runs, IsAccepted}
 use Rattle.sigstore_verify.specs.Cause.{RootCause}
-use Rattle.sigstore_app_parts.specs.Inputs.{Held}
+use Rattle.sigstore_app_parts.specs.Inputs.{Supply}
 use Rattle.sigstore_app_parts.specs.Sink.{WritesText}
 use Rattle.sigstore_app_parts.specs.Rows.{accepts_of}
 use Rattle.sigstore_app_parts.specs.Tables.{is_armored_by, armor_content}
@@ -117,7 +117,7 @@ pub record Command : Type 0 where
 
 -- what a run finds and leaves, but for its output: the inputs, and what the top call goes to
 pub record Environment : Type 0 where
-  pub inputs : Watched Held
+  pub inputs : Supply
   pub outside : Outside
 
 -- what is said of an acceptance: its report, or the refusal of a document of its chain that isn't read
@@ -222,8 +222,8 @@ Misuses command before after out out' =
     ⊎ ((which : Which) × MalformedCause which before.inputs × (after.outside ≡ before.outside)
     × TakesAll out out' (pair_line (codes "usage") (word_of which)))
 
--- What status 3 means: the count of the inputs' faults rose, or told inputs lack this one or hold it longer than its limit; nothing
--- but the inputs was called; and the sink took exactly the line that names it.
+-- What status 3 means: this input is the last that wasn't given, and the count of the inputs' faults rose, or told inputs lack it or
+-- hold it longer than its limit; nothing but the inputs was called; and the sink took exactly the line that names it.
 abbrev pub LacksInput : Environment → Environment → Watched (List ℕ) → Watched (List ℕ) → Type 0
 LacksInput before after out out' =
     (which : Which) × StopCause before.inputs after.inputs (Input which) × (after.outside ≡ before.outside)

@@ -1,7 +1,7 @@
 // What the program says: a status and a text.
-ghost use Rattle.std.specs.Prelude.{◌≡◌, Some, IfOk};
+ghost use Rattle.std.specs.Prelude.{◌≡◌, Some, IfOk, IfErr};
 ghost use Rattle.sigstore_run.specs.Run.{code_of, stop_answer, refusal_answer, tuf_answer, verify_answer};
-ghost use Rattle.sigstore_run.specs.declared.answer.Status.TheVariants.{Refused};
+ghost use Rattle.sigstore_run.specs.declared.answer.Status.TheVariants.{Refused, Memory};
 ghost use Rattle.sigstore_app_parts.specs.Printed.{line_of, pair_line, refused_line};
 
 use foundation::NoMemory;
@@ -50,6 +50,17 @@ impl Status {
             Status::Output => 4,
             Status::Memory => 5,
         }
+    }
+}
+
+/// The exit status of a program: of a run that ended so, or where its objects couldn't be made for want of memory.
+pub fn exit_code(ended: Result<Status, NoMemory>) -> u8
+    ensures ended { IfOk ended (λ status. result ≡ code_of status) }
+    ensures memory { IfErr ended (λ e. result ≡ code_of Memory) }
+{
+    match ended {
+        Ok(status) => status.code(),
+        Err(NoMemory) => Status::Memory.code(),
     }
 }
 

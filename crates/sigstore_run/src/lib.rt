@@ -7,6 +7,6 @@ mod meant;
 mod program;
 mod report;
 
-pub use answer::{Answer, Status, stopped};
+pub use answer::{Answer, Status, exit_code, stopped};
 pub use meant::{Request, verify_request};
 pub use program::run;

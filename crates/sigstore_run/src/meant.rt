@@ -1,13 +1,13 @@
 // What the program means by its files: what is verified, and within which limits.
 ghost use Rattle.std.specs.Prelude.{◌≡◌};
-ghost use Rattle.sigstore_crypto.specs.Crypto.{crypto_by};
+ghost use Rattle.sigstore_crypto_parts.specs.Crypto.{crypto_by};
 ghost use Rattle.sigstore_verify.specs.Given.{Outside};
 ghost use Rattle.sigstore_verify.specs.Promises.{Promises};
 ghost use Rattle.sigstore_run.specs.Run.{policy_meant, given_with};
 
 use jiff::Timestamp;
 use sigstore_app_parts::PolicyFile;
-use sigstore_crypto::{ArtifactSource, CryptoProvider};
+use sigstore_crypto_parts::{ArtifactSource, CryptoProvider};
 use sigstore_tuf::{MetadataStore, Repository, UpdaterConfig};
 use sigstore_types_parts::{Armor, Bytes};
 use sigstore_verify::{PublicKeyVerificationPolicy, RootFault, Rooted, verify_from_root};

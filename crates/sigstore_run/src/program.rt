@@ -11,7 +11,7 @@ use crate::report::report;
 use foundation::NoMemory;
 use jiff::Timestamp;
 use sigstore_app_parts::{Gathered, Inputs, Sink, Stop, gather_inputs, read_layout, write_all};
-use sigstore_crypto::ArtifactSource;
+use sigstore_crypto_parts::ArtifactSource;
 use sigstore_tuf::{MetadataStore, Repository};
 use sigstore_types_parts::Text;
 use sigstore_verify::{RootFault, Rooted};

@@ -5,12 +5,12 @@ use Rattle.std.specs.List.{last_or}
 use Rattle.jiff_core.specs.declared.timestamp.Timestamp as jiff
 use Rattle.foundation.specs.Watched.{Watched, Rose, IfTold, Since}
 use Rattle.foundation.specs.Results.{step_ok, err_same, some_same, no_both, refused_at}
-use Rattle.sigstore_crypto.specs.Crypto.{Crypto}
-use Rattle.sigstore_tuf_parts.specs.declared.error.Error.{Error}
-use Rattle.sigstore_tuf_parts.specs.declared.error.Error.TheVariants as tuf
-use Rattle.sigstore_tuf_parts.specs.declared.error.Rule.TheVariants as rule
-use Rattle.sigstore_tuf_parts.specs.declared.error.TransportFault.{TransportFault}
-use Rattle.sigstore_tuf_parts.specs.declared.error.TransportFault.TheVariants as transport
+use Rattle.sigstore_crypto_parts.specs.Crypto.{Crypto}
+use Rattle.sigstore_tuf_text.specs.declared.error.Error.{Error}
+use Rattle.sigstore_tuf_text.specs.declared.error.Error.TheVariants as tuf
+use Rattle.sigstore_tuf_text.specs.declared.error.Rule.TheVariants as rule
+use Rattle.sigstore_tuf_text.specs.declared.error.TransportFault.{TransportFault}
+use Rattle.sigstore_tuf_text.specs.declared.error.TransportFault.TheVariants as transport
 use Rattle.sigstore_tuf_parts.specs.declared.root.Root as declared_root
 use Rattle.sigstore_tuf_parts.specs.declared.snapshot.Snapshot as declared_snapshot
 use Rattle.sigstore_tuf_parts.specs.declared.timestamp.MetaFile.{MetaFile}

@@ -6,12 +6,12 @@ use Rattle.std.proofs.lemmas.Slice.Eq.{bytes_eq-Decides}
 use Rattle.foundation.specs.Steps.{◌>>=◌}
 use Rattle.foundation.specs.Results.{step_ok, ok_same}
 use Rattle.sigstore_types_parts.specs.Entries.{at_name}
-use Rattle.sigstore_tuf_parts.specs.declared.error.Error.TheVariants as tuf
-use Rattle.sigstore_tuf_parts.specs.declared.error.Rule.TheVariants as rule
+use Rattle.sigstore_tuf_text.specs.declared.error.Error.TheVariants as tuf
+use Rattle.sigstore_tuf_text.specs.declared.error.Rule.TheVariants as rule
 use Rattle.sigstore_tuf_parts.specs.declared.targets.DelegatedRole.{DelegatedRole}
 use Rattle.sigstore_tuf_parts.specs.declared.targets.Delegations.{Delegations}
 use Rattle.sigstore_tuf_parts.specs.declared.targets.Targets.{Targets}
-use Rattle.sigstore_tuf_parts.specs.Pattern.{matches_path_of}
+use Rattle.sigstore_tuf_parts.specs.Delegation.{matches_path_of}
 use Rattle.sigstore_tuf_parts.specs.Targets.{role_keys_in}
 use Rattle.sigstore_tuf_rules.specs.declared.documents.Held.{Held}
 use Rattle.sigstore_tuf_rules.specs.declared.documents.InForce.{InForce}

@@ -4,14 +4,14 @@ use Rattle.std.specs.Prelude.{⊤, OnOk}
 use Rattle.std.proofs.lemmas.Bool.Decides.{nat_tests}
 use Rattle.foundation.specs.Watched.{Watched, IfTold}
 use Rattle.foundation.specs.Results.{no_both, refused_at}
-use Rattle.sigstore_tuf_parts.specs.declared.error.Error.{Error}
-use Rattle.sigstore_tuf_parts.specs.declared.error.Error.TheVariants as tuf
-use Rattle.sigstore_tuf_parts.specs.declared.error.TransportFault.TheVariants as transport
+use Rattle.sigstore_tuf_text.specs.declared.error.Error.{Error}
+use Rattle.sigstore_tuf_text.specs.declared.error.Error.TheVariants as tuf
+use Rattle.sigstore_tuf_text.specs.declared.error.TransportFault.TheVariants as transport
 use Rattle.sigstore_tuf_parts.specs.declared.root.Root as declared_root
 use Rattle.sigstore_tuf_parts.specs.declared.timestamp.MetaFile.{MetaFile}
 use Rattle.sigstore_tuf_parts.specs.declared.timestamp.Timestamp as declared_timestamp
 use Rattle.sigstore_tuf_parts.specs.Document.{Document, content_in}
-use Rattle.sigstore_tuf_parts.specs.Names.{root_name, timestamp_name}
+use Rattle.sigstore_tuf_text.specs.Names.{root_name, timestamp_name}
 use Rattle.sigstore_tuf_parts.specs.RootRoles.{meets_role_of}
 use Rattle.sigstore_tuf_parts.proofs.PinCauses.{expiry_cause}
 use Rattle.sigstore_tuf_parts.proofs.RoleCauses.{role_cause}

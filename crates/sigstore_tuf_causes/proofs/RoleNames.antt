@@ -6,7 +6,7 @@ use Rattle.std.proofs.lemmas.List.{append_cancel_right}
 use Rattle.std.proofs.lemmas.Slice.Eq.{bytes_eq-Decides}
 use Rattle.std.specs.Fmt.{digit_glyph}
 use Rattle.percent_encoding.specs.Percent.{percent_encode_byte}
-use Rattle.sigstore_tuf_parts.specs.Names.{timestamp_name, snapshot_name, targets_name}
+use Rattle.sigstore_tuf_text.specs.Names.{timestamp_name, snapshot_name, targets_name}
 use Rattle.sigstore_tuf_rules.specs.Names.{is_unreserved, escaped, role_file, history_name, root_file, kept_target}
 use Rattle.sigstore_tuf_rules.specs.Order.{is_top_level}
 

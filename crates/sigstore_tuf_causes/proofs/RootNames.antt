@@ -7,7 +7,7 @@ use Rattle.std.specs.Fmt.{digit_glyph, digits_onto, digits}
 use Rattle.std.proofs.lemmas.Fmt.{decimal_injective}
 use Rattle.std.proofs.lemmas.List.{append_cancel_left, append_cancel_right}
 use Rattle.std.proofs.lemmas.Slice.Eq.{bytes_eq-Decides}
-use Rattle.sigstore_tuf_parts.specs.Names.{root_name, snapshot_name, versioned_name}
+use Rattle.sigstore_tuf_text.specs.Names.{root_name, snapshot_name, versioned_name}
 use Rattle.sigstore_tuf_rules.specs.Names.{history_name}
 use Rattle.sigstore_tuf_outside.specs.Store.{is_slash, components, on_first, is_parent, is_bad_name}
 

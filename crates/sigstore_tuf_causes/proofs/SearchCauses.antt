@@ -4,13 +4,13 @@ use Rattle.std.specs.Prelude.{⊤, is_some, ok_or, option_map, option_and_then, 
 use Rattle.foundation.specs.Watched.{Watched, IfTold}
 use Rattle.foundation.specs.Results.{err_same, some_same, no_both, refused_at}
 use Rattle.sigstore_types_parts.specs.Entries.{at_name}
-use Rattle.sigstore_tuf_parts.specs.declared.error.Error.{Error}
-use Rattle.sigstore_tuf_parts.specs.declared.error.Error.TheVariants as tuf
-use Rattle.sigstore_tuf_parts.specs.declared.error.TransportFault.{TransportFault}
-use Rattle.sigstore_tuf_parts.specs.declared.error.TransportFault.TheVariants as transport
+use Rattle.sigstore_tuf_text.specs.declared.error.Error.{Error}
+use Rattle.sigstore_tuf_text.specs.declared.error.Error.TheVariants as tuf
+use Rattle.sigstore_tuf_text.specs.declared.error.TransportFault.{TransportFault}
+use Rattle.sigstore_tuf_text.specs.declared.error.TransportFault.TheVariants as transport
 use Rattle.sigstore_tuf_parts.specs.declared.snapshot.Snapshot.{Snapshot}
 use Rattle.sigstore_tuf_parts.specs.declared.targets.Targets.{Targets}
-use Rattle.sigstore_tuf_parts.specs.Names.{pin_name}
+use Rattle.sigstore_tuf_text.specs.Names.{pin_name}
 use Rattle.sigstore_tuf_parts.specs.Threshold.{is_among}
 use Rattle.sigstore_tuf_parts.proofs.PinCauses.{expiry_cause}
 use Rattle.sigstore_tuf_parts.proofs.RoleCauses.{meets_cause}

@@ -4,9 +4,9 @@ use Rattle.std.specs.Prelude.{⊤, ok_or, OnOk}
 use Rattle.std.proofs.lemmas.Bool.Decides.{nat_tests}
 use Rattle.jiff_core.specs.declared.timestamp.Timestamp as jiff
 use Rattle.foundation.specs.Results.{step_ok, some_same, no_both, and_true, not_true}
-use Rattle.sigstore_tuf_parts.specs.declared.error.Error.{Error}
-use Rattle.sigstore_tuf_parts.specs.declared.error.Error.TheVariants.{Malformed}
-use Rattle.sigstore_tuf_parts.specs.declared.error.Rule.TheVariants as rule
+use Rattle.sigstore_tuf_text.specs.declared.error.Error.{Error}
+use Rattle.sigstore_tuf_text.specs.declared.error.Error.TheVariants.{Malformed}
+use Rattle.sigstore_tuf_text.specs.declared.error.Rule.TheVariants as rule
 use Rattle.sigstore_tuf_parts.specs.declared.root.Root as declared
 use Rattle.sigstore_tuf_parts.specs.declared.timestamp.MetaFile.{MetaFile}
 use Rattle.sigstore_tuf_parts.specs.declared.timestamp.Timestamp.{Timestamp}

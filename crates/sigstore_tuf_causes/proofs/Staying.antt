@@ -2,8 +2,8 @@
 use Rattle.std.proofs.Common.{Bool, Option, Some, None, Result, Ok}
 use Rattle.std.specs.Prelude.{⊤}
 use Rattle.jiff_core.specs.declared.timestamp.Timestamp as jiff
-use Rattle.sigstore_crypto.specs.Crypto.{Crypto}
-use Rattle.sigstore_tuf_parts.specs.declared.error.Error.{Error}
+use Rattle.sigstore_crypto_parts.specs.Crypto.{Crypto}
+use Rattle.sigstore_tuf_text.specs.declared.error.Error.{Error}
 use Rattle.sigstore_tuf_rules.specs.declared.kind.Kind.{Kind}
 use Rattle.sigstore_tuf_runs.specs.State.{Session, State}
 use Rattle.sigstore_tuf_runs.specs.Adopt.{Adopts, unfetched, absent, refused, kept, adopted, Seeds, unloaded, unkept, unseeded, equal, seeded}

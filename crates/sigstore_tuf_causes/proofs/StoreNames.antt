@@ -9,7 +9,7 @@ use Rattle.sigstore_tuf_runs.specs.State.{State}
 use Rattle.sigstore_tuf_runs.specs.Cause.{HasKept, IsInForce, Had, in_repository, in_store, in_force}
 use Rattle.sigstore_tuf_outside.specs.Store.{with_file}
 use Rattle.sigstore_tuf_parts.specs.declared.timestamp.MetaFile.{MetaFile}
-use Rattle.sigstore_tuf_parts.specs.Names.{root_name, timestamp_name, snapshot_name, targets_name, versioned_name}
+use Rattle.sigstore_tuf_text.specs.Names.{root_name, timestamp_name, snapshot_name, targets_name, versioned_name}
 use Rattle.sigstore_tuf_rules.specs.declared.kind.Kind.{Kind}
 use Rattle.sigstore_tuf_rules.specs.declared.kind.Kind.TheVariants.{Root, Timestamp, Snapshot, Targets}
 use Rattle.sigstore_tuf_rules.specs.Names.{is_consistent, snapshot_pin_in, targets_pin_in, pinned_name, file_name, IsVersioned, plain, versioned, IsNameOf, history_name, root_file, kept_name}

@@ -2,9 +2,9 @@
 use Rattle.std.proofs.Common.{◌≡◌, ◌≢◌, ℕ, false, Option, Some, None, Err, codes, refl, sym, ap, ◌∙◌}
 use Rattle.jiff_core.specs.declared.timestamp.Timestamp as jiff
 use Rattle.foundation.specs.Results.{err_same, some_same, refused_at}
-use Rattle.sigstore_tuf_parts.specs.declared.error.Error.{Error}
-use Rattle.sigstore_tuf_parts.specs.declared.error.Error.TheVariants as tuf
-use Rattle.sigstore_tuf_parts.specs.declared.error.Mismatch.TheVariants as mismatch
+use Rattle.sigstore_tuf_text.specs.declared.error.Error.{Error}
+use Rattle.sigstore_tuf_text.specs.declared.error.Error.TheVariants as tuf
+use Rattle.sigstore_tuf_text.specs.declared.error.Mismatch.TheVariants as mismatch
 use Rattle.sigstore_tuf_parts.specs.declared.root.Root.{Root}
 use Rattle.sigstore_tuf_parts.specs.declared.snapshot.Snapshot.{Snapshot}
 use Rattle.sigstore_tuf_parts.specs.declared.targets.Targets.{Targets}

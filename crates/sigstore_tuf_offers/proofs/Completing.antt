@@ -6,9 +6,9 @@ use Rattle.foundation.specs.Steps.{◌>>=◌}
 use Rattle.foundation.specs.Watched.{Watched, IfTold}
 use Rattle.foundation.specs.Results.{ok_same, err_same, some_same, no_both}
 use Rattle.sigstore_types_parts.specs.Entries.{at_name}
-use Rattle.sigstore_crypto.specs.Crypto.{Crypto}
-use Rattle.sigstore_tuf_parts.specs.declared.error.Error.{Error}
-use Rattle.sigstore_tuf_parts.specs.declared.error.Error.TheVariants as tuf
+use Rattle.sigstore_crypto_parts.specs.Crypto.{Crypto}
+use Rattle.sigstore_tuf_text.specs.declared.error.Error.{Error}
+use Rattle.sigstore_tuf_text.specs.declared.error.Error.TheVariants as tuf
 use Rattle.sigstore_tuf_parts.specs.declared.root.Root as declared
 use Rattle.sigstore_tuf_parts.specs.Document.{Document}
 use Rattle.sigstore_tuf_parts.specs.RootRoles.{meets_role_of, MeetsRole}

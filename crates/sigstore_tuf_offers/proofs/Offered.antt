@@ -5,7 +5,7 @@ use Rattle.std.specs.List.{AllByRecursion, AllZip, last_or}
 use Rattle.jiff_core.specs.declared.timestamp.Timestamp as jiff
 use Rattle.foundation.specs.Results.{some_same}
 use Rattle.sigstore_types_parts.specs.Entries.{at_name}
-use Rattle.sigstore_crypto.specs.Crypto.{Crypto}
+use Rattle.sigstore_crypto_parts.specs.Crypto.{Crypto}
 use Rattle.sigstore_tuf_parts.specs.declared.keys.RoleKeys.{RoleKeys}
 use Rattle.sigstore_tuf_parts.specs.declared.root.Root as declared
 use Rattle.sigstore_tuf_parts.specs.declared.snapshot.Snapshot.{Snapshot}
@@ -14,7 +14,7 @@ use Rattle.sigstore_tuf_parts.specs.declared.timestamp.MetaFile.{MetaFile}
 use Rattle.sigstore_tuf_parts.specs.declared.timestamp.Timestamp.{Timestamp}
 use Rattle.sigstore_tuf_parts.specs.Document.{Document, content_in}
 use Rattle.sigstore_tuf_parts.specs.Meets.{Meets}
-use Rattle.sigstore_tuf_parts.specs.Names.{timestamp_name, snapshot_name, targets_name, pin_name}
+use Rattle.sigstore_tuf_text.specs.Names.{timestamp_name, snapshot_name, targets_name, pin_name}
 use Rattle.sigstore_tuf_parts.specs.Pinned.{Pinned, PinnedFile, Fresh}
 use Rattle.sigstore_tuf_parts.specs.RootRoles.{root_document, MeetsRole, AreNextRoots, Roots}
 use Rattle.sigstore_tuf_rules.specs.declared.chain.RoleDoc.{RoleDoc}

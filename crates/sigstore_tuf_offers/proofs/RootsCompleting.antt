@@ -7,12 +7,12 @@ use Rattle.std.proofs.lemmas.Slice.Eq.{bytes_eq-Decides}
 use Rattle.jiff_core.specs.declared.timestamp.Timestamp as jiff
 use Rattle.foundation.specs.Watched.{Watched, Since}
 use Rattle.foundation.specs.Results.{ok_same, err_same, some_same, no_both}
-use Rattle.sigstore_crypto.specs.Crypto.{Crypto}
-use Rattle.sigstore_tuf_parts.specs.declared.error.Error.{Error}
-use Rattle.sigstore_tuf_parts.specs.declared.error.Error.TheVariants as tuf
+use Rattle.sigstore_crypto_parts.specs.Crypto.{Crypto}
+use Rattle.sigstore_tuf_text.specs.declared.error.Error.{Error}
+use Rattle.sigstore_tuf_text.specs.declared.error.Error.TheVariants as tuf
 use Rattle.sigstore_tuf_parts.specs.declared.root.Root as declared
 use Rattle.sigstore_tuf_parts.specs.Document.{Document, content_in}
-use Rattle.sigstore_tuf_parts.specs.Names.{root_name, timestamp_name, snapshot_name, targets_name}
+use Rattle.sigstore_tuf_text.specs.Names.{root_name, timestamp_name, snapshot_name, targets_name}
 use Rattle.sigstore_tuf_parts.proofs.ReadExact.{version_bound}
 use Rattle.sigstore_tuf_parts.specs.RootRoles.{root_document, meets_role_of, IsNextRoot, AreNextRoots}
 use Rattle.sigstore_tuf_rules.specs.declared.chain.TrustChain.{TrustChain}

@@ -7,10 +7,10 @@ use Rattle.jiff_core.specs.declared.timestamp.Timestamp as jiff
 use Rattle.foundation.specs.Watched.{Watched, Since}
 use Rattle.foundation.specs.Results.{ok_same, err_same, some_same, no_both}
 use Rattle.sigstore_types_parts.specs.Entries.{at_name}
-use Rattle.sigstore_tuf_parts.specs.declared.error.Error.{Error}
-use Rattle.sigstore_tuf_parts.specs.declared.error.Error.TheVariants as tuf
-use Rattle.sigstore_tuf_parts.specs.declared.error.Mismatch.TheVariants as mismatch
-use Rattle.sigstore_tuf_parts.specs.declared.error.Rule.TheVariants as rule
+use Rattle.sigstore_tuf_text.specs.declared.error.Error.{Error}
+use Rattle.sigstore_tuf_text.specs.declared.error.Error.TheVariants as tuf
+use Rattle.sigstore_tuf_text.specs.declared.error.Mismatch.TheVariants as mismatch
+use Rattle.sigstore_tuf_text.specs.declared.error.Rule.TheVariants as rule
 use Rattle.sigstore_tuf_parts.specs.declared.root.Root as declared
 use Rattle.sigstore_tuf_parts.specs.declared.snapshot.Snapshot.{Snapshot}
 use Rattle.sigstore_tuf_parts.specs.declared.targets.Delegations.{Delegations}
@@ -18,7 +18,7 @@ use Rattle.sigstore_tuf_parts.specs.declared.targets.Targets.{Targets}
 use Rattle.sigstore_tuf_parts.specs.declared.timestamp.MetaFile.{MetaFile}
 use Rattle.sigstore_tuf_parts.specs.Document.{Document, content_in}
 use Rattle.sigstore_tuf_parts.specs.Integrity.{integrity_of, version_of, fresh_of}
-use Rattle.sigstore_tuf_parts.specs.Names.{root_name, pin_name}
+use Rattle.sigstore_tuf_text.specs.Names.{root_name, pin_name}
 use Rattle.sigstore_tuf_parts.specs.Pinned.{Fresh}
 use Rattle.sigstore_tuf_parts.specs.Threshold.{is_among}
 use Rattle.sigstore_tuf_parts.proofs.IntegrityLaws.{integrity_exactly, fresh_exactly}

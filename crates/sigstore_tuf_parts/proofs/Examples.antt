@@ -17,21 +17,22 @@ use Rattle.jiff_core.specs.declared.timestamp.Timestamp as jiff
 use Rattle.foundation.specs.Steps.{◌>>=◌}
 use Rattle.sigstore_types_parts.specs.Parse.{parsed_of}
 use Rattle.sigstore_types_parts.specs.Instant.{at_nanosecond}
-use Rattle.sigstore_crypto.specs.Crypto.{Crypto}
-use Rattle.sigstore_crypto.specs.declared.scheme.SigningScheme.TheVariants.{Ed25519}
-use Rattle.sigstore_crypto.specs.declared.key.VerificationKey.{VerificationKey}
+use Rattle.sigstore_crypto_parts.specs.Crypto.{Crypto}
+use Rattle.sigstore_crypto_parts.specs.declared.scheme.SigningScheme.TheVariants.{Ed25519}
+use Rattle.sigstore_crypto_parts.specs.declared.key.VerificationKey.{VerificationKey}
 use Rattle.sigstore_tuf_parts.specs.declared.verification.KeyFault.{KeyFault}
-use Rattle.sigstore_tuf_parts.specs.declared.error.Error.{Error}
-use Rattle.sigstore_tuf_parts.specs.declared.error.Error.TheVariants.{Malformed, DuplicateSignature, ThresholdNotMet, Expired}
-use Rattle.sigstore_tuf_parts.specs.declared.error.Rule.TheVariants.{Threshold, Pattern}
+use Rattle.sigstore_tuf_text.specs.declared.error.Error.{Error}
+use Rattle.sigstore_tuf_text.specs.declared.error.Error.TheVariants.{Malformed, DuplicateSignature, ThresholdNotMet, Expired}
+use Rattle.sigstore_tuf_text.specs.declared.error.Rule.TheVariants.{Threshold, Pattern}
 use Rattle.sigstore_tuf_parts.specs.declared.keys.Key.{Key}
 use Rattle.sigstore_tuf_parts.specs.declared.keys.RoleKeys.{RoleKeys}
 use Rattle.sigstore_tuf_parts.specs.declared.targets.DelegatedRole.{DelegatedRole}
 use Rattle.sigstore_tuf_parts.specs.Document.{Document, signatures_in, text_in, value_of}
 use Rattle.sigstore_tuf_parts.specs.Crypto.{key_of}
-use Rattle.sigstore_tuf_parts.specs.Canonical.{canonical_of}
+use Rattle.sigstore_tuf_text.specs.Canonical.{canonical_of}
 use Rattle.sigstore_tuf_parts.specs.Integrity.{fresh_of}
-use Rattle.sigstore_tuf_parts.specs.Pattern.{matches, matches_path_of}
+use Rattle.sigstore_tuf_parts.specs.Delegation.{matches_path_of}
+use Rattle.sigstore_tuf_text.specs.Pattern.{matches}
 use Rattle.sigstore_tuf_parts.specs.Threshold.{Keys, counted_of, ids_of, second_after, is_accepted_under, threshold_of, no_second, enough_of, meets_of}
 
 -- ---- thresholds

@@ -2,7 +2,7 @@
 use Rattle.std.proofs.Common.{◌≡◌, ℕ, List, [], ◌∷◌, ◌++◌, append_assoc, Bool, false, true}
 use Rattle.std.specs.Prelude.{codes}
 use Rattle.sigstore_tuf_parts.specs.declared.keys.Key.{Key}
-use Rattle.sigstore_tuf_parts.specs.Canon.{canon, quoted, comma_if}
+use Rattle.sigstore_tuf_text.specs.Canon.{canon, quoted, comma_if}
 use Rattle.sigstore_tuf_parts.specs.DeclaredKeys.{key_object_of}
 
 abbrev text_member : Bool → List ℕ → List ℕ → List ℕ

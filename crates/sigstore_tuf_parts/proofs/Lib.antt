@@ -1,11 +1,7 @@
-pub mod Floats
-pub mod OtherFacts
 pub mod TextSets
 pub mod CountFacts
 pub mod MeetsLaw
 pub mod IntegrityLaws
-pub mod Fits
-pub mod Unique
 pub mod ReadExact
 pub mod Steps
 pub mod ReadingCauses
@@ -14,6 +10,3 @@ pub mod RoleCauses
 mod Examples
 pub mod KeyText
 pub mod SignedTexts
-pub mod Classes
-pub mod Rows
-pub mod Patterns

@@ -6,9 +6,9 @@ use Rattle.jiff_core.specs.declared.timestamp.Timestamp.{Timestamp}
 use Rattle.sha2.specs.Sha256.{sha256}
 use Rattle.sha2.specs.Sha512.{sha512}
 use Rattle.sigstore_types_parts.specs.Entries.{at_name}
-use Rattle.sigstore_tuf_parts.specs.declared.error.Error.{Error}
-use Rattle.sigstore_tuf_parts.specs.declared.error.Error.TheVariants.{IntegrityMismatch, Expired}
-use Rattle.sigstore_tuf_parts.specs.declared.error.Mismatch.TheVariants.{Length, Digest, NoDigest}
+use Rattle.sigstore_tuf_text.specs.declared.error.Error.{Error}
+use Rattle.sigstore_tuf_text.specs.declared.error.Error.TheVariants.{IntegrityMismatch, Expired}
+use Rattle.sigstore_tuf_text.specs.declared.error.Mismatch.TheVariants.{Length, Digest, NoDigest}
 use Rattle.sigstore_tuf_parts.specs.Cause.{IsMisspelt, IntegrityCause, ExpiryCause}
 use Rattle.sigstore_tuf_parts.specs.Integrity.{Hashes, agrees, length_of, digest_of, supported_of, where_pinned, integrity_of, fresh_of}
 use Rattle.sigstore_tuf_parts.proofs.Steps.{same_refusal, refused_by}

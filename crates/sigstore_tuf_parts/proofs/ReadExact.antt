@@ -19,25 +19,25 @@ use Rattle.sigstore_types_parts.specs.Read as read_words
 use Rattle.sigstore_types_parts.specs.Read.{required_of}
 use Rattle.sigstore_types_parts.specs.declared.parse.JsonFault.{JsonFault}
 use Rattle.sigstore_types_parts.specs.declared.parse.JsonFault.TheVariants as fault
-use Rattle.sigstore_tuf_parts.specs.declared.error.Error.{Error}
-use Rattle.sigstore_tuf_parts.specs.declared.error.Error.TheVariants as tuf
-use Rattle.sigstore_tuf_parts.specs.declared.error.Rule.TheVariants as rule
+use Rattle.sigstore_tuf_text.specs.declared.error.Error.{Error}
+use Rattle.sigstore_tuf_text.specs.declared.error.Error.TheVariants as tuf
+use Rattle.sigstore_tuf_text.specs.declared.error.Rule.TheVariants as rule
 use Rattle.sigstore_tuf_parts.specs.declared.head.Head.{Head}
-use Rattle.sigstore_tuf_parts.specs.declared.member.DocumentMember.{DocumentMember}
-use Rattle.sigstore_tuf_parts.specs.declared.member.DocumentMember.TheVariants as m
+use Rattle.sigstore_tuf_text.specs.declared.member.DocumentMember.{DocumentMember}
+use Rattle.sigstore_tuf_text.specs.declared.member.DocumentMember.TheVariants as m
 use Rattle.sigstore_tuf_parts.specs.declared.root.Root.{Root}
-use Rattle.sigstore_tuf_parts.specs.Canon.{canon}
+use Rattle.sigstore_tuf_text.specs.Canon.{canon}
 use Rattle.sigstore_tuf_parts.specs.Document.{Document, content_in, text_in, value_of, frame_of, signature_of, content_of, document_in, document_of}
-use Rattle.sigstore_tuf_parts.specs.Error.{error_of_fault}
-use Rattle.sigstore_tuf_parts.specs.Exact.{IsExactNumber, IsExact, AreExact, HasExact}
+use Rattle.sigstore_tuf_text.specs.Error.{error_of_fault}
+use Rattle.sigstore_tuf_text.specs.Exact.{IsExactNumber, IsExact, AreExact, HasExact}
 use Rattle.sigstore_tuf_parts.specs.Head.{head_of}
 use Rattle.sigstore_tuf_parts.specs.Header.{header_of}
 use Rattle.sigstore_tuf_parts.specs.Keys.{key_in_of, role_keys_of}
 use Rattle.sigstore_tuf_parts.specs.Laws.{TellsContents}
 use Rattle.sigstore_tuf_parts.specs.Root.{root_of}
 use Rattle.sigstore_tuf_parts.specs.RootRoles.{root_document}
-use Rattle.sigstore_tuf_parts.specs.Words.{member_name, required, defaulted, u64, bool, text, moment, sequence, map}
-use Rattle.sigstore_tuf_parts.proofs.Unique.{canon_injective}
+use Rattle.sigstore_tuf_text.specs.Words.{member_name, required, defaulted, u64, bool, text, moment, sequence, map}
+use Rattle.sigstore_tuf_text.proofs.Unique.{canon_injective}
 
 -- ---- integers within 64 bits, or floats
 

@@ -11,15 +11,15 @@ use Rattle.sigstore_types_parts.specs.Read as read
 use Rattle.sigstore_types_parts.specs.Read.{required_of, optional_of, defaulted_of, sequence_of, map_of}
 use Rattle.sigstore_types_parts.specs.declared.parse.JsonFault.{JsonFault}
 use Rattle.sigstore_types_parts.specs.declared.parse.JsonFault.TheVariants as fault
-use Rattle.sigstore_tuf_parts.specs.declared.error.Error.{Error}
-use Rattle.sigstore_tuf_parts.specs.declared.error.Error.TheVariants as tuf
-use Rattle.sigstore_tuf_parts.specs.declared.error.Rule.{Rule}
-use Rattle.sigstore_tuf_parts.specs.declared.error.Rule.TheVariants as rule
-use Rattle.sigstore_tuf_parts.specs.declared.member.DocumentMember.{DocumentMember}
-use Rattle.sigstore_tuf_parts.specs.declared.member.DocumentMember.TheVariants as m
+use Rattle.sigstore_tuf_text.specs.declared.error.Error.{Error}
+use Rattle.sigstore_tuf_text.specs.declared.error.Error.TheVariants as tuf
+use Rattle.sigstore_tuf_text.specs.declared.error.Rule.{Rule}
+use Rattle.sigstore_tuf_text.specs.declared.error.Rule.TheVariants as rule
+use Rattle.sigstore_tuf_text.specs.declared.member.DocumentMember.{DocumentMember}
+use Rattle.sigstore_tuf_text.specs.declared.member.DocumentMember.TheVariants as m
 use Rattle.sigstore_tuf_parts.specs.Cause.{HasFrame, ReadCause}
 use Rattle.sigstore_tuf_parts.specs.Document.{value_of, frame_of, signature_of, content_of, document_in, document_of}
-use Rattle.sigstore_tuf_parts.specs.Error.{error_of_fault}
+use Rattle.sigstore_tuf_text.specs.Error.{error_of_fault}
 use Rattle.sigstore_tuf_parts.specs.Head.{head_of}
 use Rattle.sigstore_tuf_parts.specs.Header.{is_version_one_text, where_text, kind_of, spec_version_of, header_of}
 use Rattle.sigstore_tuf_parts.specs.Keys.{key_val_of, key_in_of, role_keys_of}
@@ -27,7 +27,7 @@ use Rattle.sigstore_tuf_parts.specs.Root.{root_of}
 use Rattle.sigstore_tuf_parts.specs.Snapshot.{snapshot_of}
 use Rattle.sigstore_tuf_parts.specs.Targets.{target_file_of, grant_of, delegated_role_of, delegations_of, targets_of}
 use Rattle.sigstore_tuf_parts.specs.Timestamp.{meta_file_of, timestamp_of}
-use Rattle.sigstore_tuf_parts.specs.Words.{member_name, required, optional, defaulted, u64, bool, text, moment, json, sequence, map}
+use Rattle.sigstore_tuf_text.specs.Words.{member_name, required, optional, defaulted, u64, bool, text, moment, json, sequence, map}
 use Rattle.sigstore_tuf_parts.proofs.Steps.{same_refusal, refused_by}
 
 -- ---- each refusal of a reader is Json

@@ -1,7 +1,7 @@
 -- Steps that refuse: which of them did.
 use Rattle.std.proofs.Common.{◌≡◌, Result, Ok, Err, refl, subst, ◌⊎◌, inl, inr}
 use Rattle.foundation.specs.Steps.{◌>>=◌}
-use Rattle.sigstore_tuf_parts.specs.declared.error.Error.{Error}
+use Rattle.sigstore_tuf_text.specs.declared.error.Error.{Error}
 
 -- what holds of the one refusal holds of the other
 pub same_refusal : {A : Type 0} (P : Error → Type 0) (a e : Error) → ◌≡◌ {A = Result A Error} (Err a) (Err e) → P a → P e

@@ -11,12 +11,12 @@ use Rattle.jiff_core.specs.declared.timestamp.Timestamp as jiff
 use Rattle.sigstore_types_parts.specs.Entries.{at_name}
 use Rattle.sigstore_types_parts.specs.Parse.{parsed_of}
 use Rattle.sigstore_types_parts.specs.declared.parse.JsonFault.TheVariants as fault
-use Rattle.sigstore_crypto.specs.Crypto.{Crypto}
+use Rattle.sigstore_crypto_parts.specs.Crypto.{Crypto}
 use Rattle.sigstore_tuf_parts.specs.declared.document.Signature.{Signature}
-use Rattle.sigstore_tuf_parts.specs.declared.error.Error.{Error}
-use Rattle.sigstore_tuf_parts.specs.declared.error.Error.TheVariants as tuf
-use Rattle.sigstore_tuf_parts.specs.declared.error.Mismatch.TheVariants as mismatch
-use Rattle.sigstore_tuf_parts.specs.declared.error.Rule.TheVariants as rule
+use Rattle.sigstore_tuf_text.specs.declared.error.Error.{Error}
+use Rattle.sigstore_tuf_text.specs.declared.error.Error.TheVariants as tuf
+use Rattle.sigstore_tuf_text.specs.declared.error.Mismatch.TheVariants as mismatch
+use Rattle.sigstore_tuf_text.specs.declared.error.Rule.TheVariants as rule
 use Rattle.sigstore_tuf_parts.specs.declared.keys.RoleKeys.{RoleKeys}
 use Rattle.sigstore_tuf_parts.specs.declared.root.Root.{Root}
 use Rattle.sigstore_tuf_parts.specs.Document.{Document, signatures_in, signature_of}
@@ -24,7 +24,7 @@ use Rattle.sigstore_tuf_parts.specs.Header.{is_version_one_text}
 use Rattle.sigstore_tuf_parts.specs.Integrity.{Hashes, spells}
 use Rattle.sigstore_tuf_parts.specs.Meets.{Signs}
 use Rattle.sigstore_tuf_parts.specs.Threshold.{Keys, is_among, is_counted}
-use Rattle.sigstore_tuf_parts.specs.Words.{sequence}
+use Rattle.sigstore_tuf_text.specs.Words.{sequence}
 
 -- ---- bytes that aren't a document of the kind
 

@@ -5,15 +5,15 @@ use Rattle.serde_json.specs.Find.{get}
 use Rattle.foundation.specs.Steps.{◌>>=◌}
 use Rattle.sigstore_types_parts.specs.declared.parse.JsonFault.{JsonFault}
 use Rattle.sigstore_types_parts.specs.Parse.{parsed_of}
-use Rattle.sigstore_tuf_parts.specs.declared.error.Error.{Error}
-use Rattle.sigstore_tuf_parts.specs.declared.error.Error.TheVariants.{Malformed}
-use Rattle.sigstore_tuf_parts.specs.declared.error.Rule.TheVariants.{Frame}
+use Rattle.sigstore_tuf_text.specs.declared.error.Error.{Error}
+use Rattle.sigstore_tuf_text.specs.declared.error.Error.TheVariants.{Malformed}
+use Rattle.sigstore_tuf_text.specs.declared.error.Rule.TheVariants.{Frame}
 use Rattle.sigstore_tuf_parts.specs.declared.document.Signature.{Signature}
-use Rattle.sigstore_tuf_parts.specs.declared.member.DocumentMember.TheVariants as m
-use Rattle.sigstore_tuf_parts.specs.Error.{error_of_fault}
-use Rattle.sigstore_tuf_parts.specs.Words.{required, text, sequence}
-use Rattle.sigstore_tuf_parts.specs.Canon.{canon}
-use Rattle.sigstore_tuf_parts.specs.Exact.{IsExact}
+use Rattle.sigstore_tuf_text.specs.declared.member.DocumentMember.TheVariants as m
+use Rattle.sigstore_tuf_text.specs.Error.{error_of_fault}
+use Rattle.sigstore_tuf_text.specs.Words.{required, text, sequence}
+use Rattle.sigstore_tuf_text.specs.Canon.{canon}
+use Rattle.sigstore_tuf_text.specs.Exact.{IsExact}
 use Rattle.sigstore_tuf_parts.specs.Header.{header_of}
 
 -- a document that was read: its content, its signatures, and the canonical text that they sign

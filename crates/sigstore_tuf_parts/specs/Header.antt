@@ -4,10 +4,10 @@ use Rattle.std.specs.List.{before_first}
 use Rattle.serde_json.specs.Data.{Data}
 use Rattle.serde_json.specs.Find.{get, as_str}
 use Rattle.foundation.specs.Steps.{◌>>=◌}
-use Rattle.sigstore_tuf_parts.specs.declared.error.Error.{Error}
-use Rattle.sigstore_tuf_parts.specs.declared.error.Error.TheVariants.{Malformed}
-use Rattle.sigstore_tuf_parts.specs.declared.error.Rule.{Rule}
-use Rattle.sigstore_tuf_parts.specs.declared.error.Rule.TheVariants.{Kind, SpecVersion}
+use Rattle.sigstore_tuf_text.specs.declared.error.Error.{Error}
+use Rattle.sigstore_tuf_text.specs.declared.error.Error.TheVariants.{Malformed}
+use Rattle.sigstore_tuf_text.specs.declared.error.Rule.{Rule}
+use Rattle.sigstore_tuf_text.specs.declared.error.Rule.TheVariants.{Kind, SpecVersion}
 
 -- what stands before the first dot is 1
 unfoldable pub is_version_one_text : List ℕ → Bool

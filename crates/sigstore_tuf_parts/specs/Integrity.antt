@@ -8,9 +8,9 @@ use Rattle.hex.specs.Hex.{encode_lower}
 use Rattle.jiff_core.specs.declared.timestamp.Timestamp.{Timestamp}
 use Rattle.foundation.specs.Steps.{◌>>=◌}
 use Rattle.sigstore_types_parts.specs.Entries.{at_name}
-use Rattle.sigstore_tuf_parts.specs.declared.error.Error.{Error}
-use Rattle.sigstore_tuf_parts.specs.declared.error.Error.TheVariants.{Expired, IntegrityMismatch}
-use Rattle.sigstore_tuf_parts.specs.declared.error.Mismatch.TheVariants.{Length, Digest, NoDigest, Version}
+use Rattle.sigstore_tuf_text.specs.declared.error.Error.{Error}
+use Rattle.sigstore_tuf_text.specs.declared.error.Error.TheVariants.{Expired, IntegrityMismatch}
+use Rattle.sigstore_tuf_text.specs.declared.error.Mismatch.TheVariants.{Length, Digest, NoDigest, Version}
 use Rattle.sigstore_tuf_parts.specs.declared.timestamp.MetaFile.{MetaFile}
 
 -- digests in hexadecimal, by the names of their algorithms

@@ -2,13 +2,13 @@
 use Rattle.std.specs.Prelude.{[], ◌∷◌, Result, Ok}
 use Rattle.serde_json.specs.Data.{Data}
 use Rattle.foundation.specs.Steps.{◌>>=◌}
-use Rattle.sigstore_tuf_parts.specs.declared.error.Error.{Error}
+use Rattle.sigstore_tuf_text.specs.declared.error.Error.{Error}
 use Rattle.sigstore_tuf_parts.specs.declared.keys.KeyVal.{KeyVal}
 use Rattle.sigstore_tuf_parts.specs.declared.keys.Key.{Key}
 use Rattle.sigstore_tuf_parts.specs.declared.keys.RoleKeys.{RoleKeys}
-use Rattle.sigstore_tuf_parts.specs.declared.member.DocumentMember.TheVariants as m
-use Rattle.sigstore_tuf_parts.specs.Words.{required, u64, text, sequence}
-use Rattle.sigstore_tuf_parts.specs.Others.{others_of}
+use Rattle.sigstore_tuf_text.specs.declared.member.DocumentMember.TheVariants as m
+use Rattle.sigstore_tuf_text.specs.Words.{required, u64, text, sequence}
+use Rattle.sigstore_tuf_text.specs.Others.{others_of}
 
 unfoldable pub key_val_of : Data → Result KeyVal Error
 key_val_of d = do

@@ -2,20 +2,20 @@
 use Rattle.std.specs.Prelude.{◌≡◌, ◌↔◌, ℕ, List, true, Option, Result, Ok, Err}
 use Rattle.serde_json.specs.Data.{Data}
 use Rattle.jiff_core.specs.declared.timestamp.Timestamp.{Timestamp}
-use Rattle.sigstore_crypto.specs.Crypto.{Crypto}
+use Rattle.sigstore_crypto_parts.specs.Crypto.{Crypto}
 use Rattle.sigstore_tuf_parts.specs.declared.keys.RoleKeys.{RoleKeys}
-use Rattle.sigstore_tuf_parts.specs.declared.error.Error.{Error}
+use Rattle.sigstore_tuf_text.specs.declared.error.Error.{Error}
 use Rattle.sigstore_tuf_parts.specs.declared.root.Root.{Root}
 use Rattle.sigstore_tuf_parts.specs.Document.{Document, content_in, text_in, document_of, HasExactText}
 use Rattle.sigstore_tuf_parts.specs.RootRoles.{meets_role_of}
 use Rattle.sigstore_tuf_parts.specs.Cause.{ReadCause, RoleCause, IntegrityCause, ExpiryCause}
-use Rattle.sigstore_tuf_parts.specs.Canon.{canon}
-use Rattle.sigstore_tuf_parts.specs.Exact.{IsExact}
+use Rattle.sigstore_tuf_text.specs.Canon.{canon}
+use Rattle.sigstore_tuf_text.specs.Exact.{IsExact}
 use Rattle.sigstore_tuf_parts.specs.Threshold.{Keys, meets_of}
 use Rattle.sigstore_tuf_parts.specs.Meets.{Meets}
 use Rattle.sigstore_tuf_parts.specs.Integrity.{Hashes, integrity_of, fresh_of}
 use Rattle.sigstore_tuf_parts.specs.Pinned.{IsIntact, Fresh}
-use Rattle.sigstore_tuf_parts.specs.Pattern.{Piece, Fits, fits}
+use Rattle.sigstore_tuf_text.specs.Pattern.{Piece, Fits, fits}
 
 -- the first check that fails is none exactly where the document meets the role
 abbrev pub MeetsExactly : Type 0 → Type 0

@@ -1,9 +1,3 @@
-pub mod Error
-pub mod Words
-pub mod Others
-pub mod Canon
-pub mod Canonical
-pub mod Exact
 pub mod Header
 pub mod Head
 pub mod Document
@@ -14,11 +8,7 @@ pub mod Snapshot
 pub mod Targets
 pub mod Integrity
 pub mod Pinned
-pub mod Pattern
-pub mod Piece
-pub mod Names
 pub mod Crypto
-pub mod SignedText
 pub mod By
 pub mod Threshold
 pub mod Meets
@@ -26,3 +16,4 @@ pub mod RootRoles
 pub mod Cause
 pub mod Laws
 pub mod DeclaredKeys
+pub mod Delegation

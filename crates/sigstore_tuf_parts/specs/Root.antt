@@ -2,11 +2,11 @@
 use Rattle.std.specs.Prelude.{[], ◌∷◌, false, Result, Ok}
 use Rattle.serde_json.specs.Data.{Data}
 use Rattle.foundation.specs.Steps.{◌>>=◌}
-use Rattle.sigstore_tuf_parts.specs.declared.error.Error.{Error}
-use Rattle.sigstore_tuf_parts.specs.declared.member.DocumentMember.TheVariants as m
-use Rattle.sigstore_tuf_parts.specs.Others.{others_of}
+use Rattle.sigstore_tuf_text.specs.declared.error.Error.{Error}
+use Rattle.sigstore_tuf_text.specs.declared.member.DocumentMember.TheVariants as m
+use Rattle.sigstore_tuf_text.specs.Others.{others_of}
 use Rattle.sigstore_tuf_parts.specs.declared.root.Root.{Root}
-use Rattle.sigstore_tuf_parts.specs.Words.{required, defaulted, bool, map}
+use Rattle.sigstore_tuf_text.specs.Words.{required, defaulted, bool, map}
 use Rattle.sigstore_tuf_parts.specs.Head.{head_of}
 use Rattle.sigstore_tuf_parts.specs.Keys.{key_in_of, role_keys_of}
 

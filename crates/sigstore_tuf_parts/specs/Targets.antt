@@ -2,16 +2,16 @@
 use Rattle.std.specs.Prelude.{[], ◌∷◌, false, Result, Ok}
 use Rattle.serde_json.specs.Data.{Data}
 use Rattle.foundation.specs.Steps.{◌>>=◌}
-use Rattle.sigstore_tuf_parts.specs.declared.error.Error.{Error}
-use Rattle.sigstore_tuf_parts.specs.declared.member.DocumentMember.TheVariants as m
-use Rattle.sigstore_tuf_parts.specs.Others.{others_of}
+use Rattle.sigstore_tuf_text.specs.declared.error.Error.{Error}
+use Rattle.sigstore_tuf_text.specs.declared.member.DocumentMember.TheVariants as m
+use Rattle.sigstore_tuf_text.specs.Others.{others_of}
 use Rattle.sigstore_tuf_parts.specs.declared.keys.RoleKeys.{RoleKeys}
 use Rattle.sigstore_tuf_parts.specs.declared.targets.TargetFile.{TargetFile}
 use Rattle.sigstore_tuf_parts.specs.declared.targets.Grant.{Grant}
 use Rattle.sigstore_tuf_parts.specs.declared.targets.DelegatedRole.{DelegatedRole}
 use Rattle.sigstore_tuf_parts.specs.declared.targets.Delegations.{Delegations}
 use Rattle.sigstore_tuf_parts.specs.declared.targets.Targets.{Targets}
-use Rattle.sigstore_tuf_parts.specs.Words.{required, optional, defaulted, u64, bool, text, json, sequence, map}
+use Rattle.sigstore_tuf_text.specs.Words.{required, optional, defaulted, u64, bool, text, json, sequence, map}
 use Rattle.sigstore_tuf_parts.specs.Head.{head_of}
 use Rattle.sigstore_tuf_parts.specs.Keys.{key_in_of}
 

@@ -6,13 +6,13 @@ use Rattle.std.specs.Result.{result_ok}
 use Rattle.hex.specs.Hex.{decode_of}
 use Rattle.foundation.specs.Steps.{◌>>=◌}
 use Rattle.sigstore_types_parts.specs.Entries.{at_name}
-use Rattle.sigstore_crypto.specs.declared.key.VerificationKey.{VerificationKey}
-use Rattle.sigstore_crypto.specs.Good.{Judge, is_good}
-use Rattle.sigstore_crypto.specs.Crypto.{Crypto}
+use Rattle.sigstore_crypto_parts.specs.declared.key.VerificationKey.{VerificationKey}
+use Rattle.sigstore_crypto_parts.specs.Good.{Judge, is_good}
+use Rattle.sigstore_crypto_parts.specs.Crypto.{Crypto}
 use Rattle.sigstore_tuf_parts.specs.declared.document.Signature.{Signature}
-use Rattle.sigstore_tuf_parts.specs.declared.error.Error.{Error}
-use Rattle.sigstore_tuf_parts.specs.declared.error.Error.TheVariants as tuf
-use Rattle.sigstore_tuf_parts.specs.declared.error.Rule.TheVariants.{Threshold}
+use Rattle.sigstore_tuf_text.specs.declared.error.Error.{Error}
+use Rattle.sigstore_tuf_text.specs.declared.error.Error.TheVariants as tuf
+use Rattle.sigstore_tuf_text.specs.declared.error.Rule.TheVariants.{Threshold}
 use Rattle.sigstore_tuf_parts.specs.declared.keys.Key.{Key}
 use Rattle.sigstore_tuf_parts.specs.declared.keys.RoleKeys.{RoleKeys}
 use Rattle.sigstore_tuf_parts.specs.declared.verification.KeyFault.{KeyFault}

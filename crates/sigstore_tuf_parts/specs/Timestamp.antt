@@ -2,12 +2,12 @@
 use Rattle.std.specs.Prelude.{[], ◌∷◌, Result, Ok}
 use Rattle.serde_json.specs.Data.{Data}
 use Rattle.foundation.specs.Steps.{◌>>=◌}
-use Rattle.sigstore_tuf_parts.specs.declared.error.Error.{Error}
-use Rattle.sigstore_tuf_parts.specs.declared.member.DocumentMember.TheVariants as m
-use Rattle.sigstore_tuf_parts.specs.Others.{others_of}
+use Rattle.sigstore_tuf_text.specs.declared.error.Error.{Error}
+use Rattle.sigstore_tuf_text.specs.declared.member.DocumentMember.TheVariants as m
+use Rattle.sigstore_tuf_text.specs.Others.{others_of}
 use Rattle.sigstore_tuf_parts.specs.declared.timestamp.MetaFile.{MetaFile}
 use Rattle.sigstore_tuf_parts.specs.declared.timestamp.Timestamp.{Timestamp}
-use Rattle.sigstore_tuf_parts.specs.Words.{required, optional, u64, text, map}
+use Rattle.sigstore_tuf_text.specs.Words.{required, optional, u64, text, map}
 use Rattle.sigstore_tuf_parts.specs.Head.{head_of}
 
 -- a pin

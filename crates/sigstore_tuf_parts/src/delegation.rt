@@ -1,14 +1,13 @@
 // Which paths a delegation is for, and whose keys sign for it.
 ghost use Rattle.std.specs.Prelude.{◌≡◌, ◌≢◌, Ok, Err, IfOk, IfErr};
-ghost use Rattle.sigstore_tuf_parts.specs.Pattern.{any_matches, has_prefix, matches_path_of};
+ghost use Rattle.sigstore_tuf_parts.specs.Delegation.{any_matches, has_prefix, matches_path_of};
 ghost use Rattle.sigstore_tuf_parts.specs.Targets.{role_keys_in};
 
-use crate::error::Error;
 use crate::keys::RoleKeys;
-use crate::pattern::matches;
 use crate::targets::DelegatedRole;
 use foundation::{Duplicate, NoMemory};
-use sigstore_crypto::sha256;
+use sigstore_crypto_parts::sha256;
+use sigstore_tuf_text::{Error, matches};
 use sigstore_types_parts::{Text, TextMap};
 use std::alloc::Global;
 
@@ -17,7 +16,7 @@ impl DelegatedRole {
     /// lower-case hexadecimal begins with one of them; else one of its patterns matches, the first that
     /// does; without either it is for no path. Errors: `Malformed(Pattern)` for a pattern outside its
     /// grammar that comes before one that matches.
-    #[tactic(auto, unfolding(crate::specs::Pattern::matches_path_of))]
+    #[tactic(auto, unfolding(crate::specs::Delegation::matches_path_of))]
     pub fn matches_path(&self, alloc: Global, path: &str) -> Result<bool, Error>
         ensures ok { IfOk result (λ b. matches_path_of self.now path.now ≡ Ok b) }
         ensures err { IfErr result

@@ -2,17 +2,15 @@
 ghost use Rattle.std.specs.Prelude.{◌≡◌, ◌≢◌, Ok, Err, IfOk, IfErr, false};
 ghost use Rattle.serde_json.specs.View.{view};
 ghost use Rattle.serde_json.specs.Written.{has_float};
-ghost use Rattle.sigstore_tuf_parts.specs.Canon.{canon};
+ghost use Rattle.sigstore_tuf_text.specs.Canon.{canon};
 ghost use Rattle.sigstore_tuf_parts.specs.Document.{document_of, signature_of, value_of, frame_of, content_of, document_in, text_in, HasExactText, IsExactly};
-ghost use Rattle.sigstore_tuf_parts.specs.Exact.{IsExact};
+ghost use Rattle.sigstore_tuf_text.specs.Exact.{IsExact};
 
-use crate::canonical::to_canonical_bytes;
-use crate::error::{Error, Rule};
 use crate::header::check_header;
-use crate::member::DocumentMember;
 use crate::role::Role;
 use foundation::{Duplicate, NoMemory, Sequence};
 use serde_json::Value;
+use sigstore_tuf_text::{DocumentMember, Error, Rule, to_canonical_bytes};
 use sigstore_types_parts::{Bytes, FromValue, Text, parse_json, required};
 use std::alloc::Global;
 use std::marker::Model;
@@ -176,7 +174,7 @@ fn parsed(alloc: Global, bytes: &[u8]) -> Result<Value, Error>
 }
 
 // A member of the frame.
-#[tactic(auto, unfolding(crate::specs::Document::frame_of), using(crate::proofs::Floats::has_float_member))]
+#[tactic(auto, unfolding(crate::specs::Document::frame_of), using(sigstore_tuf_text::proofs::Floats::has_float_member))]
 fn framed<'v>(value: &'v Value, name: &str) -> Result<&'v Value, Error>
     ensures ok { IfOk result (λ v. frame_of name.now (view value.now) ≡ Ok (view v.now)) }
     ensures err { IfErr result (λ e. frame_of name.now (view value.now) ≡ Err e) }

@@ -3,10 +3,9 @@ ghost use Rattle.std.specs.Prelude.{◌≡◌, ◌≢◌, Ok, Err, IfOk, IfErr};
 ghost use Rattle.serde_json.specs.View.{view};
 ghost use Rattle.sigstore_tuf_parts.specs.Head.{head_of};
 
-use crate::error::Error;
-use crate::member::DocumentMember;
 use foundation::{Duplicate, NoMemory};
 use serde_json::Value;
+use sigstore_tuf_text::{DocumentMember, Error};
 use sigstore_types_parts::{FromValue, Text, required};
 use std::alloc::Global;
 

@@ -3,9 +3,9 @@ ghost use Rattle.std.specs.Prelude.{◌≡◌, option_map, not, ◌==◌, bytes_
 ghost use Rattle.serde_json.specs.View.{view};
 ghost use Rattle.sigstore_tuf_parts.specs.Header.{header_of, kind_of, spec_version_of, is_version_one_text};
 
-use crate::error::{Error, Rule};
 use crate::role::Role;
 use serde_json::Value;
+use sigstore_tuf_text::{Error, Rule};
 
 /// The document is of that kind, and of version 1 of the specification; members that are missing or
 /// no texts are left to the reader of members. Errors: `Malformed`.

@@ -5,10 +5,10 @@ ghost use Rattle.sha2.specs.Sha256.{sha256};
 ghost use Rattle.sha2.specs.Sha512.{sha512};
 ghost use Rattle.sigstore_tuf_parts.specs.Integrity.{integrity_of, length_of, digests_of, digest_of, spells, version_of, is_past, fresh_of};
 
-use crate::error::{Error, Mismatch};
 use crate::timestamp::MetaFile;
 use jiff::Timestamp;
 use sha2::{Digest, Sha256, Sha512};
+use sigstore_tuf_text::{Error, Mismatch};
 use sigstore_types_parts::{Text, TextMap};
 use std::alloc::Global;
 

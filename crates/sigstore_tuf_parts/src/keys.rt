@@ -1,11 +1,9 @@
 // Keys, and what a role asks of them.
 ghost use Rattle.sigstore_tuf_parts.specs.Keys.{role_keys_of, key_in_of, key_val_of};
 
-use crate::error::Error;
-use crate::extra::others;
-use crate::member::DocumentMember;
 use foundation::{Duplicate, NoMemory, Sequence};
 use serde_json::Value;
+use sigstore_tuf_text::{DocumentMember, Error, others};
 use sigstore_types_parts::{FromValue, Json, Text, TextMap, required};
 use std::alloc::Global;
 

@@ -3,8 +3,8 @@ ghost use Rattle.std.specs.Prelude.{◌≡◌, ◌≢◌, ℕ, List, Ok, Err, If
 ghost use Rattle.jiff_core.specs.declared.timestamp.Timestamp.{Timestamp as Instant};
 ghost use Rattle.sigstore_tuf_parts.specs.Integrity.{is_past, fresh_of};
 
-use crate::error::Error;
 use crate::integrity::{check_fresh, is_past};
+use sigstore_tuf_text::Error;
 use sigstore_types_parts::FromValue;
 use std::alloc::Global;
 

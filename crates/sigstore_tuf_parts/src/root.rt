@@ -4,14 +4,12 @@ ghost use Rattle.std.specs.Option.{option_copied};
 ghost use Rattle.sigstore_types_parts.specs.Entries.{at_name};
 ghost use Rattle.sigstore_tuf_parts.specs.Root.{root_of};
 
-use crate::error::Error;
-use crate::extra::others;
 use crate::head::Head;
 use crate::keys::{Key, RoleKeys};
-use crate::member::DocumentMember;
 use crate::role::Role;
 use foundation::{Duplicate, NoMemory};
 use serde_json::Value;
+use sigstore_tuf_text::{DocumentMember, Error, others};
 use sigstore_types_parts::{FromValue, Json, Text, TextMap, defaulted, required};
 use std::alloc::Global;
 

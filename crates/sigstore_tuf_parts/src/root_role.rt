@@ -1,12 +1,12 @@
 // Whether a document meets a role of a root.
 ghost use Rattle.std.specs.Prelude.{◌≡◌, ◌≢◌, Ok, Err, IfErr, OnOk};
-ghost use Rattle.sigstore_crypto.specs.Crypto.{crypto_by};
+ghost use Rattle.sigstore_crypto_parts.specs.Crypto.{crypto_by};
 ghost use Rattle.sigstore_tuf_parts.specs.RootRoles.{meets_role_of};
 
 use crate::document::Metadata;
-use crate::error::Error;
 use crate::root::Root;
-use sigstore_crypto::CryptoProvider;
+use sigstore_crypto_parts::CryptoProvider;
+use sigstore_tuf_text::Error;
 use sigstore_types_parts::{Armor, Text};
 use std::alloc::Global;
 

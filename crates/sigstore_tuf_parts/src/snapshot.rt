@@ -2,18 +2,15 @@
 ghost use Rattle.std.specs.Prelude.{◌≡◌};
 ghost use Rattle.std.specs.Option.{option_copied};
 ghost use Rattle.sigstore_types_parts.specs.Entries.{at_name};
-ghost use Rattle.sigstore_tuf_parts.specs.Names.{targets_name};
+ghost use Rattle.sigstore_tuf_text.specs.Names.{targets_name};
 ghost use Rattle.sigstore_tuf_parts.specs.Snapshot.{snapshot_of};
 
-use crate::error::Error;
-use crate::extra::others;
 use crate::head::Head;
-use crate::member::DocumentMember;
-use crate::names::TARGETS_NAME;
 use crate::role::Role;
 use crate::timestamp::MetaFile;
 use foundation::{Duplicate, NoMemory};
 use serde_json::Value;
+use sigstore_tuf_text::{DocumentMember, Error, TARGETS_NAME, others};
 use sigstore_types_parts::{FromValue, Json, Text, TextMap, required};
 use std::alloc::Global;
 

@@ -4,14 +4,12 @@ ghost use Rattle.std.specs.Option.{option_copied};
 ghost use Rattle.sigstore_types_parts.specs.Entries.{at_name};
 ghost use Rattle.sigstore_tuf_parts.specs.Targets.{target_file_of, grant_of, delegated_role_of, delegations_of, targets_of};
 
-use crate::error::Error;
-use crate::extra::others;
 use crate::head::Head;
 use crate::keys::Key;
-use crate::member::DocumentMember;
 use crate::role::Role;
 use foundation::{Duplicate, NoMemory, Sequence};
 use serde_json::Value;
+use sigstore_tuf_text::{DocumentMember, Error, others};
 use sigstore_types_parts::{FromValue, Json, Text, TextMap, defaulted, optional, required};
 use std::alloc::Global;
 

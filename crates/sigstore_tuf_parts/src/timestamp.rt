@@ -2,17 +2,14 @@
 ghost use Rattle.std.specs.Prelude.{◌≡◌};
 ghost use Rattle.std.specs.Option.{option_copied};
 ghost use Rattle.sigstore_types_parts.specs.Entries.{at_name};
-ghost use Rattle.sigstore_tuf_parts.specs.Names.{snapshot_name};
+ghost use Rattle.sigstore_tuf_text.specs.Names.{snapshot_name};
 ghost use Rattle.sigstore_tuf_parts.specs.Timestamp.{timestamp_of, meta_file_of};
 
-use crate::error::Error;
-use crate::extra::others;
 use crate::head::Head;
-use crate::member::DocumentMember;
-use crate::names::SNAPSHOT_NAME;
 use crate::role::Role;
 use foundation::{Duplicate, NoMemory};
 use serde_json::Value;
+use sigstore_tuf_text::{DocumentMember, Error, SNAPSHOT_NAME, others};
 use sigstore_types_parts::{FromValue, Json, Text, TextMap, optional, required};
 use std::alloc::Global;
 

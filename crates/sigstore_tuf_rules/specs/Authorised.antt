@@ -2,7 +2,7 @@
 -- search (TUF specification, section 5).
 use Rattle.std.specs.Prelude.{◌≡◌, ℕ, ◌+◌, List, [], ◌∷◌, length, Option, Some, Result, Ok, IfSome, codes, ⊤}
 use Rattle.jiff_core.specs.declared.timestamp.Timestamp as jiff
-use Rattle.sigstore_tuf_parts.specs.declared.error.Error.{Error}
+use Rattle.sigstore_tuf_text.specs.declared.error.Error.{Error}
 use Rattle.sigstore_tuf_parts.specs.declared.root.Root.{Root}
 use Rattle.sigstore_tuf_parts.specs.declared.timestamp.MetaFile.{MetaFile}
 use Rattle.sigstore_tuf_parts.specs.declared.timestamp.Timestamp.{Timestamp}
@@ -11,10 +11,10 @@ use Rattle.sigstore_tuf_parts.specs.declared.targets.Targets.{Targets}
 use Rattle.sigstore_tuf_parts.specs.Document.{Document, content_in}
 use Rattle.sigstore_types_parts.specs.Entries.{at_name}
 use Rattle.sigstore_types_parts.specs.declared.armor.Armor as armor
-use Rattle.sigstore_crypto.specs.declared.provider.CryptoProvider as provider
-use Rattle.sigstore_crypto.specs.Crypto.{Crypto, crypto_by}
+use Rattle.sigstore_crypto_parts.specs.declared.provider.CryptoProvider as provider
+use Rattle.sigstore_crypto_parts.specs.Crypto.{Crypto, crypto_by}
 use Rattle.sigstore_tuf_parts.specs.RootRoles.{MeetsRole}
-use Rattle.sigstore_tuf_parts.specs.Names.{pin_name}
+use Rattle.sigstore_tuf_text.specs.Names.{pin_name}
 use Rattle.sigstore_tuf_parts.specs.Pinned.{Pinned, Fresh}
 use Rattle.sigstore_tuf_rules.specs.declared.documents.Held.{Held}
 use Rattle.sigstore_tuf_rules.specs.declared.documents.InForce.{InForce}

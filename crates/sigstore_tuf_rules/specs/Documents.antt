@@ -1,7 +1,7 @@
 -- The kinds of document below the root (TUF specification, sections 4.4 to 4.6).
 use Rattle.std.specs.Prelude.{ℕ, List, Result, codes, Option}
 use Rattle.sigstore_types_parts.specs.Entries.{at_name}
-use Rattle.sigstore_tuf_parts.specs.declared.error.Error.{Error}
+use Rattle.sigstore_tuf_text.specs.declared.error.Error.{Error}
 use Rattle.sigstore_tuf_parts.specs.declared.timestamp.MetaFile.{MetaFile}
 use Rattle.sigstore_tuf_parts.specs.declared.timestamp.Timestamp.{Timestamp}
 use Rattle.sigstore_tuf_parts.specs.declared.snapshot.Snapshot.{Snapshot}
@@ -10,7 +10,7 @@ use Rattle.sigstore_tuf_parts.specs.Document.{Document, content_in, document_of}
 use Rattle.sigstore_tuf_parts.specs.Timestamp.{timestamp_of}
 use Rattle.sigstore_tuf_parts.specs.Snapshot.{snapshot_of}
 use Rattle.sigstore_tuf_parts.specs.Targets.{targets_of}
-use Rattle.sigstore_tuf_parts.specs.Names.{snapshot_name, targets_name}
+use Rattle.sigstore_tuf_text.specs.Names.{snapshot_name, targets_name}
 use Rattle.sigstore_tuf_rules.specs.declared.documents.Held.{Held}
 
 abbrev pub timestamp_document : List ℕ → Result (Document Timestamp) Error

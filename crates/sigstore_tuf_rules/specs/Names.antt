@@ -8,7 +8,7 @@ use Rattle.sigstore_types_parts.specs.Entries.{at_name}
 use Rattle.sigstore_tuf_parts.specs.declared.targets.TargetFile.{TargetFile}
 use Rattle.sigstore_tuf_parts.specs.declared.timestamp.MetaFile.{MetaFile}
 use Rattle.sigstore_tuf_parts.specs.Document.{content_in}
-use Rattle.sigstore_tuf_parts.specs.Names.{root_name, timestamp_name, snapshot_name, targets_name, pin_name, versioned_name}
+use Rattle.sigstore_tuf_text.specs.Names.{root_name, timestamp_name, snapshot_name, targets_name, pin_name, versioned_name}
 use Rattle.sigstore_tuf_rules.specs.declared.config.UpdaterConfig.{UpdaterConfig}
 use Rattle.sigstore_tuf_parts.specs.declared.snapshot.Snapshot as declared
 use Rattle.sigstore_tuf_rules.specs.declared.documents.Held.{Held}

@@ -12,8 +12,8 @@ use Rattle.foundation.specs.Steps.{◌>>=◌}
 pub use Rattle.sigstore_tuf_rules.specs.declared.visit.Visit.{Visit}
 pub use Rattle.sigstore_tuf_rules.specs.declared.visit.Walk.{Walk}
 pub use Rattle.sigstore_tuf_rules.specs.declared.visit.Next.{Next}
-use Rattle.sigstore_tuf_parts.specs.Names.{pin_name}
-use Rattle.sigstore_tuf_parts.specs.Pattern.{matches_path_of}
+use Rattle.sigstore_tuf_text.specs.Names.{pin_name}
+use Rattle.sigstore_tuf_parts.specs.Delegation.{matches_path_of}
 
 -- what the search goes over: the document of each name, the pins, and the path that is sought
 pub record Tree : Type 0 where

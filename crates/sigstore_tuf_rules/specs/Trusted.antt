@@ -5,7 +5,7 @@ use Rattle.std.specs.List.{AllByRecursion, AllZip, last_or, filter_map}
 use Rattle.std.specs.Result.{result_ok}
 use Rattle.jiff_core.specs.declared.timestamp.Timestamp as jiff
 use Rattle.sigstore_types_parts.specs.Entries.{at_name}
-use Rattle.sigstore_crypto.specs.Crypto.{Crypto}
+use Rattle.sigstore_crypto_parts.specs.Crypto.{Crypto}
 use Rattle.sigstore_tuf_parts.specs.declared.keys.RoleKeys.{RoleKeys}
 use Rattle.sigstore_tuf_parts.specs.declared.root.Root.{Root}
 use Rattle.sigstore_tuf_parts.specs.declared.timestamp.MetaFile.{MetaFile}
@@ -18,7 +18,7 @@ use Rattle.sigstore_tuf_parts.specs.Threshold.{Keys}
 use Rattle.sigstore_tuf_parts.specs.Meets.{Meets}
 use Rattle.sigstore_tuf_parts.specs.RootRoles.{root_document, MeetsRole, Roots}
 use Rattle.sigstore_tuf_parts.specs.Pinned.{Pinned, PinnedFile, Fresh}
-use Rattle.sigstore_tuf_parts.specs.Names.{pin_name}
+use Rattle.sigstore_tuf_text.specs.Names.{pin_name}
 use Rattle.sigstore_tuf_parts.specs.Targets.{role_keys_in}
 use Rattle.sigstore_tuf_rules.specs.declared.chain.RoleDoc.{RoleDoc}
 use Rattle.sigstore_tuf_rules.specs.declared.chain.TrustChain.{TrustChain}

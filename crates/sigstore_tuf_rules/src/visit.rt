@@ -1,6 +1,6 @@
 // The visits of a search, and the delegations that follow a document.
 ghost use Rattle.std.specs.Prelude.{◌≡◌, ◌≢◌, [], None, Ok, Err, IfOk, IfErr, OnOk, reverse, option_map};
-ghost use Rattle.sigstore_tuf_parts.specs.Pattern.{matches_path_of};
+ghost use Rattle.sigstore_tuf_parts.specs.Delegation.{matches_path_of};
 ghost use Rattle.sigstore_tuf_parts.specs.Threshold.{is_among};
 ghost use Rattle.sigstore_tuf_rules.specs.Order.{pattern, pattern_or, matching, put_before, unread_of};
 

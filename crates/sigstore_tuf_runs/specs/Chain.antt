@@ -1,8 +1,8 @@
 -- A target with its file, and the chain of documents by which it is trusted (TUF specification, sections 5.6.7 and 5.7).
 use Rattle.std.specs.Prelude.{◌≡◌, ◌≢◌, ℕ, List, map, Option, Some, None, option_map, Result, Ok, Err}
 use Rattle.sigstore_types_parts.specs.Entries.{at_name}
-use Rattle.sigstore_tuf_parts.specs.declared.error.Error.{Error}
-use Rattle.sigstore_tuf_parts.specs.declared.error.Error.TheVariants.{NotRefreshed, TargetNotFound, NoMemory}
+use Rattle.sigstore_tuf_text.specs.declared.error.Error.{Error}
+use Rattle.sigstore_tuf_text.specs.declared.error.Error.TheVariants.{NotRefreshed, TargetNotFound, NoMemory}
 use Rattle.sigstore_tuf_parts.specs.declared.timestamp.Timestamp.{Timestamp}
 use Rattle.sigstore_tuf_parts.specs.declared.snapshot.Snapshot.{Snapshot}
 use Rattle.sigstore_tuf_parts.specs.declared.targets.TargetFile.{TargetFile}

@@ -3,11 +3,11 @@
 use Rattle.std.specs.Prelude.{◌≡◌, ◌≢◌, ℕ, List, drop, Some, None, Result, Ok, Err, IfSome, OnOk, false, codes, ⊤}
 use Rattle.std.specs.List.{AllByRecursion, last_or}
 use Rattle.foundation.specs.Watched.{IfTold}
-use Rattle.sigstore_tuf_parts.specs.declared.error.Error.{Error}
-use Rattle.sigstore_tuf_parts.specs.declared.error.Error.TheVariants.{NoMemory}
+use Rattle.sigstore_tuf_text.specs.declared.error.Error.{Error}
+use Rattle.sigstore_tuf_text.specs.declared.error.Error.TheVariants.{NoMemory}
 use Rattle.sigstore_tuf_parts.specs.declared.root.Root.{Root}
 use Rattle.sigstore_tuf_parts.specs.Document.{Document, content_in}
-use Rattle.sigstore_tuf_parts.specs.Names.{timestamp_name, snapshot_name, targets_name}
+use Rattle.sigstore_tuf_text.specs.Names.{timestamp_name, snapshot_name, targets_name}
 use Rattle.sigstore_tuf_parts.specs.RootRoles.{root_document}
 use Rattle.sigstore_tuf_rules.specs.declared.chain.RoleDoc.{RoleDoc}
 use Rattle.sigstore_tuf_rules.specs.declared.chain.TrustChain.{TrustChain}

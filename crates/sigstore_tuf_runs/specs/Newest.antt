@@ -2,7 +2,7 @@
 use Rattle.std.specs.Prelude.{◌≡◌, ◌⊎◌, ℕ, ◌+◌, ◌-◌, ◌^◌, List, Some, None, Ok}
 use Rattle.sigstore_tuf_parts.specs.declared.timestamp.Timestamp.{Timestamp}
 use Rattle.sigstore_tuf_parts.specs.Document.{Document, content_in}
-use Rattle.sigstore_tuf_parts.specs.Names.{root_name, timestamp_name}
+use Rattle.sigstore_tuf_text.specs.Names.{root_name, timestamp_name}
 use Rattle.sigstore_tuf_rules.specs.declared.documents.Held.{Held}
 use Rattle.sigstore_tuf_rules.specs.declared.documents.InForce.{InForce}
 use Rattle.sigstore_tuf_rules.specs.Documents.{timestamp_document, content_of}

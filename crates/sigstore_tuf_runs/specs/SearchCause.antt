@@ -4,12 +4,12 @@ use Rattle.std.specs.Prelude.{◌≡◌, ◌≢◌, ℕ, ◌<◌, List, [], ◌�
 use Rattle.jiff_core.specs.declared.timestamp.Timestamp as jiff
 use Rattle.foundation.specs.Watched.{Watched}
 use Rattle.sigstore_types_parts.specs.Entries.{at_name}
-use Rattle.sigstore_crypto.specs.Crypto.{Crypto}
-use Rattle.sigstore_tuf_parts.specs.declared.error.Error.{Error}
-use Rattle.sigstore_tuf_parts.specs.declared.error.Error.TheVariants as tuf
-use Rattle.sigstore_tuf_parts.specs.declared.error.Mismatch.TheVariants as mismatch
-use Rattle.sigstore_tuf_parts.specs.declared.error.Rule.TheVariants as rule
-use Rattle.sigstore_tuf_parts.specs.declared.error.TransportFault.{TransportFault}
+use Rattle.sigstore_crypto_parts.specs.Crypto.{Crypto}
+use Rattle.sigstore_tuf_text.specs.declared.error.Error.{Error}
+use Rattle.sigstore_tuf_text.specs.declared.error.Error.TheVariants as tuf
+use Rattle.sigstore_tuf_text.specs.declared.error.Mismatch.TheVariants as mismatch
+use Rattle.sigstore_tuf_text.specs.declared.error.Rule.TheVariants as rule
+use Rattle.sigstore_tuf_text.specs.declared.error.TransportFault.{TransportFault}
 use Rattle.sigstore_tuf_parts.specs.declared.snapshot.Snapshot as declared_snapshot
 use Rattle.sigstore_tuf_parts.specs.declared.targets.TargetFile.{TargetFile}
 use Rattle.sigstore_tuf_parts.specs.declared.targets.Targets as declared_targets

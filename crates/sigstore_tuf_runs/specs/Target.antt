@@ -3,10 +3,10 @@ use Rattle.std.specs.Prelude.{◌≡◌, ◌≢◌, ℕ, nat_lt, List, if◌then
 use Rattle.std.specs.Prelude.{None, Result, Ok, Err, ⊤}
 use Rattle.foundation.specs.Steps.{◌>>=◌}
 use Rattle.foundation.specs.Watched.{Watched}
-use Rattle.sigstore_tuf_parts.specs.declared.error.Error.{Error}
-use Rattle.sigstore_tuf_parts.specs.declared.error.Error.TheVariants.{IntegrityMismatch, Transport, NoMemory}
-use Rattle.sigstore_tuf_parts.specs.declared.error.Mismatch.TheVariants.{TooLong, NoDigest}
-use Rattle.sigstore_tuf_parts.specs.declared.error.TransportFault.TheVariants.{Absent}
+use Rattle.sigstore_tuf_text.specs.declared.error.Error.{Error}
+use Rattle.sigstore_tuf_text.specs.declared.error.Error.TheVariants.{IntegrityMismatch, Transport, NoMemory}
+use Rattle.sigstore_tuf_text.specs.declared.error.Mismatch.TheVariants.{TooLong, NoDigest}
+use Rattle.sigstore_tuf_text.specs.declared.error.TransportFault.TheVariants.{Absent}
 use Rattle.sigstore_tuf_parts.specs.declared.targets.TargetFile.{TargetFile}
 use Rattle.sigstore_tuf_parts.specs.Integrity.{integrity_of}
 use Rattle.sigstore_tuf_outside.specs.Repository.{Folders, Files, target_files}

@@ -2,8 +2,8 @@
 use Rattle.std.proofs.Common.{◌≡◌, ◌≢◌, ◌⊎◌, inl, inr, Ok, Err, refl, sym, subst}
 use Rattle.foundation.specs.Watched.{Watched}
 use Rattle.foundation.specs.Results.{err_same}
-use Rattle.sigstore_tuf_parts.specs.declared.error.Error.{Error as TufError}
-use Rattle.sigstore_tuf_parts.specs.declared.error.Error.TheVariants as tuf
+use Rattle.sigstore_tuf_text.specs.declared.error.Error.{Error as TufError}
+use Rattle.sigstore_tuf_text.specs.declared.error.Error.TheVariants as tuf
 use Rattle.sigstore_tuf_rules.specs.declared.chain.TrustChain.{TrustChain}
 use Rattle.sigstore_tuf_rules.specs.declared.documents.InForce.{InForce}
 use Rattle.sigstore_tuf_outside.specs.Repository.{Files}

@@ -2,8 +2,8 @@
 -- artifact (TUF specification, section 5; Sigstore bundle format; FIPS 180-4, FIPS 186-5).
 use Rattle.std.specs.Prelude.{◌≡◌, ℕ, List, Some, Ok, codes, ⊤}
 use Rattle.sigstore_types_parts.specs.Entries.{at_name}
-use Rattle.sigstore_tuf_parts.specs.declared.error.Error.TheVariants as tuf
-use Rattle.sigstore_tuf_parts.specs.declared.error.Error.{Error as TufError}
+use Rattle.sigstore_tuf_text.specs.declared.error.Error.TheVariants as tuf
+use Rattle.sigstore_tuf_text.specs.declared.error.Error.{Error as TufError}
 use Rattle.sigstore_tuf_parts.specs.declared.targets.Targets.{Targets}
 use Rattle.sigstore_tuf_runs.specs.Cause.{FirstCause, RefreshCause}
 use Rattle.sigstore_tuf_runs.specs.SearchCause.{TargetCause}

@@ -5,9 +5,9 @@ use Rattle.sigstore_types.specs.declared.bundle.Bundle.{Bundle}
 use Rattle.sigstore_types.specs.declared.trusted_root.TrustedRoot.{TrustedRoot}
 use Rattle.sigstore_types.specs.Bundle.{bundle_of_bytes}
 use Rattle.sigstore_types.specs.TrustedRoot.{trusted_root_of_bytes}
-use Rattle.sigstore_crypto.specs.Digest.{digests_by}
-use Rattle.sigstore_tuf_parts.specs.declared.error.Error.{Error as TufError}
-use Rattle.sigstore_tuf_parts.specs.declared.error.Error.TheVariants as tuf
+use Rattle.sigstore_crypto_parts.specs.Digest.{digests_by}
+use Rattle.sigstore_tuf_text.specs.declared.error.Error.{Error as TufError}
+use Rattle.sigstore_tuf_text.specs.declared.error.Error.TheVariants as tuf
 use Rattle.sigstore_tuf_outside.specs.Repository.{Files, Folders}
 use Rattle.sigstore_tuf_rules.specs.declared.documents.InForce.{InForce}
 use Rattle.sigstore_tuf_rules.specs.declared.chain.TrustChain.{TrustChain}

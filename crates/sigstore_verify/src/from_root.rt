@@ -1,6 +1,6 @@
 // The top call: from a pinned root down to one artifact.
 ghost use Rattle.std.specs.Prelude.{◌≡◌, ◌≢◌, ℕ, List, Ok, Err, IfOk, IfErr};
-ghost use Rattle.sigstore_crypto.specs.Crypto.{crypto_by};
+ghost use Rattle.sigstore_crypto_parts.specs.Crypto.{crypto_by};
 ghost use Rattle.sigstore_tuf_rules.specs.Update.{first_root_of};
 ghost use Rattle.sigstore_tuf_rules.specs.Authorised.{crypto_in};
 ghost use Rattle.sigstore_verify.specs.FromRoot.{GivesChain, root_of_tuf, root_of_verify};
@@ -9,7 +9,7 @@ ghost use Rattle.sigstore_verify.specs.Promises.{Promises};
 
 use foundation::{Duplicate, NoMemory, Sequence};
 use jiff::Timestamp;
-use sigstore_crypto::{ArtifactSource, CryptoProvider};
+use sigstore_crypto_parts::{ArtifactSource, CryptoProvider};
 use sigstore_judgement::{Error, Kept, Policy, VerificationResult, judge_bundle};
 use sigstore_tuf::{
     MetadataStore, Repository, TrustChain, TrustedMetadataSet, UpdaterConfig, attach_parts,

@@ -6,8 +6,8 @@ use Rattle.der_core_parts.specs.declared.error.DerError.TheVariants as der
 use Rattle.der_core_parts.specs.Outcome.{Outcome}
 use Rattle.der_core_parts.specs.Tlv.{tlv_at}
 use Rattle.der_core_parts.specs.Grammar.{read, read_body, read_all, ended}
-use Rattle.x509_core_parts.specs.declared.error.X509Error.TheVariants.{Der}
-use Rattle.x509_core_parts.specs.Reading.{Reading, of_der, with_tag, contents_at, at_end}
+use Rattle.spki_core.specs.declared.error.X509Error.TheVariants.{Der}
+use Rattle.spki_core.specs.Reading.{Reading, of_der, with_tag, contents_at, at_end}
 use Rattle.x509_core_parts.specs.Certificates.{Certificate, parts_of, certificate_of}
 use Rattle.x509_core.specs.Kinds.{certificate_type}
 

@@ -17,11 +17,11 @@ use Rattle.der_core.specs.declared.civil.Civil.{Civil}
 use Rattle.der_core.specs.Oid.{oid_type, is_oid}
 use Rattle.der_core.specs.Strings.{is_int}
 use Rattle.der_core.specs.Times.{utc_of, generalized_of}
-use Rattle.x509_core_parts.specs.declared.error.X509Error.TheVariants.{Der, Time as TimeRefusal}
+use Rattle.spki_core.specs.declared.error.X509Error.TheVariants.{Der, Time as TimeRefusal}
 use Rattle.x509_core_parts.specs.Certificates.{serial_at, time_at, time_of, time_or}
 use Rattle.x509_core_parts.specs.Extensions.{OneExtension, critical_at, extension_of, extension_at}
-use Rattle.x509_core_parts.specs.Reading.{Reading, of_der, with_tag, contents_at, encoded_at, oid_at, int_at, any_at, checked, at_end}
-use Rattle.x509_core_parts.specs.Spki.{Algorithm, algorithm_of, algorithm_at}
+use Rattle.spki_core.specs.Reading.{Reading, of_der, with_tag, contents_at, encoded_at, oid_at, int_at, any_at, checked, at_end}
+use Rattle.spki_core.specs.Spki.{Algorithm, algorithm_of, algorithm_at}
 use Rattle.x509_core.specs.declared.algorithm.AlgorithmIdentifierOwned.{AlgorithmIdentifierOwned}
 use Rattle.x509_core.specs.declared.extension.Extension.{Extension}
 use Rattle.x509_core.specs.declared.time.Time.{Time}

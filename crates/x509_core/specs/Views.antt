@@ -8,8 +8,8 @@ use Rattle.der_core.specs.Times.{utc_of, generalized_of}
 use Rattle.der_core_parts.specs.Grammar.{read}
 use Rattle.der_core_parts.specs.Tags.{sequence_tag}
 use Rattle.x509_core_parts.specs.Extensions.{OneExtension}
-use Rattle.x509_core_parts.specs.Reading.{Reading, of_der}
-use Rattle.x509_core_parts.specs.Spki.{algorithm_at}
+use Rattle.spki_core.specs.Reading.{Reading, of_der}
+use Rattle.spki_core.specs.Spki.{algorithm_at}
 use Rattle.x509_core.specs.declared.algorithm.AlgorithmIdentifierOwned.{AlgorithmIdentifierOwned}
 use Rattle.x509_core.specs.declared.extension.Extension.{Extension}
 use Rattle.x509_core.specs.declared.time.Time.{Time}

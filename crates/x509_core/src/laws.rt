@@ -5,7 +5,7 @@ ghost use Rattle.der_core_parts.specs.Tags.{sequence_tag};
 ghost use Rattle.der_core.specs.declared.civil.Civil.{Civil as CivilTime};
 ghost use Rattle.x509_core_parts.specs.Certificates.{certificate_of, serial_at, time_at};
 ghost use Rattle.x509_core_parts.specs.Extensions.{extension_at};
-ghost use Rattle.x509_core_parts.specs.Reading.{of_der, encoded_at};
+ghost use Rattle.spki_core.specs.Reading.{of_der, encoded_at};
 ghost use Rattle.x509_core.specs.declared.time.Time.{Time as TimeType};
 ghost use Rattle.x509_core.specs.Kinds.{certificate_type, serial_number_type};
 ghost use Rattle.x509_core.specs.Types.{time_type};

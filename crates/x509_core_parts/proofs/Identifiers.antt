@@ -3,9 +3,9 @@ use Rattle.std.proofs.Common.{◌≡◌, ℕ, zero, suc, ◌<◌, ◌≤◌, Boo
 use Rattle.std.specs.Prelude.{◌≢◌, bytes_eq, is_some, IfOk, IfErr}
 use Rattle.std.specs.List.{list_any}
 use Rattle.std.proofs.lemmas.List.{append-nil}
-use Rattle.x509_core_parts.specs.declared.error.X509Error.{X509Error}
-use Rattle.x509_core_parts.specs.declared.error.X509Error.TheVariants.{Extension, NoMemory}
-use Rattle.x509_core_parts.specs.Reading.{Reading}
+use Rattle.spki_core.specs.declared.error.X509Error.{X509Error}
+use Rattle.spki_core.specs.declared.error.X509Error.TheVariants.{Extension, NoMemory}
+use Rattle.spki_core.specs.Reading.{Reading}
 use Rattle.x509_core_parts.specs.Extensions.{OneExtension, extension_at, found_of, distinct_of}
 use Rattle.x509_core_parts.specs.Distinct.{Listed, listed_or, listed_at, listed_of, repeats}
 use Rattle.x509_core_parts.proofs.Lists.{extension-shrinks, found-none, found-stop, found-here, found-later, distinct-none, distinct-refused, distinct-twice, distinct-later}

@@ -4,6 +4,5 @@ mod Made
 mod Once
 mod Repeated
 mod SctLists
-mod Shorter
 mod Walks
 mod Wholes

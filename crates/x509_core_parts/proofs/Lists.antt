@@ -7,9 +7,9 @@ use Rattle.der_core_parts.specs.Outcome.{Outcome}
 use Rattle.der_core_parts.specs.Tlv.{tlv_at}
 use Rattle.der_core_parts.specs.Grammar.{primitive, read, read_body}
 use Rattle.der_core_parts.specs.ManyLaws.{read-shrinks}
-use Rattle.x509_core_parts.specs.declared.error.X509Error.{X509Error}
-use Rattle.x509_core_parts.specs.declared.error.X509Error.TheVariants.{Der, Extension}
-use Rattle.x509_core_parts.specs.Reading.{Reading, of_der, with_tag, contents_at}
+use Rattle.spki_core.specs.declared.error.X509Error.{X509Error}
+use Rattle.spki_core.specs.declared.error.X509Error.TheVariants.{Der, Extension}
+use Rattle.spki_core.specs.Reading.{Reading, of_der, with_tag, contents_at}
 use Rattle.x509_core_parts.specs.Extensions.{OneExtension, Found, extension_of, extension_at, found_or, found_at, found_of, distinct_at, distinct_of}
 
 -- ---- readings

@@ -5,9 +5,9 @@ use Rattle.std.proofs.lemmas.Bool.{eqb-true}
 use Rattle.der_core_parts.specs.declared.error.DerError.TheVariants as der
 use Rattle.der_core_parts.specs.Tlv.{IsBytes, IsTlv, tlv}
 use Rattle.der_core.specs.Strings.{is_bit_string}
-use Rattle.x509_core_parts.specs.declared.error.X509Error.TheVariants.{Der}
-use Rattle.x509_core_parts.specs.Reading.{Reading, contents_at, encoded_at, oid_at, any_at, int_at, bits_of, bits_at, begins_with, before}
-use Rattle.x509_core_parts.specs.Spki.{Algorithm, Spki, algorithm_of, algorithm_at, spki_of, spki_at, spki_view_of}
+use Rattle.spki_core.specs.declared.error.X509Error.TheVariants.{Der}
+use Rattle.spki_core.specs.Reading.{Reading, contents_at, encoded_at, oid_at, any_at, int_at, bits_of, bits_at, begins_with, before}
+use Rattle.spki_core.specs.Spki.{Algorithm, Spki, algorithm_of, algorithm_at, spki_of, spki_at, spki_view_of}
 use Rattle.x509_core_parts.specs.Extensions.{distinct_of}
 use Rattle.x509_core_parts.specs.Certificates.{Front, Middle, Tail, Signed, Certificate, version_of, version_at, serial_at, front_at, validity_of, middle_at, behind_identifier, list_of, list_at, tail_of, signed_of, same_algorithm, full_octets, signature_at, parts_of, certificate_of}
 use Rattle.x509_core_parts.proofs.Lists.{bind_reads, reading_is}

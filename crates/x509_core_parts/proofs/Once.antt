@@ -7,8 +7,8 @@ use Rattle.std.proofs.lemmas.Slice.Eq.{bytes_eq-Decides}
 use Rattle.der_core_parts.specs.Outcome.{Outcome}
 use Rattle.der_core_parts.specs.Tlv.{IsBytes, length_bytes, tlv}
 use Rattle.der_core_parts.specs.Grammar.{framed}
-use Rattle.x509_core_parts.specs.declared.error.X509Error.TheVariants.{Extension}
-use Rattle.x509_core_parts.specs.Reading.{Reading, of_der, before}
+use Rattle.spki_core.specs.declared.error.X509Error.TheVariants.{Extension}
+use Rattle.spki_core.specs.Reading.{Reading, of_der, before}
 use Rattle.x509_core_parts.specs.Extensions.{OneExtension, Found, extension_at, found_of, distinct_of}
 use Rattle.x509_core_parts.specs.Certificates.{Certificate, certificate_of}
 use Rattle.x509_core_parts.specs.Precertificates.{sct_oid, written_anew, without, rewritten, precert_of}

@@ -3,9 +3,9 @@ use Rattle.std.proofs.Common.{◌≡◌, ◌≢◌, ℕ, zero, suc, ◌+◌, ◌
 use Rattle.std.specs.Prelude.{nat_le}
 use Rattle.std.proofs.lemmas.List.{append-nil, length-drop}
 use Rattle.foundation.specs.Steps.{◌>>=◌}
-use Rattle.x509_core_parts.specs.declared.error.X509Error.{X509Error}
-use Rattle.x509_core_parts.specs.declared.error.X509Error.TheVariants.{SctList, NoMemory}
-use Rattle.x509_core_parts.specs.Reading.{Reading}
+use Rattle.spki_core.specs.declared.error.X509Error.{X509Error}
+use Rattle.spki_core.specs.declared.error.X509Error.TheVariants.{SctList, NoMemory}
+use Rattle.spki_core.specs.Reading.{Reading}
 use Rattle.x509_core_parts.specs.Scts.{Parts, vector_at, sct_of, item_at, scts_at, scts_of}
 use Rattle.x509_core_parts.proofs.Lists.{bind_reads, both_ways, reading_is}
 

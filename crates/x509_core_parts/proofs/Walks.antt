@@ -1,6 +1,6 @@
 -- The extensions that come one after the other: a step, whatever the bound.
 use Rattle.std.proofs.Common.{◌≡◌, ℕ, zero, suc, ◌<◌, ◌≤◌, List, [], ◌∷◌, length, Ok, Err, refl, sym, ap, ◌∙◌, arith}
-use Rattle.x509_core_parts.specs.Reading.{Reading}
+use Rattle.spki_core.specs.Reading.{Reading}
 use Rattle.x509_core_parts.specs.Extensions.{OneExtension, extension_at}
 use Rattle.x509_core_parts.specs.Walk.{first_or, walk_at, walk_of}
 use Rattle.x509_core_parts.proofs.Lists.{extension-shrinks}

@@ -8,9 +8,9 @@ use Rattle.der_core_parts.specs.Outcome.{Outcome}
 use Rattle.der_core_parts.specs.Tlv.{IsBytes, IsTlv, tlv, tlv_at}
 use Rattle.der_core_parts.specs.TlvLaws.{tlv_takes}
 use Rattle.der_core.specs.Strings.{is_int}
-use Rattle.x509_core_parts.specs.declared.error.X509Error.{X509Error}
-use Rattle.x509_core_parts.specs.declared.error.X509Error.TheVariants.{Der}
-use Rattle.x509_core_parts.specs.Reading.{Reading, of_der, with_tag, contents_at, encoded_at, int_at, before, at_end}
+use Rattle.spki_core.specs.declared.error.X509Error.{X509Error}
+use Rattle.spki_core.specs.declared.error.X509Error.TheVariants.{Der}
+use Rattle.spki_core.specs.Reading.{Reading, of_der, with_tag, contents_at, encoded_at, int_at, before, at_end}
 use Rattle.x509_core_parts.proofs.Lists.{bind_reads, reading_is}
 
 pub passes : {A : Type 0} (b : Bool) (e : X509Error) (r : Reading A) (y : A) → cond b r (Err e) ≡ Ok y → (b ≡ true) × (r ≡ Ok y)

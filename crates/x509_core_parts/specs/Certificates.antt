@@ -6,9 +6,9 @@ use Rattle.der_core_parts.specs.Tlv.{tlv, tlv_at}
 use Rattle.der_core_parts.specs.Tags.{constructed_0_tag, constructed_3_tag, generalized_time_tag, sequence_tag, utc_time_tag}
 use Rattle.der_core.specs.declared.civil.Civil.{Civil}
 use Rattle.der_core.specs.Times.{utc_of, generalized_of}
-use Rattle.x509_core_parts.specs.declared.error.X509Error.TheVariants.{Version, Algorithms, Time}
-use Rattle.x509_core_parts.specs.Reading.{Reading, of_der, contents_at, encoded_at, int_at, bits_at, checked, begins_with, before, at_end}
-use Rattle.x509_core_parts.specs.Spki.{algorithm_at, spki_of}
+use Rattle.spki_core.specs.declared.error.X509Error.TheVariants.{Version, Algorithms, Time}
+use Rattle.spki_core.specs.Reading.{Reading, of_der, contents_at, encoded_at, int_at, bits_at, checked, begins_with, before, at_end}
+use Rattle.spki_core.specs.Spki.{algorithm_at, spki_of}
 use Rattle.x509_core_parts.specs.Extensions.{distinct_of}
 
 -- ---- version, serial number, algorithm and issuer

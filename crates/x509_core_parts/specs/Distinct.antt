@@ -2,9 +2,9 @@
 use Rattle.std.specs.Prelude.{ℕ, zero, suc, ◌≢◌, ◌||◌, List, [], ◌∷◌, Bool, false, Option, Some, None, Ok, Err, length, bytes_eq}
 use Rattle.std.specs.List.{list_any}
 use Rattle.der_core_parts.specs.declared.error.DerError.TheVariants.{Truncated}
-use Rattle.x509_core_parts.specs.declared.error.X509Error.{X509Error}
-use Rattle.x509_core_parts.specs.declared.error.X509Error.TheVariants.{Der, NoMemory}
-use Rattle.x509_core_parts.specs.Reading.{Reading}
+use Rattle.spki_core.specs.declared.error.X509Error.{X509Error}
+use Rattle.spki_core.specs.declared.error.X509Error.TheVariants.{Der, NoMemory}
+use Rattle.spki_core.specs.Reading.{Reading}
 use Rattle.x509_core_parts.specs.Extensions.{OneExtension, extension_at}
 
 -- identifiers in reading order, and whether the end comes behind them or what is no extension

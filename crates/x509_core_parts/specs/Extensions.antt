@@ -4,8 +4,8 @@ use Rattle.std.specs.Prelude.{bytes_eq, is_some, if◌then◌else◌}
 use Rattle.foundation.specs.Steps.{◌>>=◌}
 use Rattle.der_core_parts.specs.declared.error.DerError.TheVariants.{Truncated}
 use Rattle.der_core_parts.specs.Tags.{boolean_tag, octet_string_tag, sequence_tag}
-use Rattle.x509_core_parts.specs.declared.error.X509Error.TheVariants.{Der, Extension}
-use Rattle.x509_core_parts.specs.Reading.{Reading, contents_at, oid_at, checked, begins_with, at_end}
+use Rattle.spki_core.specs.declared.error.X509Error.TheVariants.{Der, Extension}
+use Rattle.spki_core.specs.Reading.{Reading, contents_at, oid_at, checked, begins_with, at_end}
 
 -- Extension ::= SEQUENCE { extnID OBJECT IDENTIFIER, critical BOOLEAN DEFAULT FALSE, extnValue OCTET STRING }
 pub record OneExtension : Type 0 where

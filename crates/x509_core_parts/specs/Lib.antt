@@ -2,9 +2,6 @@ pub mod Certificates
 pub mod Distinct
 pub mod Extensions
 pub mod Precertificates
-pub mod Reading
-pub mod Rsa
 pub mod Scts
-pub mod Spki
 pub mod Views
 pub mod Walk

@@ -3,7 +3,7 @@ use Rattle.std.specs.Prelude.{ℕ, ◌++◌, List, [], ◌∷◌, Option, Some, 
 use Rattle.foundation.specs.Steps.{◌>>=◌}
 use Rattle.der_core_parts.specs.Outcome.{Outcome}
 use Rattle.der_core_parts.specs.Grammar.{framed}
-use Rattle.x509_core_parts.specs.Reading.{Reading, of_der, before}
+use Rattle.spki_core.specs.Reading.{Reading, of_der, before}
 use Rattle.x509_core_parts.specs.Extensions.{Found, found_of}
 
 -- the contents of 1.3.6.1.4.1.11129.2.4.2 (RFC 6962, 3.3)

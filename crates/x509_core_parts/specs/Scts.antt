@@ -3,9 +3,9 @@ use Rattle.std.specs.Prelude.{◌≡◌, ℕ, zero, suc, ◌+◌, ◌*◌, ◌/�
 use Rattle.std.specs.Prelude.{drop, ◌==◌, nat_le, nat_lt, if◌then◌else◌}
 use Rattle.std.specs.Int.{w64, from_be_bytes, to_be_bytes}
 use Rattle.foundation.specs.Steps.{◌>>=◌}
-use Rattle.x509_core_parts.specs.declared.error.X509Error.{X509Error}
-use Rattle.x509_core_parts.specs.declared.error.X509Error.TheVariants.{SctList, NoMemory}
-use Rattle.x509_core_parts.specs.Reading.{Reading, contents_at}
+use Rattle.spki_core.specs.declared.error.X509Error.{X509Error}
+use Rattle.spki_core.specs.declared.error.X509Error.TheVariants.{SctList, NoMemory}
+use Rattle.spki_core.specs.Reading.{Reading, contents_at}
 use Rattle.der_core_parts.specs.Tags.{octet_string_tag}
 
 -- the parts of a timestamp

@@ -7,23 +7,9 @@ use Rattle.x509_core_parts.specs.declared.signed.Front.{Front as FrontView}
 use Rattle.x509_core_parts.specs.declared.signed.Middle.{Middle as MiddleView}
 use Rattle.x509_core_parts.specs.declared.signed.Tail.{Tail as TailView}
 use Rattle.x509_core_parts.specs.Certificates.{Front, Middle, Tail, Signed, Certificate}
-use Rattle.x509_core_parts.specs.declared.spki.AlgorithmView.{AlgorithmView}
-use Rattle.x509_core_parts.specs.declared.spki.SpkiView.{SpkiView}
-use Rattle.x509_core_parts.specs.Spki.{Algorithm, Spki}
 use Rattle.x509_core_parts.specs.declared.extension.NamedExtension.{NamedExtension}
 use Rattle.x509_core_parts.specs.declared.extension.Found.{Found as FoundView}
 use Rattle.x509_core_parts.specs.Extensions.{OneExtension, Found}
-
-abbrev pub algorithm_parts : AlgorithmView → Algorithm
-algorithm_parts a = record { encoded = a.encoded.now; oid = a.oid.now; parameters = option_copied a.parameters }
-
-abbrev pub spki_parts : SpkiView → Spki
-spki_parts s =
-    record {
-      algorithm = record { encoded = s.algorithm.now; oid = s.oid.now; parameters = option_copied s.parameters };
-      unused_bits = s.unused_bits;
-      key = s.key.now;
-    }
 
 abbrev pub extension_parts : NamedExtension → OneExtension
 extension_parts x = record { oid = x.oid.now; critical = x.critical; value = x.value.now }

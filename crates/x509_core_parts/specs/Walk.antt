@@ -3,7 +3,7 @@ use Rattle.std.specs.Prelude.{◌≡◌, ℕ, zero, suc, List, [], ◌∷◌, le
 use Rattle.std.specs.Iterator.{YieldsFirstBy}
 use Rattle.x509_core_parts.specs.declared.extension.NamedExtension.{NamedExtension}
 use Rattle.x509_core_parts.specs.declared.walk.Extensions.{Extensions}
-use Rattle.x509_core_parts.specs.Reading.{Reading}
+use Rattle.spki_core.specs.Reading.{Reading}
 use Rattle.x509_core_parts.specs.Extensions.{OneExtension, extension_at}
 use Rattle.x509_core_parts.specs.Views.{extension_parts}
 

@@ -5,13 +5,11 @@ ghost use Rattle.x509_core_parts.specs.Distinct.{IsRefusal};
 ghost use Rattle.x509_core_parts.specs.Views.{signed_parts, certificate_parts, shown, extension_shown};
 ghost use Rattle.x509_core_parts.specs.Extensions.{found_in};
 
-use crate::error::X509Error;
 use crate::extension::{ExtensionView, find};
-use crate::read;
 use crate::signed::{Front, Middle, Tail, read_front, read_middle, read_tail};
-use crate::spki::algorithm;
 use der_core::{Civil, DerError, ObjectIdentifier, tag};
 use foundation::NoMemory;
+use spki_core::{X509Error, algorithm, read};
 use std::alloc::Global;
 
 /// A certificate (RFC 5280, 4.1), its parts as slices of the bytes that were read.

@@ -5,8 +5,8 @@ ghost use Rattle.std.specs.Cmp.Lexicographic.{slice_cmp};
 ghost use Rattle.x509_core_parts.specs.Distinct.{listed_of, repeats, IsRefusal};
 ghost use Rattle.x509_core_parts.specs.Extensions.{distinct_of};
 
-use crate::error::X509Error;
 use crate::extension::{check_list, extension};
+use spki_core::X509Error;
 use std::alloc::Global;
 
 /// The identifiers of extensions up to the end or to the first refusal, which comes with them.

@@ -3,9 +3,8 @@ ghost use Rattle.std.specs.Prelude.{◌≡◌, ◌<◌, IfOk, IfErr, Ok, Err, le
 ghost use Rattle.x509_core_parts.specs.Extensions.{critical_at, extension_of, extension_at, found_of, distinct_of};
 ghost use Rattle.x509_core_parts.specs.Views.{extension_parts, found_parts};
 
-use crate::error::X509Error;
-use crate::read;
 use der_core::{DerError, tag};
+use spki_core::{X509Error, read};
 
 /// An extension, its value a slice of the bytes that were read.
 #[derive(Clone, Copy)]

@@ -4,7 +4,7 @@ ghost use Rattle.der_core_parts.specs.Tlv.{IsBytes, tlv};
 ghost use Rattle.x509_core_parts.specs.Certificates.{Certificate, certificate_of};
 ghost use Rattle.x509_core_parts.specs.Extensions.{Found, found_of};
 ghost use Rattle.x509_core_parts.specs.Precertificates.{precert_of};
-ghost use Rattle.x509_core_parts.specs.Spki.{Spki, spki_view_of};
+ghost use Rattle.spki_core.specs.Spki.{Spki, spki_view_of};
 
 /// A certificate is its signed part, its algorithm and its signature, octet by octet.
 pub fn certificate_is_its_parts()

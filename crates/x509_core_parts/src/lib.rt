@@ -4,28 +4,22 @@
 
 mod certificate;
 mod distinct;
-mod error;
 mod extension;
 mod laws;
 mod precert;
-mod read;
-mod rsa;
 mod sct;
 mod scts;
 mod signed;
-mod spki;
 mod walk;
 
 pub use certificate::{CertView, is_certificate, is_certificate_in};
-pub use error::X509Error;
 pub use extension::{ExtensionView, NamedExtension};
 pub use laws::{
     certificate_is_its_parts, extension_stands_once, key_is_its_parts, precertificate_is_there,
     signed_part_is_its_parts,
 };
 pub use precert::{precert_tbs, sct_signed_bytes};
-pub use rsa::RsaKeyView;
 pub use sct::Sct;
 pub use scts::sct_list;
-pub use spki::SpkiView;
+pub use spki_core::{RsaKeyView, SpkiView, X509Error};
 pub use walk::Extensions;

@@ -1,17 +1,16 @@
 // What a log signs for a certificate (RFC 6962, 3.2).
 ghost use Rattle.std.specs.Prelude.{◌≡◌, ◌≢◌, ◌++◌, ◌<◌, IfOk, IfErr, OnOk, Ok, Err, Some, option_copied};
 ghost use Rattle.der_core_parts.specs.Grammar.{framed};
-ghost use Rattle.x509_core_parts.specs.Reading.{of_der};
+ghost use Rattle.spki_core.specs.Reading.{of_der};
 ghost use Rattle.x509_core_parts.specs.Scts.{signed_front, signed_of, IsSctList, three_octets, two_octets};
 ghost use Rattle.x509_core_parts.specs.Precertificates.{written_anew, precert_of};
 
 use crate::certificate::CertView;
-use crate::error::X509Error;
 use crate::extension::find;
-use crate::read;
 use crate::sct::Sct;
 use der_core::{OctetString, Tag, append_framed, tag};
 use foundation::NoMemory;
+use spki_core::{X509Error, read};
 use std::alloc::Global;
 
 /// The contents of the identifier 1.3.6.1.4.1.11129.2.4.2.

@@ -1,14 +1,13 @@
 // Lists of signed certificate timestamps (RFC 6962, 3.3).
 ghost use Rattle.std.specs.Prelude.{◌≡◌, ◌≢◌, ◌<◌, ◌≤◌, IfOk, IfErr, Ok, Err, length};
 ghost use Rattle.std.specs.Int.{w64, from_be_bytes};
-ghost use Rattle.x509_core_parts.specs.declared.error.X509Error.TheVariants.{SctList as NoList};
-ghost use Rattle.x509_core_parts.specs.Reading.{contents_at};
+ghost use Rattle.spki_core.specs.declared.error.X509Error.TheVariants.{SctList as NoList};
+ghost use Rattle.spki_core.specs.Reading.{contents_at};
 ghost use Rattle.x509_core_parts.specs.Scts.{octets_at, vector_at, ended, behind_version, head_at, sct_of, item_at, scts_of, in_list, list_in, sct_list_of, IsSctList};
 
-use crate::error::X509Error;
-use crate::read;
 use crate::sct::Sct;
 use der_core::{OctetString, tag};
+use spki_core::{X509Error, read};
 use std::alloc::Global;
 
 /// As many octets, and what follows.

@@ -6,10 +6,8 @@ ghost use Rattle.x509_core_parts.specs.Distinct.{IsRefusal};
 ghost use Rattle.x509_core_parts.specs.Views.{front_parts, middle_parts, tail_parts};
 
 use crate::distinct::check_distinct;
-use crate::error::X509Error;
-use crate::read;
-use crate::spki::{algorithm, spki_in};
 use der_core::{Civil, DerError, GeneralizedTimeKind, TimeKind, UtcTimeKind, tag};
+use spki_core::{X509Error, algorithm, read, spki_in};
 use std::alloc::Global;
 
 /// Version, serial number, algorithm and issuer.

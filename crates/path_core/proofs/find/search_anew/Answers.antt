@@ -13,3 +13,9 @@ returns-clause-cost g c =
     let began : btree_map_len c.new-made.result.judged ≡ 0 = ap length c.new-made.ensures.empty in
     let steps = c.new-made.ensures.steps in
     omega arith
+
+pub returns-clause-rises : goal.returns-clause-rises
+returns-clause-rises g c =
+    let rises = c.search-found.ensures.keeps.rises in
+    let steps = c.new-made.ensures.steps in
+    omega arith

@@ -35,5 +35,6 @@ returns-clause-keeps g c =
         ordered = two.ordered;
       };
       counted = counted_once c.args.made.now.steps c.tick.new.self (btree_map_len old) (btree_map_len held) (btree_map_len new) c.in_ok-insert.field-0 c.in_ok-insert-2.field-0
-          (one.old ∙ c.requires.absent) (two.old ∙ one.updates.1) one.len two.len c.tick.ensures;
+          (one.old ∙ c.requires.absent) (two.old ∙ one.updates.1) one.len two.len c.tick.ensures.once;
+      rises = c.tick.ensures.rises;
     }

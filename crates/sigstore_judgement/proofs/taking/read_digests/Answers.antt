@@ -1,6 +1,6 @@
-use Rattle.std.proofs.Common.{◌≡◌, length, sym, subst, ◌∙◌}
+use Rattle.std.proofs.Common.{◌≡◌, length, sym, subst, ◌∙◌, arith}
 use Rattle.std.proofs.lemmas.List.{take_at}
-use Rattle.sigstore_crypto.specs.Hasher.{Fed, Grows}
+use Rattle.sigstore_crypto_parts.specs.Hasher.{Fed, Grows}
 use Rattle.sigstore_judgement.specs.Taken.{Finalized}
 use Rattle.sigstore_judgement.proofs.Taken.{fed_are, fed_length, finalized_are}
 use Rattle.sigstore_judgement.proofs.taking.read_digests.Goals as goal
@@ -16,6 +16,7 @@ returns-in-Ok-finalize_all g c hashed =
     let full : length after ≡ hashers.len = fed_length hashers.items after bytes fed ∙ sym hashers.ok.0 in
     record {
       later = t.later;
+      within = (bytes, t.given, (let short = t.answer.1 in omega arith));
       taken = (
         bytes,
         record { given = t.given; ended = t.answer.2; short = t.answer.1 },

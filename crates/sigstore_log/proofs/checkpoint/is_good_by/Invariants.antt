@@ -1,7 +1,7 @@
 use Rattle.std.proofs.Common.{◌≡◌}
 use Rattle.std.specs.List.{list_any}
-use Rattle.sigstore_crypto.specs.Coming.{coming}
-use Rattle.sigstore_crypto.specs.Good.{is_good}
+use Rattle.sigstore_crypto_parts.specs.Coming.{coming}
+use Rattle.sigstore_crypto_parts.specs.Good.{is_good}
 use Rattle.sigstore_log.proofs.checkpoint.is_good_by.Given as goal
 
 -- no key that was passed makes the signature good

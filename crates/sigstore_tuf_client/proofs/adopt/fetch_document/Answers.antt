@@ -2,7 +2,7 @@ use Rattle.std.proofs.Common.{ap, sym, ◌∙◌}
 use Rattle.sigstore_tuf_rules.specs.Names.{file_name}
 use Rattle.sigstore_tuf_runs.specs.State.{session_by}
 use Rattle.sigstore_tuf_runs.proofs.Steps.{fetched_for, pinned_same}
-use Rattle.sigstore_tuf_parts.specs.Names.{snapshot_name, targets_name}
+use Rattle.sigstore_tuf_text.specs.Names.{snapshot_name, targets_name}
 use Rattle.sigstore_tuf_client.proofs.adopt.fetch_document.Goals as goal
 
 pub returns-in-Ok : goal.returns-in-Ok

@@ -1,5 +1,5 @@
 use Rattle.std.proofs.Common.{ap, sym, ◌∙◌}
-use Rattle.sigstore_tuf_parts.specs.Names.{snapshot_name}
+use Rattle.sigstore_tuf_text.specs.Names.{snapshot_name}
 use Rattle.sigstore_tuf_rules.specs.Names.{kept_names}
 use Rattle.sigstore_tuf_runs.proofs.Steps.{kept_as, both_same}
 use Rattle.sigstore_tuf_client.proofs.adopt.save_document.Goals as goal

@@ -1,8 +1,8 @@
 use Rattle.std.proofs.Common.{◌-◌, ◌^◌, Result}
 use Rattle.std.specs.Prelude.{⊤}
 use Rattle.foundation.specs.Watched.{Watched}
-use Rattle.sigstore_crypto.specs.Crypto.{crypto_by}
-use Rattle.sigstore_tuf_parts.specs.declared.error.Error.{Error}
+use Rattle.sigstore_crypto_parts.specs.Crypto.{crypto_by}
+use Rattle.sigstore_tuf_text.specs.declared.error.Error.{Error}
 use Rattle.sigstore_tuf_outside.specs.Repository.{Folders}
 use Rattle.sigstore_tuf_runs.specs.State.{State, state_of}
 use Rattle.sigstore_tuf_rules.specs.Serving.{version_in}

@@ -1,8 +1,8 @@
 use Rattle.std.proofs.Common.{Err, refl, ap, sym, arith}
 use Rattle.std.specs.Prelude.{⊤, Result}
-use Rattle.sigstore_tuf_parts.specs.declared.error.Error.{Error}
-use Rattle.sigstore_tuf_parts.specs.declared.error.Error.TheVariants.{Transport}
-use Rattle.sigstore_tuf_parts.specs.declared.error.TransportFault.TheVariants.{Rotations}
+use Rattle.sigstore_tuf_text.specs.declared.error.Error.{Error}
+use Rattle.sigstore_tuf_text.specs.declared.error.Error.TheVariants.{Transport}
+use Rattle.sigstore_tuf_text.specs.declared.error.TransportFault.TheVariants.{Rotations}
 use Rattle.sigstore_tuf_runs.specs.State.{Session, session_by}
 use Rattle.sigstore_tuf_runs.specs.Adopt.{Adopts}
 use Rattle.sigstore_tuf_runs.specs.Run.{alone, root_loop}

@@ -1,6 +1,6 @@
 use Rattle.std.proofs.Common.{◌-◌, Result}
 use Rattle.std.specs.Prelude.{⊤}
-use Rattle.sigstore_tuf_parts.specs.declared.error.Error.{Error}
+use Rattle.sigstore_tuf_text.specs.declared.error.Error.{Error}
 use Rattle.sigstore_tuf_runs.specs.State.{State, state_of, session_by}
 use Rattle.sigstore_tuf_runs.specs.Run.{WalksRoots}
 use Rattle.sigstore_tuf_client.proofs.client.walk_roots.Given as goal

@@ -1,6 +1,6 @@
 use Rattle.std.proofs.Common.{Result}
 use Rattle.std.specs.Prelude.{reverse}
-use Rattle.sigstore_tuf_parts.specs.declared.error.Error.{Error}
+use Rattle.sigstore_tuf_text.specs.declared.error.Error.{Error}
 use Rattle.sigstore_tuf_parts.specs.declared.snapshot.Snapshot.{Snapshot}
 use Rattle.sigstore_tuf_runs.specs.State.{State, state_of, session_by}
 use Rattle.sigstore_tuf_rules.specs.declared.visit.Walk.{Walk}

@@ -1,5 +1,5 @@
 use Rattle.std.proofs.Common.{◌≡◌, drop}
-use Rattle.sigstore_tuf_parts.specs.Pattern.{any_matches}
+use Rattle.sigstore_tuf_parts.specs.Delegation.{any_matches}
 use Rattle.sigstore_tuf_parts.proofs.delegation.any_matches.Given as goal
 
 -- those that are left decide

@@ -1,5 +1,5 @@
 use Rattle.std.proofs.Common.{◌≡◌, drop}
-use Rattle.sigstore_tuf_parts.specs.Pattern.{has_prefix}
+use Rattle.sigstore_tuf_parts.specs.Delegation.{has_prefix}
 use Rattle.sigstore_tuf_parts.proofs.delegation.has_prefix.Given as goal
 
 -- those that are left decide

@@ -5,7 +5,7 @@ use Rattle.sigstore_tuf_parts.specs.Snapshot.{snapshot_of}
 use Rattle.sigstore_tuf_parts.specs.Targets.{targets_of}
 use Rattle.sigstore_tuf_parts.specs.Timestamp.{timestamp_of}
 use Rattle.sigstore_tuf_parts.proofs.ReadExact.{tells_contents}
-use Rattle.sigstore_tuf_parts.proofs.Unique.{canon_injective}
+use Rattle.sigstore_tuf_text.proofs.Unique.{canon_injective}
 use Rattle.sigstore_tuf_parts.proofs.laws.canonical_text_tells.Goals as goal
 
 pub returns-clause-values : goal.returns-clause-values

@@ -1,4 +1,4 @@
-use Rattle.sigstore_tuf_parts.proofs.Fits.{fits_exactly}
+use Rattle.sigstore_tuf_text.proofs.Fits.{fits_exactly}
 use Rattle.sigstore_tuf_parts.proofs.IntegrityLaws.{integrity_exactly, fresh_exactly}
 use Rattle.sigstore_tuf_parts.proofs.laws.relations_exactly.Goals as goal
 

@@ -1,0 +1,15 @@
+pub mod Coming
+pub mod Crypto
+pub mod Digest
+pub mod Error
+pub mod Good
+pub mod Hashed
+pub mod Hasher
+pub mod Key
+pub mod KeyAlgorithm
+pub mod KeyPair
+pub mod Keyring
+pub mod Pairs
+pub mod Reader
+pub mod Scheme
+pub mod Source

@@ -1,0 +1,20 @@
+-- Times that are gathered one by one are those of the whole judgement.
+use Rattle.std.proofs.Common.{◌≡◌, List, [], ◌∷◌, Option, Some, None, Result, Ok, Err, refl, sym, ap, append_assoc, append-nil}
+use Rattle.std.specs.List.{cons_option}
+use Rattle.jiff_core.specs.declared.timestamp.Timestamp.{Timestamp}
+use Rattle.foundation.specs.Steps.{◌>>=◌}
+use Rattle.sigstore_judgement.specs.declared.error.Error.{Error}
+use Rattle.sigstore_judgement.specs.Entries.{with_time, behind}
+
+pub behind_one : (before : List Timestamp) (time : Option Timestamp) (judged : Result (List Timestamp) Error)
+    → behind before (judged >>= λ times. Ok (cons_option time times)) ≡ behind (with_time time before) judged
+behind_one before None (Ok times) = refl
+behind_one before (Some time) (Ok times) = ap Ok (sym (append_assoc before (time ∷ []) times))
+behind_one before time (Err e) = refl
+
+pub behind_all : (before : List Timestamp) → behind before (Ok []) ≡ Ok before
+behind_all before = ap Ok (append-nil before)
+
+pub behind_nothing : (judged : Result (List Timestamp) Error) → behind [] judged ≡ judged
+behind_nothing (Ok times) = refl
+behind_nothing (Err e) = refl

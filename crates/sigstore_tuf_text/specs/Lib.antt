@@ -1,0 +1,9 @@
+pub mod Canon
+pub mod Canonical
+pub mod Error
+pub mod Exact
+pub mod Names
+pub mod Others
+pub mod Pattern
+pub mod Piece
+pub mod Words

@@ -1,0 +1,4 @@
+pub mod Reading
+pub mod Rsa
+pub mod Spki
+pub mod Views

@@ -1,9 +1,0 @@
-use Rattle.std.proofs.Common.{◌≡◌, length}
-use Rattle.x509_core_parts.specs.Rsa.{bit_length}
-use Rattle.x509_core_parts.proofs.rsa.RsaKeyView.modulus_bits.Given as goal
-
-abbrev pub invariant-zeros : goal.invariant-zeros
-invariant-zeros l = bit_length l.octets ≡ bit_length l.fn.self.modulus.now
-
-abbrev pub decreases-zeros : goal.decreases-zeros
-decreases-zeros l = length l.octets
