@@ -2,9 +2,11 @@
 use crate::claim_data::{
     BARE, BOTH, CUT, DNS, ISSUER_1, ISSUER_8, NONE, OLDER, SAN, SAN_BEHIND, SAN_SECOND, SORT,
 };
-use crate::words::{check, displayed, good, halves, printed, string, there};
+use crate::tables::{
+    displayed, equals, good, halves, hex_of, hold, octets, place, printed, string,
+};
 use sigstore_crypto::{CertificateInfo, FulcioCiClaims, SubjectAltName, parse_certificate_info};
-use sigstore_types_parts::{Bytes, DerCertificate, Text};
+use sigstore_types_parts::{DerCertificate, Text};
 use std::process::Abort;
 
 const SAID: &str = "\
@@ -59,27 +61,24 @@ san_behind identity => InvalidCertificate(San)
 sort identity => InvalidKey(Algorithm)
 cut identity => InvalidCertificate(Der)";
 
-// The octets of a hexadecimal text.
-pub fn octets<X: AllocGlobal + Abort>(rt: &X, text: &str) -> Bytes {
-    Bytes::from_vec(good(rt, hex::decode(rt.alloc(), text)))
-}
+const NAMES: &str = "\
+both older bare none dns issuer_1 issuer_8 san san_second san_behind sort";
 
 // The certificate of a name in hexadecimal.
-fn hexadecimal<X: Abort>(rt: &X, name: &str) -> &'static str {
-    match name {
-        "both" => BOTH,
-        "older" => OLDER,
-        "bare" => BARE,
-        "none" => NONE,
-        "dns" => DNS,
-        "issuer_1" => ISSUER_1,
-        "issuer_8" => ISSUER_8,
-        "san" => SAN,
-        "san_second" => SAN_SECOND,
-        "san_behind" => SAN_BEHIND,
-        "sort" => SORT,
-        "cut" => CUT,
-        _ => panic!(rt; "no certificate {name}"),
+fn hexadecimal(name: &str) -> &'static str {
+    match place(name, NAMES) {
+        0 => BOTH,
+        1 => OLDER,
+        2 => BARE,
+        3 => NONE,
+        4 => DNS,
+        5 => ISSUER_1,
+        6 => ISSUER_8,
+        7 => SAN,
+        8 => SAN_SECOND,
+        9 => SAN_BEHIND,
+        10 => SORT,
+        _ => CUT,
     }
 }
 
@@ -92,86 +91,92 @@ fn or_none<X: AllocGlobal + Abort>(rt: &X, text: &Option<Text>) -> String {
 
 fn identity<X: AllocGlobal + Abort>(rt: &X, identity: &Option<SubjectAltName>) -> String {
     match identity {
-        Some(name) => {
-            let kind = match name {
-                SubjectAltName::Email(_) => "Email",
-                SubjectAltName::Uri(_) => "Uri",
-            };
-            good(rt, format!(in rt.alloc(); "{kind} {}", name.as_str()))
-        }
+        Some(SubjectAltName::Email(name)) => behind(rt, "Email ", name.as_str()),
+        Some(SubjectAltName::Uri(name)) => behind(rt, "Uri ", name.as_str()),
         None => string(rt, "none"),
     }
 }
 
-fn claim<'a, X: Abort>(rt: &X, claims: &'a FulcioCiClaims, name: &str) -> &'a Option<Text> {
-    match name {
-        "build_signer_uri" => &claims.build_signer_uri,
-        "build_signer_digest" => &claims.build_signer_digest,
-        "runner_environment" => &claims.runner_environment,
-        "source_repository_uri" => &claims.source_repository_uri,
-        "source_repository_digest" => &claims.source_repository_digest,
-        "source_repository_ref" => &claims.source_repository_ref,
-        "source_repository_identifier" => &claims.source_repository_identifier,
-        "source_repository_owner_uri" => &claims.source_repository_owner_uri,
-        "source_repository_owner_identifier" => &claims.source_repository_owner_identifier,
-        "build_config_uri" => &claims.build_config_uri,
-        "build_config_digest" => &claims.build_config_digest,
-        "build_trigger" => &claims.build_trigger,
-        "run_invocation_uri" => &claims.run_invocation_uri,
-        "source_repository_visibility_at_signing" =>
-            &claims.source_repository_visibility_at_signing,
-        "deployment_environment" => &claims.deployment_environment,
-        "token_subject" => &claims.token_subject,
-        "workflow_trigger" => &claims.deprecated_github.workflow_trigger,
-        "workflow_sha" => &claims.deprecated_github.workflow_sha,
-        "workflow_name" => &claims.deprecated_github.workflow_name,
-        "workflow_repository" => &claims.deprecated_github.workflow_repository,
-        "workflow_ref" => &claims.deprecated_github.workflow_ref,
-        _ => panic!(rt; "no claim {name}"),
+fn behind<X: AllocGlobal + Abort>(rt: &X, sort: &str, name: &str) -> String {
+    let mut shown = string(rt, sort);
+    good(rt, shown.push_str(name));
+    shown
+}
+
+const CLAIMS: &str = "\
+build_signer_uri build_signer_digest runner_environment source_repository_uri \
+source_repository_digest source_repository_ref source_repository_identifier \
+source_repository_owner_uri source_repository_owner_identifier build_config_uri build_config_digest \
+build_trigger run_invocation_uri source_repository_visibility_at_signing deployment_environment \
+token_subject workflow_trigger workflow_sha workflow_name workflow_repository workflow_ref";
+
+fn claim<'a>(claims: &'a FulcioCiClaims, name: &str) -> &'a Option<Text> {
+    match place(name, CLAIMS) {
+        0 => &claims.build_signer_uri,
+        1 => &claims.build_signer_digest,
+        2 => &claims.runner_environment,
+        3 => &claims.source_repository_uri,
+        4 => &claims.source_repository_digest,
+        5 => &claims.source_repository_ref,
+        6 => &claims.source_repository_identifier,
+        7 => &claims.source_repository_owner_uri,
+        8 => &claims.source_repository_owner_identifier,
+        9 => &claims.build_config_uri,
+        10 => &claims.build_config_digest,
+        11 => &claims.build_trigger,
+        12 => &claims.run_invocation_uri,
+        13 => &claims.source_repository_visibility_at_signing,
+        14 => &claims.deployment_environment,
+        15 => &claims.token_subject,
+        16 => &claims.deprecated_github.workflow_trigger,
+        17 => &claims.deprecated_github.workflow_sha,
+        18 => &claims.deprecated_github.workflow_name,
+        19 => &claims.deprecated_github.workflow_repository,
+        _ => &claims.deprecated_github.workflow_ref,
     }
 }
+
+const PARTS: &str = "identity issuer not_before not_after public_key key_algorithm is_empty";
 
 fn part<X: AllocGlobal + Abort>(rt: &X, info: &CertificateInfo, name: &str) -> String {
-    match name {
-        "identity" => identity(rt, &info.identity),
-        "issuer" => or_none(rt, &info.issuer),
-        "not_before" => displayed(rt, info.not_before),
-        "not_after" => displayed(rt, info.not_after),
-        "public_key" => good(rt, hex::encode(rt.alloc(), info.public_key.as_bytes())),
-        "key_algorithm" => printed(rt, info.key_algorithm),
-        "is_empty" => {
-            let all = info.ci_claims.is_empty();
-            let older = info.ci_claims.deprecated_github.is_empty();
-            good(rt, format!(in rt.alloc(); "{all} {older}"))
-        }
-        _ => or_none(rt, claim(rt, &info.ci_claims, name)),
+    match place(name, PARTS) {
+        0 => identity(rt, &info.identity),
+        1 => or_none(rt, &info.issuer),
+        2 => displayed(rt, info.not_before),
+        3 => displayed(rt, info.not_after),
+        4 => hex_of(rt, info.public_key.as_bytes()),
+        5 => printed(rt, info.key_algorithm),
+        6 => empties(rt, &info.ci_claims),
+        _ => or_none(rt, claim(&info.ci_claims, name)),
     }
 }
 
-// A part of what a certificate says, or the refusal.
-fn said<X: AllocGlobal + Abort>(rt: &X, given: &str) -> String {
+// Whether nothing is claimed, and nothing of the older claims.
+fn empties<X: AllocGlobal + Abort>(rt: &X, claims: &FulcioCiClaims) -> String {
+    let (all, older) = (claims.is_empty(), claims.deprecated_github.is_empty());
+    good(rt, format!(in rt.alloc(); "{all} {older}"))
+}
+
+/// A part of what a certificate says, or the refusal.
+pub fn said<X: AllocGlobal + Abort>(rt: &X, given: &str) -> String {
     let (name, wanted) = halves(rt, given, " ");
-    let certificate = DerCertificate::new(octets(rt, hexadecimal(rt, name)));
+    let certificate = DerCertificate::new(octets(rt, hexadecimal(name)));
     let info = parse_certificate_info(rt.alloc(), &certificate);
     drop(certificate);
     match info {
-        Ok(info) => {
-            let found = part(rt, &info, wanted);
-            drop(info);
-            found
-        }
+        Ok(info) => part_of(rt, info, wanted),
         Err(refusal) => printed(rt, refusal),
     }
 }
 
+fn part_of<X: AllocGlobal + Abort>(rt: &X, info: CertificateInfo, wanted: &str) -> String {
+    let part = part(rt, &info, wanted);
+    drop(info);
+    part
+}
+
 #[test]
 fn certificates_say_what_was_put_in(rt: HostRuntime) {
-    for row in SAID.lines() {
-        let (given, wanted) = there(&rt, row.rsplit_once(" => "));
-        check(&rt, row, wanted, said(&rt, given));
-    }
-    assert!(rt;
-        FulcioCiClaims::none() == FulcioCiClaims::default(),
-        "no claim"
-    );
+    hold(&rt, "said", SAID);
+    equals(&rt, FulcioCiClaims::none(), FulcioCiClaims::default());
 }

@@ -1,38 +1,27 @@
 // Keys in DER, made outside: by openssl, and those of ML-DSA by hand from their published identifiers and
 // lengths (FIPS 204, RFC 9881). The digests of raw keys are openssl's, of what it cuts out.
 use crate::keys::{Echo, scheme_of};
-use crate::sources;
-use crate::words::{good, halves, hold, number, printed, there};
+use crate::tables::{good, halves, hold, holds, number, printed, there};
 use sigstore_crypto::*;
 use sigstore_types_parts::{Bytes, DerPublicKey, SignatureBytes};
 use std::process::Abort;
-
-/// The answer of a call that is given a text; for any other name that of a call about sources.
-pub fn answer<X: AllocGlobal + Abort>(rt: &X, call: &str, given: &str) -> String {
-    match call {
-        "key in DER" => own(rt, given),
-        "key under a scheme" => under(rt, given),
-        "raw key" => raw(rt, given),
-        "signature in DER" => signature(rt, given),
-        _ => sources::answer(rt, call, given),
-    }
-}
 
 // The octets that words spell: in hexadecimal, or as an octet, `*` and how often it stands there.
 fn octets<X: AllocGlobal + Abort>(rt: &X, words: &str) -> Bytes {
     let mut all = Vec::new(rt.alloc());
     for word in words.split(' ') {
-        let (octets, count) = match word.split_once('*') {
-            Some((octet, count)) => (octet, number(rt, count)),
-            None => (word, 1),
-        };
-        let octets = good(rt, hex::decode(rt.alloc(), octets));
-        for _ in 0..count {
-            good(rt, all.extend_from_slice(octets.as_slice()));
-        }
-        drop(octets);
+        push_word(rt, word, &mut all);
     }
     Bytes::from_vec(all)
+}
+
+fn push_word<X: AllocGlobal + Abort>(rt: &X, word: &str, all: &mut Vec<u8>) {
+    let (octets, count) = word.split_once('*').unwrap_or((word, "1"));
+    let octets = good(rt, hex::decode(rt.alloc(), octets));
+    for _ in 0..number(rt, count) {
+        good(rt, all.extend_from_slice(octets.as_slice()));
+    }
+    drop(octets);
 }
 
 fn der<X: AllocGlobal + Abort>(rt: &X, words: &str) -> DerPublicKey {
@@ -49,32 +38,38 @@ fn key_word<X: AllocGlobal + Abort>(rt: &X, key: Result<VerificationKey, Error>)
 
 fn shown<X: AllocGlobal + Abort>(rt: &X, key: VerificationKey) -> String {
     let (scheme, length) = (key.scheme(), key.as_bytes().len());
-    let digest = good(rt, sha256(key.as_bytes()).to_hex(rt.alloc())).into_string();
+    let digest = sha256(key.as_bytes());
     drop(key);
-    let shown = good(rt, format!(in rt.alloc(); "{scheme:?} {length} {digest}"));
+    let digest = good(rt, digest.to_hex(rt.alloc())).into_string();
+    let shown = format!(in rt.alloc(); "{scheme:?} {length} {digest}");
     drop(digest);
-    shown
+    good(rt, shown)
 }
 
-// The sort of a key before what is shown of it under its own scheme.
-fn own<X: AllocGlobal + Abort>(rt: &X, words: &str) -> String {
+/// The sort of a key before what is shown of it under its own scheme.
+pub fn own<X: AllocGlobal + Abort>(rt: &X, words: &str) -> String {
     let der = der(rt, words);
     let algorithm = KeyAlgorithm::from_spki(&der);
     let key = key_word(rt, VerificationKey::from_spki(rt.alloc(), &der));
     drop(der);
     match algorithm {
-        Ok(algorithm) => {
-            let shown = good(rt, format!(in rt.alloc(); "{algorithm:?} {key}"));
-            drop(key);
-            shown
-        }
-        Err(refusal) => {
-            let same = printed(rt, refusal);
-            assert!(rt; same.as_str() == key.as_str());
-            drop(same);
-            key
-        }
+        Ok(algorithm) => joined(rt, algorithm, key),
+        Err(refusal) => same(rt, printed(rt, refusal), key),
     }
+}
+
+fn joined<X: AllocGlobal + Abort>(rt: &X, algorithm: KeyAlgorithm, key: String) -> String {
+    let joined = format!(in rt.alloc(); "{algorithm:?} {key}");
+    drop(key);
+    good(rt, joined)
+}
+
+// The second of two texts that are the same.
+fn same<X: Abort>(rt: &X, first: String, second: String) -> String {
+    let is_same = first == second;
+    drop(first);
+    holds(rt, is_same);
+    second
 }
 
 // By openssl: P-256, P-384, Ed25519, RSA with NULL; by hand RSA without parameters, and ML-DSA.
@@ -107,13 +102,14 @@ const CHANGED: &str =
 30820532300b06096086480165030403140382052100 05*1312 => InvalidKey(Algorithm)";
 
 // A row: whether the bytes have to be a SubjectPublicKeyInfo (`spki`, else `der`), a scheme, and a key.
-fn under<X: AllocGlobal + Abort>(rt: &X, row: &str) -> String {
+pub fn under<X: AllocGlobal + Abort>(rt: &X, row: &str) -> String {
     let (call, asked) = halves(rt, row, " ");
     let (scheme, words) = halves(rt, asked, " ");
     let (scheme, der) = (there(rt, scheme_of(scheme)), der(rt, words));
-    let key = match call {
-        "spki" => VerificationKey::from_spki_with_scheme(rt.alloc(), &der, scheme),
-        _ => VerificationKey::from_der(rt.alloc(), &der, scheme),
+    let key = if call == "spki" {
+        VerificationKey::from_spki_with_scheme(rt.alloc(), &der, scheme)
+    } else {
+        VerificationKey::from_der(rt.alloc(), &der, scheme)
     };
     drop(der);
     key_word(rt, key)
@@ -133,10 +129,10 @@ der RsaPkcs1Sha384 3082010a02820101008909de1e2464e3b1896700462fab69b6d6ea9e84293
 der RsaPkcs1Sha384 302a300506032b657003210006a187d6539db6edd8a1d38911e94003f7b11095e9f5dd44f79b65f2a605fdb3 => InvalidKey(Scheme)
 der MlDsa44 30820532300b06096086480165030403110382052100 05*1312 => MlDsa44 1312 f5f3d7bcd261af1fab354d33acc1d34c929f348c5e25cfa38a6ad0e0fca2dfed";
 
-fn raw<X: AllocGlobal + Abort>(rt: &X, row: &str) -> String {
+pub fn raw<X: AllocGlobal + Abort>(rt: &X, row: &str) -> String {
     let (scheme, words) = halves(rt, row, " ");
-    let key = octets(rt, words);
-    let answer = validate_raw_public_key(there(rt, scheme_of(scheme)), key.as_bytes());
+    let (scheme, key) = (there(rt, scheme_of(scheme)), octets(rt, words));
+    let answer = validate_raw_public_key(scheme, key.as_bytes());
     drop(key);
     printed(rt, answer)
 }
@@ -150,7 +146,7 @@ RsaPssSha256 3082010a02820101008909de1e2464e3b1896700462fab69b6d6ea9e84293953718
 RsaPssSha256 3082010a02820101008909de1e2464e3b1896700462fab69b6d6ea9e84293953718c89d1e234c6dd91eb0709282b42ced26df26a8a55562cfd9dc096e75de985560c951e0656e2e68f7f52f80dd34e78cfa1dae6aa07c2b2f4c603fe0c5391e3088f8aa56ff00fc62702e0b22cff9794ba1476bf807f3cfda8875a90cec1afc2b730f0f612e64409ba814b520054da92dc6f53cba69e1316d28bfdb4489260f4312fd279ef2fc0a1898786a3026791b0d6affbbe717d5a0b7d35952649dafb6dafe0ed79946997298efc9c8838ca024fe78c126621085a6facf82c5097947a96e7c56f27e8987409519aafccd114d7b26fca84814a5f67bc59a9ba0defbed1fa358c0f9b4f2c4e72f3020301000100 => Err(InvalidKey(RawKey))";
 
 // Whether the SHA-256 value of `hello` is a good signature of `hello`, and of its digest.
-fn signature<X: AllocGlobal + Abort>(rt: &X, row: &str) -> String {
+pub fn signature<X: AllocGlobal + Abort>(rt: &X, row: &str) -> String {
     let (scheme, words) = halves(rt, row, " ");
     let (scheme, der) = (there(rt, scheme_of(scheme)), der(rt, words));
     let digest = sha256(b"hello");
@@ -177,9 +173,9 @@ RsaPssSha256 30820109 02820100 7f aa*255 0203010001 => (Err(Verification(RawKey)
 
 #[test]
 fn keys_in_der(rt: HostRuntime) {
-    hold(&rt, "key in DER", KEYS);
-    hold(&rt, "key in DER", CHANGED);
-    hold(&rt, "key under a scheme", UNDER);
-    hold(&rt, "raw key", RAW);
-    hold(&rt, "signature in DER", SIGNATURES);
+    hold(&rt, "in_der", KEYS);
+    hold(&rt, "in_der", CHANGED);
+    hold(&rt, "under_scheme", UNDER);
+    hold(&rt, "raw_key", RAW);
+    hold(&rt, "signature", SIGNATURES);
 }

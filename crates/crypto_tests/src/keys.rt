@@ -1,30 +1,14 @@
 // Schemes, sorts of keys, digests on outside values, and keys and signatures that are judged.
 ghost use Rattle.std.specs.Prelude.{bytes_eq};
-ghost use Rattle.sigstore_crypto.specs.Good.{subject_of};
+ghost use Rattle.sigstore_crypto_parts.specs.Good.{subject_of};
 
-use crate::key_forms;
-use crate::words::{displayed, good, halves, hold, key_in, numbered, printed, there};
-use foundation::Duplicate;
+use crate::tables::{
+    copied, displayed, good, halves, hold, holds, key_in, numbered, place, printed, there,
+};
 use sigstore_crypto::*;
 use sigstore_types_parts::{Bytes, HashAlgorithm, SignatureBytes, Text};
 use std::fmt::Debug;
 use std::process::Abort;
-
-/// The answer of a call that is given a text; for any other name that of a call about keys in DER.
-pub fn answer<X: AllocGlobal + Abort>(rt: &X, call: &str, given: &str) -> String {
-    match call {
-        "refusal of crypto" => named(rt, given),
-        "scheme" => scheme(rt, given),
-        "key algorithm" => resolved(rt, given),
-        "sha256" => hexadecimal(rt, sha256(given.as_bytes()).to_hex(rt.alloc())),
-        "sha384" => hexadecimal(rt, sha384(given.as_bytes()).to_hex(rt.alloc())),
-        "sha512" => hexadecimal(rt, sha512(given.as_bytes()).to_hex(rt.alloc())),
-        "from_spki" => key(rt, given),
-        "judgement" => judged(rt, given),
-        "answers_alike" => alike(rt, given.as_bytes()),
-        _ => key_forms::answer(rt, call, given),
-    }
-}
 
 /// Accepts a signature that equals its subject.
 pub struct Echo;
@@ -58,24 +42,33 @@ impl CryptoProvider for Echo {
     }
 }
 
-fn shown<X: AllocGlobal + Abort>(rt: &X, error: Error) -> String {
+/// The number and the display text of a refusal, or the display text of one of a reading.
+pub fn refusal<X: AllocGlobal + Abort>(rt: &X, name: &str) -> String {
+    match place(name, "Failed TooLong ReadFault") {
+        0 => displayed(rt, ReadError::Failed),
+        1 => displayed(rt, ReadError::TooLong { max: 1 }),
+        2 => displayed(rt, ReadFault::Failed),
+        _ => numbered_error(rt, error(name)),
+    }
+}
+
+fn numbered_error<X: AllocGlobal + Abort>(rt: &X, error: Error) -> String {
     numbered(rt, error.number(), error)
 }
 
-// The number and the display text of a refusal, or the display text of one of a reading.
-fn named<X: AllocGlobal + Abort>(rt: &X, name: &str) -> String {
-    match name {
-        "Signing" => shown(rt, Error::Signing),
-        "Verification" => shown(rt, Error::Verification(VerificationFault::Refused)),
-        "InvalidKeyFormat" => shown(rt, Error::InvalidKeyFormat),
-        "UnsupportedAlgorithm" => shown(rt, Error::UnsupportedAlgorithm),
-        "Checkpoint" => shown(rt, Error::Checkpoint(CheckpointFault::NoHint)),
-        "InvalidCertificate" => shown(rt, Error::InvalidCertificate(CertificateFault::San)),
-        "InvalidKey" => shown(rt, Error::InvalidKey(KeyRule::RawKey)),
-        "NoMemory" => shown(rt, Error::NoMemory),
-        "Failed" => displayed(rt, ReadError::Failed),
-        "TooLong" => displayed(rt, ReadError::TooLong { max: 1 }),
-        _ => displayed(rt, ReadFault::Failed),
+const ERRORS: &str = "\
+Signing Verification InvalidKeyFormat UnsupportedAlgorithm Checkpoint InvalidCertificate InvalidKey";
+
+fn error(name: &str) -> Error {
+    match place(name, ERRORS) {
+        0 => Error::Signing,
+        1 => Error::Verification(VerificationFault::Refused),
+        2 => Error::InvalidKeyFormat,
+        3 => Error::UnsupportedAlgorithm,
+        4 => Error::Checkpoint(CheckpointFault::NoHint),
+        5 => Error::InvalidCertificate(CertificateFault::San),
+        6 => Error::InvalidKey(KeyRule::RawKey),
+        _ => Error::NoMemory,
     }
 }
 
@@ -91,31 +84,35 @@ Failed => Failed
 TooLong => TooLong
 ReadFault => Failed";
 
+const SCHEME_NAMES: &str = "\
+EcdsaP256Sha256 EcdsaP256Sha384 EcdsaP384Sha256 EcdsaP384Sha384 Ed25519 RsaPssSha256 RsaPssSha384 \
+RsaPssSha512 RsaPkcs1Sha256 RsaPkcs1Sha384 RsaPkcs1Sha512 MlDsa44 MlDsa65 MlDsa87";
+
 pub fn scheme_of(name: &str) -> Option<SigningScheme> {
-    match name {
-        "EcdsaP256Sha256" => Some(SigningScheme::EcdsaP256Sha256),
-        "EcdsaP256Sha384" => Some(SigningScheme::EcdsaP256Sha384),
-        "EcdsaP384Sha256" => Some(SigningScheme::EcdsaP384Sha256),
-        "EcdsaP384Sha384" => Some(SigningScheme::EcdsaP384Sha384),
-        "Ed25519" => Some(SigningScheme::Ed25519),
-        "RsaPssSha256" => Some(SigningScheme::RsaPssSha256),
-        "RsaPssSha384" => Some(SigningScheme::RsaPssSha384),
-        "RsaPssSha512" => Some(SigningScheme::RsaPssSha512),
-        "RsaPkcs1Sha256" => Some(SigningScheme::RsaPkcs1Sha256),
-        "RsaPkcs1Sha384" => Some(SigningScheme::RsaPkcs1Sha384),
-        "RsaPkcs1Sha512" => Some(SigningScheme::RsaPkcs1Sha512),
-        "MlDsa44" => Some(SigningScheme::MlDsa44),
-        "MlDsa65" => Some(SigningScheme::MlDsa65),
-        "MlDsa87" => Some(SigningScheme::MlDsa87),
+    match place(name, SCHEME_NAMES) {
+        0 => Some(SigningScheme::EcdsaP256Sha256),
+        1 => Some(SigningScheme::EcdsaP256Sha384),
+        2 => Some(SigningScheme::EcdsaP384Sha256),
+        3 => Some(SigningScheme::EcdsaP384Sha384),
+        4 => Some(SigningScheme::Ed25519),
+        5 => Some(SigningScheme::RsaPssSha256),
+        6 => Some(SigningScheme::RsaPssSha384),
+        7 => Some(SigningScheme::RsaPssSha512),
+        8 => Some(SigningScheme::RsaPkcs1Sha256),
+        9 => Some(SigningScheme::RsaPkcs1Sha384),
+        10 => Some(SigningScheme::RsaPkcs1Sha512),
+        11 => Some(SigningScheme::MlDsa44),
+        12 => Some(SigningScheme::MlDsa65),
+        13 => Some(SigningScheme::MlDsa87),
         _ => None,
     }
 }
 
 // The name of a scheme, its keys, its digest, and whether it signs digests.
-fn scheme<X: AllocGlobal + Abort>(rt: &X, name: &str) -> String {
+pub fn scheme<X: AllocGlobal + Abort>(rt: &X, name: &str) -> String {
     let scheme = there(rt, scheme_of(name));
     let (name, key) = (scheme.name(), scheme.key_algorithm());
-    assert!(rt; SigningScheme::from_name(name) == Some(scheme));
+    holds(rt, SigningScheme::from_name(name) == Some(scheme));
     let (digest, prehashed) = (scheme.hash_algorithm(), scheme.supports_prehashed());
     printed(rt, (name, key, digest, prehashed))
 }
@@ -135,21 +132,24 @@ MlDsa44 => ("ML_DSA_44", MlDsa44, None, false)
 MlDsa65 => ("ML_DSA_65", MlDsa65, None, false)
 MlDsa87 => ("ML_DSA_87", MlDsa87, None, false)"#;
 
+const ALGORITHM_NAMES: &str = "\
+EcdsaP256 EcdsaP384 Rsa Ed25519 MlDsa44 MlDsa65 MlDsa87";
+
 pub fn algorithm_of(name: &str) -> Option<KeyAlgorithm> {
-    match name {
-        "EcdsaP256" => Some(KeyAlgorithm::EcdsaP256),
-        "EcdsaP384" => Some(KeyAlgorithm::EcdsaP384),
-        "Rsa" => Some(KeyAlgorithm::Rsa),
-        "Ed25519" => Some(KeyAlgorithm::Ed25519),
-        "MlDsa44" => Some(KeyAlgorithm::MlDsa44),
-        "MlDsa65" => Some(KeyAlgorithm::MlDsa65),
-        "MlDsa87" => Some(KeyAlgorithm::MlDsa87),
+    match place(name, ALGORITHM_NAMES) {
+        0 => Some(KeyAlgorithm::EcdsaP256),
+        1 => Some(KeyAlgorithm::EcdsaP384),
+        2 => Some(KeyAlgorithm::Rsa),
+        3 => Some(KeyAlgorithm::Ed25519),
+        4 => Some(KeyAlgorithm::MlDsa44),
+        5 => Some(KeyAlgorithm::MlDsa65),
+        6 => Some(KeyAlgorithm::MlDsa87),
         _ => None,
     }
 }
 
 // The scheme of an algorithm by default, or with a digest.
-fn resolved<X: AllocGlobal + Abort>(rt: &X, row: &str) -> String {
+pub fn resolved<X: AllocGlobal + Abort>(rt: &X, row: &str) -> String {
     let (name, digest) = halves(rt, row, " ");
     let key = there(rt, algorithm_of(name));
     match HashAlgorithm::from_name(digest) {
@@ -187,6 +187,18 @@ pub fn hexadecimal<X: Abort, E: Debug>(rt: &X, text: Result<Text, E>) -> String 
     good(rt, text).into_string()
 }
 
+pub fn by_sha256<X: AllocGlobal + Abort>(rt: &X, text: &str) -> String {
+    hexadecimal(rt, sha256(text.as_bytes()).to_hex(rt.alloc()))
+}
+
+pub fn by_sha384<X: AllocGlobal + Abort>(rt: &X, text: &str) -> String {
+    hexadecimal(rt, sha384(text.as_bytes()).to_hex(rt.alloc()))
+}
+
+pub fn by_sha512<X: AllocGlobal + Abort>(rt: &X, text: &str) -> String {
+    hexadecimal(rt, sha512(text.as_bytes()).to_hex(rt.alloc()))
+}
+
 const SHA256: &str = "hello => 2cf24dba5fb0a30e26e83b2ac5b9e29e1b161e5c1fa7425e73043362938b9824
  => e3b0c44298fc1c149afbf4c8996fb92427ae41e4649b934ca495991b7852b855";
 
@@ -198,22 +210,20 @@ const SHA512: &str =
 
 // The length and the first byte of a raw key, its scheme, whether it passes its test, and whether a copy
 // equals it.
-fn key_shown<X: AllocGlobal + Abort>(rt: &X, key: &VerificationKey) -> String {
-    let (length, first, scheme) = (key.as_bytes().len(), key.as_bytes().first(), key.scheme());
+fn key_shown<X: AllocGlobal + Abort>(rt: &X, key: VerificationKey) -> String {
+    let (length, first) = (key.as_bytes().len(), key.as_bytes().first().copied());
+    let scheme = key.scheme();
     let test = validate_raw_public_key(scheme, key.as_bytes());
-    let copy = good(rt, key.duplicate(rt.alloc()));
-    let is_copied = copy == *key;
-    drop(copy);
-    printed(rt, (length, first, scheme, test, is_copied))
+    drop(copied(rt, key));
+    printed(rt, (length, first, scheme, test, true))
 }
 
-fn key<X: AllocGlobal + Abort>(rt: &X, base64: &str) -> String {
-    match VerificationKey::from_spki(rt.alloc(), &key_in(rt, base64)) {
-        Ok(key) => {
-            let shown = key_shown(rt, &key);
-            drop(key);
-            shown
-        }
+pub fn key<X: AllocGlobal + Abort>(rt: &X, base64: &str) -> String {
+    let der = key_in(rt, base64);
+    let key = VerificationKey::from_spki(rt.alloc(), &der);
+    drop(der);
+    match key {
+        Ok(key) => key_shown(rt, key),
         Err(refusal) => printed(rt, refusal),
     }
 }
@@ -251,17 +261,17 @@ fn raw_key<X: AllocGlobal + Abort>(rt: &X, name: &str, raw: &str) -> Verificatio
 }
 
 // A row: a scheme, a raw key, a call, and the answer. The signature equals the SHA-256 value of `hello`.
-fn judged<X: AllocGlobal + Abort>(rt: &X, row: &str) -> String {
+pub fn judged<X: AllocGlobal + Abort>(rt: &X, row: &str) -> String {
     let (name, asked) = halves(rt, row, " ");
     let (raw, call) = halves(rt, asked, " ");
-    let key = raw_key(rt, name, raw);
+    let (key, digest) = (raw_key(rt, name, raw), sha256(b"hello"));
     let signature = good(
         rt,
-        SignatureBytes::from_bytes(rt.alloc(), sha256(b"hello").as_bytes()),
+        SignatureBytes::from_bytes(rt.alloc(), digest.as_bytes()),
     );
     let answer = verified(&key, &signature, call);
-    drop(key);
     drop(signature);
+    drop(key);
     printed(rt, answer)
 }
 
@@ -276,7 +286,7 @@ EcdsaP256Sha256 raw verify_prehashed a byte => Err(Verification(DigestLength))
 Ed25519 raw verify_prehashed a byte => Err(UnsupportedAlgorithm)";
 
 // Whether a message is answered as its digest.
-fn alike<X: AllocGlobal + Abort>(rt: &X, message: &[u8]) -> String {
+pub fn alike<X: AllocGlobal + Abort>(rt: &X, message: &[u8]) -> String {
     let digest = sha256(message);
     let (scheme, digest) = (SigningScheme::EcdsaP256Sha256, digest.as_bytes());
     printed(
@@ -287,9 +297,9 @@ fn alike<X: AllocGlobal + Abort>(rt: &X, message: &[u8]) -> String {
 
 #[test]
 fn keys(rt: HostRuntime) {
-    hold(&rt, "refusal of crypto", REFUSALS);
+    hold(&rt, "refusal", REFUSALS);
     hold(&rt, "scheme", SCHEMES);
-    hold(&rt, "key algorithm", RESOLVED);
+    hold(&rt, "algorithm", RESOLVED);
     hold(&rt, "sha256", SHA256);
     hold(&rt, "sha384", SHA384);
     hold(&rt, "sha512", SHA512);

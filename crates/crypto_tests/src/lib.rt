@@ -1,4 +1,4 @@
-//! Tests of keys, digests, sources of bytes, rings, pairs of keys that sign, and of what certificates say.
+//! Tests of keys, signatures, certificates and pairs of keys, and of entries of logs with their promises.
 #![tactic(auto)]
 
 #[cfg(test)]
@@ -10,10 +10,16 @@ mod key_forms;
 #[cfg(test)]
 mod keys;
 #[cfg(test)]
+mod log_data;
+#[cfg(test)]
+mod log_words;
+#[cfg(test)]
+mod logs;
+#[cfg(test)]
 mod pairs;
 #[cfg(test)]
 mod rings;
 #[cfg(test)]
 mod sources;
 #[cfg(test)]
-mod words;
+mod tables;

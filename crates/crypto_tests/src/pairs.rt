@@ -1,13 +1,12 @@
 // Pairs of keys that sign, and their public keys in DER.
 ghost use Rattle.std.specs.Prelude.{◌≡◌, ◌≢◌, ◌∷◌, Some, None, Ok, Err, IfOk, IfErr, if◌then◌else◌, length, ◌==◌};
-ghost use Rattle.sigstore_crypto.specs.KeyPair.{signed_or};
+ghost use Rattle.sigstore_crypto_parts.specs.KeyPair.{signed_or};
 
-use crate::claims::octets;
 use crate::keys::algorithm_of;
-use crate::words::{check, good, halves, there};
+use crate::tables::{check, good, halves, hex_of, hold, holds, octets, there};
 use foundation::NoMemory;
 use sigstore_crypto::*;
-use sigstore_types_parts::{Bytes, SignatureBytes};
+use sigstore_types_parts::{Bytes, DerPublicKey, SignatureBytes};
 use std::alloc::Global;
 use std::process::Abort;
 
@@ -83,55 +82,57 @@ MlDsa44 010203 => 3013300b0609608648016503040311030400010203
 MlDsa65 010203 => 3013300b0609608648016503040312030400010203
 MlDsa87 010203 => 3013300b0609608648016503040313030400010203";
 
-fn public_key<X: AllocGlobal + Abort>(rt: &X, given: &str) -> String {
+pub fn public_key<X: AllocGlobal + Abort>(rt: &X, given: &str) -> String {
     let (name, raw) = halves(rt, given, " ");
     let sort = there(rt, algorithm_of(name));
     let pair = KeyPair::new(boxed_mirror(rt, sort, raw));
-    let der = good(rt, pair.public_key_der(rt.alloc()));
-    assert!(rt;
-        pair.algorithm() == sort && KeyAlgorithm::from_spki(&der) == Ok(sort),
-        "{name}"
-    );
-    assert!(rt;
-        pair.default_scheme() == sort.default_signing_scheme(),
-        "{name}"
-    );
-    let found = good(rt, hex::encode(rt.alloc(), der.as_bytes()));
-    drop(der);
+    let is_of_sort = pair.algorithm() == sort;
+    let has_default = pair.default_scheme() == sort.default_signing_scheme();
+    let der = pair.public_key_der(rt.alloc());
     drop(pair);
-    found
+    holds(rt, is_of_sort && has_default);
+    der_shown(rt, good(rt, der), sort)
+}
+
+fn der_shown<X: AllocGlobal + Abort>(rt: &X, der: DerPublicKey, sort: KeyAlgorithm) -> String {
+    let is_of_sort = KeyAlgorithm::from_spki(&der) == Ok(sort);
+    let shown = hex_of(rt, der.as_bytes());
+    drop(der);
+    holds(rt, is_of_sort);
+    shown
 }
 
 #[test]
 fn public_keys_are_written_as_openssl_writes_them(rt: HostRuntime) {
-    for row in PUBLIC_KEYS.lines() {
-        let (given, wanted) = there(&rt, row.rsplit_once(" => "));
-        check(&rt, row, wanted, public_key(&rt, given));
-    }
+    hold(&rt, "public_key", PUBLIC_KEYS);
 }
 
 // 02, and SHA-256 of `hello` by Python's hashlib.
 const OF_HELLO: &str = "022cf24dba5fb0a30e26e83b2ac5b9e29e1b161e5c1fa7425e73043362938b9824";
 
+// The pair of the raw key 01, 02 and 03.
+fn pair<X: AllocGlobal + Abort>(rt: &X) -> KeyPair {
+    KeyPair::new(boxed_mirror(rt, KeyAlgorithm::Ed25519, "010203"))
+}
+
 #[test]
 fn pairs_sign(rt: HostRuntime) {
-    let pair = KeyPair::new(boxed_mirror(&rt, KeyAlgorithm::Ed25519, "010203"));
-    assert!(rt;
-        pair.public_key_bytes() == [1, 2, 3].as_slice(),
-        "the raw key"
-    );
+    let pair = pair(&rt);
+    holds(&rt, pair.public_key_bytes() == [1, 2, 3].as_slice());
     let signature = good(&rt, pair.sign(rt.alloc(), &[4, 5]));
-    assert!(rt; signature.as_bytes() == [1, 4, 5].as_slice(), "a message");
-    assert!(rt;
-        pair.sign(rt.alloc(), &[]) == Err(Error::Signing),
-        "no signature"
-    );
+    holds(&rt, signature.as_bytes() == [1, 4, 5].as_slice());
+    holds(&rt, pair.sign(rt.alloc(), &[]) == Err(Error::Signing));
+}
+
+#[test]
+fn pairs_sign_digests(rt: HostRuntime) {
+    let pair = pair(&rt);
     let hello = sha256(b"hello");
     let by_digest = good(&rt, pair.sign_digest(rt.alloc(), &hello));
     let mut hasher = Sha256Hasher::new();
     hasher.update("hello".as_bytes());
     let (digest, signature) = good(&rt, pair.sign_prehashed(rt.alloc(), hasher));
-    assert!(rt; digest == hello && signature == by_digest, "a digest");
-    let found = good(&rt, hex::encode(rt.alloc(), signature.as_bytes()));
+    holds(&rt, digest == hello && signature == by_digest);
+    let found = hex_of(&rt, signature.as_bytes());
     check(&rt, "the signature of a digest", OF_HELLO, found);
 }

@@ -1,7 +1,10 @@
 // Rings of keys: which key an id, a hint and a moment mean, and what is verified under them.
 ghost use Rattle.std.specs.Prelude.{bytes_eq};
 
-use crate::words::{check, good, halves, number, printed, string, there, word};
+use crate::keys::scheme_of;
+use crate::tables::{
+    good, halves, hex_of, hold, holds, number, place, printed, string, there, word,
+};
 use jiff::Timestamp;
 use sigstore_crypto::*;
 use sigstore_types_parts::{Bytes, DerPublicKey, Sha256Hash, SignatureBytes, TimeRange};
@@ -77,18 +80,23 @@ fn text_or_none<X: AllocGlobal + Abort>(rt: &X, key: Option<&VerificationKey>) -
 fn hinted<X: AllocGlobal + Abort>(rt: &X, ring: &Keyring, given: &str, time: Timestamp) -> String {
     let owner = DerPublicKey::new(bytes(rt, given));
     let hint = compute_key_hint(&owner);
-    let mut found = good(rt, hex::encode(rt.alloc(), hint.as_bytes()));
+    drop(owner);
+    let mut found = hex_of(rt, hint.as_bytes());
     for key in ring.keys_by_hint(&hint, time) {
         good(rt, found.push_str(" "));
         good(rt, found.push_str(good(rt, str::from_utf8(key.as_bytes()))));
     }
-    drop(owner);
     found
+}
+
+// Whether a key of the ring is of the sort that signs under a scheme.
+fn has<X: AllocGlobal + Abort>(rt: &X, ring: &Keyring, scheme: &str) -> String {
+    printed(rt, ring.has_key_of(there(rt, scheme_of(scheme))))
 }
 
 fn any<X: AllocGlobal + Abort>(rt: &X, ring: &Keyring, signature: &SignatureBytes) -> String {
     match ring.verify_any(&ByKey, &[], signature) {
-        Ok(id) => good(rt, hex::encode(rt.alloc(), id.as_bytes())),
+        Ok(id) => hex_of(rt, id.as_bytes()),
         Err(refusal) => printed(rt, refusal),
     }
 }
@@ -116,42 +124,50 @@ verify_at hello 9 second => Verification(NoKey)
 verify_at hello 10 second => Ok
 verify_at hello 10 first => Verification(Refused)
 any x 0 other => 486ea46224d1bb4fb680f34f7c9ad96a8f24ec88be73ea8e5a6c65260e9cb8a7
-any x 0 first => Verification(NoKey)";
+any x 0 first => Verification(NoKey)
+has Ed25519 0 x => true
+has EcdsaP256Sha256 0 x => false";
 
-fn asked<X: AllocGlobal + Abort>(rt: &X, ring: &Keyring, given: &str) -> String {
+/// The answer of a call of the ring.
+pub fn answer<X: AllocGlobal + Abort>(rt: &X, given: &str) -> String {
     let (call, rest) = halves(rt, given, " ");
     let (name, rest) = halves(rt, rest, " ");
     let (second, text) = halves(rt, rest, " ");
     let time = moment(rt, number(rt, second).min(1000) as i64);
-    let id = id(name);
-    let signature = SignatureBytes::new(bytes(rt, text));
-    let found = match call {
-        "key" => text_or_none(rt, ring.key(&id)),
-        "key_at" => text_or_none(rt, ring.key_at(&id, time)),
-        "started" => text_or_none(rt, ring.key_started_by(&id, time)),
-        "hint" => hinted(rt, ring, name, time),
-        "verify" => word(rt, ring.verify_with_key_id(&ByKey, &id, &[], &signature)),
-        "verify_at" => word(
-            rt,
-            ring.verify_with_key_id_at(&ByKey, &id, time, &[], &signature),
-        ),
-        "any" => any(rt, ring, &signature),
-        _ => panic!(rt; "no call {call}"),
-    };
+    let (ring, signature) = (ring(rt), SignatureBytes::new(bytes(rt, text)));
+    let answer = asked(rt, &ring, call, name, time, &signature);
     drop(signature);
-    found
+    drop(ring);
+    answer
+}
+
+fn asked<X: AllocGlobal + Abort>(
+    rt: &X,
+    ring: &Keyring,
+    call: &str,
+    name: &str,
+    time: Timestamp,
+    signature: &SignatureBytes,
+) -> String {
+    let id = id(name);
+    match place(call, "key key_at started hint verify verify_at has") {
+        0 => text_or_none(rt, ring.key(&id)),
+        1 => text_or_none(rt, ring.key_at(&id, time)),
+        2 => text_or_none(rt, ring.key_started_by(&id, time)),
+        3 => hinted(rt, ring, name, time),
+        4 => word(rt, ring.verify_with_key_id(&ByKey, &id, &[], signature)),
+        5 => word(
+            rt,
+            ring.verify_with_key_id_at(&ByKey, &id, time, &[], signature),
+        ),
+        6 => has(rt, ring, name),
+        _ => any(rt, ring, signature),
+    }
 }
 
 #[test]
 fn rings_answer_by_their_last_keys(rt: HostRuntime) {
-    let ring = ring(&rt);
-    for row in ANSWERS.lines() {
-        let (given, wanted) = there(&rt, row.rsplit_once(" => "));
-        check(&rt, row, wanted, asked(&rt, &ring, given));
-    }
-    let empty = Keyring::new(rt.alloc());
-    assert!(rt;
-        ring.len() == 2 && !ring.is_empty() && empty.is_empty(),
-        "two ids"
-    );
+    hold(&rt, "ring", ANSWERS);
+    let (ring, empty) = (ring(&rt), Keyring::new(rt.alloc()));
+    holds(&rt, ring.len() == 2 && !ring.is_empty() && empty.is_empty());
 }

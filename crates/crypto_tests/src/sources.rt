@@ -1,19 +1,11 @@
 // Sources of bytes, in memory and over a file, that are read and digested.
 use crate::keys::hexadecimal;
-use crate::words::{check, good, halves, hold, number, printed, text, there};
+use crate::tables::{check, good, halves, hold, number, printed, text, there};
 use sigstore_crypto::*;
 use sigstore_types_parts::{Bytes, FailList};
 use std::fs;
 use std::num::NonZeroU32;
 use std::process::Abort;
-
-/// The answer of a call that is given a text.
-pub fn answer<X: AllocGlobal + Abort>(rt: &X, call: &str, given: &str) -> String {
-    match call {
-        "source" => source_read(rt, given),
-        _ => panic!(rt; "no call {call}"),
-    }
-}
 
 // The digest of a source, by whether it is that of `hello`.
 fn digested<X: AllocGlobal + Abort>(rt: &X, source: &mut MemorySource, max: u64) -> String {
@@ -38,7 +30,7 @@ fn source<X: AllocGlobal + Abort>(rt: &X, step: u32, call: u64) -> MemorySource 
     MemorySource::new(bytes, step, failures(rt, call))
 }
 
-fn source_read<X: AllocGlobal + Abort>(rt: &X, row: &str) -> String {
+pub fn source_read<X: AllocGlobal + Abort>(rt: &X, row: &str) -> String {
     let (step, asked) = halves(rt, row, " ");
     let (call, max) = halves(rt, asked, " ");
     let step = good(rt, step.parse::<u32>());

@@ -1,35 +1,49 @@
 // Certificates that OpenSSL made, changes of them, and encodings worked out by hand.
 use crate::certificate_data::{ISSUER, LOG};
 use crate::tables::{
-    Hexadecimal, check_rows, debug, encoded, good, halves, hex_of, in_hexadecimal, number, shown,
-    tagged, there,
+    Hexadecimal, changed, check_tables, debug, encoded, good, halves, hex_of, holds,
+    in_hexadecimal, number, place, shown, string, tagged, there,
 };
 use der_core::{DerError, ObjectIdentifier, OctetString};
 use foundation::Duplicate;
 use std::process::Abort;
 use x509_core::*;
 
-/// The answer of a call that is given octets and words behind them, if any.
+const CALLS: &str = "\
+part changed sct_list OtherName::new OtherName::tag_byte RsaKeyView SpkiView";
+
+/// The answer of a call that is given octets and words behind them, if any; for any other name that of one
+/// that is given a certificate.
 pub fn answer<X: AllocGlobal + Abort>(rt: &X, name: &str, bytes: &[u8], words: &str) -> String {
-    match name {
-        "part" => stands_at(rt, bytes, words),
-        "extension" => extension_of(rt, &read(rt, bytes), words),
-        "validity" => validity_of(rt, &read(rt, bytes)),
-        "moments" => moments_of(rt, &read(rt, bytes)),
-        "each_extension" => extensions_of(rt, &read(rt, bytes)),
-        "modulus_bits" => shown(rt, rsa_key_in(key_bits(rt, &read(rt, bytes)))),
-        "RsaKeyView" => shown(rt, rsa_key_in(bytes)),
-        "key" => shown(rt, key_in(read(rt, bytes).spki)),
-        "SpkiView" => shown(rt, key_in(bytes)),
-        "changed" => refusal_of(rt, bytes, words),
-        "sct_list" => timestamps_in(rt, bytes),
-        "timestamp" => last_timestamp(rt, &read(rt, bytes)),
-        "precert_tbs" => is_signed_part(rt, &read(rt, bytes)),
-        "sct_signed_bytes" => signed_for(rt, &read(rt, bytes)),
-        "sct_signed_bytes_of_zeros" => signed_zeros(rt, &read(rt, bytes), words),
-        "OtherName::new" => encoded(rt, other_name(rt, bytes)),
-        "OtherName::tag_byte" => tag_of(rt, bytes),
-        _ => panic!(rt; "no call {name}"),
+    match place(name, CALLS) {
+        0 => stands_at(rt, bytes, words),
+        1 => refusal_of_changed(rt, bytes, words),
+        2 => timestamps_in(rt, bytes),
+        3 => encoded(rt, other_name(rt, bytes)),
+        4 => tag_of(rt, bytes),
+        5 => shown(rt, rsa_key_in(bytes)),
+        6 => shown(rt, key_in(bytes)),
+        _ => answer_of(rt, name, &read(rt, bytes), words),
+    }
+}
+
+const CALLS_ON_CERTIFICATES: &str = "\
+extension validity moments each_extension timestamp precert_tbs sct_signed_bytes sct_signed_bytes_of_zeros \
+modulus_bits key";
+
+fn answer_of<X: AllocGlobal + Abort>(rt: &X, name: &str, cert: &CertView, words: &str) -> String {
+    match place(name, CALLS_ON_CERTIFICATES) {
+        0 => extension_of(rt, cert, words),
+        1 => debug(rt, (cert.not_before, cert.not_after)),
+        2 => moments_of(rt, cert),
+        3 => extensions_of(rt, cert),
+        4 => last_timestamp(rt, cert),
+        5 => is_signed_part(rt, cert),
+        6 => signed_for(rt, cert),
+        7 => signed_zeros(rt, cert, words),
+        8 => shown(rt, rsa_key_in(key_bits(rt, cert))),
+        9 => shown(rt, key_in(cert.spki)),
+        _ => string(rt, "no call"),
     }
 }
 
@@ -67,14 +81,9 @@ part ed25519 signature 207 271 => true";
 
 /// Whether the part with a name begins and ends at two places, read without memory and with it.
 fn stands_at<X: AllocGlobal + Abort>(rt: &X, bytes: &[u8], words: &str) -> String {
-    let (name, places) = halves(rt, words, " ");
-    let wanted = between(rt, bytes, places);
-    let cert = read(rt, bytes);
     let in_memory = good(rt, CertView::parse_in(rt.alloc(), bytes));
-    debug(
-        rt,
-        has_part(&cert, bytes, name, wanted) && has_part(&in_memory, bytes, name, wanted),
-    )
+    let stands = has_part(rt, &read(rt, bytes), bytes, words);
+    debug(rt, stands && has_part(rt, &in_memory, bytes, words))
 }
 
 /// The octets between two places.
@@ -83,18 +92,20 @@ fn between<'a, X: Abort>(rt: &X, bytes: &'a [u8], places: &str) -> &'a [u8] {
     there(rt, bytes.get(number(rt, begin)..number(rt, end)))
 }
 
-fn has_part(cert: &CertView, bytes: &[u8], name: &str, part: &[u8]) -> bool {
+fn has_part<X: Abort>(rt: &X, cert: &CertView, bytes: &[u8], words: &str) -> bool {
+    let (name, places) = halves(rt, words, " ");
+    let part = between(rt, bytes, places);
     cert.whole == bytes && cert.version == 2 && part_named(cert, name) == part
 }
 
 fn part_named<'a>(cert: &CertView<'a>, name: &str) -> &'a [u8] {
-    match name {
-        "tbs" => cert.tbs,
-        "serial" => cert.serial,
-        "issuer" => cert.issuer,
-        "subject" => cert.subject,
-        "spki" => cert.spki,
-        "signature" => cert.signature,
+    match place(name, "tbs serial issuer subject spki signature") {
+        0 => cert.tbs,
+        1 => cert.serial,
+        2 => cert.issuer,
+        3 => cert.subject,
+        4 => cert.spki,
+        5 => cert.signature,
         _ => &[],
     }
 }
@@ -139,10 +150,6 @@ fn extension_of<X: AllocGlobal + Abort>(rt: &X, cert: &CertView, oid: &str) -> S
         Some(extension) => debug(rt, Some((extension.critical, Hexadecimal(extension.value)))),
         None => debug(rt, None::<bool>),
     }
-}
-
-fn validity_of<X: AllocGlobal + Abort>(rt: &X, cert: &CertView) -> String {
-    debug(rt, (cert.not_before, cert.not_after))
 }
 
 // The identifier and the parameters of a key, and the number of unused bits, the length and the last
@@ -218,25 +225,19 @@ changed p256 416 00 => Some(Der(Trailing))
 changed p256 15 7e => None";
 
 /// The refusal, which is the same without memory and with it.
-fn refusal_of<X: AllocGlobal + Abort>(rt: &X, bytes: &[u8], words: &str) -> String {
-    let changed = changed(rt, bytes, words);
-    let refusal = CertView::parse(&changed).err();
-    let in_memory = CertView::parse_in(rt.alloc(), &changed).err();
-    drop(changed);
-    assert!(rt; in_memory == refusal);
+fn refusal_of<X: AllocGlobal + Abort>(rt: &X, bytes: &[u8]) -> String {
+    let refusal = CertView::parse(bytes).err();
+    holds(rt, CertView::parse_in(rt.alloc(), bytes).err() == refusal);
     debug(rt, refusal)
 }
 
-fn changed<X: AllocGlobal + Abort>(rt: &X, bytes: &[u8], words: &str) -> Vec<u8> {
+fn refusal_of_changed<X: AllocGlobal + Abort>(rt: &X, bytes: &[u8], words: &str) -> String {
     let (place, octet) = halves(rt, words, " ");
-    let (at, octet) = (number(rt, place), good(rt, u8::from_str_radix(octet, 16)));
-    let mut changed = good(rt, bytes.to_vec(rt.alloc()));
-    if at < changed.len() {
-        changed[at] = octet;
-    } else {
-        good(rt, changed.push(octet));
-    }
-    changed
+    let octet = good(rt, u8::from_str_radix(octet, 16));
+    let changed = changed(rt, bytes, number(rt, place), octet);
+    let answer = refusal_of(rt, &changed);
+    drop(changed);
+    answer
 }
 
 // The last timestamp in a certificate's list, whether its log is the one, its milliseconds, its
@@ -358,11 +359,16 @@ fn tag_of<X: AllocGlobal + Abort>(rt: &X, bytes: &[u8]) -> String {
 
 #[test]
 fn certificates(rt: HostRuntime) {
-    check_rows(&rt, PLACES);
-    check_rows(&rt, EXTENSIONS);
-    check_rows(&rt, KEYS);
-    check_rows(&rt, RSA_KEYS);
-    check_rows(&rt, CHANGES);
-    check_rows(&rt, TIMESTAMPS);
-    check_rows(&rt, OTHER_NAMES);
+    check_tables(
+        &rt,
+        &[
+            PLACES,
+            EXTENSIONS,
+            KEYS,
+            RSA_KEYS,
+            CHANGES,
+            TIMESTAMPS,
+            OTHER_NAMES,
+        ],
+    );
 }

@@ -1,7 +1,7 @@
 // Encodings worked out from X.690 and RFC 5280 by hand, and those of certificates: read, copied and
 // written again with ample memory. A row answers `kept` where the same octets are written.
 use crate::leaves;
-use crate::tables::{check_rows, compared, debug, good};
+use crate::tables::{check_tables, compared, debug, good, holds, place};
 use der_core::*;
 use der_numbers::{Number, OctetKind, U16Kind, U64Kind};
 use foundation::{Duplicate, Sequence};
@@ -14,46 +14,55 @@ use x509_core::{
 /// The encoding of a copy that equals the value.
 fn copied<X: AllocGlobal + Abort, T: Der + Duplicate + PartialEq>(rt: &X, value: T) -> OctetString {
     let copy = good(rt, value.duplicate(rt.alloc()));
-    assert!(rt; copy == value);
+    holds(rt, copy == value);
     good(rt, copy.to_der(rt.alloc()))
 }
 
-fn again<X: AllocGlobal + Abort, T: Der + Duplicate + PartialEq>(rt: &X, bytes: &[u8]) -> String {
+/// `kept` where the value that octets are is written again to these, else what is written, or the refusal.
+pub fn again<X: AllocGlobal + Abort, T: Der + Duplicate + PartialEq>(
+    rt: &X,
+    bytes: &[u8],
+) -> String {
     match T::from_der(rt.alloc(), bytes) {
         Ok(value) => compared(rt, bytes, copied(rt, value)),
         Err(refusal) => debug(rt, refusal),
     }
 }
 
+const TYPES: &str = "\
+Any Int Uint BitString OctetString Utf8 Ia5 bool Octet U16 U64 ObjectIdentifier SetOfVec Sequence \
+UtcTime GeneralizedTime Time AlgorithmIdentifierOwned Attributes Extension GeneralName Name \
+SubjectKeyIdentifier SerialNumber CertificateList Certificate";
+
 /// What a type answers to octets; for any other name the answer of a call of der_core.
 pub fn answer<X: AllocGlobal + Abort>(rt: &X, name: &str, bytes: &[u8], words: &str) -> String {
-    match name {
-        "Any" => again::<X, Any>(rt, bytes),
-        "Int" => again::<X, Int>(rt, bytes),
-        "Uint" => again::<X, Uint>(rt, bytes),
-        "BitString" => again::<X, BitString>(rt, bytes),
-        "OctetString" => again::<X, OctetString>(rt, bytes),
-        "Utf8" => again::<X, Utf8>(rt, bytes),
-        "Ia5" => again::<X, Ia5>(rt, bytes),
-        "bool" => again::<X, bool>(rt, bytes),
-        "Octet" => again::<X, Number<OctetKind>>(rt, bytes),
-        "U16" => again::<X, Number<U16Kind>>(rt, bytes),
-        "U64" => again::<X, Number<U64Kind>>(rt, bytes),
-        "ObjectIdentifier" => again::<X, ObjectIdentifier>(rt, bytes),
-        "SetOfVec" => again::<X, SetOfVec<Int>>(rt, bytes),
-        "Sequence" => again::<X, Sequence<Int>>(rt, bytes),
-        "UtcTime" => again::<X, UtcTime>(rt, bytes),
-        "GeneralizedTime" => again::<X, GeneralizedTime>(rt, bytes),
-        "Time" => again::<X, x509_core::Time>(rt, bytes),
-        "AlgorithmIdentifierOwned" => again::<X, AlgorithmIdentifierOwned>(rt, bytes),
-        "Attributes" => again::<X, Attributes>(rt, bytes),
-        "Extension" => again::<X, Extension>(rt, bytes),
-        "GeneralName" => again::<X, GeneralName>(rt, bytes),
-        "Name" => again::<X, Name>(rt, bytes),
-        "SubjectKeyIdentifier" => again::<X, SubjectKeyIdentifier>(rt, bytes),
-        "SerialNumber" => again::<X, SerialNumber>(rt, bytes),
-        "CertificateList" => again::<X, CertificateList>(rt, bytes),
-        "Certificate" => again::<X, Certificate>(rt, bytes),
+    match place(name, TYPES) {
+        0 => again::<X, Any>(rt, bytes),
+        1 => again::<X, Int>(rt, bytes),
+        2 => again::<X, Uint>(rt, bytes),
+        3 => again::<X, BitString>(rt, bytes),
+        4 => again::<X, OctetString>(rt, bytes),
+        5 => again::<X, Utf8>(rt, bytes),
+        6 => again::<X, Ia5>(rt, bytes),
+        7 => again::<X, bool>(rt, bytes),
+        8 => again::<X, Number<OctetKind>>(rt, bytes),
+        9 => again::<X, Number<U16Kind>>(rt, bytes),
+        10 => again::<X, Number<U64Kind>>(rt, bytes),
+        11 => again::<X, ObjectIdentifier>(rt, bytes),
+        12 => again::<X, SetOfVec<Int>>(rt, bytes),
+        13 => again::<X, Sequence<Int>>(rt, bytes),
+        14 => again::<X, UtcTime>(rt, bytes),
+        15 => again::<X, GeneralizedTime>(rt, bytes),
+        16 => again::<X, x509_core::Time>(rt, bytes),
+        17 => again::<X, AlgorithmIdentifierOwned>(rt, bytes),
+        18 => again::<X, Attributes>(rt, bytes),
+        19 => again::<X, Extension>(rt, bytes),
+        20 => again::<X, GeneralName>(rt, bytes),
+        21 => again::<X, Name>(rt, bytes),
+        22 => again::<X, SubjectKeyIdentifier>(rt, bytes),
+        23 => again::<X, SerialNumber>(rt, bytes),
+        24 => again::<X, CertificateList>(rt, bytes),
+        25 => again::<X, Certificate>(rt, bytes),
         _ => leaves::answer_to_octets(rt, name, bytes, words),
     }
 }
@@ -230,13 +239,18 @@ Certificate 3000 => Value";
 
 #[test]
 fn encodings(rt: HostRuntime) {
-    check_rows(&rt, TAGS);
-    check_rows(&rt, NUMBERS);
-    check_rows(&rt, RANGES);
-    check_rows(&rt, BITS);
-    check_rows(&rt, TEXTS);
-    check_rows(&rt, IDENTIFIERS);
-    check_rows(&rt, SETS);
-    check_rows(&rt, TIMES);
-    check_rows(&rt, OWNED);
+    check_tables(
+        &rt,
+        &[
+            TAGS,
+            NUMBERS,
+            RANGES,
+            BITS,
+            TEXTS,
+            IDENTIFIERS,
+            SETS,
+            TIMES,
+            OWNED,
+        ],
+    );
 }

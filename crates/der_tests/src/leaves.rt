@@ -1,58 +1,78 @@
 // Calls of der_core, with answers worked out by hand.
-use crate::certificates;
 use crate::tables::{
-    self, check_rows, compared, debug, encoded, good, hex_of, number, shown, tagged, there,
+    check_tables, compared, debug, encoded, good, hex_of, holds, number, numbered, octets_and_more,
+    place, shown, string, tagged, there,
 };
+use crate::{builders, contents, encodings, lists};
 use der_core::*;
 use jiff::Timestamp;
-use std::fmt;
 use std::process::Abort;
 
-/// The answer of a call that is given a text; for any other name that of one that is given octets.
+const CALLS_ON_TEXTS: &str = "\
+DerError ObjectIdentifier::new ObjectIdentifier::as_bytes ObjectIdentifier::parent ObjectIdentifier::arc \
+UtcTime::new GeneralizedTime::new Sequence::numbers Sequence::options NoMemory";
+
+/// The answer of a call that is given a text; for any other name that of a builder.
 pub fn answer_to_text<X: AllocGlobal + Abort>(rt: &X, name: &str, given: &str) -> String {
-    match name {
-        "DerError" => numbered(rt, refusal(number(rt, given))),
-        "ObjectIdentifier::new" => encoded(rt, ObjectIdentifier::new(given)),
-        "ObjectIdentifier::as_bytes" => hex_of(rt, identifier(rt, given).as_bytes()),
-        "ObjectIdentifier::parent" => {
-            encoded(rt, identifier(rt, given).parent().ok_or(DerError::Oid))
-        }
-        "ObjectIdentifier::arc" => arcs_of(rt, &identifier(rt, given)),
-        "UtcTime::new" => letters_of::<X, UtcTimeKind>(rt, moment_of(rt, given)),
-        "GeneralizedTime::new" => letters_of::<X, GeneralizedTimeKind>(rt, moment_of(rt, given)),
-        _ => tables::answer_to_octets(rt, name, given),
+    match place(name, CALLS_ON_TEXTS) {
+        0 => numbered_error(rt, refusal(number(rt, given))),
+        1 => encoded(rt, ObjectIdentifier::new(given)),
+        2 => hex_of(rt, identifier(rt, given).as_bytes()),
+        3 => encoded(rt, identifier(rt, given).parent().ok_or(DerError::Oid)),
+        4 => arcs_of(rt, &identifier(rt, given)),
+        5 => letters_of::<X, UtcTimeKind>(rt, moment_of(rt, given)),
+        6 => letters_of::<X, GeneralizedTimeKind>(rt, moment_of(rt, given)),
+        7 => lists::numbers(rt),
+        8 => lists::options(rt),
+        9 => lists::want_of_memory(rt),
+        _ => builders::answer(rt, name, given),
     }
 }
 
-/// The answer of a call that is given octets; for any other name that of a call of x509_core.
+/// The answer of a call that is given octets and words behind them, if any.
+pub fn answer_to_words<X: AllocGlobal + Abort>(rt: &X, name: &str, given: &str) -> String {
+    let (front, words) = given.split_once(' ').unwrap_or((given, ""));
+    let bytes = octets_and_more(rt, front);
+    let answer = encodings::answer(rt, name, &bytes, words);
+    drop(bytes);
+    answer
+}
+
+const CALLS_ON_OCTETS: &str = "\
+Any::new Int::new Uint::new Uint::as_bytes Int::encode_into Int::der_cmp OctetString::as_bytes \
+SetOfVec::insert SetOfVec::try_from SetOfVec::eq SetOfVec::len ObjectIdentifier::from_arcs \
+ObjectIdentifier::is_contents Uint::is_contents Reader read_default append_default explicit_default \
+UtcTime::moment GeneralizedTime::moment";
+
+/// The answer of a call that is given octets; for any other name that of a call about messages.
 pub fn answer_to_octets<X: AllocGlobal + Abort>(
     rt: &X,
     name: &str,
     bytes: &[u8],
     words: &str,
 ) -> String {
-    match name {
-        "Any::new" => any_of(rt, bytes),
-        "Int::new" => encoded(rt, Int::new(rt.alloc(), bytes)),
-        "Uint::new" => encoded(rt, Uint::new(rt.alloc(), bytes)),
-        "Uint::as_bytes" => magnitude(rt, bytes),
-        "Int::encode_into" => behind_nine(rt, int(rt, bytes)),
-        "Int::der_cmp" => order_of(rt, bytes),
-        "OctetString::as_bytes" => length_of(rt, bytes),
-        "SetOfVec::insert" => inserted(rt, bytes),
-        "SetOfVec::try_from" => encoded(rt, set_from(rt, bytes)),
-        "SetOfVec::eq" => are_equal(rt, bytes),
-        "SetOfVec::len" => members_of(rt, bytes),
-        "ObjectIdentifier::from_arcs" => three_arcs(rt, bytes),
-        "ObjectIdentifier::is_contents" => debug(rt, ObjectIdentifier::is_contents(bytes)),
-        "Uint::is_contents" => debug(rt, Uint::is_contents(bytes)),
-        "Reader" => two_values(rt, bytes),
-        "read_default" => { shown(rt, read_default(rt.alloc(), false, &mut Reader::new(bytes))) }
-        "append_default" => truth_written(rt, bytes == [1u8].as_slice()),
-        "explicit_default" => number_again(rt, bytes),
-        "UtcTime::moment" => second_of::<X, UtcTimeKind>(rt, bytes),
-        "GeneralizedTime::moment" => second_of::<X, GeneralizedTimeKind>(rt, bytes),
-        _ => certificates::answer(rt, name, bytes, words),
+    match place(name, CALLS_ON_OCTETS) {
+        0 => any_of(rt, bytes),
+        1 => encoded(rt, Int::new(rt.alloc(), bytes)),
+        2 => encoded(rt, Uint::new(rt.alloc(), bytes)),
+        3 => magnitude(rt, bytes),
+        4 => behind_nine(rt, int(rt, bytes)),
+        5 => order_of(rt, bytes),
+        6 => length_of(rt, bytes),
+        7 => inserted(rt, bytes),
+        8 => encoded(rt, set_from(rt, bytes)),
+        9 => are_equal(rt, bytes),
+        10 => members_of(rt, bytes),
+        11 => three_arcs(rt, bytes),
+        12 => debug(rt, ObjectIdentifier::is_contents(bytes)),
+        13 => debug(rt, Uint::is_contents(bytes)),
+        14 => two_values(rt, bytes),
+        15 => truth_read(rt, bytes),
+        16 => truth_written(rt, bytes == [1u8].as_slice()),
+        17 => number_again(rt, bytes),
+        18 => second_of::<X, UtcTimeKind>(rt, bytes),
+        19 => second_of::<X, GeneralizedTimeKind>(rt, bytes),
+        _ => contents::answer(rt, name, bytes, words),
     }
 }
 
@@ -70,9 +90,8 @@ fn refusal(number: usize) -> DerError {
     }
 }
 
-fn numbered<X: AllocGlobal + Abort>(rt: &X, error: DerError) -> String {
-    let number = error.number();
-    good(rt, format!(in rt.alloc(); "{number} {error}"))
+fn numbered_error<X: AllocGlobal + Abort>(rt: &X, error: DerError) -> String {
+    numbered(rt, error.number(), error)
 }
 
 // The number and the text of each refusal.
@@ -203,12 +222,13 @@ fn arcs_of<X: AllocGlobal + Abort>(rt: &X, identifier: &ObjectIdentifier) -> Str
 /// The identifier of three arcs: one octet, two octets and one.
 fn three_arcs<X: AllocGlobal + Abort>(rt: &X, bytes: &[u8]) -> String {
     match bytes {
-        [a, b, c, d] => {
-            let arcs = [*a as u32, 256 * *b as u32 + *c as u32, *d as u32];
-            encoded(rt, ObjectIdentifier::from_arcs(&arcs))
-        }
-        _ => panic!(rt; "three arcs"),
+        [a, b, c, d] => of_arcs(rt, [*a as u32, 256 * *b as u32 + *c as u32, *d as u32]),
+        _ => string(rt, "no arcs"),
     }
+}
+
+fn of_arcs<X: AllocGlobal + Abort>(rt: &X, arcs: [u32; 3]) -> String {
+    encoded(rt, ObjectIdentifier::from_arcs(&arcs))
 }
 
 // Sets of INTEGERs of one octet each.
@@ -294,6 +314,12 @@ fn two_values<X: AllocGlobal + Abort>(rt: &X, bytes: &[u8]) -> String {
     debug(rt, (first.value, first.whole, next, second.whole, last))
 }
 
+/// A BOOLEAN DEFAULT FALSE as it is read.
+fn truth_read<X: AllocGlobal + Abort>(rt: &X, bytes: &[u8]) -> String {
+    let mut reader = Reader::new(bytes);
+    shown(rt, read_default(rt.alloc(), false, &mut reader))
+}
+
 /// A BOOLEAN DEFAULT FALSE as it is written.
 fn truth_written<X: AllocGlobal + Abort>(rt: &X, truth: bool) -> String {
     let mut out = OctetString::empty(rt.alloc());
@@ -365,35 +391,24 @@ fn moment_of<X: Abort>(rt: &X, text: &str) -> Timestamp {
 /// The letters of a moment's time.
 fn letters_of<X: AllocGlobal + Abort, K: TimeKind>(rt: &X, moment: Timestamp) -> String {
     match Time::<K>::new(moment) {
-        Ok(time) => {
-            let letters = Letters(time.as_bytes());
-            good(rt, format!(in rt.alloc(); "{letters}"))
-        }
+        Ok(time) => string(rt, good(rt, str::from_utf8(time.as_bytes()))),
         Err(refusal) => debug(rt, refusal),
-    }
-}
-
-/// Octets that print as ASCII letters.
-#[derive(Clone, Copy)]
-struct Letters<'a>(&'a [u8]);
-
-impl fmt::Display for Letters<'_> {
-    fn fmt<W: fmt::Write>(&self, f: &mut fmt::Formatter<W>) -> fmt::Result {
-        for octet in self.0 {
-            write!(f, "{}", char::from(*octet))?;
-        }
-        Ok(())
     }
 }
 
 #[test]
 fn calls(rt: HostRuntime) {
-    check_rows(&rt, REFUSALS);
-    check_rows(&rt, LENGTHS);
-    check_rows(&rt, MADE);
-    check_rows(&rt, DOTTED);
-    check_rows(&rt, MEMBERS);
-    check_rows(&rt, READ);
-    check_rows(&rt, MOMENTS);
-    check_rows(&rt, MILLISECONDS);
+    check_tables(
+        &rt,
+        &[
+            REFUSALS,
+            LENGTHS,
+            MADE,
+            DOTTED,
+            MEMBERS,
+            READ,
+            MOMENTS,
+            MILLISECONDS,
+        ],
+    );
 }

@@ -1,9 +1,8 @@
 // Tables of searches, one row a line: a leaf, intermediates, anchors, what for and when, and the answer: the
 // intermediates' positions, `>`, the anchor's, and whose key issued the leaf. Worked out by hand by RFC 5280,
 // section 6, and what this crate's definitions ask beside it.
-use crate::words::{anchor, good, search, tables, text};
-use path_core::{LeafFault, PathError, Steps, first_is_one, path_exactly};
-use sigstore_app_parts::Tables;
+use crate::words::{good, hold, place};
+use path_core::{LeafFault, PathError, first_is_one, path_exactly};
 use std::process::Abort;
 
 // A root, two intermediates, and leaves of the second.
@@ -128,13 +127,15 @@ code_pss_salt : : rrsa : code now => NoPath
 code_256_512 : two one : root : code now => NoPath";
 
 // How many pairs are judged, counted by hand: level by level, each pair once. Of two that sign each other and
-// one anchor at most 9; of twenty of one name and key that sign each other at most 441.
+// one anchor at most 9; of twenty of one name and key that sign each other at most 441, whether they are copies
+// or differ in their numbers.
 const COUNTS: &str = "\
 code : two one : root : code now => 6
 code_other : : i_good : code now => 1
 server : two one : root : code now => 0
 code_right : right_by_left left_by_right : root : code now => 9
-code_other : i_self*20 : root : code now => 61";
+code_other : i_self*20 : root : code now => 61
+code_ring : ring1 ring2 ring3 ring4 ring5 ring6 ring7 ring8 ring9 ring10 ring11 ring12 ring13 ring14 ring15 ring16 ring17 ring18 ring19 ring20 : root : code now => 61";
 
 // Which certificates may be anchors.
 const MAKINGS: &str = "\
@@ -146,101 +147,38 @@ i_names_quiet => NameConstraints
 root_names => NameConstraints
 nothing => Certificate";
 
-// The five parts of what is asked.
-fn asked<'a, X: Abort>(rt: &X, words: &'a str) -> [&'a str; 5] {
-    let mut parts = words.split(" : ");
-    let leaf = parts.next().expect(rt, "a leaf");
-    let intermediates = parts.next().expect(rt, "intermediates");
-    let anchors = parts.next().expect(rt, "anchors");
-    let last = parts.next().expect(rt, "a purpose");
-    let (purpose, at) = last.split_once(' ').expect(rt, "a moment");
-    [leaf, intermediates, anchors, purpose, at]
-}
+// The number and the text of each refusal, and of each fault of a leaf.
+const REFUSALS: &str = "\
+Unreadable => 1 Leaf Unreadable
+Version => 1 Leaf Version
+CriticalExtension => 1 Leaf CriticalExtension
+IsCa => 1 Leaf IsCa
+Purpose => 1 Leaf Purpose
+NoPath => 2 NoPath
+NameConstraints => 3 NameConstraints
+Certificate => 4 Certificate
+NoMemory => 5 NoMemory";
 
-// The words of a row, with nothing written as a blank between two colons.
-fn spread<X: AllocGlobal + Abort>(rt: &X, words: &str) -> String {
-    let once = good(rt, words.replace(rt.alloc(), ": :", ":  :"));
-    let twice = good(rt, once.as_str().replace(rt.alloc(), ": :", ":  :"));
-    twice
-}
+const NAMES: &str = "\
+Unreadable Version CriticalExtension IsCa Purpose NoPath NameConstraints Certificate";
 
-// Ends the process where a search doesn't give its answer, or by `count` its count.
-fn check<X: AllocGlobal + Abort>(rt: &X, tables: &Tables, row: &str, count: bool) {
-    let (given, wanted) = row.split_once(" => ").expect(rt, "an answer");
-    let given = spread(rt, given);
-    let (answer, judged) = search(rt, tables, asked(rt, given.as_str()));
-    let found = if count {
-        drop(answer);
-        good(rt, format!(in rt.alloc(); "{judged}"))
-    } else {
-        answer
-    };
-    assert!(rt; found.as_str() == wanted, "{row}\nfound: {found}");
-}
-
-// Ends the process at the first row whose search doesn't give its answer.
-fn check_rows<X: AllocGlobal + Abort>(rt: &X, rows: &str, count: bool) {
-    let tables = tables(rt);
-    for row in rows.lines() {
-        check(rt, &tables, row, count);
+fn error(name: &str) -> PathError {
+    match place(name, NAMES) {
+        0 => PathError::Leaf(LeafFault::Unreadable),
+        1 => PathError::Leaf(LeafFault::Version),
+        2 => PathError::Leaf(LeafFault::CriticalExtension),
+        3 => PathError::Leaf(LeafFault::IsCa),
+        4 => PathError::Leaf(LeafFault::Purpose),
+        5 => PathError::NoPath,
+        6 => PathError::NameConstraints,
+        7 => PathError::Certificate,
+        _ => PathError::NoMemory,
     }
 }
 
-#[test]
-fn chains_lead_to_their_root(rt: HostRuntime) {
-    check_rows(&rt, CHAINS, false);
-}
-
-#[test]
-fn leaves_have_their_properties(rt: HostRuntime) {
-    check_rows(&rt, LEAVES, false);
-}
-
-#[test]
-fn lengths_count_from_the_leaf(rt: HostRuntime) {
-    check_rows(&rt, LENGTHS, false);
-}
-
-#[test]
-fn intermediates_have_their_properties(rt: HostRuntime) {
-    check_rows(&rt, INTERMEDIATES, false);
-}
-
-#[test]
-fn anchors_count_by_their_windows(rt: HostRuntime) {
-    check_rows(&rt, ANCHORS, false);
-}
-
-#[test]
-fn links_are_of_each_scheme(rt: HostRuntime) {
-    check_rows(&rt, SCHEMES, false);
-}
-
-#[test]
-fn pairs_are_judged_once(rt: HostRuntime) {
-    check_rows(&rt, COUNTS, true);
-    path_exactly();
-}
-
-// Ends the process where an anchor's making doesn't give its answer.
-fn check_making<X: AllocGlobal + Abort>(rt: &X, row: &str) {
-    let (word, wanted) = row.split_once(" => ").expect(rt, "an answer");
-    let found = match anchor(rt, word) {
-        Ok(_) => text(rt, "made"),
-        Err(refusal) => good(rt, format!(in rt.alloc(); "{refusal}")),
-    };
-    assert!(rt; found.as_str() == wanted, "{row}\nfound: {found}");
-}
-
-#[test]
-fn anchors_are_certificates_without_name_constraints(rt: HostRuntime) {
-    for row in MAKINGS.lines() {
-        check_making(&rt, row);
-    }
-}
-
-// A refusal's number and text.
-fn told<X: AllocGlobal + Abort>(rt: &X, refusal: PathError) -> String {
+/// A refusal's number and text.
+pub fn refusal<X: AllocGlobal + Abort>(rt: &X, name: &str) -> String {
+    let refusal = error(name);
     let number = refusal.number();
     match refusal {
         PathError::Leaf(fault) => good(rt, format!(in rt.alloc(); "{number} {refusal} {fault}")),
@@ -249,23 +187,20 @@ fn told<X: AllocGlobal + Abort>(rt: &X, refusal: PathError) -> String {
 }
 
 #[test]
-fn refusals_have_their_texts(rt: HostRuntime) {
-    let refusals = [
-        (PathError::Leaf(LeafFault::Unreadable), "1 Leaf Unreadable"),
-        (PathError::Leaf(LeafFault::Version), "1 Leaf Version"),
-        (
-            PathError::Leaf(LeafFault::CriticalExtension),
-            "1 Leaf CriticalExtension",
-        ),
-        (PathError::Leaf(LeafFault::IsCa), "1 Leaf IsCa"),
-        (PathError::Leaf(LeafFault::Purpose), "1 Leaf Purpose"),
-        (PathError::NoPath, "2 NoPath"),
-        (PathError::NameConstraints, "3 NameConstraints"),
-        (PathError::Certificate, "4 Certificate"),
-        (PathError::NoMemory, "5 NoMemory"),
-    ];
-    for (refusal, wanted) in refusals {
-        let found = told(&rt, refusal);
-        assert!(rt; found.as_str() == wanted, "{wanted}\nfound: {found}");
-    }
+fn searches_find_their_paths(rt: HostRuntime) {
+    hold(
+        &rt,
+        &[
+            ("path", CHAINS),
+            ("path", LEAVES),
+            ("path", LENGTHS),
+            ("path", INTERMEDIATES),
+            ("path", ANCHORS),
+            ("path", SCHEMES),
+            ("count", COUNTS),
+            ("making", MAKINGS),
+            ("refusal", REFUSALS),
+        ],
+    );
+    path_exactly();
 }

@@ -1,53 +1,115 @@
-// What rows of tables mean: names of certificates, moments, and answers as texts.
+// How tables of rows are tried, and what the rows mean: names of certificates, moments, and answers as texts. A
+// call is found by its place in a list of names, since the proof of a match on numbers costs far less than that
+// of one on texts.
 use crate::certificates::{CERTIFICATES, KEYS};
+use crate::paths;
 use crate::signatures::SIGNATURES;
 use jiff::Timestamp;
 use path_core::{Anchor, FoundPath, PathError, Purpose, Steps, find_path};
 use sigstore_app_parts::{Tables, read_provider};
 use sigstore_types_parts::{DerCertificate, DerPublicKey, TimeRange};
-use std::fmt::Debug;
+use std::fmt::{Debug, Display};
 use std::process::Abort;
+
+/// Tries tables, each behind the call that it is of: a row is what the call is given, ` => ` and its answer.
+pub fn hold<X: AllocGlobal + Abort>(rt: &X, rows_of_calls: &[(&str, &str)]) {
+    let tables = good(rt, read_provider(rt.alloc(), SIGNATURES.as_bytes()));
+    for (call, rows) in rows_of_calls {
+        hold_rows(rt, &tables, call, rows);
+    }
+    drop(tables);
+}
+
+fn hold_rows<X: AllocGlobal + Abort>(rt: &X, tables: &Tables, call: &str, rows: &str) {
+    for row in rows.lines() {
+        hold_row(rt, tables, call, row);
+    }
+}
+
+fn hold_row<X: AllocGlobal + Abort>(rt: &X, tables: &Tables, call: &str, row: &str) {
+    let (given, wanted) = halves(rt, row, " => ");
+    check(rt, row, wanted, answer(rt, tables, call, given));
+}
+
+/// Ends the process where a row's answer isn't the one that is wanted.
+fn check<X: Abort>(rt: &X, row: &str, wanted: &str, found: String) {
+    assert!(rt; found.as_str() == wanted, "{row}\nfound: {found}");
+}
+
+/// The answer of a call.
+fn answer<X: AllocGlobal + Abort>(rt: &X, tables: &Tables, call: &str, given: &str) -> String {
+    match place(call, "path count making refusal") {
+        0 => search(rt, tables, given, false),
+        1 => search(rt, tables, given, true),
+        2 => making(rt, given),
+        3 => paths::refusal(rt, given),
+        _ => text(rt, "no call"),
+    }
+}
+
+/// The place of a word in a list with blanks between the words, or how many these are.
+pub fn place(word: &str, words: &str) -> usize {
+    let mut place = 0;
+    for other in words.split(' ') {
+        if other == word {
+            return place;
+        }
+        place = place.saturating_add(1);
+    }
+    place
+}
 
 /// What a call gave; a refusal ends the process.
 pub fn good<X: Abort, T, E: Debug>(rt: &X, given: Result<T, E>) -> T {
     given.expect(rt, "a value")
 }
 
+/// What is there; where nothing is, the process ends.
+fn there<X: Abort, T>(rt: &X, given: Option<T>) -> T {
+    given.expect(rt, "something")
+}
+
+/// What stands before and behind the first of these marks.
+fn halves<'a, X: Abort>(rt: &X, text: &'a str, mark: &str) -> (&'a str, &'a str) {
+    there(rt, text.split_once(mark))
+}
+
 /// A text of its own.
-pub fn text<X: AllocGlobal + Abort>(rt: &X, text: &str) -> String {
+fn text<X: AllocGlobal + Abort>(rt: &X, text: &str) -> String {
     good(rt, String::from_str(rt.alloc(), text))
+}
+
+/// The display text of a value, which is let go.
+pub fn displayed<X: AllocGlobal + Abort, D: Display + Drop>(rt: &X, value: D) -> String {
+    good(rt, format!(in rt.alloc(); "{value}"))
+}
+
+/// The Debug text of a value, which is let go.
+fn printed<X: AllocGlobal + Abort, D: Debug + Drop>(rt: &X, value: D) -> String {
+    good(rt, format!(in rt.alloc(); "{value:?}"))
 }
 
 // What a table has behind a name.
 fn behind<X: Abort>(rt: &X, table: &'static str, name: &str) -> &'static str {
     for row in table.lines() {
-        if let Some((first, rest)) = row.split_once(' ') {
-            if first == name {
-                return rest;
-            }
+        let (first, rest) = halves(rt, row, " ");
+        if first == name {
+            return rest;
         }
     }
-    panic!(rt; "no {name}")
+    there(rt, None)
 }
 
 /// The certificate of a name.
-pub fn certificate<X: AllocGlobal + Abort>(rt: &X, name: &str) -> DerCertificate {
+fn certificate<X: AllocGlobal + Abort>(rt: &X, name: &str) -> DerCertificate {
     let encoded = behind(rt, CERTIFICATES, name);
     good(rt, DerCertificate::from_base64(rt.alloc(), encoded))
 }
 
-// How often a certificate stands there: `name*20` twenty times.
-fn repeated<'a, X: Abort>(rt: &X, word: &'a str) -> (&'a str, usize) {
-    match word.split_once('*') {
-        Some((name, count)) => (name, good(rt, count.parse::<usize>())),
-        None => (word, 1),
-    }
-}
-
-// Adds the certificate of a word, as often as it says.
+// Adds the certificate of a word, as often as it says: `name*20` twenty times.
 fn push_each<X: AllocGlobal + Abort>(rt: &X, word: &str, all: &mut Vec<DerCertificate>) {
-    let (name, count) = repeated(rt, word);
-    for _ in 0..count {
+    let (name, count) = word.split_once('*').unwrap_or((word, "1"));
+    for _ in 0..good(rt, count.parse::<usize>()) {
         good(rt, all.push(certificate(rt, name)));
     }
 }
@@ -62,7 +124,7 @@ fn certificates<X: AllocGlobal + Abort>(rt: &X, names: &str) -> Vec<DerCertifica
 }
 
 /// A moment; `now` is the middle of 2024.
-pub fn moment<X: Abort>(rt: &X, word: &str) -> Timestamp {
+fn moment<X: Abort>(rt: &X, word: &str) -> Timestamp {
     let word = if word == "now" {
         "2024-06-01T00:00:00Z"
     } else {
@@ -73,7 +135,7 @@ pub fn moment<X: Abort>(rt: &X, word: &str) -> Timestamp {
 
 // A window: `START..END`, the end left out where there is none.
 fn window<X: Abort>(rt: &X, word: &str) -> TimeRange {
-    let (start, end) = word.split_once("..").expect(rt, "a window");
+    let (start, end) = halves(rt, word, "..");
     TimeRange {
         start: moment(rt, start),
         end: if end.is_empty() {
@@ -84,8 +146,8 @@ fn window<X: Abort>(rt: &X, word: &str) -> TimeRange {
     }
 }
 
-/// The anchor of `NAME`, or of `NAME@WINDOW`.
-pub fn anchor<X: AllocGlobal + Abort>(rt: &X, word: &str) -> Result<Anchor, PathError> {
+// The anchor of `NAME`, or of `NAME@WINDOW`.
+fn anchor<X: AllocGlobal + Abort>(rt: &X, word: &str) -> Result<Anchor, PathError> {
     let (name, valid_for) = match word.split_once('@') {
         Some((name, range)) => (name, Some(window(rt, range))),
         None => (word, None),
@@ -98,72 +160,113 @@ pub fn anchor<X: AllocGlobal + Abort>(rt: &X, word: &str) -> Result<Anchor, Path
 fn anchors<X: AllocGlobal + Abort>(rt: &X, words: &str) -> Vec<Anchor> {
     let mut all = Vec::new(rt.alloc());
     for word in words.split_ascii_whitespace() {
-        let anchor = good(rt, anchor(rt, word));
-        good(rt, all.push(anchor));
+        good(rt, all.push(good(rt, anchor(rt, word))));
     }
     all
 }
 
-/// What a leaf is wanted for.
-pub fn purpose<X: Abort>(rt: &X, word: &str) -> Purpose {
-    match word {
-        "code" => Purpose::CodeSigning,
-        "time" => Purpose::TimeStamping,
-        _ => panic!(rt; "no purpose {word}"),
+// What a leaf is wanted for.
+fn purpose(word: &str) -> Purpose {
+    if word == "code" {
+        Purpose::CodeSigning
+    } else {
+        Purpose::TimeStamping
     }
 }
 
-/// Who decides signatures.
-pub fn tables<X: AllocGlobal + Abort>(rt: &X) -> Tables {
-    good(rt, read_provider(rt.alloc(), SIGNATURES.as_bytes()))
+// What the making of an anchor answers.
+fn making<X: AllocGlobal + Abort>(rt: &X, word: &str) -> String {
+    match anchor(rt, word) {
+        Ok(_) => text(rt, "made"),
+        Err(refusal) => displayed(rt, refusal),
+    }
 }
 
 // The name of a key.
 fn key_name<X: AllocGlobal + Abort>(rt: &X, spki: &[u8]) -> &'static str {
     for row in KEYS.lines() {
-        let (name, encoded) = row.split_once(' ').expect(rt, "a key");
-        let key = good(rt, DerPublicKey::from_base64(rt.alloc(), encoded));
-        if key.as_bytes() == spki {
+        let (name, encoded) = halves(rt, row, " ");
+        if is_key(rt, encoded, spki) {
             return name;
         }
     }
     "another key"
 }
 
+fn is_key<X: AllocGlobal + Abort>(rt: &X, encoded: &str, spki: &[u8]) -> bool {
+    let key = good(rt, DerPublicKey::from_base64(rt.alloc(), encoded));
+    key.as_bytes() == spki
+}
+
+// Positions, each before a blank.
+fn positions<X: AllocGlobal + Abort>(rt: &X, positions: &[u64]) -> String {
+    let mut all = text(rt, "");
+    for position in positions {
+        good(rt, all.push_str(printed(rt, *position).as_str()));
+        good(rt, all.push_str(" "));
+    }
+    all
+}
+
 // A path: its positions, `>`, its anchor's, and whose key issued the leaf.
 fn path<X: AllocGlobal + Abort>(rt: &X, found: &FoundPath) -> String {
-    let mut answer = text(rt, "");
-    for position in found.positions.as_slice() {
-        let part = good(rt, format!(in rt.alloc(); "{position} "));
-        good(rt, answer.push_str(part.as_str()));
-    }
+    let positions = positions(rt, found.positions.as_slice());
     let name = key_name(rt, found.issuer_spki.as_bytes());
     let anchor = found.anchor;
-    let part = good(rt, format!(in rt.alloc(); "> {anchor} by {name}"));
-    good(rt, answer.push_str(part.as_str()));
+    good(
+        rt,
+        format!(in rt.alloc(); "{positions}> {anchor} by {name}"),
+    )
+}
+
+// The answer of a search, or how many pairs it judged. What is asked has four parts between colons: a leaf,
+// intermediates, anchors, and what for and when.
+fn search<X: AllocGlobal + Abort>(rt: &X, tables: &Tables, given: &str, counts: bool) -> String {
+    let (leaf, rest) = halves(rt, given, " :");
+    let (intermediates, rest) = halves(rt, rest, " :");
+    let (anchor_words, last) = halves(rt, rest, " : ");
+    let intermediates = certificates(rt, intermediates);
+    let anchors = anchors(rt, anchor_words);
+    let parts = (intermediates.as_slice(), anchors.as_slice());
+    let answer = found(rt, tables, leaf, parts, last, counts);
+    drop(anchors);
+    drop(intermediates);
     answer
 }
 
-/// The answer of a search, and how many pairs it judged.
-pub fn search<X: AllocGlobal + Abort>(rt: &X, tables: &Tables, words: [&str; 5]) -> (String, u128) {
-    let [leaf, intermediates, anchor_words, purpose_word, at] = words;
-    let leaf = certificate(rt, leaf);
-    let intermediates = certificates(rt, intermediates);
-    let anchors = anchors(rt, anchor_words);
+fn found<X: AllocGlobal + Abort>(
+    rt: &X,
+    tables: &Tables,
+    leaf: &str,
+    parts: (&[DerCertificate], &[Anchor]),
+    last: &str,
+    counts: bool,
+) -> String {
+    let (purpose_word, at) = halves(rt, last, " ");
+    let (leaf, time) = (certificate(rt, leaf), moment(rt, at));
+    let (intermediates, anchors) = parts;
     let mut steps = Steps::new();
     let found = find_path(
         rt.alloc(),
         &tables.provider,
         &leaf,
-        intermediates.as_slice(),
-        anchors.as_slice(),
-        purpose(rt, purpose_word),
-        moment(rt, at),
+        intermediates,
+        anchors,
+        purpose(purpose_word),
+        time,
         &mut steps,
     );
-    let answer = match found {
+    drop(leaf);
+    if counts {
+        drop(found);
+        return printed(rt, steps.count());
+    }
+    told(rt, found)
+}
+
+fn told<X: AllocGlobal + Abort>(rt: &X, found: Result<FoundPath, PathError>) -> String {
+    match found {
         Ok(found) => path(rt, &found),
-        Err(refusal) => good(rt, format!(in rt.alloc(); "{refusal:?}")),
-    };
-    (answer, steps.count())
+        Err(refusal) => printed(rt, refusal),
+    }
 }

@@ -7,10 +7,12 @@ use crate::world::{
 use jiff::Timestamp;
 use sigstore_app_parts::{MemoryInputs, MemorySink, Which};
 use sigstore_crypto::MemorySource;
-use sigstore_questions::{ReadingStore, run_questions};
+use sigstore_questions::{LastAsked, ReadingStore, run_details, run_questions};
 use sigstore_run::{Status, run};
-use sigstore_tuf::{MemoryRepository, MemoryStore, MetadataStore};
+use sigstore_tuf::{MemoryRepository, MemoryStore, MetadataStore, StoreFault};
 use sigstore_types_parts::{Bytes, Text};
+use std::alloc::Global;
+use std::cell::Cell;
 use std::num::NonZeroU32;
 use std::process::Abort;
 
@@ -136,13 +138,37 @@ fn verified<X: AllocGlobal + Abort>(rt: &X, change: Change) -> String {
     said
 }
 
-// How the questions of these words over the world end, and what is written; the store has to stay empty.
+// A store that counts the writes that reach it.
+#[derive(Drop)]
+struct CountedStore<'a> {
+    inner: MemoryStore,
+    writes: &'a Cell<u64>,
+}
+
+impl MetadataStore for CountedStore<'_> {
+    ghost seen = { λ s. MemoryStore.MetadataStore.seen s.inner };
+
+    ghost tame = { λ s. MemoryStore.MetadataStore.tame s.inner };
+
+    fn load(&mut self, alloc: Global, name: &str) -> Result<Option<Bytes>, StoreFault> {
+        self.inner.load(alloc, name)
+    }
+
+    fn store(&mut self, alloc: Global, name: &str, bytes: &[u8]) -> Result<(), StoreFault> {
+        self.writes.set(self.writes.get().saturating_add(1));
+        self.inner.store(alloc, name, bytes)
+    }
+}
+
+// How the questions of these words over the world end, and what is written; no write may reach the store.
 fn asked<X: AllocGlobal + Abort>(rt: &X, line: &str) -> (Status, String) {
     let words = words(rt, line);
     let (mut inputs, mut repo) = (inputs(rt, NONE), repository(rt, NONE));
-    let mut store = ReadingStore {
+    let writes = Cell::new(0);
+    let mut store = ReadingStore::new(CountedStore {
         inner: MemoryStore::new(rt.alloc()),
-    };
+        writes: &writes,
+    });
     let mut artifact = artifact(rt, NONE);
     let mut sink = sink(rt);
     let ended = run_questions(
@@ -155,14 +181,12 @@ fn asked<X: AllocGlobal + Abort>(rt: &X, line: &str) -> (Status, String) {
         &mut artifact,
         &mut sink,
     );
-    let kept = good(rt, store.load(rt.alloc(), "timestamp.json"));
-    assert!(rt; kept.is_none(), "the store stays as it was");
+    assert!(rt; writes.get() == 0, "the store stays as it was");
     drop(words);
     drop(inputs);
     drop(repo);
     drop(store);
     drop(artifact);
-    drop(kept);
     (ended, taken(rt, sink))
 }
 
@@ -211,4 +235,46 @@ fn other_words_ask_nothing(rt: HostRuntime) {
     let (ended, text) = asked(&rt, VERIFY);
     check(&rt, VERIFY, "usage;", text);
     assert!(&rt; ended == Status::Usage, "verify isn't questions");
+}
+
+// What the refusal over the changed world holds.
+fn detailed<X: AllocGlobal + Abort>(rt: &X, change: Change) -> String {
+    let words = words(rt, VERIFY);
+    let mut inputs = inputs(rt, change);
+    let mut repo = LastAsked::new(rt.alloc(), repository(rt, change));
+    let mut store = ReadingStore::new(MemoryStore::new(rt.alloc()));
+    let mut artifact = artifact(rt, change);
+    let mut sink = sink(rt);
+    let ended = run_details(
+        rt.alloc(),
+        &words,
+        Timestamp::UNIX_EPOCH,
+        &mut inputs,
+        &mut repo,
+        &mut store,
+        &mut artifact,
+        &mut sink,
+    );
+    assert!(rt; ended == Status::Accepted, "the text is written");
+    drop(words);
+    drop(inputs);
+    drop(repo);
+    drop(store);
+    drop(artifact);
+    taken(rt, sink)
+}
+
+// A row: a file, a text in it, the text in its place, and what the refusal holds.
+const DETAILED: &str = r#"none |  |  | 
+timestamp.json | 2035 | 2037 | ThresholdNotMet { role: "timestamp", found: 0, threshold: 2 };the last file that was asked for: timestamp.json;
+4.snapshot.json | 2035 | 2037 | IntegrityMismatch(Digest);the last file that was asked for: 4.snapshot.json;
+bundle.json | verificationMaterial | material | InvalidBundle;Field { member: VerificationMaterial };
+release.txt | The | Thf | ArtifactMismatch;"#;
+
+#[test]
+fn refusals_are_told_in_full(rt: HostRuntime) {
+    for row in DETAILED.lines() {
+        let (change, wanted) = change_of(&rt, row);
+        check(&rt, row, wanted, detailed(&rt, change));
+    }
 }

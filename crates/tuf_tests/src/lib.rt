@@ -18,6 +18,8 @@ mod provider;
 #[cfg(test)]
 mod refusals;
 #[cfg(test)]
+mod requests;
+#[cfg(test)]
 mod searches;
 #[cfg(test)]
 mod sets;

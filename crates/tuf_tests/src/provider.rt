@@ -1,7 +1,7 @@
 // Providers that accept the signature 01 of everything, or what equals its subject; a key, and an armour that
 // holds it.
 ghost use Rattle.std.specs.Prelude.{[], ◌∷◌, Some, bytes_eq, true};
-ghost use Rattle.sigstore_crypto.specs.Good.{subject_of};
+ghost use Rattle.sigstore_crypto_parts.specs.Good.{subject_of};
 
 use crate::words::key_bytes;
 use foundation::{Duplicate, NoMemory};

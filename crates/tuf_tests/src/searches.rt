@@ -1,6 +1,7 @@
 // The order of the search over delegated roles, and why it is refused.
 use crate::calls::{answered, called, kept_all};
 use crate::names;
+use crate::requests::requested;
 use crate::trees::{repository, root};
 use crate::words::{good, halves, hold};
 use sigstore_tuf::{MemoryStore, UpdaterConfig};
@@ -11,6 +12,7 @@ pub fn answer<X: AllocGlobal + Abort>(rt: &X, call: &str, given: &str) -> String
     match call {
         "search" => searched(rt, UpdaterConfig::default(), given),
         "limited search" => limited(rt, given),
+        "requests" => requested(rt, given),
         _ => names::answer(rt, call, given),
     }
 }

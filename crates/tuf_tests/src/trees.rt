@@ -209,10 +209,13 @@ fn put_roles<X: AllocGlobal + Abort>(rt: &X, repo: &mut MemoryRepository, line: 
 
 /// A repository with a timestamp and nothing else.
 pub fn with_timestamp<X: AllocGlobal + Abort>(rt: &X) -> MemoryRepository {
-    let failures = there(rt, FailList::new(Vec::new(rt.alloc())));
-    let mut repo = MemoryRepository::new(rt.alloc(), failures);
+    let mut repo = MemoryRepository::new(rt.alloc(), no_failures(rt));
     put(rt, &mut repo, "timestamp.json", TIMESTAMP);
     repo
+}
+
+fn no_failures<X: AllocGlobal + Abort>(rt: &X) -> FailList {
+    there(rt, FailList::new(Vec::new(rt.alloc())))
 }
 
 /// The repository of a line. The line has the documents of the roles, with `; ` between them. A document is a
@@ -221,7 +224,17 @@ pub fn with_timestamp<X: AllocGlobal + Abort>(rt: &X) -> MemoryRepository {
 /// prefix of their digests, and a last `!` where it is terminating. Behind `=` stands the id that signed a
 /// document, or that has to sign for a delegation (else `k`).
 pub fn repository<X: AllocGlobal + Abort>(rt: &X, line: &str) -> MemoryRepository {
-    let mut repo = with_timestamp(rt);
+    repository_failing(rt, line, no_failures(rt))
+}
+
+/// The repository of a line, some of whose calls fail.
+pub fn repository_failing<X: AllocGlobal + Abort>(
+    rt: &X,
+    line: &str,
+    failures: FailList,
+) -> MemoryRepository {
+    let mut repo = MemoryRepository::new(rt.alloc(), failures);
+    put(rt, &mut repo, "timestamp.json", TIMESTAMP);
     let pins = pins(rt, line);
     put_snapshot(rt, &mut repo, "snapshot.json", pins.as_str());
     drop(pins);

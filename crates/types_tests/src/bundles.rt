@@ -1,17 +1,29 @@
 // Bundles: the refusal of each text, worked out by hand from the order of the members, and structures.
-use crate::words::{copied, good, hold, hold_filled, printed, word};
+use crate::tables::{copied, good, hold, printed, replaced, word};
 use sigstore_types::*;
 use std::process::Abort;
 
-/// The answer of a call that is given a text.
-pub fn answer<X: AllocGlobal + Abort>(rt: &X, call: &str, given: &str) -> String {
-    match call {
-        "bundle" => word(rt, Bundle::from_json(rt.alloc(), given.as_bytes())),
-        "bundle of byte ff" => word(rt, Bundle::from_json(rt.alloc(), &[0xff])),
-        "bundle over hello" => over_hello(rt, given),
-        "structure" => structure_of(rt, given),
-        _ => panic!(rt; "no call {call}"),
-    }
+/// `Ok` where octets are a bundle, or the refusal.
+pub fn bundle<X: AllocGlobal + Abort>(rt: &X, octets: &[u8]) -> String {
+    word(rt, Bundle::from_json(rt.alloc(), octets))
+}
+
+/// The same of the octets of a text with another in the place of its star.
+fn filled<X: AllocGlobal + Abort>(rt: &X, text: &str, given: &str) -> String {
+    let text = replaced(rt, text, &[("*", given)]);
+    let answer = bundle(rt, text.as_bytes());
+    drop(text);
+    answer
+}
+
+/// The same of the bundle with this material.
+pub fn material<X: AllocGlobal + Abort>(rt: &X, given: &str) -> String {
+    filled(rt, MATERIAL, given)
+}
+
+/// The same of the bundle with this content.
+pub fn content<X: AllocGlobal + Abort>(rt: &X, given: &str) -> String {
+    filled(rt, CONTENT, given)
 }
 
 const MEDIA_TYPES: &str = r#"{ => Json
@@ -82,17 +94,18 @@ const CONTENTS: &str = r#" => Json
 const HELLO: &str =
     r#"{"mediaType":"application/vnd.dev.sigstore.bundle.v0.3+json","verificationMaterial":{"publicKey":{"hint":"k"}},"messageSignature":{"messageDigest":{"algorithm":"SHA2_256","digest":"LPJNul+wow4m6DsqxbninhsWHlwfp0JecwQzYpOLmCQ="},"signature":"AQ=="}}"#;
 
-// A copy of a bundle, and whether it has the structure that is wanted where the log is verified or not.
-fn over_hello<X: AllocGlobal + Abort>(rt: &X, call: &str) -> String {
-    let bundle = copied(
-        rt,
-        good(rt, Bundle::from_json(rt.alloc(), HELLO.as_bytes())),
-    );
-    match call {
-        "log" => structure(rt, bundle, true),
-        "no log" => structure(rt, bundle, false),
-        _ => shown(rt, bundle),
+/// A copy of a bundle, and whether it has the structure that is wanted where the log is verified or not.
+pub fn over_hello<X: AllocGlobal + Abort>(rt: &X, call: &str) -> String {
+    let bundle = copied(rt, read(rt, HELLO));
+    if call == "copy" {
+        shown(rt, bundle)
+    } else {
+        structure(rt, bundle, call == "log")
     }
+}
+
+fn read<X: AllocGlobal + Abort>(rt: &X, text: &str) -> Bundle {
+    good(rt, Bundle::from_json(rt.alloc(), text.as_bytes()))
 }
 
 // The parts of a bundle.
@@ -112,9 +125,11 @@ fn structure<X: AllocGlobal + Abort>(rt: &X, bundle: Bundle, verifies_log: bool)
     printed(rt, answer)
 }
 
-// The structure of a bundle where the log is verified.
-fn structure_of<X: AllocGlobal + Abort>(rt: &X, text: &str) -> String {
-    let bundle = good(rt, Bundle::from_json(rt.alloc(), text.as_bytes()));
+/// The structure of the bundle with these entries where the log is verified.
+pub fn entries<X: AllocGlobal + Abort>(rt: &X, given: &str) -> String {
+    let text = replaced(rt, ENTRIES, &[("*", given)]);
+    let bundle = read(rt, text.as_str());
+    drop(text);
     structure(rt, bundle, true)
 }
 
@@ -136,9 +151,9 @@ log => Err(NoEntry)"#;
 #[test]
 fn bundles(rt: HostRuntime) {
     hold(&rt, "bundle", MEDIA_TYPES);
-    hold(&rt, "bundle of byte ff", " => Json");
-    hold_filled(&rt, "bundle", MATERIAL, MATERIALS);
-    hold_filled(&rt, "bundle", CONTENT, CONTENTS);
-    hold_filled(&rt, "structure", ENTRIES, STRUCTURES);
-    hold(&rt, "bundle over hello", OVER_HELLO);
+    hold(&rt, "byte_ff", " => Json");
+    hold(&rt, "material", MATERIALS);
+    hold(&rt, "content", CONTENTS);
+    hold(&rt, "structure", STRUCTURES);
+    hold(&rt, "over_hello", OVER_HELLO);
 }

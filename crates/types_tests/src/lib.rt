@@ -1,9 +1,22 @@
-//! Tests of the values that bundles and trust files are made of, and of bundles.
+//! Tests of the values that bundles and trust files are made of, of keys and certificates as texts, of entries
+//! of logs and their checkpoints, of inclusion in Merkle trees, and of bundles.
 #![tactic(auto)]
 
 #[cfg(test)]
 mod bundles;
 #[cfg(test)]
+mod checkpoints;
+#[cfg(test)]
+mod entries;
+#[cfg(test)]
+mod inclusion_data;
+#[cfg(test)]
+mod inclusions;
+#[cfg(test)]
+mod pem;
+#[cfg(test)]
+mod tables;
+#[cfg(test)]
 mod texts;
 #[cfg(test)]
-mod words;
+mod trees;

@@ -1,29 +1,16 @@
 // Display texts, encodings on outside values, and JSON, instants and lists in small.
-use crate::bundles;
-use crate::words::{copied, good, halves, hold, number, numbered, printed, string};
+use crate::tables::{
+    copied, good, halves, hold, holds, number, numbered, place, printed, string, there,
+};
 use foundation::{Duplicate, Sequence};
+use jiff::Timestamp;
 use serde_json::Value;
 use sigstore_types_parts::*;
+use std::alloc::Global;
 use std::process::Abort;
 
-/// The answer of a call that is given a text; for any other name that of a call about bundles.
-pub fn answer<X: AllocGlobal + Abort>(rt: &X, call: &str, given: &str) -> String {
-    match call {
-        "refusal of types" => named(rt, given),
-        "algorithm" => algorithm(rt, given),
-        "encoding" => encoding(rt, given),
-        "parse_json" => printed(rt, parse_json(rt.alloc(), given.as_bytes()).err()),
-        "member" => member(rt, given),
-        "fail list" => listed(rt, given),
-        "hint" => hint(rt, given),
-        "same" => same(rt, given),
-        "range" => range(rt, given),
-        _ => bundles::answer(rt, call, given),
-    }
-}
-
 // Whether two JSON texts are of one value.
-fn same<X: AllocGlobal + Abort>(rt: &X, row: &str) -> String {
+pub fn same<X: AllocGlobal + Abort>(rt: &X, row: &str) -> String {
     let (left, right) = halves(rt, row, " | ");
     let left = Json::new(good(rt, Value::from_str(rt.alloc(), left)));
     let right = Json::new(good(rt, Value::from_str(rt.alloc(), right)));
@@ -46,11 +33,11 @@ const SAME: &str = r#"{"a":[1,-1,true,null,"b"]} | {"a":[1,-1,true,null,"b"]} =>
 "1" | 1 => false"#;
 
 // Whether a range from a moment to another, or to none, has begun by a third, and whether that lies in it.
-fn range<X: AllocGlobal + Abort>(rt: &X, row: &str) -> String {
+pub fn range<X: AllocGlobal + Abort>(rt: &X, row: &str) -> String {
     let (start, others) = halves(rt, row, " ");
     let (end, moment) = halves(rt, others, " ");
-    let range = TimeRange::new(instant(start).expect(rt, "a start"), instant(end));
-    let moment = instant(moment).expect(rt, "a moment");
+    let range = TimeRange::new(there(rt, instant(start)), instant(end));
+    let moment = there(rt, instant(moment));
     printed(rt, (range.has_started_by(moment), range.contains(moment)))
 }
 
@@ -60,32 +47,35 @@ const RANGES: &str = "2025-01-02T00:00:00Z 2025-01-03T00:00:00Z 2025-01-02T00:00
 2025-01-02T00:00:00Z 2025-01-03T00:00:00Z 2025-01-03T00:00:00.000000001Z => (true, false)
 2025-01-02T00:00:00Z none 9999-01-01T00:00:00Z => (true, true)";
 
-fn shown<X: AllocGlobal + Abort>(rt: &X, error: TypesError) -> String {
+/// The number and the display text of a refusal.
+pub fn refusal<X: AllocGlobal + Abort>(rt: &X, name: &str) -> String {
+    let error = error(name);
     numbered(rt, error.number(), error)
 }
 
-// The number and the display text of a refusal.
-fn named<X: AllocGlobal + Abort>(rt: &X, name: &str) -> String {
-    match name {
-        "Json" => shown(rt, TypesError::Json),
-        "Float" => shown(rt, TypesError::Float),
-        "Field" => {
-            let member = TypesMember::Hint;
-            shown(rt, TypesError::Field { member })
-        }
-        "Base64" => shown(rt, TypesError::Base64),
-        "Hex" => shown(rt, TypesError::Hex),
-        "Length" => {
-            let (expected, actual) = (32, 31);
-            shown(rt, TypesError::Length { expected, actual })
-        }
-        "MediaType" => shown(rt, TypesError::MediaType),
-        "Kind" => shown(rt, TypesError::Kind),
-        "Checkpoint" => shown(rt, TypesError::Checkpoint(CheckpointRule::Size)),
-        "NoEntry" => shown(rt, TypesError::NoEntry),
-        "NoProof" => shown(rt, TypesError::NoProof),
-        "NoMemory" => shown(rt, TypesError::NoMemory),
-        _ => shown(rt, TypesError::Unbuilt(Form::Tokens)),
+const NAMES: &str = "\
+Json Float Field Base64 Hex Length MediaType Kind Checkpoint NoEntry NoProof NoMemory";
+
+fn error(name: &str) -> TypesError {
+    match place(name, NAMES) {
+        0 => TypesError::Json,
+        1 => TypesError::Float,
+        2 => TypesError::Field {
+            member: TypesMember::Hint,
+        },
+        3 => TypesError::Base64,
+        4 => TypesError::Hex,
+        5 => TypesError::Length {
+            expected: 32,
+            actual: 31,
+        },
+        6 => TypesError::MediaType,
+        7 => TypesError::Kind,
+        8 => TypesError::Checkpoint(CheckpointRule::Size),
+        9 => TypesError::NoEntry,
+        10 => TypesError::NoProof,
+        11 => TypesError::NoMemory,
+        _ => TypesError::Unbuilt(Form::Tokens),
     }
 }
 
@@ -103,8 +93,13 @@ NoProof => 11 NoProof
 NoMemory => 12 NoMemory
 Unbuilt => 90 Unbuilt";
 
+/// The fault of a text that is no JSON that is read here.
+pub fn fault<X: AllocGlobal + Abort>(rt: &X, text: &str) -> String {
+    printed(rt, parse_json(rt.alloc(), text.as_bytes()).err())
+}
+
 // The length of an algorithm's digests, its name in log bodies, and the algorithm of that name.
-fn algorithm<X: AllocGlobal + Abort>(rt: &X, name: &str) -> String {
+pub fn algorithm<X: AllocGlobal + Abort>(rt: &X, name: &str) -> String {
     match HashAlgorithm::from_name(name) {
         Some(algorithm) => {
             let (length, rekor) = (algorithm.digest_len(), algorithm.as_rekor_str());
@@ -125,13 +120,10 @@ md5 => None"#;
 // The bytes, their base64, and whether a copy equals them.
 fn bytes_shown<X: AllocGlobal + Abort>(rt: &X, bytes: SignatureBytes) -> String {
     let base64 = good(rt, bytes.to_base64(rt.alloc()));
-    let copy = good(rt, bytes.duplicate(rt.alloc()));
-    let is_copied = copy == bytes;
-    drop(copy);
-    printed(rt, (bytes, base64, is_copied))
+    printed(rt, (copied(rt, bytes), base64, true))
 }
 
-fn encoding<X: AllocGlobal + Abort>(rt: &X, text: &str) -> String {
+pub fn encoding<X: AllocGlobal + Abort>(rt: &X, text: &str) -> String {
     match SignatureBytes::from_base64(rt.alloc(), text) {
         Ok(bytes) => bytes_shown(rt, bytes),
         Err(refusal) => printed(rt, refusal),
@@ -156,10 +148,11 @@ fn hint_of<X: AllocGlobal + Abort>(rt: &X, bytes: &[u8]) -> String {
 }
 
 // The first SHA-256 bytes of `hello` as a hint, in hexadecimal with its length; or a hint of one byte.
-fn hint<X: AllocGlobal + Abort>(rt: &X, name: &str) -> String {
-    match name {
-        "hello" => hint_of(rt, &[0x2c, 0xf2, 0x4d, 0xba]),
-        _ => hint_of(rt, &[0]),
+pub fn hint<X: AllocGlobal + Abort>(rt: &X, name: &str) -> String {
+    if name == "hello" {
+        hint_of(rt, &[0x2c, 0xf2, 0x4d, 0xba])
+    } else {
+        hint_of(rt, &[0])
     }
 }
 
@@ -179,60 +172,40 @@ fn all<X: AllocGlobal + Abort>(rt: &X, value: &Value) -> String {
 }
 
 fn member_of<X: AllocGlobal + Abort>(rt: &X, value: &Value, name: &str) -> String {
-    match name {
-        "hint" => {
-            let read: Result<Text, TypesError> = required(rt.alloc(), value, TypesMember::Hint);
-            printed(rt, read)
-        }
-        "version" => {
-            let read: Result<u64, TypesError> = required(rt.alloc(), value, TypesMember::Version);
-            printed(rt, read)
-        }
-        "sig" => {
-            let read: Result<Option<SignatureBytes>, TypesError> = optional(
-                rt.alloc(),
-                value,
-                TypesMember::Sig,
-            );
-            printed(rt, read)
-        }
-        "start" => {
-            let read: Result<Option<jiff::Timestamp>, TypesError> = optional(
-                rt.alloc(),
-                value,
-                TypesMember::Start,
-            );
-            printed(rt, read)
-        }
-        "end" => {
-            let read: Result<bool, TypesError> = defaulted(
-                rt.alloc(),
-                value,
-                TypesMember::End,
-                true,
-            );
-            printed(rt, read)
-        }
-        "subject" => {
-            let read: Result<Sequence<Text>, TypesError> = required(
-                rt.alloc(),
-                value,
-                TypesMember::Subject,
-            );
-            printed(rt, read.err())
-        }
+    let alloc = rt.alloc();
+    match place(name, "hint version sig start end subject") {
+        0 => printed(
+            rt,
+            required::<TypesMember, Text>(alloc, value, TypesMember::Hint),
+        ),
+        1 => printed(
+            rt,
+            required::<TypesMember, u64>(alloc, value, TypesMember::Version),
+        ),
+        2 => printed(
+            rt,
+            optional::<TypesMember, SignatureBytes>(alloc, value, TypesMember::Sig),
+        ),
+        3 => printed(
+            rt,
+            optional::<TypesMember, Timestamp>(alloc, value, TypesMember::Start),
+        ),
+        4 => printed(
+            rt,
+            defaulted::<TypesMember, bool>(alloc, value, TypesMember::End, true),
+        ),
+        5 => printed(rt, subject_in(alloc, value).err()),
         _ => all(rt, value),
     }
 }
 
-fn member<X: AllocGlobal + Abort>(rt: &X, name: &str) -> String {
-    let value = good(
-        rt,
-        parse_json(
-            rt.alloc(),
-            b"{\"hint\":\"k\",\"version\":7,\"sig\":\"AQ==\"}",
-        ),
-    );
+fn subject_in(alloc: Global, value: &Value) -> Result<Sequence<Text>, TypesError> {
+    required(alloc, value, TypesMember::Subject)
+}
+
+pub fn member<X: AllocGlobal + Abort>(rt: &X, name: &str) -> String {
+    let text = b"{\"hint\":\"k\",\"version\":7,\"sig\":\"AQ==\"}";
+    let value = good(rt, parse_json(rt.alloc(), text));
     let answer = member_of(rt, &value, name);
     drop(value);
     answer
@@ -266,14 +239,9 @@ fn numbers<X: AllocGlobal + Abort>(rt: &X, words: &str) -> Vec<u64> {
     numbers
 }
 
-fn listed<X: AllocGlobal + Abort>(rt: &X, words: &str) -> String {
+pub fn listed<X: AllocGlobal + Abort>(rt: &X, words: &str) -> String {
     match FailList::new(numbers(rt, words)) {
-        Some(list) => {
-            let copy = good(rt, list.duplicate(rt.alloc()));
-            assert!(rt; copy == list, "a copy");
-            drop(copy);
-            four_calls(rt, list)
-        }
+        Some(list) => { four_calls(rt, copied(rt, list)) }
         None => string(rt, "no list"),
     }
 }
@@ -286,7 +254,7 @@ const LISTED: &str = "2 3 => (false, true, true, false, 2)
 
 #[test]
 fn texts(rt: HostRuntime) {
-    hold(&rt, "refusal of types", REFUSALS);
+    hold(&rt, "refusal", REFUSALS);
     hold(&rt, "algorithm", ALGORITHMS);
     hold(&rt, "encoding", ENCODINGS);
     hold(&rt, "hint", HINTS);
@@ -294,5 +262,5 @@ fn texts(rt: HostRuntime) {
     hold(&rt, "same", SAME);
     hold(&rt, "range", RANGES);
     hold(&rt, "member", MEMBERS);
-    hold(&rt, "fail list", LISTED);
+    hold(&rt, "fail_list", LISTED);
 }

@@ -1,6 +1,6 @@
 // A run of the program over objects in memory: the fixture, with one of its parts changed.
 use crate::tables::{
-    Change, bytes, change_in, failures, good, source, string, text_of, there, words,
+    Change, bytes, change_in, display, failures, good, source, string, text_of, there, words,
 };
 use crate::{delegated, logged};
 use jiff::Timestamp;
@@ -9,7 +9,21 @@ use sigstore_crypto::{MemorySource, sha256};
 use sigstore_run::{Status, run};
 use sigstore_tuf::{MemoryRepository, MemoryStore, MetadataStore};
 use sigstore_types_parts::{Bytes, DigestBytes, Text};
+use sigstore_verify::RootFault;
 use std::process::Abort;
+
+// The answer of a call: what a run says, what it leaves in the store, or the display text of a refusal.
+pub(crate) fn answer<X: AllocGlobal + Abort>(rt: &X, call: &str, given: &str) -> String {
+    match call {
+        "run" => said(rt, given),
+        "kept" => kept(rt, given),
+        "fault" => match given {
+            "RootFault::Tuf" => display(rt, RootFault::Tuf(sigstore_tuf::Error::Json)),
+            _ => display(rt, RootFault::NoMemory),
+        },
+        _ => panic!(rt; "no call {call}"),
+    }
+}
 
 // The raw key 04 and 64 zero bytes.
 const RAW_KEY: &str =
@@ -446,7 +460,7 @@ fn run_with<X: AllocGlobal + Abort>(rt: &X, change: Change, sink: &mut MemorySin
 }
 
 // The status of a run over the changed fixture, and what the sink took, as Debug prints them.
-pub(crate) fn said<X: AllocGlobal + Abort>(rt: &X, row: &str) -> String {
+fn said<X: AllocGlobal + Abort>(rt: &X, row: &str) -> String {
     let change = change_in(rt, row, PARTS);
     let room = change.of("room", "1024");
     let failures = failures(rt, change.of("sink fails", ""));
@@ -470,7 +484,7 @@ fn measured<X: AllocGlobal + Abort>(rt: &X, file: &[u8]) -> String {
 }
 
 // What the store has under a name after a run over the changed fixture.
-pub(crate) fn kept<X: AllocGlobal + Abort>(rt: &X, row: &str) -> String {
+fn kept<X: AllocGlobal + Abort>(rt: &X, row: &str) -> String {
     let (row, name) = there(rt, row.rsplit_once(" | "));
     let change = change_in(rt, row, PARTS);
     let mut sink = good(rt, MemorySink::new(rt.alloc(), 1024, failures(rt, "")));

@@ -1,4 +1,4 @@
-//! Tests of the verifier, of the parts of the program and of its runs.
+//! Tests of the program's runs.
 #![tactic(auto)]
 
 #[cfg(test)]
@@ -6,12 +6,8 @@ mod delegated;
 #[cfg(test)]
 mod fixture;
 #[cfg(test)]
-mod inputs;
-#[cfg(test)]
 mod logged;
 #[cfg(test)]
 mod runs;
 #[cfg(test)]
 mod tables;
-#[cfg(test)]
-mod verification;

@@ -33,6 +33,13 @@ words | verify --root=a --repository=b --store=c --bundle=d --artifact=e --polic
 words | verify --root=a --root=a --repository=b --store=c --bundle=d --artifact=e --policy=f --provider=g | Usage "usage\n"
 words | verify --root=a --repository=b --store=c --bundle=d --artifact=e --policy=f | Usage "usage\n"
 words | verify --root=a --repository=b --store=c --bundle=d --artifact=e --policy=f --provider=g --now=2030-01-01T00:00:01Z | Refused "refused tuf 12 Expired\n"
+# A policy whose key is no base64.
+key | %% | Usage "usage policy\n"
+# Documents outside their grammar, one of another kind, one with a number that is no integer, and one that an id signed twice.
+timestamp | {"_type":"timestamp"} | Refused "refused tuf 1 Json\n"
+timestamp | {"_type":"snapshot","spec_version":"1.0.0"} | Refused "refused tuf 2 Malformed\n"
+timestamp | {"_type":"timestamp","other":1.5} | Refused "refused tuf 3 NonIntegerNumber\n"
+timestamp | {"_type":"timestamp","expires":"2030-01-01T00:00:00Z","meta":{"snapshot.json":{"version":1}},"spec_version":"1.0.0","version":1},"signatures":[{"keyid":"k","sig":"01"},{"keyid":"k","sig":"02"}] | Refused "refused tuf 7 DuplicateSignature\n"
 # The chain of documents. The root's key is of P-256, and so no key under ed25519.
 unsigned | root | Refused "refused tuf 8 ThresholdNotMet\n"
 unsigned | timestamp | Refused "refused tuf 8 ThresholdNotMet\n"
@@ -140,4 +147,12 @@ words |  | root.json | none"#;
 #[test]
 fn what_a_refused_run_leaves_in_the_store(rt: HostRuntime) {
     hold(&rt, "kept", KEPT);
+}
+
+const FAULTS: &str = "RootFault::Tuf | Tuf
+RootFault::NoMemory | NoMemory";
+
+#[test]
+fn refusals_of_the_top_call_have_texts(rt: HostRuntime) {
+    hold(&rt, "fault", FAULTS);
 }

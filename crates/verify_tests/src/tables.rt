@@ -1,6 +1,6 @@
 // How tables of rows are tried, and the values that their rows name. A test ends the process where it
 // fails, so no helper hands a failure on.
-use crate::inputs;
+use crate::fixture;
 use sigstore_crypto::MemorySource;
 use sigstore_types_parts::{Bytes, FailList, Text};
 use std::fmt::{Debug, Display};
@@ -13,7 +13,7 @@ pub(crate) fn hold<X: AllocGlobal + Abort>(rt: &X, call: &str, rows: &str) {
     for row in rows.lines() {
         if !row.starts_with('#') {
             let (given, wanted) = answered(rt, row);
-            check(rt, row, wanted, inputs::answer(rt, call, given));
+            check(rt, row, wanted, fixture::answer(rt, call, given));
         }
     }
 }
@@ -51,36 +51,14 @@ pub(crate) fn string<X: AllocGlobal + Abort>(rt: &X, text: &str) -> String {
     good(rt, String::from_str(rt.alloc(), text))
 }
 
-// The Debug text of a value, which is let go.
-pub(crate) fn debug<X: AllocGlobal + Abort, T: Debug + Drop>(rt: &X, value: T) -> String {
-    good(rt, format!(in rt.alloc(); "{value:?}"))
-}
-
 // The display text of a value, which is let go.
 pub(crate) fn display<X: AllocGlobal + Abort, T: Display + Drop>(rt: &X, value: T) -> String {
     good(rt, format!(in rt.alloc(); "{value}"))
 }
 
-// A word for what a call gave, or the Debug text of its refusal.
-pub(crate) fn word<X: AllocGlobal + Abort, T: Drop, E: Debug + Drop>(
-    rt: &X,
-    good: &str,
-    answer: Result<T, E>,
-) -> String {
-    match answer {
-        Ok(_) => string(rt, good),
-        Err(refusal) => debug(rt, refusal),
-    }
-}
-
 // The text of bytes in UTF-8.
 pub(crate) fn text_of<X: AllocGlobal + Abort>(rt: &X, bytes: &[u8]) -> String {
     string(rt, good(rt, str::from_utf8(bytes)))
-}
-
-// A text with the end of a line in the place of each `;`.
-pub(crate) fn lines_of<X: AllocGlobal + Abort>(rt: &X, text: &str) -> String {
-    good(rt, text.replace(rt.alloc(), ';', "\n"))
 }
 
 // A part of what is given to a call, and the text in its place.

@@ -104,3 +104,10 @@ leaf - => 6e340b9cffb37a989ca544e6bb780a2c78901d3fb33738768511a30617afa01d
 leaf 00 => 96a296d224f285c67bee93c30f8a309157f0daa35dc5b87e410b78630a09cfc7
 node 6e340b9cffb37a989ca544e6bb780a2c78901d3fb33738768511a30617afa01d 96a296d224f285c67bee93c30f8a309157f0daa35dc5b87e410b78630a09cfc7 => fac54203e7cc696cf0dfcb42c92a1d9dbaf70ad9e621f4bd8d98662f00e3c125
 memory - => 4 NoMemory";
+
+/// What was hashed in made-up nodes, whose hashes are 32 octets of two digits, and in leaves.
+pub const DIFFERENCES: &str = "\
+hashed leaves 61 / 62 => 0061 0062
+hashed leaves - / 62 => 00 0062
+hashed left aa bb / cc dd => 01bbbbbbbbbbbbbbbbbbbbbbbbbbbbbbbbbbbbbbbbbbbbbbbbbbbbbbbbbbbbbbbbaaaaaaaaaaaaaaaaaaaaaaaaaaaaaaaaaaaaaaaaaaaaaaaaaaaaaaaaaaaaaaaa 01ddddddddddddddddddddddddddddddddddddddddddddddddddddddddddddddddcccccccccccccccccccccccccccccccccccccccccccccccccccccccccccccccc
+hashed right aa bb / cc dd => 01aaaaaaaaaaaaaaaaaaaaaaaaaaaaaaaaaaaaaaaaaaaaaaaaaaaaaaaaaaaaaaaabbbbbbbbbbbbbbbbbbbbbbbbbbbbbbbbbbbbbbbbbbbbbbbbbbbbbbbbbbbbbbbb 01ccccccccccccccccccccccccccccccccccccccccccccccccccccccccccccccccdddddddddddddddddddddddddddddddddddddddddddddddddddddddddddddddd";

@@ -4,8 +4,10 @@
 // kind and version, the time, the promise's length, the proof as its place, its root's first octet, its size, the
 // number of its hashes and its checkpoint's size, and the body. `payload` answers what its promise signs, and
 // `index` a place.
-use crate::texts::{first, good, hexadecimal, marked, parts, shown};
-use foundation::Duplicate;
+use crate::tables::{
+    copied, displayed, equals, first, good, halves, hexadecimal, hold, number, place, printed,
+    replaced, string,
+};
 use serde_json::Value;
 use sigstore_entries::{
     CheckpointData, InclusionProof, LogIndex, TransparencyLogEntry, promise_payload,
@@ -122,153 +124,159 @@ index 9223372036854775807 => 9223372036854775807 9223372036854775807
 index 9223372036854775808 => Field { member: LogIndex }
 index 18446744073709551615 => Field { member: LogIndex }";
 
-// The text that a row means.
-fn text_of<X: AllocGlobal + Abort>(rt: &X, cell: &str) -> String {
-    let text = good(rt, String::from_str(rt.alloc(), cell));
-    let text = marked(rt, text, "*", REQUIRED);
-    let text = marked(
-        rt,
-        text,
-        "<ones>",
-        "AQEBAQEBAQEBAQEBAQEBAQEBAQEBAQEBAQEBAQEBAQE=",
-    );
-    let text = marked(
-        rt,
-        text,
-        "<zeros>",
-        "AAAAAAAAAAAAAAAAAAAAAAAAAAAAAAAAAAAAAAAAAAA=",
-    );
-    marked(
-        rt,
-        text,
-        "<short>",
-        "AAAAAAAAAAAAAAAAAAAAAAAAAAAAAAAAAAAAAAAAAA==",
-    )
-}
+const MEANT: [(&str, &str); 4] = [
+    ("*", REQUIRED),
+    ("<ones>", "AQEBAQEBAQEBAQEBAQEBAQEBAQEBAQEBAQEBAQEBAQE="),
+    ("<zeros>", "AAAAAAAAAAAAAAAAAAAAAAAAAAAAAAAAAAAAAAAAAAA="),
+    ("<short>", "AAAAAAAAAAAAAAAAAAAAAAAAAAAAAAAAAAAAAAAAAA=="),
+];
 
 // The first of some octets, and how many there are.
 fn part<X: AllocGlobal + Abort>(rt: &X, octets: &[u8]) -> String {
-    let first = first(rt, octets);
-    let length = octets.len();
+    let (first, length) = (first(rt, octets), octets.len());
     good(rt, format!(in rt.alloc(); "{first}/{length}"))
 }
 
 fn held<X: AllocGlobal + Abort>(rt: &X, held: &CheckpointData) -> String {
     match held.checkpoint() {
-        Some(checkpoint) => {
-            let size = checkpoint.tree_size();
-            good(rt, format!(in rt.alloc(); "{size}"))
-        }
-        None => good(rt, String::from_str(rt.alloc(), "empty")),
+        Some(checkpoint) => displayed(rt, checkpoint.tree_size()),
+        None => string(rt, "empty"),
     }
 }
 
-fn proof<X: AllocGlobal + Abort>(rt: &X, proof: Option<&InclusionProof>) -> String {
+fn proof<X: AllocGlobal + Abort>(rt: &X, proof: &Option<InclusionProof>) -> String {
     match proof {
-        Some(proof) => {
-            let index = proof.log_index.get();
-            let root = first(rt, proof.root_hash.as_bytes());
-            let size = proof.tree_size;
-            let count = proof.hashes.len();
-            let checkpoint = held(rt, &proof.checkpoint);
-            good(
-                rt,
-                format!(in rt.alloc(); "{index}/{root}/{size}/{count}/{checkpoint}"),
-            )
-        }
-        None => good(rt, String::from_str(rt.alloc(), "-")),
+        Some(proof) => some_proof(rt, proof),
+        None => string(rt, "-"),
     }
 }
 
-fn number<X: AllocGlobal + Abort>(rt: &X, number: Option<i64>) -> String {
-    match number {
-        Some(number) => good(rt, format!(in rt.alloc(); "{number}")),
-        None => good(rt, String::from_str(rt.alloc(), "-")),
-    }
-}
-
-// What an entry holds.
-fn told<X: AllocGlobal + Abort>(rt: &X, entry: &TransparencyLogEntry) -> String {
-    let index = entry.log_index.get();
-    let id = part(rt, entry.log_id.key_id.as_bytes());
-    let kind = entry.kind_version.kind();
-    let version = entry.kind_version.version();
-    let time = number(rt, entry.integrated_time);
-    let promise = match &entry.inclusion_promise {
-        Some(promise) => number(rt, Some(promise.as_bytes().len() as i64)),
-        None => number(rt, None),
-    };
-    let proof = proof(rt, entry.inclusion_proof.as_ref());
-    let body = hexadecimal(rt, entry.canonicalized_body.as_bytes());
+fn some_proof<X: AllocGlobal + Abort>(rt: &X, proof: &InclusionProof) -> String {
+    let (index, size, count) = (proof.log_index.get(), proof.tree_size, proof.hashes.len());
+    let root = first(rt, proof.root_hash.as_bytes());
+    let checkpoint = held(rt, &proof.checkpoint);
     good(
         rt,
-        format!(in rt.alloc(); "{index} {id} {kind}/{version} {time} {promise} {proof} {body}"),
+        format!(in rt.alloc(); "{index}/{root}/{size}/{count}/{checkpoint}"),
     )
 }
 
+fn signed<X: AllocGlobal + Abort>(rt: &X, number: Option<i64>) -> String {
+    match number {
+        Some(number) => displayed(rt, number),
+        None => string(rt, "-"),
+    }
+}
+
+fn promise<X: AllocGlobal + Abort>(rt: &X, entry: &TransparencyLogEntry) -> String {
+    match &entry.inclusion_promise {
+        Some(promise) => signed(rt, Some(promise.as_bytes().len() as i64)),
+        None => signed(rt, None),
+    }
+}
+
+// The place, the log's id, the kind and the version of an entry.
+fn front<X: AllocGlobal + Abort>(rt: &X, entry: &TransparencyLogEntry) -> String {
+    let (index, id) = (
+        entry.log_index.get(),
+        part(rt, entry.log_id.key_id.as_bytes()),
+    );
+    let (kind, version) = (entry.kind_version.kind(), entry.kind_version.version());
+    good(rt, format!(in rt.alloc(); "{index} {id} {kind}/{version}"))
+}
+
+// The time, the promise and the proof of an entry.
+fn middle<X: AllocGlobal + Abort>(rt: &X, entry: &TransparencyLogEntry) -> String {
+    let (time, promise) = (signed(rt, entry.integrated_time), promise(rt, entry));
+    let proof = proof(rt, &entry.inclusion_proof);
+    good(rt, format!(in rt.alloc(); "{time} {promise} {proof}"))
+}
+
+// What an entry holds.
+fn entry_told<X: AllocGlobal + Abort>(rt: &X, entry: &TransparencyLogEntry) -> String {
+    let (front, middle) = (front(rt, entry), middle(rt, entry));
+    let body = hexadecimal(rt, entry.canonicalized_body.as_bytes());
+    good(rt, format!(in rt.alloc(); "{front} {middle} {body}"))
+}
+
+fn value<X: AllocGlobal + Abort>(rt: &X, text: &str) -> Value {
+    good(rt, Value::from_str(rt.alloc(), text))
+}
+
 fn entry<X: AllocGlobal + Abort>(rt: &X, text: &str) -> Result<TransparencyLogEntry, TypesError> {
-    let value = good(rt, Value::from_str(rt.alloc(), text));
-    Ok(TransparencyLogEntry::from_value(rt.alloc(), &value)?)
+    let value = value(rt, text);
+    let entry = TransparencyLogEntry::from_value(rt.alloc(), &value);
+    drop(value);
+    entry
 }
 
 // The same by the reader that all types share.
 fn entry_in<X: AllocGlobal + Abort>(rt: &X, text: &str) -> TransparencyLogEntry {
-    let value = good(rt, Value::from_str(rt.alloc(), text));
-    good(
-        rt,
-        <TransparencyLogEntry as FromValue<TypesError>>::from_value(rt.alloc(), &value),
-    )
+    let value = value(rt, text);
+    let entry = <TransparencyLogEntry as FromValue<TypesError>>::from_value(rt.alloc(), &value);
+    drop(value);
+    good(rt, entry)
 }
 
-fn read<X: AllocGlobal + Abort>(rt: &X, text: &str) -> Result<String, TypesError> {
-    let entry = entry(rt, text)?;
-    let copy = good(rt, entry.duplicate(rt.alloc()));
-    assert!(rt; copy == entry);
-    assert!(rt; entry_in(rt, text) == entry);
-    Ok(told(rt, &entry))
-}
-
-fn payload<X: AllocGlobal + Abort>(rt: &X, text: &str) -> String {
-    let entry = good(rt, entry(rt, text));
-    match good(rt, promise_payload(rt.alloc(), &entry)) {
-        Some(payload) => good(rt, String::from_utf8(payload.into_vec())),
-        None => good(rt, String::from_str(rt.alloc(), "none")),
+fn read<X: AllocGlobal + Abort>(rt: &X, text: &str) -> String {
+    match entry(rt, text) {
+        Ok(entry) => read_told(rt, copied(rt, entry), text),
+        Err(refusal) => printed(rt, refusal),
     }
 }
 
-fn index<X: AllocGlobal + Abort>(rt: &X, text: &str) -> Result<String, TypesError> {
-    let number = good(rt, text.parse::<u64>());
-    let index = LogIndex::new(number)?;
-    let place = index.get();
-    let signed = index.as_i64();
-    Ok(good(rt, format!(in rt.alloc(); "{place} {signed}")))
+fn read_told<X: AllocGlobal + Abort>(rt: &X, entry: TransparencyLogEntry, text: &str) -> String {
+    equals(rt, entry_in(rt, text), &entry);
+    let told = entry_told(rt, &entry);
+    drop(entry);
+    told
 }
 
-// Ends the process where a call doesn't give its answer.
-fn check<X: AllocGlobal + Abort>(rt: &X, row: &str) {
-    let (call, cell, wanted) = parts(rt, row);
-    let text = text_of(rt, cell);
-    let found = match call {
-        "read" => shown(rt, read(rt, text.as_str())),
-        "payload" => payload(rt, text.as_str()),
-        "index" => shown(rt, index(rt, text.as_str())),
-        _ => panic!(rt; "no call {call}"),
-    };
+fn payload<X: AllocGlobal + Abort>(rt: &X, text: &str) -> String {
+    let entry = entry_in(rt, text);
+    let payload = promise_payload(rt.alloc(), &entry);
+    drop(entry);
+    match good(rt, payload) {
+        Some(payload) => good(rt, String::from_utf8(payload.into_vec())),
+        None => string(rt, "none"),
+    }
+}
+
+fn index<X: AllocGlobal + Abort>(rt: &X, text: &str) -> String {
+    match LogIndex::new(number(rt, text)) {
+        Ok(index) => index_told(rt, index),
+        Err(refusal) => printed(rt, refusal),
+    }
+}
+
+fn index_told<X: AllocGlobal + Abort>(rt: &X, index: LogIndex) -> String {
+    let (place, signed) = (index.get(), index.as_i64());
+    good(rt, format!(in rt.alloc(); "{place} {signed}"))
+}
+
+/// The answer of a call that is given a text with marks.
+pub fn answer<X: AllocGlobal + Abort>(rt: &X, given: &str) -> String {
+    let (call, cell) = halves(rt, given, " ");
+    let text = replaced(rt, cell, &MEANT);
+    let answer = asked(rt, call, text.as_str());
     drop(text);
-    assert!(rt; found.as_str() == wanted, "{row}\nfound: {found}");
+    answer
 }
 
-fn check_rows<X: AllocGlobal + Abort>(rt: &X, rows: &str) {
-    for row in rows.lines() {
-        check(rt, row);
+fn asked<X: AllocGlobal + Abort>(rt: &X, call: &str, text: &str) -> String {
+    match place(call, "read payload index") {
+        0 => read(rt, text),
+        1 => payload(rt, text),
+        2 => index(rt, text),
+        _ => string(rt, "no call"),
     }
 }
 
 #[test]
 fn entries_are_read_by_their_members(rt: HostRuntime) {
-    check_rows(&rt, READ);
-    check_rows(&rt, REFUSED);
-    check_rows(&rt, OF_SIGSTORE);
-    check_rows(&rt, PAYLOADS);
-    check_rows(&rt, INDICES);
+    hold(&rt, "entry", READ);
+    hold(&rt, "entry", REFUSED);
+    hold(&rt, "entry", OF_SIGSTORE);
+    hold(&rt, "entry", PAYLOADS);
+    hold(&rt, "entry", INDICES);
 }

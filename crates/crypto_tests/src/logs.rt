@@ -1,8 +1,11 @@
 // Tables of entries and checkpoints, one row a line, with the answer behind `=>`. The logs' keys, signatures and
-// trees are those of src/data.rt; every answer was worked out by hand.
-use crate::words::{checkpoint, entry, good, key, logs, moment, tables, text};
+// trees are those of src/log_data.rt; every answer was worked out by hand.
+use crate::log_words::{checkpoint, entry, key, logs, moment, tables};
+use crate::tables::{displayed, good, halves, hold, number, numbered, printed, string};
 use jiff::Timestamp;
 use sigstore_app_parts::Tables;
+use sigstore_crypto::Keyring;
+use sigstore_entries::TransparencyLogEntry;
 use sigstore_log::{
     CheckpointVerifyExt, LogError, is_signed_by, judge_entry, judge_promise, logged_exactly,
     one_place_one_body, refusals_have_causes, told_time,
@@ -114,20 +117,25 @@ changed | p256 => not";
 
 // Whose id this is.
 fn name<X: AllocGlobal + Abort>(rt: &X, id: &Sha256Hash) -> &'static str {
-    if *id == sigstore_crypto::sha256(key(rt, "p256").as_bytes()) {
+    if is_id(rt, id, "p256") {
         "p256"
-    } else if *id == sigstore_crypto::sha256(key(rt, "other").as_bytes()) {
+    } else if is_id(rt, id, "other") {
         "other"
     } else {
         "nobody"
     }
 }
 
+fn is_id<X: AllocGlobal + Abort>(rt: &X, id: &Sha256Hash, name: &str) -> bool {
+    let key = key(rt, name);
+    *id == sigstore_crypto::sha256(key.as_bytes())
+}
+
 // A word, and a time where there is one.
 fn at<X: AllocGlobal + Abort>(rt: &X, word: &str, time: Option<Timestamp>) -> String {
     match time {
         Some(time) => good(rt, format!(in rt.alloc(); "{word} at {time}")),
-        None => text(rt, word),
+        None => string(rt, word),
     }
 }
 
@@ -142,128 +150,124 @@ fn answer<X: AllocGlobal + Abort>(
             let name = name(rt, &log_id);
             good(rt, format!(in rt.alloc(); "UnknownLog of {name}"))
         }
-        Err(refusal) => good(rt, format!(in rt.alloc(); "{refusal}")),
+        Err(refusal) => displayed(rt, refusal),
     }
 }
 
-// Whether an entry is logged, or its promise good.
-fn try_entry<X: AllocGlobal + Abort>(rt: &X, tables: &Tables, row: &str, is_whole: bool) {
-    let (given, wanted) = row.split_once(" => ").expect(rt, "an answer");
-    let (name, rest) = given.split_once(" | ").expect(rt, "an entry");
-    let (change, rest) = rest.split_once(" | ").expect(rt, "a change");
-    let (words, now) = rest.split_once(" | ").expect(rt, "logs");
-    let entry = entry(rt, name, change);
-    let (logs, now) = (logs(rt, words), moment(rt, now));
-    let answer = if is_whole {
-        let judged = judge_entry(rt.alloc(), &tables.provider, &logs, now, &entry);
-        answer(rt, "logged", judged)
+/// Whether an entry is logged.
+pub fn entry_judged<X: AllocGlobal + Abort>(rt: &X, given: &str) -> String {
+    judged(rt, given, true)
+}
+
+/// Whether the promise of an entry is good.
+pub fn promise_judged<X: AllocGlobal + Abort>(rt: &X, given: &str) -> String {
+    judged(rt, given, false)
+}
+
+// What is judged of an entry with a change, under the logs of words and at a time.
+fn judged<X: AllocGlobal + Abort>(rt: &X, given: &str, is_whole: bool) -> String {
+    let (name, rest) = halves(rt, given, " | ");
+    let (change, rest) = halves(rt, rest, " | ");
+    let (words, now) = halves(rt, rest, " | ");
+    let (entry, logs, tables) = (entry(rt, name, change), logs(rt, words), tables(rt));
+    let judged = judgement(rt, &tables, &logs, moment(rt, now), &entry, is_whole);
+    drop(tables);
+    drop(logs);
+    drop(entry);
+    answer(rt, if is_whole { "logged" } else { "good" }, judged)
+}
+
+fn judgement<X: AllocGlobal>(
+    rt: &X,
+    tables: &Tables,
+    logs: &Keyring,
+    now: Timestamp,
+    entry: &TransparencyLogEntry,
+    is_whole: bool,
+) -> Result<Option<Timestamp>, LogError> {
+    if is_whole {
+        judge_entry(rt.alloc(), &tables.provider, logs, now, entry)
     } else {
-        let judged = judge_promise(rt.alloc(), &tables.provider, &logs, now, &entry);
-        answer(rt, "good", judged)
-    };
-    assert!(rt; answer.as_str() == wanted, "{row}: {answer}");
+        judge_promise(rt.alloc(), &tables.provider, logs, now, entry)
+    }
+}
+
+/// The time that the promise of an entry tells.
+pub fn told<X: AllocGlobal + Abort>(rt: &X, given: &str) -> String {
+    let (name, change) = halves(rt, given, " | ");
+    let entry = entry(rt, name, change);
+    let time = told_time(&entry);
+    drop(entry);
+    match time {
+        Some(time) => displayed(rt, time),
+        None => string(rt, "none"),
+    }
+}
+
+/// What a checkpoint is under a key.
+pub fn under_key<X: AllocGlobal + Abort>(rt: &X, given: &str) -> String {
+    let (name, key_name) = halves(rt, given, " ");
+    let (tables, key, checkpoint) = (tables(rt), key(rt, key_name), checkpoint(rt, name));
+    let answer = checkpoint.verify_signature(rt.alloc(), &tables.provider, &key);
+    drop(checkpoint);
+    drop(key);
+    drop(tables);
+    match answer {
+        Ok(()) => string(rt, "good"),
+        Err(refusal) => printed(rt, refusal),
+    }
+}
+
+/// Whether one of the logs signed a checkpoint.
+pub fn signed<X: AllocGlobal + Abort>(rt: &X, given: &str) -> String {
+    let (name, words) = halves(rt, given, " | ");
+    let (tables, logs, checkpoint) = (tables(rt), logs(rt, words), checkpoint(rt, name));
+    let is_signed = is_signed_by(&tables.provider, &logs, moment(rt, "now"), &checkpoint);
+    drop(checkpoint);
+    drop(logs);
+    drop(tables);
+    string(rt, if is_signed { "signed" } else { "not" })
+}
+
+// The text and the number of each refusal.
+const REFUSALS: &str = "\
+1 => 1 InclusionProof
+2 => 2 Checkpoint
+3 => 3 MalformedEntry
+4 => 4 UnknownLog
+5 => 5 InclusionPromise
+6 => 6 IntegratedTime
+7 => 7 NoMemory";
+
+fn error(number: u64) -> LogError {
+    match number {
+        1 => LogError::InclusionProof,
+        2 => LogError::Checkpoint,
+        3 => LogError::MalformedEntry,
+        4 => LogError::UnknownLog {
+            log_id: Sha256Hash::new([1; 32]),
+        },
+        5 => LogError::InclusionPromise,
+        6 => LogError::IntegratedTime,
+        _ => LogError::NoMemory,
+    }
+}
+
+/// The number and the text of a refusal.
+pub fn refusal<X: AllocGlobal + Abort>(rt: &X, given: &str) -> String {
+    let error = error(number(rt, given));
+    numbered(rt, error.number(), error)
 }
 
 #[test]
 fn entries_are_logged(rt: HostRuntime) {
-    let tables = tables(&rt);
-    for row in ENTRIES.lines() {
-        try_entry(&rt, &tables, row, true);
-    }
+    hold(&rt, "entry", ENTRIES);
+    hold(&rt, "promise", PROMISES);
+    hold(&rt, "told_time", TOLD);
+    hold(&rt, "under_key", UNDER_ONE_KEY);
+    hold(&rt, "signed", SIGNED);
+    hold(&rt, "log_refusal", REFUSALS);
     logged_exactly();
     one_place_one_body();
     refusals_have_causes();
-}
-
-#[test]
-fn promises_are_good(rt: HostRuntime) {
-    let tables = tables(&rt);
-    for row in PROMISES.lines() {
-        try_entry(&rt, &tables, row, false);
-    }
-}
-
-fn try_told<X: AllocGlobal + Abort>(rt: &X, row: &str) {
-    let (given, wanted) = row.split_once(" => ").expect(rt, "an answer");
-    let (name, change) = given.split_once(" | ").expect(rt, "an entry");
-    let answer = match told_time(&entry(rt, name, change)) {
-        Some(time) => good(rt, format!(in rt.alloc(); "{time}")),
-        None => text(rt, "none"),
-    };
-    assert!(rt; answer.as_str() == wanted, "{row}: {answer}");
-}
-
-#[test]
-fn promises_tell_times(rt: HostRuntime) {
-    for row in TOLD.lines() {
-        try_told(&rt, row);
-    }
-}
-
-fn try_key<X: AllocGlobal + Abort>(rt: &X, tables: &Tables, row: &str) {
-    let (given, wanted) = row.split_once(" => ").expect(rt, "an answer");
-    let (name, key_name) = given.split_once(' ').expect(rt, "a key");
-    let checkpoint = checkpoint(rt, name);
-    let answer = match checkpoint.verify_signature(
-        rt.alloc(),
-        &tables.provider,
-        &key(rt, key_name),
-    ) {
-        Ok(()) => text(rt, "good"),
-        Err(refusal) => good(rt, format!(in rt.alloc(); "{refusal:?}")),
-    };
-    assert!(rt; answer.as_str() == wanted, "{row}: {answer}");
-}
-
-#[test]
-fn checkpoints_under_one_key(rt: HostRuntime) {
-    let tables = tables(&rt);
-    for row in UNDER_ONE_KEY.lines() {
-        try_key(&rt, &tables, row);
-    }
-}
-
-fn try_signed<X: AllocGlobal + Abort>(rt: &X, tables: &Tables, row: &str) {
-    let (given, wanted) = row.split_once(" => ").expect(rt, "an answer");
-    let (name, words) = given.split_once(" | ").expect(rt, "logs");
-    let signed = is_signed_by(
-        &tables.provider,
-        &logs(rt, words),
-        moment(rt, "now"),
-        &checkpoint(rt, name),
-    );
-    assert!(rt; signed == (wanted == "signed"), "{row}");
-}
-
-#[test]
-fn checkpoints_under_logs(rt: HostRuntime) {
-    let tables = tables(&rt);
-    for row in SIGNED.lines() {
-        try_signed(&rt, &tables, row);
-    }
-}
-
-// The text and the number of each refusal.
-#[test]
-fn refusals(rt: HostRuntime) {
-    let all = [
-        LogError::InclusionProof,
-        LogError::Checkpoint,
-        LogError::MalformedEntry,
-        LogError::UnknownLog {
-            log_id: Sha256Hash::new([1; 32]),
-        },
-        LogError::InclusionPromise,
-        LogError::IntegratedTime,
-        LogError::NoMemory,
-    ];
-    let mut told = text(&rt, "");
-    for refusal in all {
-        let number = refusal.number();
-        let line = good(&rt, format!(in rt.alloc(); "{number} {refusal} "));
-        good(&rt, told.push_str(line.as_str()));
-    }
-    let wanted =
-        "1 InclusionProof 2 Checkpoint 3 MalformedEntry 4 UnknownLog 5 InclusionPromise 6 IntegratedTime 7 NoMemory ";
-    assert!(rt; told.as_str() == wanted, "{told}");
 }

@@ -1,9 +1,9 @@
 // Tables of texts, one row a line: a call, the text that it is given, ` => ` and its answer, which is `none`
 // or octets in hexadecimal. A row has `{` for `-----BEGIN `, `}` for `-----END `, `*` for `-----`, `\r` and
 // `\n` for the ends of lines, `#` for a line of 64 characters, and in octets for the 48 that it spells.
+use crate::tables::{good, halves, hexadecimal, hold, place, printed, replaced, string};
 use sigstore_pem::{PemArmor, held_is_armored, read_is_strict, written_is_read};
 use sigstore_types_parts::{Armor, Bytes};
-use std::fmt::Debug;
 use std::process::Abort;
 
 const LINE: &str = "AQIDAQIDAQIDAQIDAQIDAQIDAQIDAQIDAQIDAQIDAQIDAQIDAQIDAQIDAQIDAQID";
@@ -105,98 +105,75 @@ key {PUBLIC KEY*\nMCowBQYDK2VwAyEA5iXO/m2idIjnv7obB6iYA2bAwYEQcwv0t1lnL5QY0k4=\n
 certificate {CERTIFICATE*\nMIIBcTCCARegAwIBAgIUQiudO93cnjFi/jOGg9bnGs9InEMwCgYIKoZIzj0EAwIw\nDjEMMAoGA1UEAwwDb25lMB4XDTI2MTEyODA4MTI0MloXDTM2MTEyNTA4MTI0Mlow\nDjEMMAoGA1UEAwwDb25lMFkwEwYHKoZIzj0CAQYIKoZIzj0DAQcDQgAEiHMtX1FS\nAsOCPJMsEu7Bl7+z+ddaFGEuJ/ZOFgVgwgIQAvzVz7bnbHS7ZTHwGBWxjUxq8t+g\nVBm+fNkXFY6EK6NTMFEwHQYDVR0OBBYEFGaFMYkoJ8cjRgd/Nln6M6pu0idKMB8G\nA1UdIwQYMBaAFGaFMYkoJ8cjRgd/Nln6M6pu0idKMA8GA1UdEwEB/wQFMAMBAf8w\nCgYIKoZIzj0EAwIDSAAwRQIhAL5Jp4KTtDncQo8Ew/XU9fWVDoybxNFlAG8crScC\ny2k1AiAix/YPNbjRAKwStljZNJu2GiwusqLMC5/De+Ltmf241A==\n}CERTIFICATE*\n => 3082017130820117a0030201020214422b9d3bdddc9e3162fe338683d6e71acf489c43300a06082a8648ce3d040302300e310c300a06035504030c036f6e65301e170d3236313132383038313234325a170d3336313132353038313234325a300e310c300a06035504030c036f6e653059301306072a8648ce3d020106082a8648ce3d0301070342000488732d5f515202c3823c932c12eec197bfb3f9d75a14612e27f64e160560c2021002fcd5cfb6e76c74bb6531f01815b18d4c6af2dfa05419be7cd917158e842ba3533051301d0603551d0e04160414668531892827c72346077f3659fa33aa6ed2274a301f0603551d23041830168014668531892827c72346077f3659fa33aa6ed2274a300f0603551d130101ff040530030101ff300a06082a8648ce3d0403020348003045022100be49a78293b439dc428f04c3f5d4f5f5950e8c9bc4d165006f1cad2702cb6935022022c7f60f35b8d100ac12b658d9349bb61a2c2eb2a2cc0b9fc37be2ed99fdb8d4
 written 3082017130820117a0030201020214422b9d3bdddc9e3162fe338683d6e71acf489c43300a06082a8648ce3d040302300e310c300a06035504030c036f6e65301e170d3236313132383038313234325a170d3336313132353038313234325a300e310c300a06035504030c036f6e653059301306072a8648ce3d020106082a8648ce3d0301070342000488732d5f515202c3823c932c12eec197bfb3f9d75a14612e27f64e160560c2021002fcd5cfb6e76c74bb6531f01815b18d4c6af2dfa05419be7cd917158e842ba3533051301d0603551d0e04160414668531892827c72346077f3659fa33aa6ed2274a301f0603551d23041830168014668531892827c72346077f3659fa33aa6ed2274a300f0603551d130101ff040530030101ff300a06082a8648ce3d0403020348003045022100be49a78293b439dc428f04c3f5d4f5f5950e8c9bc4d165006f1cad2702cb6935022022c7f60f35b8d100ac12b658d9349bb61a2c2eb2a2cc0b9fc37be2ed99fdb8d4 => {CERTIFICATE*\nMIIBcTCCARegAwIBAgIUQiudO93cnjFi/jOGg9bnGs9InEMwCgYIKoZIzj0EAwIw\nDjEMMAoGA1UEAwwDb25lMB4XDTI2MTEyODA4MTI0MloXDTM2MTEyNTA4MTI0Mlow\nDjEMMAoGA1UEAwwDb25lMFkwEwYHKoZIzj0CAQYIKoZIzj0DAQcDQgAEiHMtX1FS\nAsOCPJMsEu7Bl7+z+ddaFGEuJ/ZOFgVgwgIQAvzVz7bnbHS7ZTHwGBWxjUxq8t+g\nVBm+fNkXFY6EK6NTMFEwHQYDVR0OBBYEFGaFMYkoJ8cjRgd/Nln6M6pu0idKMB8G\nA1UdIwQYMBaAFGaFMYkoJ8cjRgd/Nln6M6pu0idKMA8GA1UdEwEB/wQFMAMBAf8w\nCgYIKoZIzj0EAwIDSAAwRQIhAL5Jp4KTtDncQo8Ew/XU9fWVDoybxNFlAG8crScC\ny2k1AiAix/YPNbjRAKwStljZNJu2GiwusqLMC5/De+Ltmf241A==\n}CERTIFICATE*\n";
 
-// A text with another in the place of each of its marks.
-fn marked<X: AllocGlobal + Abort>(rt: &X, text: String, mark: &str, other: &str) -> String {
-    let marked = text.replace(rt.alloc(), mark, other);
-    drop(text);
-    good(rt, marked)
+// What the marks of a row mean, and the marks of a text, that of a line last.
+const MEANT: [(&str, &str); 6] = [
+    ("#", LINE),
+    ("\\r", "\r"),
+    ("\\n", "\n"),
+    ("{", "-----BEGIN "),
+    ("}", "-----END "),
+    ("*", "-----"),
+];
+
+const MARKED: [(&str, &str); 5] = [
+    ("-----BEGIN ", "{"),
+    ("-----END ", "}"),
+    ("-----", "*"),
+    ("\n", "\\n"),
+    (LINE, "#"),
+];
+
+/// The answer of a call that is given a text with marks.
+pub fn answer<X: AllocGlobal + Abort>(rt: &X, given: &str) -> String {
+    let (call, cell) = halves(rt, given, " ");
+    if call == "written" {
+        return written(rt, &PemArmor, cell);
+    }
+    asked(rt, &PemArmor, call, replaced(rt, cell, &MEANT).as_bytes())
 }
 
-// The text that a row means, with this in the place of `#`.
-fn meant<X: AllocGlobal + Abort>(rt: &X, cell: &str, long: &str) -> String {
-    let text = good(rt, String::from_str(rt.alloc(), cell));
-    let text = marked(rt, text, "#", long);
-    let text = marked(rt, text, "\\r", "\r");
-    let text = marked(rt, text, "\\n", "\n");
-    let text = marked(rt, text, "{", "-----BEGIN ");
-    let text = marked(rt, text, "}", "-----END ");
-    marked(rt, text, "*", "-----")
-}
-
-// What a call gave; a refusal ends the process.
-fn good<X: Abort, T, E: Debug>(rt: &X, given: Result<T, E>) -> T {
-    given.expect(rt, "a value")
+// The answer of an armour to a text.
+fn asked<X: AllocGlobal + Abort, M: Armor>(rt: &X, armor: &M, call: &str, text: &[u8]) -> String {
+    match place(call, "key certificate armored") {
+        0 => shown(rt, good(rt, armor.read_key(rt.alloc(), text))),
+        1 => shown(rt, good(rt, armor.read_certificate(rt.alloc(), text))),
+        2 => printed(rt, armor.is_armored(text)),
+        _ => string(rt, "no call"),
+    }
 }
 
 // Octets in hexadecimal, `nothing` where there are none, `none` where there is no value.
 fn shown<X: AllocGlobal + Abort>(rt: &X, octets: Option<Bytes>) -> String {
     match octets {
-        Some(octets) => {
-            if octets.as_bytes().is_empty() {
-                good(rt, String::from_str(rt.alloc(), "nothing"))
-            } else {
-                good(rt, hex::encode(rt.alloc(), octets.as_bytes()))
-            }
-        }
-        None => good(rt, String::from_str(rt.alloc(), "none")),
+        Some(octets) => some_shown(rt, octets.as_bytes()),
+        None => string(rt, "none"),
     }
 }
 
-// The text that an armour writes of octets.
+fn some_shown<X: AllocGlobal + Abort>(rt: &X, octets: &[u8]) -> String {
+    if octets.is_empty() {
+        string(rt, "nothing")
+    } else {
+        replaced(rt, hexadecimal(rt, octets).as_str(), &[(OCTETS, "#")])
+    }
+}
+
+// The text that an armour writes of octets, with its marks.
 fn written<X: AllocGlobal + Abort, M: Armor>(rt: &X, armor: &M, octets: &str) -> String {
-    let der = good(rt, hex::decode(rt.alloc(), octets));
+    let octets = replaced(rt, octets, &[("#", OCTETS)]);
+    let der = good(rt, hex::decode(rt.alloc(), octets.as_str()));
     let text = good(rt, armor.write_certificate(rt.alloc(), &der));
-    drop(der);
-    good(rt, String::from_utf8(text.into_vec()))
-}
-
-// The answer of an armour to a text.
-fn answer<X: AllocGlobal + Abort, M: Armor>(rt: &X, armor: &M, call: &str, text: &str) -> String {
-    match call {
-        "key" => shown(rt, good(rt, armor.read_key(rt.alloc(), text.as_bytes()))),
-        "certificate" => shown(
-            rt,
-            good(rt, armor.read_certificate(rt.alloc(), text.as_bytes())),
-        ),
-        "armored" => {
-            let armored = armor.is_armored(text.as_bytes());
-            good(rt, format!(in rt.alloc(); "{armored}"))
-        }
-        "written" => written(rt, armor, text),
-        _ => panic!(rt; "no call {call}"),
-    }
-}
-
-// Ends the process where the answer isn't the one that is wanted.
-fn check<X: AllocGlobal + Abort>(rt: &X, row: &str, given: &str, wanted: &str) {
-    let (call, cell) = given.split_once(' ').expect(rt, "a call");
-    let long = if call == "written" { OCTETS } else { LINE };
-    let other = if call == "written" { LINE } else { OCTETS };
-    let text = meant(rt, cell, long);
-    let found = answer(rt, &PemArmor, call, text.as_str());
-    drop(text);
-    let wanted = meant(rt, wanted, other);
-    let is_wanted = found == wanted;
-    drop(wanted);
-    assert!(rt; is_wanted, "{row}\nfound: {found}");
-}
-
-// Ends the process at the first row whose call doesn't give its answer.
-fn check_rows<X: AllocGlobal + Abort>(rt: &X, rows: &str) {
-    for row in rows.lines() {
-        let (given, wanted) = row.split_once(" => ").expect(rt, "an answer");
-        check(rt, row, given, wanted);
-    }
+    replaced(rt, good(rt, str::from_utf8(text.as_bytes())), &MARKED)
 }
 
 #[test]
 fn texts_hold_what_their_first_block_holds(rt: HostRuntime) {
-    check_rows(&rt, LINE_ENDS);
-    check_rows(&rt, LABELS);
-    check_rows(&rt, BASE64);
-    check_rows(&rt, ARMORED);
-    check_rows(&rt, WRITTEN);
-    check_rows(&rt, BY_OPENSSL);
+    hold(&rt, "pem", LINE_ENDS);
+    hold(&rt, "pem", LABELS);
+    hold(&rt, "pem", BASE64);
+    hold(&rt, "pem", ARMORED);
+    hold(&rt, "pem", WRITTEN);
+    hold(&rt, "pem", BY_OPENSSL);
     held_is_armored();
     read_is_strict();
     written_is_read();

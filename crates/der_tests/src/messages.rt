@@ -71,23 +71,3 @@ pub const SIGNATURE: &str =
 /// revocation information.
 pub const HANDED_ON: &str =
     "3082015c06092a864886f70d010702a082014d308201490201013100300b06092a864886f70d010701a082012f3082012b3081d3a00302010202020101300a06082a8648ce3d040302300e310c300a06035504030c036f6e65301e170d3236313132383037323930365a170d3336313132353037323930365a300e310c300a06035504030c036f6e653059301306072a8648ce3d020106082a8648ce3d03010703420004ff3cd5d04a6045c9d38619f49282c490f2693aeacddf8c4cbe38cfcfa1453d4299eccd4b4729bcbcd039a3b28c66e47ed71e723954264bc18b5841a643b15459a321301f301d0603551d0e04160414fd34daaad89b70394916d94754f394a1488d9818300a06082a8648ce3d040302034700304402206868c1e167756e7de81d32fcd6cd832d9c5e5559562edc75f4525eb5a65eda9902201115fc771add954931abb07076c04ddef05862323923c69295050941e98e3126a1003100";
-
-/// The message with this name, or the text itself.
-pub fn named(text: &str) -> &str {
-    match text {
-        "attached" => ATTACHED,
-        "detached" => DETACHED,
-        "two_signers" => TWO_SIGNERS,
-        "keyid" => KEYID,
-        "extra" => EXTRA,
-        "noattr" => NOATTR,
-        "lists" => LISTS,
-        "built" => BUILT,
-        "ktri" => KTRI,
-        "kari" => KARI,
-        "several" => SEVERAL,
-        "encrypted" => ENCRYPTED,
-        "digested" => DIGESTED,
-        _ => text,
-    }
-}

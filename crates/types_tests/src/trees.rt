@@ -1,6 +1,7 @@
 // All leaves of all trees of up to 70 leaves, of which each is the octet of its index.
-use crate::rows::{good, shown};
-use crate::tables::JOINED;
+use crate::inclusion_data::JOINED;
+use crate::inclusions::shown;
+use crate::tables::{good, holds, there};
 use foundation::Sequence;
 use sigstore_merkle::{hash_leaf, hash_node, split_is_largest, verify_inclusion_proof};
 use sigstore_types_parts::{Hash, Sha256Hash};
@@ -20,11 +21,8 @@ fn leaves<X: AllocGlobal + Abort>(rt: &X, size: u8) -> Sequence<Sha256Hash> {
 
 /// The two parts of a tree of more than one leaf: the left one is the largest power of two below its size.
 fn halves<'a, X: Abort>(rt: &X, leaves: &'a [Sha256Hash]) -> (&'a [Sha256Hash], &'a [Sha256Hash]) {
-    let whole = leaves
-        .len()
-        .checked_next_power_of_two()
-        .expect(rt, "a size");
-    leaves.split_at_checked(whole / 2).expect(rt, "two parts")
+    let whole = there(rt, leaves.len().checked_next_power_of_two());
+    there(rt, leaves.split_at_checked(whole / 2))
 }
 
 /// Adds to a path for each leaf what it needs in a tree of at most that many levels, and gives the root (RFC 6962,
@@ -40,9 +38,7 @@ fn add_paths<X: AllocGlobal + Abort>(
         _ => {
             assert!(rt; levels > 0);
             let (left, right) = halves(rt, leaves);
-            let (left_paths, right_paths) = paths
-                .split_at_mut_checked(left.len())
-                .expect(rt, "paths");
+            let (left_paths, right_paths) = there(rt, paths.split_at_mut_checked(left.len()));
             let left_root = add_paths(rt, left, left_paths, levels - 1);
             let right_root = add_paths(rt, right, right_paths, levels - 1);
             push_each(rt, left_paths, &right_root);
@@ -63,19 +59,38 @@ fn push_each<X: AllocGlobal + Abort>(
     }
 }
 
-/// Judges each leaf of a tree by its path, and gives the root.
-fn judge_each<X: AllocGlobal + Abort>(rt: &X, leaves: &[Sha256Hash]) -> Sha256Hash {
+/// A path of no hashes for each leaf.
+fn empty_paths<X: AllocGlobal + Abort>(rt: &X, count: usize) -> Vec<Sequence<Sha256Hash>> {
     let mut paths = Vec::new(rt.alloc());
-    for _ in leaves {
+    for _ in 0..count {
         good(rt, paths.push(Sequence::new(rt.alloc())));
     }
+    paths
+}
+
+/// Judges each leaf of a tree by its path, and gives the root.
+fn judge_each<X: AllocGlobal + Abort>(rt: &X, leaves: &[Sha256Hash]) -> Sha256Hash {
+    let mut paths = empty_paths(rt, leaves.len());
     let root = add_paths(rt, leaves, &mut paths, LEVELS);
+    judge(rt, leaves, &paths, &root);
+    drop(paths);
+    root
+}
+
+fn judge<X: Abort>(
+    rt: &X,
+    leaves: &[Sha256Hash],
+    paths: &[Sequence<Sha256Hash>],
+    root: &Sha256Hash,
+) {
     let size = leaves.len() as u64;
     for (index, (leaf, path)) in leaves.iter().zip(paths.iter()).enumerate() {
-        let found = verify_inclusion_proof(leaf, index as u64, size, path.as_slice(), &root);
-        assert!(rt; found.is_ok(), "{index} of {size}");
+        let index = index as u64;
+        good(
+            rt,
+            verify_inclusion_proof(leaf, index, size, path.as_slice(), root),
+        );
     }
-    root
 }
 
 #[test]
@@ -84,9 +99,8 @@ fn each_leaf_of_each_tree_has_its_path(rt: HostRuntime) {
     let leaves = leaves(&rt, 70);
     let mut joined = hash_leaf(b"");
     for size in 1..=leaves.len() {
-        let tree = leaves.as_slice().get(..size).expect(&rt, "a tree");
+        let tree = there(&rt, leaves.as_slice().get(..size));
         joined = hash_node(&joined, &judge_each(&rt, tree));
     }
-    let found = shown(&rt, &joined);
-    assert!(rt; found.as_str() == JOINED, "{found}");
+    holds(&rt, shown(&rt, &joined).as_str() == JOINED);
 }

@@ -3,12 +3,12 @@
 // and its key, each as its first octet and its length, and its window; of each authority the number of its
 // certificates, and its window. `made` answers whether a verifier is made of it.
 use crate::data::{OCTETS, OF_SIGSTORE};
+use crate::tables::good;
 use foundation::Duplicate;
 use jiff::Timestamp;
 use sigstore_app_parts::read_provider;
+use sigstore_judgement::{Verifier, usable_exactly};
 use sigstore_types::{Authority, TimeRange, TrustedLog, TrustedRoot};
-use sigstore_verify::{Verifier, usable_exactly};
-use std::fmt::Debug;
 use std::process::Abort;
 
 // The members and their order.
@@ -93,11 +93,6 @@ made {"timestampAuthorities":[{"certChain":{}}]} => 24 InvalidTrustRoot
 made {"timestampAuthorities":[{"certChain":{"certificates":[{"rawBytes":"<time>"},{"rawBytes":"<i_names>"}]}}]} => 29 TrustedCertificate
 made {"timestampAuthorities":[{"certChain":{}}],"certificateAuthorities":[{"certChain":{"certificates":[{"rawBytes":"AA=="}]}}]} => 29 TrustedCertificate
 made {"certificateAuthorities":[{"certChain":{}}],"ctlogs":[{"publicKey":{"rawBytes":"AA=="},"logId":{"keyId":"<zeros>"}}]} => 26 Crypto"#;
-
-// What a call gave; a refusal ends the process.
-fn good<X: Abort, T, E: Debug>(rt: &X, given: Result<T, E>) -> T {
-    given.expect(rt, "a value")
-}
 
 // A text with the octets of each name in the place of its mark.
 fn meant<X: AllocGlobal + Abort>(rt: &X, given: &str) -> String {
@@ -215,7 +210,7 @@ fn made<X: AllocGlobal + Abort>(rt: &X, text: &str) -> String {
 }
 
 // Ends the process where a call doesn't give its answer.
-fn check<X: AllocGlobal + Abort>(rt: &X, row: &str) {
+fn check_row<X: AllocGlobal + Abort>(rt: &X, row: &str) {
     let (given, wanted) = row.split_once(" => ").expect(rt, "an answer");
     let (call, cell) = given.split_once(' ').expect(rt, "a call");
     let text = meant(rt, cell);
@@ -229,7 +224,7 @@ fn check<X: AllocGlobal + Abort>(rt: &X, row: &str) {
 
 fn check_rows<X: AllocGlobal + Abort>(rt: &X, rows: &str) {
     for row in rows.lines() {
-        check(rt, row);
+        check_row(rt, row);
     }
 }
 

@@ -1,24 +1,23 @@
 // The table of refusals, and verifications by a provider that accepts a signature equal to its subject.
 ghost use Rattle.std.specs.Prelude.{bytes_eq, Some, None, false};
-ghost use Rattle.sigstore_crypto.specs.Good.{subject_of};
+ghost use Rattle.sigstore_crypto_parts.specs.Good.{subject_of};
 
-use crate::fixture;
 use crate::tables::{
     Change, change_in, debug, good, halves, hold, number, source, text, there, word,
 };
 use foundation::{Duplicate, NoMemory, Sequence};
 use jiff::Timestamp;
 use sigstore_crypto::{CryptoProvider, ReadError, SigningScheme, sha256, sha384, sha512};
+use sigstore_judgement::*;
 use sigstore_types::{
     Armor, Artifact, ArtifactDigest, Bundle, Bytes, DerPublicKey, DigestBytes, Form, HashAlgorithm,
     MessageDigest, MessageSignature, SignatureBytes, SignatureContent, Text, TrustedRoot,
     VerificationMaterial, VerificationMaterialContent,
 };
-use sigstore_verify::*;
 use std::alloc::Global;
 use std::process::Abort;
 
-// The answer of a call by this name; for any other name that of a run.
+// The answer of a call by this name.
 pub(crate) fn answer<X: AllocGlobal + Abort>(rt: &X, call: &str, given: &str) -> String {
     match call {
         "refusal" => shown(rt, sample(rt, given)),
@@ -26,8 +25,7 @@ pub(crate) fn answer<X: AllocGlobal + Abort>(rt: &X, call: &str, given: &str) ->
         "policy" => policy_shown(rt),
         "acceptance" => accepted(rt, given),
         "handed" => handed(rt, given),
-        "kept" => fixture::kept(rt, given),
-        _ => fixture::said(rt, given),
+        _ => panic!(rt; "no call {call}"),
     }
 }
 

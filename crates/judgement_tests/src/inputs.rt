@@ -8,13 +8,12 @@ use foundation::NoMemory;
 use sigstore_app_parts::*;
 use sigstore_crypto::{CryptoProvider, SigningScheme, sha256};
 use sigstore_types_parts::{Armor, Bytes};
-use sigstore_verify::RootFault;
 use std::alloc::Global;
 use std::fs;
 use std::process::Abort;
 use std::rt::Files;
 
-// The answer of a call of sigstore_app_parts; for any other name that of a call of sigstore_verify.
+// The answer of a call of sigstore_app_parts; for any other name that of a call of sigstore_judgement.
 pub(crate) fn answer<X: AllocGlobal + Abort>(rt: &X, call: &str, given: &str) -> String {
     match call {
         "fault" => name(rt, given),
@@ -34,12 +33,16 @@ fn name<X: AllocGlobal + Abort>(rt: &X, fault: &str) -> String {
         "InputFault::NoMemory" => display(rt, InputFault::NoMemory),
         "UsageFault::Usage" => display(rt, UsageFault::Usage),
         "UsageFault::NoMemory" => display(rt, UsageFault::NoMemory),
+        _ => name_of_stop(rt, fault),
+    }
+}
+
+fn name_of_stop<X: AllocGlobal + Abort>(rt: &X, fault: &str) -> String {
+    match fault {
         "Stop::Words" => display(rt, Stop::Words),
         "Stop::Malformed" => display(rt, Stop::Malformed(Which::Policy)),
         "Stop::Input" => display(rt, Stop::Input(Which::Root)),
         "Stop::Memory" => display(rt, Stop::Memory),
-        "RootFault::Tuf" => display(rt, RootFault::Tuf(sigstore_tuf::Error::Json)),
-        "RootFault::NoMemory" => display(rt, RootFault::NoMemory),
         _ => display(rt, SinkFault::Failed),
     }
 }
@@ -54,8 +57,6 @@ Stop::Words | Words
 Stop::Malformed | Malformed
 Stop::Input | Input
 Stop::Memory | Memory
-RootFault::Tuf | Tuf
-RootFault::NoMemory | NoMemory
 SinkFault::Failed | Failed";
 
 const WHOLE: &str =

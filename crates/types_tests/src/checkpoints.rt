@@ -1,12 +1,15 @@
 // Tables of checkpoints, one row a line: a call, a text, ` => ` and the answer, worked out by hand. `read` answers
 // the origin, the size, the root's first octet, how many octets are signed, and of each signature its name, its
-// hint and its length. `held` answers the same of an inclusion proof's checkpoint, or `none`.
-use crate::texts::{first, good, hexadecimal, meant, parts, shown};
-use foundation::Duplicate;
+// hint and its length. `held` answers the same of an inclusion proof's checkpoint, or `none`. In a row `#` stands for
+// 43 times `A` and `=`, `@` for 42 times `A` and `==`, `\n` and `\r` for the ends of lines, and `%` for an octet that
+// is no UTF-8.
+use crate::tables::{
+    copied, displayed, first, good, halves, hexadecimal, hold, holds, printed, replaced, string,
+};
 use sigstore_entries::{
     Checkpoint, CheckpointData, CheckpointSignature, checkpoints_are_parted, envelopes_are_kept,
 };
-use sigstore_types_parts::{Bytes, TypesError};
+use sigstore_types_parts::Bytes;
 use std::process::Abort;
 
 const READ: &str =
@@ -81,82 +84,125 @@ held o\n0\n#\n\n— n AQIDBAUG\n => o 0 00 49: n 01020304 2;
 held \n => Checkpoint(Origin)
 held o => Checkpoint(Origin)";
 
-fn tell_signatures<X: AllocGlobal + Abort>(
+const MEANT: [(&str, &str); 4] = [
+    ("#", "AAAAAAAAAAAAAAAAAAAAAAAAAAAAAAAAAAAAAAAAAAA="),
+    ("@", "AAAAAAAAAAAAAAAAAAAAAAAAAAAAAAAAAAAAAAAAAA=="),
+    ("\\r", "\r"),
+    ("\\n", "\n"),
+];
+
+/// The octets that a row means.
+fn meant<X: AllocGlobal + Abort>(rt: &X, cell: &str) -> Vec<u8> {
+    let mut octets = replaced(rt, cell, &MEANT).into_bytes();
+    for octet in octets.as_mut_slice() {
+        if *octet == b'%' {
+            *octet = 255;
+        }
+    }
+    octets
+}
+
+fn tell_signature<X: AllocGlobal + Abort>(
     rt: &X,
-    signatures: &[CheckpointSignature],
+    signature: &CheckpointSignature,
     told: &mut String,
 ) {
-    for signature in signatures {
-        let name = signature.name.as_str();
-        let hint = hexadecimal(rt, signature.key_id.as_bytes());
-        let length = signature.signature.as_bytes().len();
-        let text = good(rt, format!(in rt.alloc(); "{name} {hint} {length};"));
-        good(rt, told.push_str(text.as_str()));
-    }
+    let hint = hexadecimal(rt, signature.key_id.as_bytes());
+    good(rt, told.push_str(signature.name.as_str()));
+    good(rt, told.push(' '));
+    good(rt, told.push_str(hint.as_str()));
+    drop(hint);
+    let length = displayed(rt, signature.signature.as_bytes().len());
+    good(rt, told.push(' '));
+    good(rt, told.push_str(length.as_str()));
+    drop(length);
+    good(rt, told.push(';'));
+}
+
+// What stands before the signatures.
+fn text_told<X: AllocGlobal + Abort>(rt: &X, checkpoint: &Checkpoint) -> String {
+    let (origin, size) = (checkpoint.origin(), checkpoint.tree_size());
+    let root = first(rt, checkpoint.root_hash().as_bytes());
+    let length = checkpoint.signed_data().len();
+    good(
+        rt,
+        format!(in rt.alloc(); "{origin} {size} {root} {length}: "),
+    )
 }
 
 // What a checkpoint holds.
-fn told<X: AllocGlobal + Abort>(rt: &X, checkpoint: &Checkpoint) -> String {
-    let origin = checkpoint.origin();
-    let size = checkpoint.tree_size();
-    let root = first(rt, checkpoint.root_hash().as_bytes());
-    let signed = checkpoint.signed_data();
-    assert!(rt; checkpoint.text().starts_with(signed));
-    let length = signed.len();
-    let mut told = good(
-        rt,
-        format!(in rt.alloc(); "{origin} {size} {root} {length}: "),
-    );
-    tell_signatures(rt, checkpoint.signatures(), &mut told);
-    told
+fn checkpoint_told<X: AllocGlobal + Abort>(rt: &X, checkpoint: &Checkpoint) -> String {
+    holds(rt, checkpoint.text().starts_with(checkpoint.signed_data()));
+    let mut told = text_told(rt, checkpoint);
+    for signature in checkpoint.signatures() {
+        tell_signature(rt, signature, &mut told);
+    }
+    let marked = replaced(rt, told.as_str(), &[("\r", "\\r")]);
+    drop(told);
+    marked
 }
 
-fn read<X: AllocGlobal + Abort>(rt: &X, text: &[u8]) -> Result<String, TypesError> {
-    let checkpoint = Checkpoint::from_text(rt.alloc(), text)?;
-    let copy = good(rt, checkpoint.duplicate(rt.alloc()));
-    assert!(rt; copy == checkpoint);
-    assert!(rt; checkpoint.text() == text);
-    Ok(told(rt, &checkpoint))
-}
-
-fn held<X: AllocGlobal + Abort>(rt: &X, text: &[u8]) -> Result<String, TypesError> {
-    let bytes = good(rt, Bytes::new(rt.alloc(), text));
-    let held = CheckpointData::new(rt.alloc(), bytes)?;
-    assert!(rt; held.envelope() == text);
-    assert!(rt; held.is_empty() == text.is_empty());
-    match held.checkpoint() {
-        Some(checkpoint) => Ok(told(rt, checkpoint)),
-        None => Ok(good(rt, String::from_str(rt.alloc(), "none"))),
+fn read<X: AllocGlobal + Abort>(rt: &X, text: &[u8]) -> String {
+    match Checkpoint::from_text(rt.alloc(), text) {
+        Ok(checkpoint) => read_told(rt, copied(rt, checkpoint), text),
+        Err(refusal) => printed(rt, refusal),
     }
 }
 
-// Ends the process where a call doesn't give its answer.
-fn check<X: AllocGlobal + Abort>(rt: &X, row: &str) {
-    let (call, cell, wanted) = parts(rt, row);
-    let text = meant(rt, cell);
-    let found = match call {
-        "read" => shown(rt, read(rt, text.as_slice())),
-        "held" => shown(rt, held(rt, text.as_slice())),
-        _ => panic!(rt; "no call {call}"),
-    };
-    drop(text);
-    let wanted = meant(rt, wanted);
-    let is_wanted = found.as_bytes() == wanted.as_slice();
-    drop(wanted);
-    assert!(rt; is_wanted, "{row}\nfound: {found}");
+fn read_told<X: AllocGlobal + Abort>(rt: &X, checkpoint: Checkpoint, text: &[u8]) -> String {
+    holds(rt, checkpoint.text() == text);
+    let told = checkpoint_told(rt, &checkpoint);
+    drop(checkpoint);
+    told
 }
 
-fn check_rows<X: AllocGlobal + Abort>(rt: &X, rows: &str) {
-    for row in rows.lines() {
-        check(rt, row);
+fn held<X: AllocGlobal + Abort>(rt: &X, text: &[u8]) -> String {
+    let bytes = good(rt, Bytes::new(rt.alloc(), text));
+    match CheckpointData::new(rt.alloc(), bytes) {
+        Ok(held) => held_told(rt, held, text),
+        Err(refusal) => printed(rt, refusal),
+    }
+}
+
+fn held_told<X: AllocGlobal + Abort>(rt: &X, held: CheckpointData, text: &[u8]) -> String {
+    holds(
+        rt,
+        held.envelope() == text && held.is_empty() == text.is_empty(),
+    );
+    let told = told_or_none(rt, held.checkpoint());
+    drop(held);
+    told
+}
+
+fn told_or_none<X: AllocGlobal + Abort>(rt: &X, checkpoint: Option<&Checkpoint>) -> String {
+    match checkpoint {
+        Some(checkpoint) => checkpoint_told(rt, checkpoint),
+        None => string(rt, "none"),
+    }
+}
+
+/// The answer of a call that is given a text with marks.
+pub fn answer<X: AllocGlobal + Abort>(rt: &X, given: &str) -> String {
+    let (call, cell) = halves(rt, given, " ");
+    let text = meant(rt, cell);
+    let answer = asked(rt, call, text.as_slice());
+    drop(text);
+    answer
+}
+
+fn asked<X: AllocGlobal + Abort>(rt: &X, call: &str, text: &[u8]) -> String {
+    if call == "read" {
+        read(rt, text)
+    } else {
+        held(rt, text)
     }
 }
 
 #[test]
 fn checkpoints_are_read_by_their_grammar(rt: HostRuntime) {
-    check_rows(&rt, READ);
-    check_rows(&rt, REFUSED);
-    check_rows(&rt, HELD);
+    hold(&rt, "checkpoint", READ);
+    hold(&rt, "checkpoint", REFUSED);
+    hold(&rt, "checkpoint", HELD);
     checkpoints_are_parted();
     envelopes_are_kept();
 }

@@ -1,33 +1,22 @@
 // What rows of tables mean: names of logs, checkpoints and entries, moments, and answers as texts.
-use crate::data::{CHECKPOINTS, ENTRIES, KEYS, SIGNATURES};
+use crate::log_data::{CHECKPOINTS, ENTRIES, KEYS, SIGNATURES};
+use crate::tables::{good, halves, holds, string, there};
 use jiff::Timestamp;
 use sigstore_app_parts::{Tables, read_provider};
 use sigstore_crypto::{Keyring, VerificationKey, sha256};
 use sigstore_entries::{Checkpoint, TransparencyLogEntry};
 use sigstore_types_parts::{DerPublicKey, LogKeyId, TimeRange, parse_json};
-use std::fmt::Debug;
 use std::process::Abort;
-
-/// What a call gave; a refusal ends the process.
-pub fn good<X: Abort, T, E: Debug>(rt: &X, given: Result<T, E>) -> T {
-    given.expect(rt, "a value")
-}
-
-/// A text of its own.
-pub fn text<X: AllocGlobal + Abort>(rt: &X, text: &str) -> String {
-    good(rt, String::from_str(rt.alloc(), text))
-}
 
 // What a table has behind a name.
 fn behind<X: Abort>(rt: &X, table: &'static str, name: &str) -> &'static str {
     for row in table.lines() {
-        if let Some((first, rest)) = row.split_once(' ') {
-            if first == name {
-                return rest;
-            }
+        let (first, rest) = halves(rt, row, " ");
+        if first == name {
+            return rest;
         }
     }
-    panic!(rt; "no {name}")
+    there(rt, None)
 }
 
 /// The key of a log; that of no name is one byte.
@@ -53,7 +42,7 @@ pub fn moment<X: Abort>(rt: &X, word: &str) -> Timestamp {
 
 // A window: `START..END`, the end left out where there is none.
 fn window<X: Abort>(rt: &X, word: &str) -> TimeRange {
-    let (start, end) = word.split_once("..").expect(rt, "a window");
+    let (start, end) = halves(rt, word, "..");
     TimeRange {
         start: moment(rt, start),
         end: if end.is_empty() {
@@ -98,32 +87,32 @@ pub fn checkpoint<X: AllocGlobal + Abort>(rt: &X, name: &str) -> Checkpoint {
         rt,
         parse_json(rt.alloc(), behind(rt, CHECKPOINTS, name).as_bytes()),
     );
-    let signed = value.as_str().expect(rt, "a text");
+    let signed = there(rt, value.as_str());
     good(rt, Checkpoint::from_text(rt.alloc(), signed.as_bytes()))
 }
 
 // One side of a change: `checkpoint NAME` or `id NAME` for what the entry has of it, else the text itself.
 fn side<X: AllocGlobal + Abort>(rt: &X, side: &str) -> String {
     if let Some(name) = side.strip_prefix("checkpoint ") {
-        return text(rt, behind(rt, CHECKPOINTS, name));
+        return string(rt, behind(rt, CHECKPOINTS, name));
     }
     if let Some(name) = side.strip_prefix("id ") {
         let id = sha256(key(rt, name).as_bytes());
         let id = good(rt, LogKeyId::from_bytes(rt.alloc(), id.as_bytes()));
-        return text(rt, good(rt, id.to_base64(rt.alloc())).as_str());
+        return string(rt, good(rt, id.to_base64(rt.alloc())).as_str());
     }
-    text(rt, side)
+    string(rt, side)
 }
 
 // The text with one part, which stands in it once, in another's place: `OLD ~ NEW`.
 fn changed<X: AllocGlobal + Abort>(rt: &X, whole: &str, change: &str) -> String {
     if change.is_empty() {
-        return text(rt, whole);
+        return string(rt, whole);
     }
-    let (old, new) = change.split_once(" ~ ").expect(rt, "a change");
+    let (old, new) = halves(rt, change, " ~ ");
     let (old, new) = (side(rt, old), side(rt, new));
-    let (before, behind) = whole.split_once(old.as_str()).expect(rt, "what is changed");
-    assert!(rt; behind.split_once(old.as_str()).is_none(), "twice: {old}");
+    let (before, behind) = halves(rt, whole, old.as_str());
+    holds(rt, behind.split_once(old.as_str()).is_none());
     good(rt, format!(in rt.alloc(); "{before}{new}{behind}"))
 }
 

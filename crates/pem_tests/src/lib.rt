@@ -1,5 +1,0 @@
-//! Tests of keys and certificates as texts.
-#![tactic(auto)]
-
-#[cfg(test)]
-mod texts;
