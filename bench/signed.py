@@ -7,23 +7,40 @@ import shutil
 import subprocess
 import sys
 
-APP = pathlib.Path(__file__).resolve().parent.parent / "crates" / "sigstore_app"
+CRATES = pathlib.Path(__file__).resolve().parent.parent / "crates"
+APP = CRATES / "sigstore_app"
 PROGRAM = APP / "out" / "sigstore_app"
+ASKING = CRATES / "sigstore_questions_app"
+QUESTIONS = ASKING / "out" / "sigstore_questions_app"
 RAW_KEY = b"\x04" + bytes(64)
 # A SubjectPublicKeyInfo of P-256.
 SPKI = bytes.fromhex("3059301306072a8648ce3d020106082a8648ce3d030107034200") + RAW_KEY
-# The provider's armour reads the text `p` as that key.
-KEY = {"keytype": "ecdsa", "keyval": {"public": "p"}, "scheme": "ecdsa-sha2-nistp256"}
 ROLE = {"keyids": ["k"], "threshold": 1}
 
 
 def text(value):
-    """The canonical text: members in ascending order, no blanks. (No text here has to be escaped.)"""
+    """A document's bytes: members in ascending order, no blanks."""
     return json.dumps(value, sort_keys=True, separators=(",", ":")).encode()
+
+
+def canonical(value):
+    """The canonical text, in which line feeds stand as they are. (No other character here is escaped.)"""
+    return text(value).replace(b"\\n", b"\n")
 
 
 def spelled(octets):
     return base64.b64encode(octets).decode()
+
+
+def armored(octets):
+    """A public key in the strict form of RFC 7468."""
+    body = spelled(octets)
+    lines = [body[start : start + 64] for start in range(0, len(body), 64)]
+    return "\n".join(["-----BEGIN PUBLIC KEY-----", *lines, "-----END PUBLIC KEY-----"])
+
+
+PEM = armored(SPKI)
+KEY = {"keytype": "ecdsa", "keyval": {"public": PEM}, "scheme": "ecdsa-sha2-nistp256"}
 
 
 def accept(signed):
@@ -38,7 +55,7 @@ class Place:
     def __init__(self, folder, repositories, trust=b"{}"):
         self.folder = pathlib.Path(folder)
         self.trust = trust
-        self.rows = [f"armor key {spelled(b'p')} {spelled(SPKI)}"]
+        self.rows = [f"armor key {spelled(PEM.encode())} {spelled(SPKI)}"]
         self.rows.append(accept((APP / "data" / "artifact").read_bytes()))
         for name in ("artifact", "bundle.json", "policy"):
             shutil.copy(APP / "data" / name, self.folder)
@@ -57,7 +74,7 @@ class Place:
         }
         signatures = [{"keyid": key, "sig": "01"} for key in signers]
         (self.folder / name).write_bytes(text({"signatures": signatures, "signed": content}))
-        self.rows.append(accept(text(content)))
+        self.rows.append(accept(canonical(content)))
 
     def put_root(self, name, version=1, roles=(), with_keys=(), signers=("k",), **more):
         """Puts a root in which these ids have a key, and these roles another role than that of `k`."""
@@ -94,7 +111,15 @@ class Place:
         pipe = subprocess.PIPE
         return subprocess.Popen([PROGRAM, *given], cwd=self.folder, stdout=pipe, text=True)
 
+    def ask(self, repository):
+        """The lines of the questions program over a repository."""
+        words = (APP / "args").read_text().split()
+        words = ["questions"] + [word for word in words if "--provider" not in word and word != "verify"]
+        given = [f"--repository={repository}" if "repository" in word else word for word in words]
+        done = subprocess.run([QUESTIONS, *given], cwd=self.folder, capture_output=True, text=True, check=True)
+        return done.stdout.splitlines()
+
 
 def check_built():
-    if not PROGRAM.exists():
-        sys.exit("the program isn't built: run ./ratmanganese build first")
+    if not PROGRAM.exists() or not QUESTIONS.exists():
+        sys.exit("the programs aren't built: run ./ratmanganese build first")
