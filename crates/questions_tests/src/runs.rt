@@ -140,15 +140,15 @@ fn verified<X: AllocGlobal + Abort>(rt: &X, change: Change) -> String {
 
 // A store that counts the writes that reach it.
 #[derive(Drop)]
-struct CountedStore<'a> {
-    inner: MemoryStore,
+struct CountedStore<'a, S: MetadataStore> {
+    inner: S,
     writes: &'a Cell<u64>,
 }
 
-impl MetadataStore for CountedStore<'_> {
-    ghost seen = { λ s. MemoryStore.MetadataStore.seen s.inner };
+impl<S: MetadataStore> MetadataStore for CountedStore<'_, S> {
+    ghost seen = { λ s. S.seen s.inner };
 
-    ghost tame = { λ s. MemoryStore.MetadataStore.tame s.inner };
+    ghost tame = { λ s. S.tame s.inner };
 
     fn load(&mut self, alloc: Global, name: &str) -> Result<Option<Bytes>, StoreFault> {
         self.inner.load(alloc, name)

@@ -15,19 +15,12 @@ struct Noting<R: Repository> {
     requests: String,
 }
 
-// Notes a request, behind `, ` where it isn't the first.
-fn note(requests: &mut String, folder: &str, name: &str, max: u64) -> Result<(), FetchFault> {
+// Notes a request, behind `, ` where it isn't the first. What can't be written is missing in the list.
+fn note(requests: &mut String, folder: &str, name: &str, max: u64) {
     if !requests.is_empty() {
-        noted(requests.push_str(", "))?;
+        drop(requests.push_str(", "));
     }
-    noted(write!(requests, "{folder}{name} {max}"))
-}
-
-fn noted<T: Drop, E: Drop>(answer: Result<T, E>) -> Result<(), FetchFault> {
-    match answer {
-        Ok(_) => Ok(()),
-        Err(_) => Err(FetchFault::NoMemory),
-    }
+    drop(write!(requests, "{folder}{name} {max}"));
 }
 
 impl<R: Repository> Repository for Noting<R> {
@@ -39,7 +32,7 @@ impl<R: Repository> Repository for Noting<R> {
         name: &str,
         max: u64,
     ) -> Result<Option<Bytes>, FetchFault> {
-        note(&mut self.requests, "", name, max)?;
+        note(&mut self.requests, "", name, max);
         self.inner.fetch_metadata(alloc, name, max)
     }
 
@@ -49,7 +42,7 @@ impl<R: Repository> Repository for Noting<R> {
         path: &str,
         max: u64,
     ) -> Result<Option<Bytes>, FetchFault> {
-        note(&mut self.requests, "targets/", path, max)?;
+        note(&mut self.requests, "targets/", path, max);
         self.inner.fetch_target(alloc, path, max)
     }
 }
