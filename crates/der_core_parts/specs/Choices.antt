@@ -1,5 +1,6 @@
 -- One type or another, a type under a further tag, and any type.
-use Rattle.std.specs.Prelude.{◌≡◌, ℕ, ◌⊎◌, ◌%◌, Bool, true, false, not, List, length, Ok, Err, nat_lt, ◌==◌, ◌&&◌, ◌||◌, if◌then◌else◌}
+use Rattle.std.specs.Prelude.{◌≡◌, ℕ, ◌⊎◌, ◌%◌, Bool, true, false, not, List, length}
+use Rattle.std.specs.Prelude.{Ok, Err, nat_lt, ◌==◌, ◌&&◌, ◌||◌, if◌then◌else◌}
 use Rattle.std.proofs.Common.{inl, inr, refl, ap, subst, cond, ltb, eqb}
 use Rattle.std.proofs.lemmas.Bool.{ltb-true, eqb-false}
 use Rattle.der_core_parts.specs.declared.error.DerError.TheVariants.{Value}
