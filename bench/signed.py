@@ -111,10 +111,11 @@ class Place:
         pipe = subprocess.PIPE
         return subprocess.Popen([PROGRAM, *given], cwd=self.folder, stdout=pipe, text=True)
 
-    def ask(self, repository):
-        """The lines of the questions program over a repository."""
+    def ask(self, repository, refused="/dev/null"):
+        """The lines of the questions program over a repository, where the signatures of a file aren't good."""
         words = (APP / "args").read_text().split()
         words = ["questions"] + [word for word in words if "--provider" not in word and word != "verify"]
+        words.append(f"--refused={refused}")
         given = [f"--repository={repository}" if "repository" in word else word for word in words]
         done = subprocess.run([QUESTIONS, *given], cwd=self.folder, capture_output=True, text=True, check=True)
         return done.stdout.splitlines()

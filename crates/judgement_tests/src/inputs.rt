@@ -135,9 +135,11 @@ more words | --name=a | none
 more words | --now | none
 more words | --now=2025-01-01T00:00:00Z --now=2025-01-01T00:00:00Z | none
 more words | --questions=a | none
-words of questions | questions --root=a --repository=b --store=c --bundle=d --artifact=e --policy=f | (\"a\", \"f\", None)
+words of questions | questions --root=a --repository=b --store=c --bundle=d --artifact=e --policy=f --refused=g | (\"a\", \"f\", None)
+words of questions | questions --root=a --repository=b --store=c --bundle=d --artifact=e --policy=f | none
 words of questions | questions --root=a --repository=b --store=c --bundle=d --artifact=e --policy=f --provider=g | none
-words of questions | questions --root=a --repository=b --store=c --bundle=d --artifact=e | none
+words of questions | questions --root=a --repository=b --store=c --bundle=d --artifact=e --policy=f --refused=g --provider=h | none
+words of questions | questions --root=a --repository=b --store=c --bundle=d --artifact=e --refused=g | none
 words of questions | verify --root=a --repository=b --store=c --bundle=d --artifact=e --policy=f | none
 words |  | none
 words | verify | none

@@ -8,6 +8,10 @@ mod files;
 #[cfg(test)]
 mod inputs;
 #[cfg(test)]
+mod stamped;
+#[cfg(test)]
+mod stamps;
+#[cfg(test)]
 mod tables;
 #[cfg(test)]
 mod verification;

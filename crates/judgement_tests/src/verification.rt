@@ -142,7 +142,7 @@ fn plain(number: u8) -> Error {
         29 => Error::TrustedCertificate,
         30 => Error::ArtifactRead(ReadError::Failed),
         31 => Error::NoMemory,
-        _ => Error::Unbuilt(Form::Tokens),
+        _ => Error::Unbuilt(Form::Envelope),
     }
 }
 
@@ -293,6 +293,7 @@ fn bundle<X: AllocGlobal + Abort>(rt: &X, change: Change) -> Bundle {
         verification_material: VerificationMaterial {
             content: VerificationMaterialContent::PublicKey { hint: None },
             tlog_entries: Sequence::new(rt.alloc()),
+            rfc3161_timestamps: Sequence::new(rt.alloc()),
         },
     }
 }

@@ -8,5 +8,6 @@ pub mod log;
 pub mod merkle;
 pub mod message;
 pub mod path;
+pub mod tsa;
 pub mod tuf;
 pub mod verify;

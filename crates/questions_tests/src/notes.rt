@@ -1,5 +1,6 @@
 // What is noted of calls, worked out by hand: `a` is YQ==, `b` Yg==, `c` Yw==; the digest is that of `hello`.
-use crate::tables::{check, good, halves, string, there};
+use crate::tables::{check, good, halves, there};
+use sigstore_app_parts::read_provider;
 use sigstore_crypto::{CryptoProvider, SigningScheme, sha256};
 use sigstore_questions_parts::{Notes, NotingArmor, NotingProvider};
 use sigstore_types_parts::Armor;
@@ -14,12 +15,11 @@ fn scheme_of(name: &str) -> SigningScheme {
 }
 
 // Asks after a signature: `KEY/MESSAGE/SIGNATURE` under a scheme, or over the digest.
-fn ask<X: Abort>(rt: &X, notes: &Notes, call: &str, text: &str) {
+fn ask<X: Abort>(rt: &X, provider: &NotingProvider<'_>, call: &str, text: &str) -> bool {
     let (key, text) = halves(rt, text, "/");
     let (message, signature) = halves(rt, text, "/");
     let (key, message, signature) = (key.as_bytes(), message.as_bytes(), signature.as_bytes());
-    let provider = NotingProvider::new(notes);
-    let answer = if call == "digest" {
+    if call == "digest" {
         let digest = sha256(message);
         provider.verify_prehashed(
             SigningScheme::EcdsaP256Sha256,
@@ -29,8 +29,7 @@ fn ask<X: Abort>(rt: &X, notes: &Notes, call: &str, text: &str) {
         )
     } else {
         provider.verify_raw(scheme_of(call), key, message, signature)
-    };
-    assert!(rt; answer, "a noting provider accepts");
+    }
 }
 
 // Reads a text, in which `;` stands for the end of a line.
@@ -46,25 +45,44 @@ fn read<X: AllocGlobal + Abort>(rt: &X, notes: &Notes, call: &str, text: &str) {
     drop(text);
 }
 
-// The text of what is noted of these calls, with `;` in the place of each line feed; `nothing` where there
-// is none.
-fn noted<X: AllocGlobal + Abort>(rt: &X, calls: &str) -> String {
-    let notes = Notes::new(rt.alloc());
+// Makes the calls over a table of refused signatures; a signature that isn't accepted is told by `no;`.
+fn make<X: AllocGlobal + Abort>(rt: &X, notes: &Notes, refused: &str, calls: &str) -> String {
+    let tables = good(rt, read_provider(rt.alloc(), refused.as_bytes()));
+    let mut told = String::new(rt.alloc());
     for call in calls.split(", ") {
         let (call, text) = halves(rt, call, " ");
         match call {
-            "key" | "certificate" => read(rt, &notes, call, text),
-            _ => ask(rt, &notes, call, text),
+            "key" | "certificate" => read(rt, notes, call, text),
+            _ => {
+                if !ask(
+                    rt,
+                    &NotingProvider::new(notes, &tables.provider),
+                    call,
+                    text,
+                ) {
+                    good(rt, told.push_str("no;"));
+                }
+            }
         }
     }
+    drop(tables);
+    told
+}
+
+// The text of what is noted of these calls, with `;` in the place of each line feed; `nothing` where there
+// is none.
+fn noted<X: AllocGlobal + Abort>(rt: &X, refused: &str, calls: &str) -> String {
+    let notes = Notes::new(rt.alloc());
+    let mut told = make(rt, &notes, refused, calls);
     let noted = there(rt, notes.into_noted());
-    let text = if noted.text.is_empty() {
-        string(rt, "nothing")
+    if noted.text.is_empty() {
+        good(rt, told.push_str("nothing"));
     } else {
-        good(rt, noted.text.replace(rt.alloc(), '\n', ";"))
-    };
+        let text = good(rt, noted.text.replace(rt.alloc(), '\n', ";"));
+        good(rt, told.push_str(text.as_str()));
+    }
     drop(noted);
-    text
+    told
 }
 
 // A row: the calls, and what is noted of them.
@@ -84,10 +102,26 @@ certificate -----BEGIN CERTIFICATE-----;AQID;-----END CERTIFICATE----- => armor 
 key der:;-----BEGIN PUBLIC KEY-----;AQID;-----END PUBLIC KEY----- => nothing
 key -----BEGIN PUBLIC KEY-----;AQID;-----END PUBLIC KEY-----, Ed25519 a/b/c => armor key LS0tLS1CRUdJTiBQVUJMSUMgS0VZLS0tLS0KQVFJRAotLS0tLUVORCBQVUJMSUMgS0VZLS0tLS0= AQID;accept ED25519 YQ== Yg== Yw==;";
 
+// A table of refused signatures.
+const REFUSED: &str = "accept ED25519 YQ== Yg== Yw==
+accept ECDSA_P256_SHA256 YQ== LPJNul+wow4m6DsqxbninhsWHlwfp0JecwQzYpOLmCQ= Yw==
+";
+
+// The calls, and what is noted of them, where those of the table are refused.
+const BEHIND: &str = "Ed25519 a/b/c => no;nothing
+Ed25519 a/b/c, Ed25519 a/b/b, Ed25519 a/b/c => no;no;accept ED25519 YQ== Yg== Yg==;
+RsaPssSha256 a/hello/c => accept RSA_PSS_SHA256 YQ== LPJNul+wow4m6DsqxbninhsWHlwfp0JecwQzYpOLmCQ= Yw==;
+EcdsaP256Sha256 a/hello/c, digest a/hello/c => no;no;nothing";
+
+fn hold_calls<X: AllocGlobal + Abort>(rt: &X, refused: &str, rows: &str) {
+    for row in rows.lines() {
+        let (calls, wanted) = halves(rt, row, " => ");
+        check(rt, row, wanted, noted(rt, refused, calls));
+    }
+}
+
 #[test]
 fn calls_are_noted_once_in_their_order(rt: HostRuntime) {
-    for row in CALLS.lines() {
-        let (calls, wanted) = halves(&rt, row, " => ");
-        check(&rt, row, wanted, noted(&rt, calls));
-    }
+    hold_calls(&rt, "", CALLS);
+    hold_calls(&rt, REFUSED, BEHIND);
 }

@@ -20,7 +20,7 @@ const VERIFY: &str =
     "verify --root=a --repository=b --store=c --bundle=d --artifact=e --policy=f --provider=g --now=2027-01-01T00:00:00Z";
 
 const ASK: &str =
-    "questions --root=a --repository=b --store=c --bundle=d --artifact=e --policy=f --now=2027-01-01T00:00:00Z";
+    "questions --root=a --repository=b --store=c --bundle=d --artifact=e --policy=f --refused=g --now=2027-01-01T00:00:00Z";
 
 // A text in a file, and another one in its place.
 #[derive(Clone, Copy)]
@@ -160,10 +160,12 @@ impl<S: MetadataStore> MetadataStore for CountedStore<'_, S> {
     }
 }
 
-// How the questions of these words over the world end, and what is written; no write may reach the store.
-fn asked<X: AllocGlobal + Abort>(rt: &X, line: &str) -> (Status, String) {
+// How the questions of these words over the world end where these rows are refused, and what is written; no write
+// may reach the store.
+fn asked<X: AllocGlobal + Abort>(rt: &X, line: &str, refused: &str) -> (Status, String) {
     let words = words(rt, line);
     let (mut inputs, mut repo) = (inputs(rt, NONE), repository(rt, NONE));
+    inputs.put(Which::Provider, bytes(rt, refused));
     let writes = Cell::new(0);
     let mut store = ReadingStore::new(CountedStore {
         inner: MemoryStore::new(rt.alloc()),
@@ -223,16 +225,40 @@ fn the_stored_world_is_verified(rt: HostRuntime) {
 
 #[test]
 fn the_stored_world_is_asked(rt: HostRuntime) {
-    let (ended, text) = asked(&rt, ASK);
+    let (ended, text) = asked(&rt, ASK, "");
     let rows = good(&rt, ROWS.replace(rt.alloc(), '\n', ";"));
     check(&rt, ASK, rows.as_str(), text);
     drop(rows);
     assert!(&rt; ended == Status::Accepted, "the questions are asked");
 }
 
+// Where no signature of the world is good, the questions end with those of the given root, of which the keys' two
+// texts are left.
+#[test]
+fn behind_refused_signatures_nothing_is_asked(rt: HostRuntime) {
+    let (ended, text) = asked(&rt, ASK, ROWS);
+    let mut wanted = String::new(rt.alloc());
+    for line in ROWS.lines().take(4) {
+        if line.starts_with("armor ") {
+            good(&rt, wanted.push_str(line));
+            good(&rt, wanted.push_str(";"));
+        }
+    }
+    check(&rt, ASK, wanted.as_str(), text);
+    drop(wanted);
+    assert!(&rt; ended == Status::Accepted, "the questions are asked");
+}
+
+#[test]
+fn a_file_of_refused_signatures_has_rows(rt: HostRuntime) {
+    let (ended, text) = asked(&rt, ASK, "refused\n");
+    check(&rt, ASK, "usage provider;", text);
+    assert!(&rt; ended == Status::Usage, "no questions are asked");
+}
+
 #[test]
 fn other_words_ask_nothing(rt: HostRuntime) {
-    let (ended, text) = asked(&rt, VERIFY);
+    let (ended, text) = asked(&rt, VERIFY, "");
     check(&rt, VERIFY, "usage;", text);
     assert!(&rt; ended == Status::Usage, "verify isn't questions");
 }

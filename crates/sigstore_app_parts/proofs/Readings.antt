@@ -5,17 +5,14 @@ use Rattle.foundation.specs.Steps.{◌>>=◌}
 use Rattle.foundation.specs.Watched.{Rose, IfTold, Since}
 use Rattle.sigstore_app_parts.specs.Inputs.{Held, Supply, watched, Gives}
 use Rattle.sigstore_app_parts.specs.Policy.{policy_of}
-use Rattle.sigstore_app_parts.specs.Tables.{no_rows, tables_of}
-use Rattle.sigstore_app_parts.specs.Gather.{limit_of, within_limit, input_of, stop_of, by_form, policy_in, signed_in, asked_of, IsMalformed, MalformedCause, StopCause, ReadsAs}
+use Rattle.sigstore_app_parts.specs.Tables.{tables_of}
+use Rattle.sigstore_app_parts.specs.Gather.{limit_of, within_limit, input_of, stop_of, by_form, IsMalformed, MalformedCause, StopCause, ReadsAs}
 use Rattle.sigstore_app_parts.specs.declared.inputs.Which.{Which}
 use Rattle.sigstore_app_parts.specs.declared.inputs.Which.TheVariants.{Root, Bundle, Policy, Provider}
 use Rattle.sigstore_app_parts.specs.declared.usage_fault.UsageFault.{UsageFault}
 use Rattle.sigstore_app_parts.specs.declared.usage_fault.UsageFault.TheVariants as usage
 use Rattle.sigstore_app_parts.specs.declared.inputs.InputFault.{InputFault}
 use Rattle.sigstore_app_parts.specs.declared.inputs.InputFault.TheVariants as fault
-use Rattle.sigstore_app_parts.specs.declared.gather.Gathered.{Gathered}
-use Rattle.sigstore_app_parts.specs.declared.policy.PolicyFile.{PolicyFile}
-use Rattle.sigstore_app_parts.specs.declared.tables.Tables.{Tables}
 use Rattle.sigstore_app_parts.specs.declared.gather.Stop.{Stop}
 use Rattle.sigstore_app_parts.specs.declared.gather.Stop.TheVariants.{Words, Malformed, Input, Memory}
 
@@ -165,10 +162,3 @@ pub then_malformed : {A : Type 0} (which : Which) (reads : List ℕ → Result A
     → ReadsAs (input_of which) old new (Ok bytes) → (e ≢ Memory → by_form which (reads bytes) ≡ Err e) → ReadsAs (λ held. input_of which held >>= λ b. by_form which (reads b)) old new (Err e)
 then_malformed which reads old new bytes e f p h =
     then_err (input_of which) (λ b held. by_form which (reads b)) old new bytes e p (λ m held. h m) (formed_cause which reads old new bytes e f p.ok h)
-
--- the policy was read, and the root and the bundle follow
-pub asked_reads : (policy : PolicyFile) (tables : Tables) (old mid new : Supply) (result : Result Gathered Stop) → tables ≡ no_rows
-    → ReadsAs policy_in old mid (Ok policy) → ReadsAs (signed_in policy tables) mid new result → ReadsAs asked_of old new result
-unfolding asked_of
-asked_reads policy tables old mid new result e p q =
-    then_reads policy_in (λ policy held. signed_in policy no_rows held) old mid new policy result p (subst (λ t. ReadsAs (signed_in policy t) mid new result) e q)

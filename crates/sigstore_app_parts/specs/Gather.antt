@@ -5,7 +5,7 @@ use Rattle.foundation.specs.Steps.{◌>>=◌}
 use Rattle.foundation.specs.Watched.{Rose, IfTold, Since}
 use Rattle.sigstore_app_parts.specs.Inputs.{Held, Supply, watched}
 use Rattle.sigstore_app_parts.specs.Policy.{policy_of}
-use Rattle.sigstore_app_parts.specs.Tables.{no_rows, tables_of}
+use Rattle.sigstore_app_parts.specs.Tables.{tables_of}
 use Rattle.sigstore_app_parts.specs.declared.usage_fault.UsageFault.{UsageFault}
 use Rattle.sigstore_app_parts.specs.declared.usage_fault.UsageFault.TheVariants as usage
 use Rattle.sigstore_app_parts.specs.declared.inputs.Which.{Which}
@@ -74,12 +74,6 @@ gathered_of held =
     policy_in held >>= λ policy.
     tables_in held >>= λ tables.
     signed_in policy tables held
-
--- the inputs without the provider's file, or the first refusal
-unfoldable pub asked_of : Held → Result Gathered Stop
-asked_of held =
-    policy_in held >>= λ policy.
-    signed_in policy no_rows held
 
 -- bytes that told inputs hold within their limit, and that are outside their grammar
 pub record IsMalformed {A : Type 0} (which : Which) (reads : List ℕ → Result A UsageFault) (seen : Supply) : Type 0 where

@@ -4,7 +4,7 @@ ghost use Rattle.sigstore_app_parts.specs.declared.inputs.Which.TheVariants.{Pol
 ghost use Rattle.sigstore_app_parts.specs.declared.gather.Stop.TheVariants.{Memory};
 ghost use Rattle.sigstore_app_parts.specs.Policy.{policy_of};
 ghost use Rattle.sigstore_app_parts.specs.Tables.{tables_of};
-ghost use Rattle.sigstore_app_parts.specs.Gather.{limit_of, word_of, stop_of, by_form, input_of, policy_in, tables_in, signed_in, gathered_of, asked_of, ReadsAs};
+ghost use Rattle.sigstore_app_parts.specs.Gather.{limit_of, word_of, stop_of, by_form, input_of, policy_in, tables_in, signed_in, gathered_of, ReadsAs};
 
 use crate::inputs::{InputFault, Inputs, Which};
 use crate::policy::{PolicyFile, read_policy};
@@ -162,20 +162,6 @@ pub fn gather_inputs<I: Inputs>(alloc: Global, inputs: &mut I) -> Result<Gathere
                 Ok(gathered) => Ok(gathered),
                 Err(e) => Err(e),
             },
-            Err(e) => Err(e),
-        },
-        Err(e) => Err(e),
-    }
-}
-
-/// The inputs of a run that asks no table, in their order: policy, root, bundle; with tables without
-/// rows. Errors: `Malformed` or `Input` of the first that is refused; `Memory`.
-pub fn gather_asked<I: Inputs>(alloc: Global, inputs: &mut I) -> Result<Gathered, Stop>
-    ensures { ReadsAs asked_of (I.seen inputs.old) (I.seen inputs.new) result }
-{
-    match take_policy(alloc, inputs) {
-        Ok(policy) => match take_signed(alloc, inputs, policy, Tables::new(alloc)) {
-            Ok(gathered) => Ok(gathered),
             Err(e) => Err(e),
         },
         Err(e) => Err(e),

@@ -11,7 +11,8 @@ use jiff::Timestamp;
 use sigstore_types_parts::{Text, TextMap};
 use std::alloc::Global;
 
-/// Where the program's objects lie, and the instant at which it judges; without one the clock counts.
+/// Where the program's objects lie, and the instant at which it judges; without one the clock counts. `provider`
+/// is the file of rows: the provider's, or that of the refused signatures.
 #[derive(Drop)]
 pub struct Layout {
     pub root: Text,
@@ -24,10 +25,10 @@ pub struct Layout {
     pub now: Option<Timestamp>,
 }
 
-// The layout of values by their names; a place whose name has none is empty.
-fn layout_in(alloc: Global, found: &TextMap<Text>) -> Result<Layout, UsageFault>
-    ensures ok { IfOk result (λ l. layout_in found.now ≡ Ok l) }
-    ensures err { IfErr result (λ e. e ≢ UsageFault.NoMemory → layout_in found.now ≡ Err e) }
+// The layout of values by their names; `rows` is the name of the file of rows.
+fn layout_in(alloc: Global, rows: &str, found: &TextMap<Text>) -> Result<Layout, UsageFault>
+    ensures ok { IfOk result (λ l. layout_in rows.now found.now ≡ Ok l) }
+    ensures err { IfErr result (λ e. e ≢ UsageFault.NoMemory → layout_in rows.now found.now ≡ Err e) }
 {
     let now = moment_at(found, "--now")?;
     Ok(Layout {
@@ -37,7 +38,7 @@ fn layout_in(alloc: Global, found: &TextMap<Text>) -> Result<Layout, UsageFault>
         bundle: text_at(alloc, found, "--bundle")?,
         artifact: text_at(alloc, found, "--artifact")?,
         policy: text_at(alloc, found, "--policy")?,
-        provider: text_at(alloc, found, "--provider")?,
+        provider: text_at(alloc, found, rows)?,
         now,
     })
 }
@@ -47,15 +48,16 @@ fn read_under(
     alloc: Global,
     command: &str,
     wanted: &[&str],
+    rows: &str,
     words: &[Text],
 ) -> Result<Layout, UsageFault>
-    ensures ok { IfOk result (λ l. layout_under command.now (texts wanted.now) words.now ≡ Ok l) }
+    ensures ok { IfOk result (λ l. layout_under command.now (texts wanted.now) rows.now words.now ≡ Ok l) }
     ensures err { IfErr result (λ e. e ≢ UsageFault.NoMemory →
-        layout_under command.now (texts wanted.now) words.now ≡ Err e) }
+        layout_under command.now (texts wanted.now) rows.now words.now ≡ Err e) }
 {
     match named_words(alloc, command, wanted, &["--now"], words) {
         Ok(found) => {
-            let layout = layout_in(alloc, &found);
+            let layout = layout_in(alloc, rows, &found);
             drop(found);
             layout
         }
@@ -68,20 +70,22 @@ fn layout_under(
     alloc: Global,
     command: &str,
     wanted: &[&str],
+    rows: &str,
     words: &[Text],
 ) -> Result<Option<Layout>, NoMemory>
     ensures { IfOk result (λ found.
-        found ≡ result_ok (layout_under command.now (texts wanted.now) words.now)) }
+        found ≡ result_ok (layout_under command.now (texts wanted.now) rows.now words.now)) }
 {
-    match read_under(alloc, command, wanted, words) {
+    match read_under(alloc, command, wanted, rows, words) {
         Ok(layout) => Ok(Some(layout)),
         Err(UsageFault::Usage) => Ok(None),
         Err(UsageFault::NoMemory) => Err(NoMemory),
     }
 }
 
-/// The layout that the words of a run without a table give: `questions`, then `--name=value` at most once
-/// each, all names of `read_layout` but `now` wanted, and no `provider`; none for other words.
+/// The layout that the words of a run that notes questions give: `questions`, then those of `read_layout`
+/// with `refused` in the place of `provider`; none for other words. The rows of that file are signatures that
+/// are known not to be good.
 #[tactic(auto, unfolding(crate::specs::Layout::asked_layout_of))]
 pub fn read_asked_layout(alloc: Global, words: &[Text]) -> Result<Option<Layout>, NoMemory>
     ensures { IfOk result (λ found. found ≡ result_ok (asked_layout_of words.now)) }
@@ -93,8 +97,9 @@ pub fn read_asked_layout(alloc: Global, words: &[Text]) -> Result<Option<Layout>
         "--bundle",
         "--artifact",
         "--policy",
+        "--refused",
     ];
-    layout_under(alloc, "questions", &wanted, words)
+    layout_under(alloc, "questions", &wanted, "--refused", words)
 }
 
 /// The layout that the words give: `verify`, then `--name=value` at most once each, all names but `now`
@@ -112,5 +117,5 @@ pub fn read_layout(alloc: Global, words: &[Text]) -> Result<Option<Layout>, NoMe
         "--policy",
         "--provider",
     ];
-    layout_under(alloc, "verify", &wanted, words)
+    layout_under(alloc, "verify", &wanted, "--provider", words)
 }

@@ -25,7 +25,7 @@ mod writing;
 
 pub use byte_map::ByteMap;
 pub use file_inputs::FileInputs;
-pub use gather::{Gathered, Stop, gather_asked, gather_inputs};
+pub use gather::{Gathered, Stop, gather_inputs};
 pub use inputs::{InputFault, Inputs, Which};
 pub use laws::rows_are_found;
 pub use layout::{Layout, read_asked_layout, read_layout};

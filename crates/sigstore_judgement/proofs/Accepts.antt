@@ -12,7 +12,7 @@ use Rattle.sigstore_types.specs.declared.bundle.Bundle.{Bundle}
 use Rattle.sigstore_types.specs.declared.content.SignatureContent.{SignatureContent}
 use Rattle.sigstore_types.specs.declared.content.SignatureContent.TheVariants.{MessageSignature as OfMessage}
 use Rattle.sigstore_types.specs.declared.content.MessageDigest.{MessageDigest}
-use Rattle.sigstore_types.specs.Bundle.{entries_in, structure_of}
+use Rattle.sigstore_types.specs.Bundle.{entries_in, tokens_in, structure_of}
 use Rattle.sigstore_crypto_parts.specs.declared.error.Error.{Error as CryptoError}
 use Rattle.sigstore_crypto_parts.specs.declared.scheme.SigningScheme.{SigningScheme}
 use Rattle.sigstore_crypto_parts.specs.declared.key.VerificationKey.{VerificationKey}
@@ -23,17 +23,20 @@ use Rattle.sigstore_judgement.specs.declared.error.Error.{Error}
 use Rattle.sigstore_judgement.specs.declared.error.Error.TheVariants.{UnsupportedArtifact}
 use Rattle.sigstore_judgement.specs.declared.evidence.Evidence.{Evidence}
 use Rattle.sigstore_judgement.specs.declared.report.VerificationResult.{VerificationResult}
-use Rattle.sigstore_judgement.specs.Accepts.{Vouches, Accepts, AcceptsExactly}
+use Rattle.sigstore_judgement.specs.declared.policy.PublicKeyVerificationPolicy.{PublicKeyVerificationPolicy}
+use Rattle.sigstore_judgement.specs.Accepts.{ManagedVouches, Vouches, Accepts, AcceptsExactly}
 use Rattle.sigstore_judgement.specs.Artifact.{Artifact, Kind, kind_of, digest_of, bytes_of}
 use Rattle.sigstore_judgement.specs.Content.{scheme_of, needed_of, signs_digest, supported_of, is_digest, is_told, is_bound, IsTold, IsBound, subject_in, signature_in, is_good_of, is_signed, first_refusal, content_judged_of}
-use Rattle.sigstore_judgement.specs.Entries.{log_judged_of, entries_described_of}
+use Rattle.sigstore_judgement.specs.Entries.{log_judged_of, told_if, entries_described_of}
 use Rattle.sigstore_judgement.specs.Error.{by_types, by_crypto}
-use Rattle.sigstore_judgement.specs.Evidence.{report_of}
+use Rattle.sigstore_judgement.specs.Evidence.{times_of, report_of}
 use Rattle.sigstore_judgement.specs.Grounds.{Grounds, Terms}
 use Rattle.sigstore_judgement.specs.Judged.{Ready, ready_with, ready_of, prepared_of, managed_vouched_of, vouched_of, judged_had, judged_of}
 use Rattle.sigstore_judgement.specs.Policy.{Meaning, PublicKey}
 use Rattle.sigstore_judgement.specs.Signer.{Signer, Managed, key_in, managed_of, signer_of, IsSigner}
+use Rattle.sigstore_judgement.specs.Tokens.{tokens_judged_of}
 use Rattle.sigstore_judgement.proofs.EntryLaw.{are_logged, log_accepted, are_described, described_pass}
+use Rattle.sigstore_judgement.proofs.TokenLaw.{are_stamped, stamped_pass}
 
 through_types : {A : Type 0} (r : Result A TypesError) (x : A) → by_types r ≡ Ok x → r ≡ Ok x
 through_types (Ok y) x h = cc
@@ -182,24 +185,39 @@ all_hashed kind signs needed is h = by_test (signs || kind.keeps_bytes) (list_al
 
 -- ---- what vouches for the signer
 
-abbrev found : List Timestamp → Evidence
-found promised = record { promised = promised }
+module _ (grounds : Grounds) (policy : PublicKeyVerificationPolicy) (bundle : Bundle) where
+  abbrev after_stamped : List Timestamp → List Timestamp → Result Evidence Error
+  after_stamped promised stamped = Ok (times_of promised stamped)
 
-found_same : (promised : List Timestamp) (evidence : Evidence) → ◌≡◌ {A = Result Evidence Error} (Ok (found promised)) (Ok evidence) → evidence.promised ≡ promised
-found_same promised evidence h = sym (ap (λ (e : Evidence). e.promised) (ok_same (found promised) evidence h))
+  abbrev after_promised : List Timestamp → Result Evidence Error
+  after_promised promised = tokens_judged_of grounds (signature_in bundle.content) (tokens_in bundle) >>= after_stamped promised
+
+  managed_means : (evidence : Evidence) → managed_vouched_of grounds policy bundle ≡ Ok evidence → ManagedVouches grounds policy bundle evidence
+  unfolding managed_vouched_of
+  managed_means evidence h =
+      let a = step_ok (log_judged_of grounds policy.verify_tlog (entries_in bundle)) after_promised evidence h in
+      let b = step_ok (tokens_judged_of grounds (signature_in bundle.content) (tokens_in bundle)) (after_stamped a.0) evidence a.2 in
+      let l = are_logged grounds policy.verify_tlog (entries_in bundle) a.0 a.1 in
+      record {
+        logged = l.0;
+        stamped = b.0;
+        are = are_stamped grounds (signature_in bundle.content) (tokens_in bundle) b.0 b.1;
+        times = sym (ok_same (times_of a.0 b.0) evidence b.2) ∙ ap (λ promised. times_of promised b.0) l.1;
+      }
+
+  managed_passes : (evidence : Evidence) → ManagedVouches grounds policy bundle evidence → managed_vouched_of grounds policy bundle ≡ Ok evidence
+  unfolding managed_vouched_of
+  managed_passes evidence v =
+      let promised = told_if policy.verify_tlog (entries_in bundle) in
+      ap (λ r. r >>= after_promised) (log_accepted grounds policy.verify_tlog (entries_in bundle) v.logged)
+      ∙ ap (λ r. r >>= after_stamped promised) (stamped_pass grounds (signature_in bundle.content) (tokens_in bundle) v.stamped v.are)
+      ∙ ap Ok (sym v.times)
 
 vouches_means : (grounds : Grounds) (signer : Signer) (bundle : Bundle) (evidence : Evidence) → vouched_of grounds signer bundle ≡ Ok evidence → Vouches grounds signer bundle evidence
-unfolding managed_vouched_of
-vouches_means grounds (Managed policy) bundle evidence h =
-    let a = step_ok (log_judged_of grounds policy.verify_tlog (entries_in bundle)) (λ promised. Ok (found promised)) evidence h in
-    let l = are_logged grounds policy.verify_tlog (entries_in bundle) a.0 a.1 in
-    record { logged = l.0; promised = found_same a.0 evidence a.2 ∙ l.1 }
+vouches_means grounds (Managed policy) bundle evidence h = managed_means grounds policy bundle evidence h
 
 vouches_passes : (grounds : Grounds) (signer : Signer) (bundle : Bundle) (evidence : Evidence) → Vouches grounds signer bundle evidence → vouched_of grounds signer bundle ≡ Ok evidence
-unfolding managed_vouched_of
-vouches_passes grounds (Managed policy) bundle evidence v =
-    ap (λ r. r >>= λ promised. Ok (found promised)) (log_accepted grounds policy.verify_tlog (entries_in bundle) v.logged)
-    ∙ ap (λ promised. Ok (found promised)) (sym v.promised)
+vouches_passes grounds (Managed policy) bundle evidence v = managed_passes grounds policy bundle evidence v
 
 -- ---- both ways
 

@@ -1,5 +1,5 @@
 -- Times that are gathered one by one are those of the whole judgement.
-use Rattle.std.proofs.Common.{◌≡◌, List, [], ◌∷◌, Option, Some, None, Result, Ok, Err, refl, sym, ap, append_assoc, append-nil}
+use Rattle.std.proofs.Common.{◌≡◌, List, [], ◌∷◌, ◌++◌, Option, Some, None, Result, Ok, Err, refl, sym, ap, append_assoc, append-nil}
 use Rattle.std.specs.List.{cons_option}
 use Rattle.jiff_core.specs.declared.timestamp.Timestamp.{Timestamp}
 use Rattle.foundation.specs.Steps.{◌>>=◌}
@@ -11,6 +11,11 @@ pub behind_one : (before : List Timestamp) (time : Option Timestamp) (judged : R
 behind_one before None (Ok times) = refl
 behind_one before (Some time) (Ok times) = ap Ok (sym (append_assoc before (time ∷ []) times))
 behind_one before time (Err e) = refl
+
+pub behind_token : (before : List Timestamp) (time : Timestamp) (judged : Result (List Timestamp) Error)
+    → behind before (judged >>= λ times. Ok (time ∷ times)) ≡ behind (before ++ time ∷ []) judged
+behind_token before time (Ok times) = ap Ok (sym (append_assoc before (time ∷ []) times))
+behind_token before time (Err e) = refl
 
 pub behind_all : (before : List Timestamp) → behind before (Ok []) ≡ Ok before
 behind_all before = ap Ok (append-nil before)

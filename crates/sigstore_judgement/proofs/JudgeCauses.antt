@@ -15,7 +15,7 @@ use Rattle.sigstore_types.specs.declared.content.MessageDigest.{MessageDigest}
 use Rattle.sigstore_types.specs.declared.content.SignatureContent.{SignatureContent}
 use Rattle.sigstore_types.specs.declared.content.SignatureContent.TheVariants.{MessageSignature as OfMessage}
 use Rattle.sigstore_types.specs.declared.trusted_root.TrustedRoot.{TrustedRoot}
-use Rattle.sigstore_types.specs.Bundle.{bundle_of_bytes, entries_in, has_proof, shown_of, structure_of}
+use Rattle.sigstore_types.specs.Bundle.{bundle_of_bytes, entries_in, tokens_in, has_proof, shown_of, structure_of}
 use Rattle.sigstore_types.specs.TrustedRoot.{trusted_root_of_bytes}
 use Rattle.sigstore_crypto_parts.specs.declared.error.Error.{Error as CryptoError}
 use Rattle.sigstore_crypto_parts.specs.declared.error.Error.TheVariants as crypto
@@ -36,7 +36,7 @@ use Rattle.sigstore_judgement.specs.declared.trust.Material.{Material}
 use Rattle.sigstore_judgement.specs.Artifact.{Artifact, Read, read_kind, digest_of}
 use Rattle.sigstore_judgement.specs.Cause.{IsRefusedAs, IsRead, IsKept, HasSigner, HasScheme, LacksScheme, key_unread, no_scheme, no_hasher, LacksEntry, no_entry, no_proof, form_unread, entry_uncompared}
 use Rattle.sigstore_judgement.specs.Cause.{asks_log, JudgeCause}
-use Rattle.sigstore_judgement.specs.Content.{scheme_of, needed_of, signs_digest, supported_of, is_digest, is_told, is_bound, IsOfOther, is_signed, first_refusal, content_judged_of}
+use Rattle.sigstore_judgement.specs.Content.{scheme_of, needed_of, signs_digest, supported_of, signature_in, is_digest, is_told, is_bound, IsOfOther, is_signed, first_refusal, content_judged_of}
 use Rattle.sigstore_judgement.specs.Entries.{log_judged_of, entries_described_of}
 use Rattle.sigstore_judgement.specs.Error.{error_of_crypto, error_of_log, lowered, by_types, by_crypto}
 use Rattle.sigstore_judgement.specs.Grounds.{Grounds}
@@ -44,10 +44,12 @@ use Rattle.sigstore_judgement.specs.Judged.{Ready, ready_of, prepared_of, manage
 use Rattle.sigstore_judgement.specs.Policy.{Meaning, PublicKey}
 use Rattle.sigstore_judgement.specs.Promise as promise
 use Rattle.sigstore_judgement.specs.Signer.{Signer, key_in, managed_of, signer_of, IsSigner}
+use Rattle.sigstore_judgement.specs.Tokens.{tokens_judged_of}
 use Rattle.sigstore_judgement.specs.Trust.{material_of}
 use Rattle.sigstore_judgement.specs.Under.{or_fault, trust_fault, bundle_fault, Asked, terms_of, JudgesBundle, trust_refused, verifier_refused, bundle_refused, judged}
 use Rattle.sigstore_judgement.proofs.Accepts.{ok_crypto, signer_means, Prepared, prepared_means}
 use Rattle.sigstore_judgement.proofs.EntryCauses.{among_first, among_later, entries_unlogged}
+use Rattle.sigstore_judgement.proofs.TokenLaw.{tokens_unstamped}
 use Rattle.sigstore_judgement.proofs.TrustReading.{trust_is_built}
 use Rattle.sigstore_judgement.proofs.UsableCauses.{IsFault, material_fault}
 use Rattle.sigstore_judgement.proofs.Wanting.{is_want}
@@ -304,6 +306,23 @@ module _ (asked : Asked) (file : List ℕ) (source source' : Watched (List ℕ))
         by_why x among entry.NoMemory cause = absurd cause
     unlogged material kept false asks e h = cc
 
+    -- a token isn't a trusted authority's
+    unstamped : (material : Material) → IsKept file material → (e : Error)
+        → tokens_judged_of (terms_of asked material).grounds (signature_in reading.content) (tokens_in reading) ≡ Err e → Cause e
+    unstamped material kept e h =
+        let u = tokens_unstamped (terms_of asked material).grounds (signature_in reading.content) (tokens_in reading) e h in
+        subst Cause u.named (inr (record {
+          material = material;
+          kept = kept;
+          reading = reading;
+          read = read;
+          bytes = bytes;
+          whole = whole;
+          token = u.token;
+          among = u.among;
+          why = u.why;
+        }))
+
     -- nothing vouches for the signer
     unvouched : (material : Material) → IsKept file material → (policy : Meaning) → asked.policy ≡ policy → (signer : Signer) → IsSigner policy reading signer → (e : Error)
         → vouched_of (terms_of asked material).grounds signer reading ≡ Err e → Cause e
@@ -311,7 +330,9 @@ module _ (asked : Asked) (file : List ℕ) (source source' : Watched (List ℕ))
     unvouched material kept (PublicKey policy) under signer i e h =
         refused_at (log_judged_of (terms_of asked material).grounds policy.verify_tlog (entries_in reading)) _ e
         (subst (λ signer. vouched_of (terms_of asked material).grounds signer reading ≡ Err e) i.is h)
-        (unlogged material kept policy.verify_tlog (ap asks_log under) e) (λ promised p k. cc)
+        (unlogged material kept policy.verify_tlog (ap asks_log under) e) (λ promised p k.
+        refused_at (tokens_judged_of (terms_of asked material).grounds (signature_in reading.content) (tokens_in reading)) _ e k
+        (unstamped material kept e) (λ stamped q l. cc))
 
     -- an entry isn't compared
     undescribed : (grounds : Grounds) (signer : Signer) (entries : List TransparencyLogEntry) → entries_in reading ≡ entries → (e : Error)

@@ -3,6 +3,7 @@ pub mod Accepts
 pub mod EntryCauses
 mod Behind
 pub mod EntryLaw
+pub mod TokenLaw
 pub mod LogRefusals
 pub mod UsableCauses
 pub mod JudgeCauses

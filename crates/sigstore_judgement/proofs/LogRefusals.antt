@@ -9,7 +9,7 @@ use Rattle.sigstore_types_parts.specs.declared.error.TypesError.{TypesError}
 use Rattle.sigstore_types.specs.declared.bundle.Bundle.{Bundle}
 use Rattle.sigstore_types.specs.declared.content.SignatureContent.{SignatureContent}
 use Rattle.sigstore_types.specs.declared.content.SignatureContent.TheVariants.{MessageSignature as OfMessage}
-use Rattle.sigstore_types.specs.Bundle.{entries_in, structure_of}
+use Rattle.sigstore_types.specs.Bundle.{entries_in, tokens_in, structure_of}
 use Rattle.sigstore_crypto_parts.specs.declared.error.Error.{Error as CryptoError}
 use Rattle.sigstore_crypto_parts.specs.declared.key.VerificationKey.{VerificationKey}
 use Rattle.sigstore_crypto_parts.specs.declared.scheme.SigningScheme.{SigningScheme}
@@ -20,7 +20,7 @@ use Rattle.sigstore_judgement.specs.declared.error.Error.TheVariants as verify
 use Rattle.sigstore_judgement.specs.declared.error.TransparencyLogError.{TransparencyLogError}
 use Rattle.sigstore_judgement.specs.declared.evidence.Evidence.{Evidence}
 use Rattle.sigstore_judgement.specs.Artifact.{Artifact, Blob, Read, Digest, Digests, Kind, kind_of, digest_of, bytes_of}
-use Rattle.sigstore_judgement.specs.Content.{scheme_of, needed_of, signs_digest, supported_of, is_bound, is_signed, first_refusal, content_judged_of}
+use Rattle.sigstore_judgement.specs.Content.{scheme_of, needed_of, signs_digest, supported_of, signature_in, is_bound, is_signed, first_refusal, content_judged_of}
 use Rattle.sigstore_judgement.specs.Entries.{log_judged_of, entries_described_of}
 use Rattle.sigstore_judgement.specs.Error.{error_of_crypto, by_types, by_crypto}
 use Rattle.sigstore_judgement.specs.Grounds.{Grounds, Terms}
@@ -28,7 +28,9 @@ use Rattle.sigstore_judgement.specs.Judged.{Ready, ready_of, prepared_of, manage
 use Rattle.sigstore_judgement.specs.Policy.{Meaning, PublicKey}
 use Rattle.sigstore_judgement.specs.Signer.{Signer, Managed, key_in, managed_of, signer_of}
 use Rattle.sigstore_judgement.specs.Unlogged.{HasUnlogged, LogRefusals}
+use Rattle.sigstore_judgement.specs.Tokens.{tokens_judged_of}
 use Rattle.sigstore_judgement.proofs.EntryCauses.{entries_unlogged}
+use Rattle.sigstore_judgement.proofs.TokenLaw.{tokens_unstamped}
 use Rattle.sigstore_judgement.proofs.JudgeCauses.{IsLowered, as_lowered, as_crypto, through_crypto}
 
 -- the refusals that aren't of the log
@@ -111,7 +113,9 @@ module _ (terms : Terms) (bundle : Bundle) (artifact : Artifact) (fault : Transp
   signer_unlogged : (signer : Signer) → vouched_of terms.grounds signer bundle ≡ Err (verify.TransparencyLog fault) → Has
   unfolding managed_vouched_of
   signer_unlogged (Managed policy) h =
-      refused_at (log_judged_of terms.grounds policy.verify_tlog (entries_in bundle)) _ (verify.TransparencyLog fault) h (log_unlogged policy.verify_tlog) (λ promised p k. cc)
+      refused_at (log_judged_of terms.grounds policy.verify_tlog (entries_in bundle)) _ (verify.TransparencyLog fault) h (log_unlogged policy.verify_tlog) (λ promised p k.
+      refused_at (tokens_judged_of terms.grounds (signature_in bundle.content) (tokens_in bundle)) _ (verify.TransparencyLog fault) k
+      (λ q. let u = tokens_unstamped terms.grounds (signature_in bundle.content) (tokens_in bundle) (verify.TransparencyLog fault) q in cc) (λ stamped q l. cc))
 
   pub unlogged : judged_of terms bundle artifact ≡ Err (verify.TransparencyLog fault) → Has
   unfolding judged_of judged_had

@@ -16,8 +16,8 @@ use Rattle.sigstore_types_parts.specs.Instant.{instant_of}
 use Rattle.sigstore_types_parts.specs.Parse.{parsed_of}
 use Rattle.sigstore_types_parts.specs.Read.{at, object_of, required_in, optional_in, required_of, optional_of, items_of, sequence_of, moment_of}
 use Rattle.sigstore_entries.specs.Entry.{required, optional, bytes, list, log_id_of}
-use Rattle.sigstore_types.specs.Members.{json, faulted}
-use Rattle.sigstore_types.specs.TrustedRoot.{valid_for_of, key_of_log, log_of, certificate_of, certificates_of, chain_of, authority_of, trusted_root_of, trusted_root_of_bytes}
+use Rattle.sigstore_types.specs.Members.{held_of, each_held, json, faulted}
+use Rattle.sigstore_types.specs.TrustedRoot.{valid_for_of, key_of_log, log_of, certificates_of, chain_of, authority_of, trusted_root_of, trusted_root_of_bytes}
 
 -- each refusal is of what is built
 abbrev pub Built : TypesError → Type 0
@@ -133,13 +133,13 @@ log_built d =
     step_built (required key_of_log m.PublicKey d) _ (required_built key_of_log m.PublicKey key_built d) (λ key.
     step_built (required log_id_of m.LogId d) _ (required_built log_id_of m.LogId log_id_built d) (λ id. tt))
 
-certificate_built : Reads certificate_of
-unfolding certificate_of
-certificate_built d = required_built bytes m.RawBytes bytes_built d
+held_built : (member : TypesMember) → Reads (held_of member)
+unfolding held_of
+held_built member d = required_built bytes member bytes_built d
 
 certificates_built : Reads certificates_of
 unfolding certificates_of
-certificates_built d = step_built (sequence_of types_of certificate_of d) _ (sequence_built certificate_of certificate_built d) (λ list. tt)
+certificates_built d = step_built (each_held m.RawBytes d) _ (sequence_built (held_of m.RawBytes) (held_built m.RawBytes) d) (λ list. tt)
 
 chain_built : Reads chain_of
 unfolding chain_of

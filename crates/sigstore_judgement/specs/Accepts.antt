@@ -1,9 +1,10 @@
 -- What it means that a bundle is accepted, told without any order of checks.
 use Rattle.std.specs.Prelude.{◌≡◌, ◌↔◌, ℕ, List, Bool, true, false, ⊤, Some, Ok, IsTrue}
 use Rattle.std.specs.List.{AllByRecursion}
+use Rattle.jiff_core.specs.declared.timestamp.Timestamp.{Timestamp}
 use Rattle.sigstore_types_parts.specs.declared.hash_algorithm.HashAlgorithm.{HashAlgorithm}
 use Rattle.sigstore_types.specs.declared.bundle.Bundle.{Bundle}
-use Rattle.sigstore_types.specs.Bundle.{entries_in}
+use Rattle.sigstore_types.specs.Bundle.{entries_in, tokens_in}
 use Rattle.sigstore_crypto_parts.specs.declared.scheme.SigningScheme.{SigningScheme}
 use Rattle.sigstore_crypto_parts.specs.declared.key.VerificationKey.{VerificationKey}
 use Rattle.sigstore_crypto_parts.specs.Key.{spki_key_of}
@@ -16,20 +17,23 @@ use Rattle.sigstore_judgement.specs.declared.report.VerificationResult.{Verifica
 use Rattle.sigstore_judgement.specs.Artifact.{Artifact, digest_of, bytes_of, kind_of}
 use Rattle.sigstore_judgement.specs.Content.{scheme_of, needed_of, signs_digest, supported_of, subject_in, signature_in, IsBound}
 use Rattle.sigstore_judgement.specs.Entries.{told_if, Describes}
-use Rattle.sigstore_judgement.specs.Evidence.{report_of}
+use Rattle.sigstore_judgement.specs.Evidence.{times_of, report_of}
 use Rattle.sigstore_judgement.specs.Grounds.{Grounds, Terms}
 use Rattle.sigstore_judgement.specs.Judged.{judged_of}
 use Rattle.sigstore_judgement.specs.Signer.{Signer, Managed, key_in, IsSigner}
+use Rattle.sigstore_judgement.specs.Tokens.{AreStamped}
 
 -- where the policy verifies the log, each entry is logged
 abbrev pub AreLogged : Grounds → Bool → List TransparencyLogEntry → Type 0
 AreLogged grounds true entries = AllByRecursion (Logged grounds.crypto.accepts grounds.material.logs grounds.now) entries
 AreLogged grounds false entries = ⊤
 
--- under a managed key: the log does, and what is found are the times that it promised
+-- under a managed key: the log does, each token is a trusted authority's, and what is found are the times of both
 pub record ManagedVouches (grounds : Grounds) (policy : PublicKeyVerificationPolicy) (bundle : Bundle) (evidence : Evidence) : Type 0 where
   pub logged : AreLogged grounds policy.verify_tlog (entries_in bundle)
-  pub promised : evidence.promised ≡ told_if policy.verify_tlog (entries_in bundle)
+  pub stamped : List Timestamp
+  pub are : AreStamped grounds (signature_in bundle.content) (tokens_in bundle) stamped
+  pub times : evidence ≡ times_of (told_if policy.verify_tlog (entries_in bundle)) stamped
 
 -- what vouches for the signer, and what is found of it
 abbrev pub Vouches : Grounds → Signer → Bundle → Evidence → Type 0

@@ -8,7 +8,7 @@ use Rattle.sigstore_types_parts.specs.declared.form.Form.TheVariants as form
 use Rattle.sigstore_types_parts.specs.declared.error.TypesError.TheVariants as types
 use Rattle.sigstore_types_parts.specs.declared.hash_algorithm.HashAlgorithm.{HashAlgorithm}
 use Rattle.sigstore_types.specs.declared.bundle.Bundle.{Bundle}
-use Rattle.sigstore_types.specs.Bundle.{bundle_of_bytes, entries_in}
+use Rattle.sigstore_types.specs.Bundle.{bundle_of_bytes, entries_in, tokens_in}
 use Rattle.sigstore_types.specs.declared.trusted_root.TrustedRoot.{TrustedRoot}
 use Rattle.sigstore_types.specs.TrustedRoot.{trusted_root_of_bytes}
 use Rattle.sigstore_crypto_parts.specs.declared.key.VerificationKey.{VerificationKey}
@@ -16,13 +16,17 @@ use Rattle.sigstore_crypto_parts.specs.declared.scheme.SigningScheme.{SigningSch
 use Rattle.sigstore_crypto_parts.specs.Digest.{is_hashed}
 use Rattle.sigstore_crypto_parts.specs.Key.{spki_key_of}
 use Rattle.sigstore_entries.specs.declared.entry.TransparencyLogEntry.{TransparencyLogEntry}
+use Rattle.sigstore_tsa.specs.Authorities.{IsUnstamped, IsOutsideNone, IsOutsideOne}
 use Rattle.sigstore_judgement.specs.declared.error.Error.{Error}
+use Rattle.sigstore_judgement.specs.declared.error.TimestampError.{TimestampError}
+use Rattle.sigstore_judgement.specs.declared.error.TimestampError.TheVariants as stamp
 use Rattle.sigstore_judgement.specs.declared.error.TransparencyLogError.{TransparencyLogError}
 use Rattle.sigstore_judgement.specs.declared.error.Error.TheVariants as verify
 use Rattle.sigstore_judgement.specs.declared.trust.Material.{Material}
 use Rattle.sigstore_judgement.specs.Artifact.{Read, digest_of}
-use Rattle.sigstore_judgement.specs.Content.{scheme_of, needed_of, signs_digest, is_signed, IsOfOther}
+use Rattle.sigstore_judgement.specs.Content.{scheme_of, needed_of, signs_digest, signature_in, is_signed, IsOfOther}
 use Rattle.sigstore_judgement.specs.Error.{error_of_crypto}
+use Rattle.sigstore_judgement.specs.Grounds.{Grounds}
 use Rattle.sigstore_judgement.specs.Policy.{Meaning, PublicKey}
 use Rattle.sigstore_judgement.specs.Promise.{ReadWhole, ReadCause}
 use Rattle.sigstore_judgement.specs.Signer.{Signer, key_in, IsSigner}
@@ -136,11 +140,34 @@ pub record IsUnlogged (asked : Asked) (file : List ℕ) (source source' : Watche
   pub asks : asks_log asked.policy ≡ true
   pub unlogged : HasUnlogged (terms_of asked material).grounds (entries_in reading) fault
 
+-- one of the tokens was stamped by no trusted authority over this signature; and why it is refused so
+abbrev pub TokenCause : Grounds → List ℕ → List ℕ → TimestampError → Type 0
+TokenCause grounds signature token stamp.Invalid =
+    IsUnstamped grounds.crypto.accepts token signature grounds.material.authorities
+    × IsOutsideNone grounds.crypto.accepts token signature grounds.material.authorities
+TokenCause grounds signature token (stamp.OutsideAuthorityValidity time) =
+    IsUnstamped grounds.crypto.accepts token signature grounds.material.authorities
+    × IsOutsideOne grounds.crypto.accepts token signature grounds.material.authorities time
+TokenCause grounds signature token stamp.NoVerifiedTimestamp = ⊥
+
+-- the artifact was read whole, and some token of the bundle isn't a trusted authority's of its signature
+pub record HasNoStamp (asked : Asked) (file : List ℕ) (source source' : Watched (List ℕ)) (fault : TimestampError) : Type 0 where
+  pub material : Material
+  pub kept : IsKept file material
+  pub reading : Bundle
+  pub read : IsRead asked.bundle reading
+  pub bytes : List ℕ
+  pub whole : ReadWhole source source' asked.max bytes
+  pub token : List ℕ
+  pub among : Contains (tokens_in reading) token
+  pub why : TokenCause (terms_of asked material).grounds (signature_in reading.content) token fault
+
 abbrev pub SignedCause : Asked → List ℕ → Watched (List ℕ) → Watched (List ℕ) → Error → Type 0
 SignedCause asked file source source' verify.SignatureInvalid = IsUnsigned asked source source'
 SignedCause asked file source source' verify.ArtifactMismatch = IsOfAnother asked source source'
 SignedCause asked file source source' verify.UnsupportedArtifact = LacksDigest asked
 SignedCause asked file source source' (verify.TransparencyLog fault) = IsUnlogged asked file source source' fault
+SignedCause asked file source source' (verify.Timestamp fault) = HasNoStamp asked file source source' fault
 SignedCause asked file source source' verify.Crypto = LacksScheme asked verify.Crypto
 SignedCause asked file source source' verify.Bundle = LacksEntry asked
 SignedCause asked file source source' _ = ⊥

@@ -6,6 +6,8 @@ use Rattle.sigstore_crypto_parts.specs.declared.error.Error.{Error as CryptoErro
 use Rattle.sigstore_crypto_parts.specs.declared.error.Error.TheVariants as crypto
 use Rattle.sigstore_log.specs.declared.error.LogError.{LogError}
 use Rattle.sigstore_log.specs.declared.error.LogError.TheVariants as entry
+use Rattle.sigstore_tsa.specs.declared.authorities.TokenFault.{TokenFault}
+use Rattle.sigstore_tsa.specs.declared.authorities.TokenFault.TheVariants as token
 use Rattle.sigstore_judgement.specs.declared.error.CertificateError.{CertificateError}
 use Rattle.sigstore_judgement.specs.declared.error.CertificateError.TheVariants.{Malformed, ChainInvalid, NoValidAuthority}
 use Rattle.sigstore_judgement.specs.declared.error.CertificateError.TheVariants.{NotYetValid, Expired, Sct}
@@ -120,6 +122,11 @@ error_of_crypto (crypto.InvalidKey rule) = Crypto
 error_of_crypto crypto.NoMemory = NoMemory
 
 -- what a refusal of an entry is of its bundle
+abbrev pub error_of_token : TokenFault → Error
+error_of_token token.Invalid = Timestamp stamp.Invalid
+error_of_token (token.OutsideValidity time) = Timestamp (stamp.OutsideAuthorityValidity time)
+error_of_token token.NoMemory = NoMemory
+
 abbrev pub error_of_log : LogError → Error
 error_of_log entry.InclusionProof = TransparencyLog log.InclusionProof
 error_of_log entry.Checkpoint = TransparencyLog log.Checkpoint
@@ -144,6 +151,10 @@ by_crypto (Err e) = Err (error_of_crypto e)
 abbrev pub by_types : {A : Type 0} → Result A TypesError → Result A Error
 by_types (Ok x) = Ok x
 by_types (Err e) = Err (lowered Bundle e)
+
+abbrev pub by_token : {A : Type 0} → Result A TokenFault → Result A Error
+by_token (Ok x) = Ok x
+by_token (Err e) = Err (error_of_token e)
 
 abbrev pub by_log : {A : Type 0} → Result A LogError → Result A Error
 by_log (Ok x) = Ok x

@@ -1,5 +1,5 @@
 -- What the judgement finds on its way, of which the report is made.
-use Rattle.std.specs.Prelude.{List, [], ◌∷◌, Option, Some, None, false, if◌then◌else◌}
+use Rattle.std.specs.Prelude.{List, [], ◌∷◌, ◌++◌, Option, Some, None, false, if◌then◌else◌}
 use Rattle.jiff_core.specs.declared.timestamp.Timestamp.{Timestamp}
 use Rattle.sigstore_types_parts.specs.TimeRange.{is_by}
 use Rattle.sigstore_judgement.specs.declared.evidence.Evidence.{Evidence}
@@ -15,14 +15,19 @@ abbrev pub earliest_from : Option Timestamp → List Timestamp → Option Timest
 earliest_from first [] = first
 earliest_from first (time ∷ times) = earliest_from (Some (earlier first time)) times
 
--- what an acceptance shows: the times that logs promised and the earliest of them, and which checks the policy asked for
+-- What was found that vouches for a signer: the earliest time that a log promised, and every time at which the signature was there, by a
+-- log's promise or by an authority's token. The report and the judgement both read these.
+abbrev pub times_of : List Timestamp → List Timestamp → Evidence
+times_of promised stamped = record { integrated_time = earliest_from None promised; times = promised ++ stamped }
+
+-- what an acceptance shows: these times, and which checks the policy asked for
 abbrev pub report_of : Signer → Evidence → VerificationResult
 report_of (Managed policy) evidence = record {
-  integrated_time = earliest_from None evidence.promised;
+  integrated_time = evidence.integrated_time;
   issuer = None;
   certificate_verified = false;
   sct_verified = false;
   tlog_verified = policy.verify_tlog;
   identity_policy_checked = false;
-  verified_timestamps = evidence.promised;
+  verified_timestamps = evidence.times;
 }

@@ -3,7 +3,7 @@ use Rattle.std.specs.Prelude.{ℕ, List, [], Option, Result, Ok, Err}
 use Rattle.foundation.specs.Steps.{◌>>=◌}
 use Rattle.sigstore_types_parts.specs.declared.hash_algorithm.HashAlgorithm.{HashAlgorithm}
 use Rattle.sigstore_types.specs.declared.bundle.Bundle.{Bundle}
-use Rattle.sigstore_types.specs.Bundle.{entries_in}
+use Rattle.sigstore_types.specs.Bundle.{entries_in, tokens_in}
 use Rattle.sigstore_crypto_parts.specs.declared.key.VerificationKey.{VerificationKey}
 use Rattle.sigstore_crypto_parts.specs.Key.{spki_key_of}
 use Rattle.sigstore_judgement.specs.declared.error.Error.{Error}
@@ -12,13 +12,14 @@ use Rattle.sigstore_judgement.specs.declared.judge.Ready.{Ready as Prepared}
 use Rattle.sigstore_judgement.specs.declared.policy.PublicKeyVerificationPolicy.{PublicKeyVerificationPolicy}
 use Rattle.sigstore_judgement.specs.declared.report.VerificationResult.{VerificationResult}
 use Rattle.sigstore_judgement.specs.Artifact.{Artifact, Digests, digest_of, bytes_of, Kind, kind_of, read_kind}
-use Rattle.sigstore_judgement.specs.Content.{scheme_of, needed_of, signs_digest, supported_of, content_judged_of}
+use Rattle.sigstore_judgement.specs.Content.{scheme_of, needed_of, signs_digest, supported_of, signature_in, content_judged_of}
 use Rattle.sigstore_judgement.specs.Entries.{log_judged_of, entries_described_of}
 use Rattle.sigstore_judgement.specs.Error.{by_crypto}
-use Rattle.sigstore_judgement.specs.Evidence.{report_of}
+use Rattle.sigstore_judgement.specs.Evidence.{times_of, report_of}
 use Rattle.sigstore_judgement.specs.Grounds.{Grounds, Terms}
 use Rattle.sigstore_judgement.specs.Policy.{Meaning}
 use Rattle.sigstore_judgement.specs.Signer.{Signer, Managed, signer_as, key_in, signer_of}
+use Rattle.sigstore_judgement.specs.Tokens.{tokens_judged_of}
 
 -- ---- before the artifact is read
 
@@ -53,11 +54,12 @@ prepared_of kind policy bundle = do
 
 -- ---- by the artifact
 
--- under a managed key: the entries, where the policy verifies the log
+-- under a managed key: the entries, where the policy verifies the log, and the tokens of its signature
 unfoldable pub managed_vouched_of : Grounds → PublicKeyVerificationPolicy → Bundle → Result Evidence Error
 managed_vouched_of grounds policy bundle = do
   promised ← log_judged_of grounds policy.verify_tlog (entries_in bundle)
-  Ok (record { promised = promised })
+  stamped ← tokens_judged_of grounds (signature_in bundle.content) (tokens_in bundle)
+  Ok (times_of promised stamped)
 
 -- what vouches for the signer, and what it shows
 abbrev pub vouched_of : Grounds → Signer → Bundle → Result Evidence Error

@@ -13,6 +13,7 @@ pub mod Promise
 pub mod Signer
 pub mod Taken
 pub mod Taking
+pub mod Tokens
 pub mod Trust
 pub mod Under
 pub mod Unlogged

@@ -3,7 +3,10 @@ use Rattle.std.specs.Prelude.{ℕ, List, [], ◌∷◌, ◌++◌, length, nat_eq
 use Rattle.foundation.specs.Steps.{◌>>=◌}
 use Rattle.sigstore_types_parts.specs.declared.time_range.TimeRange.{TimeRange}
 use Rattle.sigstore_types_parts.specs.TimeRange.{ends_by}
+use Rattle.sigstore_types_parts.specs.declared.error.TypesError.{TypesError}
 use Rattle.sigstore_types.specs.declared.authority.Authority.{Authority}
+use Rattle.sigstore_types.specs.declared.authority.TsaAuthority.{TsaAuthority}
+use Rattle.sigstore_types.specs.TrustedRoot.{stamping_of}
 use Rattle.sigstore_types.specs.declared.trusted_root.TrustedLog.{TrustedLog}
 use Rattle.sigstore_types.specs.declared.trusted_root.TrustedRoot.{TrustedRoot}
 use Rattle.sigstore_crypto_parts.specs.declared.error.Error.{Error as CryptoError}
@@ -94,17 +97,26 @@ abbrev pub authorities_added : List Authority → List TrustAnchor → Result (L
 authorities_added [] anchors = Ok anchors
 authorities_added (authority ∷ authorities) anchors = authority_added authority anchors >>= authorities_added authorities
 
+-- those that stamp times, each by its chain; one that is empty is none, and refused before
+abbrev pub with_stamping : Result TsaAuthority TypesError → List TsaAuthority → List TsaAuthority
+with_stamping (Ok authority) authorities = authority ∷ authorities
+with_stamping (Err e) authorities = authorities
+
+abbrev pub stamping_among : List Authority → List TsaAuthority
+stamping_among [] = []
+stamping_among (authority ∷ authorities) = with_stamping (stamping_of authority) (stamping_among authorities)
+
 -- ---- the whole
 
--- what is kept of a trust file: the keys of logs by their ids, and the certificates of certificate authorities as anchors; or the
--- first check that fails
+-- what is kept of a trust file: the keys of logs by their ids, the certificates of certificate authorities as anchors, and the authorities
+-- that stamp times; or the first check that fails
 unfoldable pub material_of : TrustedRoot → Result Material Error
 material_of trust = do
   logs ← logs_added Entries trust.tlogs []
   ct_logs ← logs_added Certificates trust.ctlogs []
   anchors ← authorities_added trust.certificate_authorities []
   _ ← authorities_added trust.timestamp_authorities []
-  Ok (record { logs = logs; ct_logs = ct_logs; anchors = anchors })
+  Ok (record { logs = logs; ct_logs = ct_logs; anchors = anchors; authorities = stamping_among trust.timestamp_authorities })
 
 -- whether a verifier is made of it
 abbrev pub usable_of : TrustedRoot → Result ⊤ Error

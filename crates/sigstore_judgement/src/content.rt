@@ -3,7 +3,7 @@ ghost use Rattle.std.specs.Prelude.{◌≡◌, ◌≢◌, Ok, Err, IfOk, IfErr, 
 ghost use Rattle.std.specs.List.{list_any};
 ghost use Rattle.sigstore_types_parts.specs.HashAlgorithm.{same_algorithm, with_optional};
 ghost use Rattle.sigstore_judgement.specs.Artifact.{kind_in, digest_among, digest_had, bytes_had};
-ghost use Rattle.sigstore_judgement.specs.Content.{scheme_of, algorithm_told, needed_of, signs_digest, supported_of, is_told, is_bound, is_artifact_signed, content_judged_of};
+ghost use Rattle.sigstore_judgement.specs.Content.{scheme_of, algorithm_told, needed_of, signs_digest, supported_of, is_told, is_bound, is_artifact_signed, content_judged_of, signature_in};
 
 use crate::artifact::{Had, Handed, has_all, taken};
 use crate::error::Error;
@@ -123,6 +123,15 @@ fn is_told(told: Option<&MessageDigest>, digests: &[ArtifactDigest]) -> bool
             Some(digest) => told.digest.as_bytes() == digest.as_bytes(),
             None => false,
         },
+    }
+}
+
+/// The signature of a content.
+pub(crate) fn signature_in(content: &SignatureContent) -> &SignatureBytes
+    ensures { result.now ≡ signature_in content.now }
+{
+    match content {
+        SignatureContent::MessageSignature(message) => &message.signature,
     }
 }
 

@@ -11,8 +11,10 @@ use jiff::Timestamp;
 /// What was found that vouches for a signer.
 #[derive(Drop)]
 pub struct Evidence {
-    /// The times that logs promised, each of an entry that is logged, in the entries' order.
-    pub promised: Sequence<Timestamp>,
+    /// The earliest time that a log promised, of an entry that is logged.
+    pub integrated_time: Option<Timestamp>,
+    /// The times that logs promised, in the entries' order, then those that authorities stamped, in the tokens' order.
+    pub times: Sequence<Timestamp>,
 }
 
 fn earlier(first: Option<Timestamp>, time: Timestamp) -> Timestamp
@@ -24,7 +26,8 @@ fn earlier(first: Option<Timestamp>, time: Timestamp) -> Timestamp
     }
 }
 
-fn earliest(times: &[Timestamp]) -> Option<Timestamp>
+/// The earliest of times.
+pub(crate) fn earliest(times: &[Timestamp]) -> Option<Timestamp>
     ensures { result ≡ earliest_from None times.now }
 {
     let mut first = None;
@@ -38,8 +41,10 @@ fn earliest(times: &[Timestamp]) -> Option<Timestamp>
 pub(crate) fn report(signer: &Signing<'_>, evidence: Evidence) -> VerificationResult
     ensures { result ≡ report_of (signer_as signer.now) evidence }
 {
-    let Evidence { promised } = evidence;
-    let integrated_time = earliest(promised.as_slice());
+    let Evidence {
+        integrated_time,
+        times,
+    } = evidence;
     match signer {
         Signing::Managed(policy) => VerificationResult {
             integrated_time,
@@ -48,7 +53,7 @@ pub(crate) fn report(signer: &Signing<'_>, evidence: Evidence) -> VerificationRe
             sct_verified: false,
             tlog_verified: policy.verify_tlog,
             identity_policy_checked: false,
-            verified_timestamps: promised,
+            verified_timestamps: times,
         },
     }
 }

@@ -10,14 +10,15 @@ ghost use Rattle.sigstore_judgement.specs.Policy.{meaning_of};
 ghost use Rattle.sigstore_judgement.specs.Signer.{signer_as};
 
 use crate::artifact::{Had, Handed};
-use crate::content::{check_supported, judge_content, needed, scheme_of};
+use crate::content::{check_supported, judge_content, needed, scheme_of, signature_in};
 use crate::entries::{check_described, check_log};
 use crate::error::Error;
-use crate::evidence::{Evidence, report};
+use crate::evidence::{Evidence, earliest, report};
 use crate::grounds::Grounds;
 use crate::policy::{PolicyKind, PublicKeyVerificationPolicy};
 use crate::report::VerificationResult;
 use crate::signing::{Signing, who_signed};
+use crate::tokens::check_tokens;
 use foundation::Sequence;
 use sigstore_crypto_parts::{CryptoProvider, VerificationKey};
 use sigstore_types::Bundle;
@@ -92,7 +93,7 @@ pub(crate) fn prepare<'a>(
     }
 }
 
-// Under a managed key the log vouches, where the policy verifies it.
+// Under a managed key the log vouches, where the policy verifies it, and the tokens tell when.
 #[tactic(auto, unfolding(crate::specs::Judged::managed_vouched_of))]
 fn managed_vouched<C: CryptoProvider, M: Armor>(
     alloc: Global,
@@ -104,8 +105,20 @@ fn managed_vouched<C: CryptoProvider, M: Armor>(
     ensures err { IfErr result (λ e. e ≢ Error.NoMemory → managed_vouched_of (grounds_by C.CryptoProvider M.Armor grounds.now) policy.now bundle.now ≡ Err e) }
 {
     let entries = bundle.verification_material.tlog_entries.as_slice();
-    let promised = check_log(alloc, grounds, policy.verify_tlog, entries)?;
-    Ok(Evidence { promised })
+    let mut times = check_log(alloc, grounds, policy.verify_tlog, entries)?;
+    let integrated_time = earliest(times.as_slice());
+    let tokens = bundle.verification_material.rfc3161_timestamps.as_slice();
+    check_tokens(
+        alloc,
+        grounds,
+        signature_in(&bundle.content),
+        tokens,
+        &mut times,
+    )?;
+    Ok(Evidence {
+        integrated_time,
+        times,
+    })
 }
 
 // What vouches for the signer.
@@ -146,7 +159,8 @@ fn accepted<C: CryptoProvider, M: Armor>(
 
 /// The judgement of what was prepared over what is had of the artifact. The log comes first: what was never logged
 /// isn't worth a look at its signature. Errors, in order: `TransparencyLog` for the first entry that isn't logged,
-/// where the policy verifies the log; `ArtifactMismatch`, `SignatureInvalid`; `Unbuilt` where there is an entry.
+/// where the policy verifies the log; `Timestamp` for the first token that is no trusted authority's; `ArtifactMismatch`,
+/// `SignatureInvalid`; `Unbuilt` where there is an entry.
 pub(crate) fn judge<C: CryptoProvider, M: Armor>(
     alloc: Global,
     grounds: &Grounds<'_, C, M>,

@@ -13,6 +13,7 @@ mod policy;
 mod report;
 mod signing;
 mod taking;
+mod tokens;
 mod trust;
 mod under;
 mod verifier;

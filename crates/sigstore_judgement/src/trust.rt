@@ -1,18 +1,20 @@
 // What a verifier keeps of a trust file.
-ghost use Rattle.std.specs.Prelude.{◌≡◌, ◌≢◌, [], Ok, Err, IfOk, IfErr, OnOk};
+ghost use Rattle.std.specs.Prelude.{◌≡◌, ◌≢◌, ◌∷◌, ◌++◌, [], Ok, Err, IfOk, IfErr, OnOk};
 ghost use Rattle.path_core.specs.Anchors.{may_anchor};
 ghost use Rattle.sigstore_crypto_parts.specs.declared.error.Error.TheVariants as crypto;
 ghost use Rattle.sigstore_crypto_parts.specs.declared.scheme.SigningScheme.TheVariants.{RsaPkcs1Sha256};
 ghost use Rattle.sigstore_crypto_parts.specs.Key.{der_key_of};
 ghost use Rattle.sigstore_judgement.specs.declared.trust.LogKind.TheVariants.{Certificates};
-ghost use Rattle.sigstore_judgement.specs.Trust.{window_usable, id_usable, id_new, log_key_of, log_added, logs_added, nonempty, or_certificate, certificate_added, certificates_added, authority_added, authorities_added, material_of};
+ghost use Rattle.sigstore_judgement.specs.Trust.{window_usable, id_usable, id_new, log_key_of, log_added, logs_added, nonempty, or_certificate, certificate_added, certificates_added, authority_added, authorities_added, with_stamping, stamping_among, material_of};
 
 use crate::error::Error;
 use foundation::{Duplicate, Sequence};
 use path_core::{Anchor, PathError};
 use sigstore_crypto_parts::{Keyring, SigningScheme, VerificationKey};
-use sigstore_types::{Authority, TrustedLog, TrustedRoot};
-use sigstore_types_parts::{DerCertificate, DerPublicKey, LogKeyId, Sha256Hash, TimeRange};
+use sigstore_types::{Authority, TrustedLog, TrustedRoot, TsaAuthority};
+use sigstore_types_parts::{
+    DerCertificate, DerPublicKey, LogKeyId, Sha256Hash, TimeRange, TypesError,
+};
 use std::alloc::Global;
 
 /// What a log lists.
@@ -33,6 +35,8 @@ pub struct Material {
     pub ct_logs: Keyring,
     /// The certificates of the certificate authorities, each in its authority's window.
     pub anchors: Sequence<Anchor>,
+    /// The authorities that stamp times, in the file's order.
+    pub authorities: Sequence<TsaAuthority>,
 }
 
 // A reversed span would never be open, and whoever wrote it meant another one.
@@ -211,6 +215,36 @@ fn authorities(alloc: Global, list: &[Authority]) -> Result<Sequence<Anchor>, Er
     Ok(anchors)
 }
 
+// Puts an authority that stamps times behind others.
+fn add_stamping(
+    alloc: Global,
+    authority: &Authority,
+    list: &mut Sequence<TsaAuthority>,
+) -> Result<(), Error>
+    ensures ok { OnOk result (list.new ≡ list.old ++ stamping_among (authority.now ∷ [])) }
+    ensures err { IfErr result (λ e. e ≡ Error.NoMemory) }
+{
+    match authority.stamping(alloc) {
+        Ok(stamping) => {
+            list.push(stamping)?;
+            Ok(())
+        }
+        Err(TypesError::NoMemory) => Err(Error::NoMemory),
+        Err(_) => Ok(()),
+    }
+}
+
+fn stamping(alloc: Global, list: &[Authority]) -> Result<Sequence<TsaAuthority>, Error>
+    ensures ok { IfOk result (λ stamping. stamping ≡ stamping_among list.now) }
+    ensures err { IfErr result (λ e. e ≡ Error.NoMemory) }
+{
+    let mut stamping = Sequence::new(alloc);
+    'authorities: for authority in list {
+        add_stamping(alloc, authority, &mut stamping)?;
+    }
+    Ok(stamping)
+}
+
 /// What is kept of a trust file. Errors, in order: for each log of entries and then of certificates
 /// `InvalidTrustRoot` for a reversed window, `Types` for an id that isn't of 32 bytes, `InvalidTrustRoot` for
 /// an id that an earlier one has, `Crypto` for its key; for each certificate authority and then time-stamp
@@ -224,9 +258,11 @@ pub(crate) fn material_in(alloc: Global, trust: &TrustedRoot) -> Result<Material
     let ct_log_keys = logs(alloc, LogKind::Certificates, trust.ctlogs.as_slice())?;
     let anchors = authorities(alloc, trust.certificate_authorities.as_slice())?;
     authorities(alloc, trust.timestamp_authorities.as_slice())?;
+    let authorities = stamping(alloc, trust.timestamp_authorities.as_slice())?;
     Ok(Material {
         logs: log_keys,
         ct_logs: ct_log_keys,
         anchors,
+        authorities,
     })
 }

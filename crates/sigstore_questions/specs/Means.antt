@@ -6,7 +6,7 @@ use Rattle.sigstore_app_parts.specs.Inputs.{Supply}
 use Rattle.sigstore_app_parts.specs.Sink.{WritesText}
 use Rattle.sigstore_app_parts.specs.Layout.{asked_layout_of}
 use Rattle.sigstore_app_parts.specs.Tables.{tables_of}
-use Rattle.sigstore_app_parts.specs.Gather.{asked_of, ReadsAs}
+use Rattle.sigstore_app_parts.specs.Gather.{gathered_of, ReadsAs}
 use Rattle.sigstore_app_parts.specs.declared.layout.Layout.{Layout}
 use Rattle.sigstore_app_parts.specs.declared.gather.Gathered.{Gathered}
 use Rattle.sigstore_app_parts.specs.declared.gather.Stop.{Stop}
@@ -30,9 +30,9 @@ pub record IsQuestions (text : List ℕ) (tables : Tables) : Type 0 where
 
 -- what is said once the words are read: the rows that were noted, as a provider file; or the line of the input that is refused
 pub data Proceeds (before after : Supply) (said : Answer) : Type 0 where
-  rows : (gathered : Gathered) (tables : Tables) → ReadsAs asked_of before after (Ok gathered)
+  rows : (gathered : Gathered) (tables : Tables) → ReadsAs gathered_of before after (Ok gathered)
       → IsQuestions said.text tables → said.status ≡ Accepted → Proceeds before after said
-  stopped : (stop : Stop) → ReadsAs asked_of before after (Err stop) → stop_answer stop ≡ Some said
+  stopped : (stop : Stop) → ReadsAs gathered_of before after (Err stop) → stop_answer stop ≡ Some said
       → Proceeds before after said
 
 -- what is said: the words first, then the inputs and the questions
@@ -55,7 +55,7 @@ pub record WritesRows (words : List (List ℕ)) (before after : Supply) (out out
   pub layout : Layout
   pub worded : asked_layout_of words ≡ Ok layout
   pub gathered : Gathered
-  pub inputs : ReadsAs asked_of before after (Ok gathered)
+  pub inputs : ReadsAs gathered_of before after (Ok gathered)
   pub tables : Tables
   pub text : List ℕ
   pub rows : IsQuestions text tables

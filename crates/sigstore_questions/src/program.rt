@@ -7,7 +7,7 @@ use crate::reading_store::ReadingStore;
 use foundation::NoMemory;
 use jiff::Timestamp;
 use sigstore_app_parts::{
-    Gathered, Inputs, Sink, Stop, gather_asked, read_asked_layout, write_all,
+    Gathered, Inputs, Sink, Stop, gather_inputs, read_asked_layout, write_all,
 };
 use sigstore_crypto_parts::ArtifactSource;
 use sigstore_questions_parts::{Noted, Notes, NotingArmor, NotingProvider};
@@ -17,7 +17,7 @@ use sigstore_types_parts::Text;
 use sigstore_verify::RootFault;
 use std::alloc::Global;
 
-// Runs the verification, notes what it asks, and throws its verdict away.
+// Runs the verification, refuses what the tables hold, notes what else it asks, and throws its verdict away.
 fn verify_noting<R: Repository, S: MetadataStore, A: ArtifactSource>(
     alloc: Global,
     notes: &Notes,
@@ -33,7 +33,6 @@ fn verify_noting<R: Repository, S: MetadataStore, A: ArtifactSource>(
         root,
         bundle,
     } = gathered;
-    drop(tables);
     let request = Request {
         policy,
         root,
@@ -42,7 +41,7 @@ fn verify_noting<R: Repository, S: MetadataStore, A: ArtifactSource>(
     let judged = verify_request(
         alloc,
         request,
-        &NotingProvider::new(notes),
+        &NotingProvider::new(notes, &tables.provider),
         &NotingArmor::new(notes),
         now,
         repo,
@@ -51,6 +50,7 @@ fn verify_noting<R: Repository, S: MetadataStore, A: ArtifactSource>(
     );
     let wants_memory = matches!(&judged, Err(RootFault::NoMemory));
     drop(judged);
+    drop(tables);
     if wants_memory { Err(NoMemory) } else { Ok(()) }
 }
 
@@ -96,7 +96,7 @@ fn proceed<I: Inputs, R: Repository, S: MetadataStore, A: ArtifactSource>(
 ) -> Result<Answer, NoMemory>
     ensures { IfOk result (Proceeds (I.seen inputs.old) (I.seen inputs.new)) }
 {
-    match gather_asked(alloc, inputs) {
+    match gather_inputs(alloc, inputs) {
         Ok(gathered) => match asked(alloc, gathered, now, repo, store, artifact) {
             Ok(noted) => Ok(said(noted)),
             Err(e) => Err(e),
@@ -140,8 +140,9 @@ fn decide<I: Inputs, R: Repository, S: MetadataStore, A: ArtifactSource>(
     }
 }
 
-/// Notes what a verification over these words, inputs and objects of the outside asks, and writes it as a
-/// provider file: each question once, in the order in which they were asked. Nothing is judged: the status
+/// Notes what a verification over these words, inputs and objects of the outside asks where the signatures of the
+/// file `refused` aren't good and all others are, and writes it as a provider file: each question once, in the
+/// order in which they were asked. Nothing is judged: the status
 /// is never Refused, and Accepted says that the questions were written. Status 4 where a write failed, 5
 /// where memory was wanting; then nothing was written.
 pub fn run_questions<I: Inputs, R: Repository, S: MetadataStore, A: ArtifactSource, K: Sink>(

@@ -1,25 +1,41 @@
 // A provider that notes.
-ghost use Rattle.std.specs.Prelude.{◌≡◌, true};
+ghost use Rattle.std.specs.Prelude.{◌≡◌, not};
+ghost use Rattle.sigstore_app_parts.specs.Rows.{accepts_of};
 
 use crate::notes::Notes;
+use sigstore_app_parts::TableProvider;
 use sigstore_crypto_parts::{CryptoProvider, SigningScheme, sha256, sha384, sha512};
 use sigstore_types_parts::HashAlgorithm;
 
-/// Accepts every signature and notes each question: what is judged by it is no verdict.
+/// Refuses the signatures of a table, which are known not to be good; accepts every other one and notes the
+/// question: what is judged by it is no verdict.
 #[derive(Drop)]
 pub struct NotingProvider<'a> {
     notes: &'a Notes,
+    refused: &'a TableProvider,
 }
 
 impl<'a> NotingProvider<'a> {
-    /// A provider that notes here.
-    pub fn new(notes: &'a Notes) -> NotingProvider<'a> {
-        NotingProvider { notes }
+    /// A provider that notes here, and refuses the rows of this table.
+    pub fn new(notes: &'a Notes, refused: &'a TableProvider) -> NotingProvider<'a>
+        ensures { result.refused.now ≡ refused.now }
+    {
+        NotingProvider { notes, refused }
+    }
+
+    fn answer(&self, scheme: SigningScheme, key: &[u8], subject: &[u8], signature: &[u8]) -> bool
+        ensures { result ≡ not (accepts_of self.now.refused.now.rows scheme key.now subject.now signature.now) }
+    {
+        if self.refused.accepts(scheme, key, subject, signature) {
+            return false;
+        }
+        self.notes.note_signature(scheme, key, subject, signature);
+        true
     }
 }
 
 impl CryptoProvider for NotingProvider<'_> {
-    ghost accepts = { λ _ _ _ _ _. true };
+    ghost accepts = { λ p scheme key subject signature. not (accepts_of p.refused.now.rows scheme key subject signature) };
 
     fn verify_raw(
         &self,
@@ -28,18 +44,16 @@ impl CryptoProvider for NotingProvider<'_> {
         message: &[u8],
         signature: &[u8],
     ) -> bool {
-        let notes = self.notes;
         match scheme.hash_algorithm() {
             Some(HashAlgorithm::Sha2256) => {
-                notes.note_signature(scheme, key, sha256(message).as_bytes(), signature);
+                self.answer(scheme, key, sha256(message).as_bytes(), signature)
             }
             Some(HashAlgorithm::Sha2384) => {
-                notes.note_signature(scheme, key, sha384(message).as_bytes(), signature);
+                self.answer(scheme, key, sha384(message).as_bytes(), signature)
             }
-            Some(_) => notes.note_signature(scheme, key, sha512(message).as_bytes(), signature),
-            None => notes.note_signature(scheme, key, message, signature),
+            Some(_) => self.answer(scheme, key, sha512(message).as_bytes(), signature),
+            None => self.answer(scheme, key, message, signature),
         }
-        true
     }
 
     fn verify_prehashed(
@@ -49,7 +63,6 @@ impl CryptoProvider for NotingProvider<'_> {
         digest: &[u8],
         signature: &[u8],
     ) -> bool {
-        self.notes.note_signature(scheme, key, digest, signature);
-        true
+        self.answer(scheme, key, digest, signature)
     }
 }

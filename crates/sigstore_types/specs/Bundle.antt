@@ -19,10 +19,11 @@ use Rattle.sigstore_types.specs.declared.material.VerificationMaterial.{Verifica
 use Rattle.sigstore_types.specs.declared.material.VerificationMaterialContent.{VerificationMaterialContent}
 use Rattle.sigstore_types.specs.declared.material.VerificationMaterialContent.TheVariants as material
 use Rattle.sigstore_types.specs.declared.material.Hint.{Hint}
+use Rattle.sigstore_types.specs.declared.material.TokenList.{TokenList}
 use Rattle.sigstore_types.specs.declared.material.Tokens.{Tokens}
 use Rattle.sigstore_entries.specs.declared.entry.TransparencyLogEntry.{TransparencyLogEntry}
 use Rattle.sigstore_entries.specs.Entry.{required, optional, text, bytes, list, entry_of}
-use Rattle.sigstore_types.specs.Members.{absent, without_items, json}
+use Rattle.sigstore_types.specs.Members.{absent, each_held, json}
 
 abbrev pub is_media_type : List ℕ → Bool
 is_media_type name =
@@ -54,17 +55,30 @@ material_content_of d = do
   key ← optional hint_of m.PublicKey d
   key_content_of key
 
+-- RFC3161SignedTimestamp, each with a token in base64
+unfoldable pub token_list_of : Data → Result TokenList TypesError
+token_list_of d = each_held m.SignedTimestamp d >>= λ list. Ok (record { list = list })
+
+abbrev pub or_no_tokens : Option TokenList → List (List ℕ)
+or_no_tokens None = []
+or_no_tokens (Some tokens) = tokens.list
+
+-- TimestampVerificationData
 unfoldable pub tokens_of : Data → Result Tokens TypesError
 tokens_of d = do
-  _ ← without_items form.Tokens m.Rfc3161Timestamps d
-  Ok (record {})
+  list ← optional token_list_of m.Rfc3161Timestamps d
+  Ok (record { list = or_no_tokens list })
+
+abbrev pub or_none : Option Tokens → List (List ℕ)
+or_none None = []
+or_none (Some tokens) = tokens.list
 
 unfoldable pub material_of : Data → Result VerificationMaterial TypesError
 material_of d = do
   content ← material_content_of d
   entries ← list entry_of m.TlogEntries d
-  _ ← optional tokens_of m.TimestampVerificationData d
-  Ok (record { content = content; tlog_entries = entries })
+  tokens ← optional tokens_of m.TimestampVerificationData d
+  Ok (record { content = content; tlog_entries = entries; rfc3161_timestamps = or_none tokens })
 
 -- a known algorithm, by either of its names
 unfoldable pub algorithm_of : Data → Result HashAlgorithm TypesError
@@ -110,6 +124,10 @@ bundle_of_bytes bytes = json bytes >>= bundle_of
 
 abbrev pub entries_in : Bundle → List TransparencyLogEntry
 entries_in bundle = bundle.verification_material.tlog_entries
+
+-- the time-stamp tokens
+abbrev pub tokens_in : Bundle → List (List ℕ)
+tokens_in bundle = bundle.verification_material.rfc3161_timestamps
 
 abbrev pub has_proof : TransparencyLogEntry → Bool
 has_proof entry = is_some entry.inclusion_proof

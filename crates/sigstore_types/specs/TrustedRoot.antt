@@ -1,5 +1,5 @@
 -- A trust file as JSON (Sigstore protobuf specs, sigstore_trustroot.proto and sigstore_common.proto).
-use Rattle.std.specs.Prelude.{ℕ, List, [], pos, neg_ℤ, Option, Some, None, Result, Ok}
+use Rattle.std.specs.Prelude.{ℕ, ◌-◌, List, [], ◌∷◌, take, drop, length, pos, neg_ℤ, Option, Some, None, Result, Ok, Err}
 use Rattle.serde_json.specs.Data.{Data}
 use Rattle.foundation.specs.Steps.{◌>>=◌}
 use Rattle.jiff_core.specs.declared.timestamp.Timestamp.{Timestamp}
@@ -9,7 +9,9 @@ use Rattle.sigstore_types_parts.specs.Error.{types_of}
 use Rattle.sigstore_types_parts.specs.declared.time_range.TimeRange.{TimeRange}
 use Rattle.sigstore_types_parts.specs.declared.member.TypesMember.TheVariants as m
 use Rattle.sigstore_types_parts.specs.declared.error.TypesError.{TypesError}
+use Rattle.sigstore_types_parts.specs.declared.error.TypesError.TheVariants.{Field}
 use Rattle.sigstore_types.specs.declared.authority.Authority.{Authority}
+use Rattle.sigstore_types.specs.declared.authority.TsaAuthority.{TsaAuthority}
 use Rattle.sigstore_types.specs.declared.authority.Certificates.{Certificates}
 use Rattle.sigstore_types.specs.declared.authority.Chain.{Chain}
 use Rattle.sigstore_types.specs.declared.trusted_root.KeyOfLog.{KeyOfLog}
@@ -17,7 +19,7 @@ use Rattle.sigstore_types.specs.declared.trusted_root.TrustedLog.{TrustedLog}
 use Rattle.sigstore_types.specs.declared.trusted_root.TrustedRoot.{TrustedRoot}
 use Rattle.sigstore_types.specs.declared.valid_for.ValidFor.{ValidFor}
 use Rattle.sigstore_entries.specs.Entry.{required, optional, bytes, list, log_id_of}
-use Rattle.sigstore_types.specs.Members.{json}
+use Rattle.sigstore_types.specs.Members.{each_held, json}
 
 -- ---- spans of time
 
@@ -54,12 +56,9 @@ log_of d = do
 
 -- ---- authorities
 
--- X509Certificate
-unfoldable pub certificate_of : Data → Result (List ℕ) TypesError
-certificate_of d = required bytes m.RawBytes d
-
+-- X509Certificates
 unfoldable pub certificates_of : Data → Result Certificates TypesError
-certificates_of d = read.sequence_of types_of certificate_of d >>= λ list. Ok (record { list = list })
+certificates_of d = each_held m.RawBytes d >>= λ list. Ok (record { list = list })
 
 abbrev pub or_no_certificates : Option Certificates → List (List ℕ)
 or_no_certificates None = []
@@ -77,6 +76,35 @@ authority_of d = do
   chain ← required chain_of m.CertChain d
   valid_for ← optional valid_for_of m.ValidFor d
   Ok (record { certificates = chain.certificates; valid_for = window_of valid_for })
+
+-- the last certificate is the root, where there is one behind the leaf, and else the leaf itself
+abbrev pub root_in : List ℕ → List (List ℕ) → List ℕ
+root_in leaf [] = leaf
+root_in leaf (root ∷ others) = root
+
+-- an authority that stamps times: the chain's first certificate, its last, and those between
+unfoldable pub stamping_with : List ℕ → List (List ℕ) → Option TimeRange → TsaAuthority
+stamping_with leaf behind valid_for = record {
+  leaf = leaf;
+  intermediates = take (length behind - 1) behind;
+  root = root_in leaf (drop (length behind - 1) behind);
+  valid_for = valid_for;
+}
+
+abbrev pub stamping_by : List (List ℕ) → Option TimeRange → Result TsaAuthority TypesError
+stamping_by [] valid_for = Err (Field m.Certificates)
+stamping_by (leaf ∷ behind) valid_for = Ok (stamping_with leaf behind valid_for)
+
+abbrev pub stamping_of : Authority → Result TsaAuthority TypesError
+stamping_of authority = stamping_by authority.certificates authority.valid_for
+
+-- each of a list, in its order; the first empty chain refuses
+abbrev pub each_stamping : List Authority → Result (List TsaAuthority) TypesError
+each_stamping [] = Ok []
+each_stamping (authority ∷ authorities) = do
+  stamping ← stamping_of authority
+  others ← each_stamping authorities
+  Ok (stamping ∷ others)
 
 -- ---- the whole
 

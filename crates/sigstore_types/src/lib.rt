@@ -5,12 +5,13 @@
 mod authority;
 mod bundle;
 mod content;
+mod held;
 mod material;
 mod members;
 mod trusted_root;
 mod valid_for;
 
-pub use authority::Authority;
+pub use authority::{Authority, TsaAuthority};
 pub use bundle::{Bundle, validate_structure};
 pub use content::{MessageDigest, MessageSignature, SignatureContent};
 pub use material::{VerificationMaterial, VerificationMaterialContent};

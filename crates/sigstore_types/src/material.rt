@@ -1,13 +1,17 @@
-// What a bundle is verified with: a public key, of which it tells at most a hint, and entries of logs.
+// What a bundle is verified with: a public key, of which it tells at most a hint, entries of logs, and time-stamp
+// tokens.
 ghost use Rattle.std.specs.Prelude.{◌≡◌, ◌≢◌, Ok, Err, IfOk, IfErr};
 ghost use Rattle.serde_json.specs.View.{view};
-ghost use Rattle.sigstore_types.specs.Bundle.{hint_of, tokens_of, material_of, material_content_of};
+ghost use Rattle.sigstore_types.specs.Bundle.{hint_of, token_list_of, or_no_tokens, tokens_of, or_none, material_of, material_content_of};
 
-use crate::members::{absent, without_items};
+use crate::held::each_held;
+use crate::members::absent;
 use foundation::{Duplicate, NoMemory, Sequence};
 use serde_json::Value;
 use sigstore_entries::{TransparencyLogEntry, list};
-use sigstore_types_parts::{Form, FromValue, Text, TypesError, TypesMember, optional};
+use sigstore_types_parts::{
+    Form, FromValue, Text, TimestampToken, TypesError, TypesMember, optional,
+};
 use std::alloc::Global;
 
 /// What a bundle is verified with.
@@ -16,6 +20,8 @@ pub struct VerificationMaterial {
     pub content: VerificationMaterialContent,
     /// Where the signature was logged.
     pub tlog_entries: Sequence<TransparencyLogEntry>,
+    /// When it was there, by authorities that stamp times (RFC 3161).
+    pub rfc3161_timestamps: Sequence<TimestampToken>,
 }
 
 /// Whose signature a bundle has.
@@ -29,6 +35,7 @@ impl Duplicate for VerificationMaterial {
         Ok(VerificationMaterial {
             content: self.content.duplicate(alloc)?,
             tlog_entries: self.tlog_entries.duplicate(alloc)?,
+            rfc3161_timestamps: self.rfc3161_timestamps.duplicate(alloc)?,
         })
     }
 }
@@ -62,17 +69,57 @@ impl FromValue<TypesError> for Hint {
     }
 }
 
-// Time-stamp tokens, of which none is built.
+// Time-stamp tokens, each in an object of its own.
 #[derive(Drop)]
-struct Tokens {}
+struct TokenList {
+    list: Sequence<TimestampToken>,
+}
+
+impl FromValue<TypesError> for TokenList {
+    ghost reads = { token_list_of };
+
+    #[tactic(auto, unfolding(crate::specs::Bundle::token_list_of))]
+    fn from_value(alloc: Global, value: &Value) -> Result<TokenList, TypesError> {
+        Ok(TokenList {
+            list: each_held(alloc, value, TypesMember::SignedTimestamp)?,
+        })
+    }
+}
+
+// The tokens that the material tells.
+#[derive(Drop)]
+struct Tokens {
+    list: Sequence<TimestampToken>,
+}
+
+fn or_no_tokens(alloc: Global, tokens: Option<TokenList>) -> Sequence<TimestampToken>
+    ensures { result ≡ or_no_tokens tokens }
+{
+    match tokens {
+        Some(tokens) => tokens.list,
+        None => Sequence::new(alloc),
+    }
+}
 
 impl FromValue<TypesError> for Tokens {
     ghost reads = { tokens_of };
 
     #[tactic(auto, unfolding(crate::specs::Bundle::tokens_of))]
-    fn from_value(_alloc: Global, value: &Value) -> Result<Tokens, TypesError> {
-        without_items(value, TypesMember::Rfc3161Timestamps, Form::Tokens)?;
-        Ok(Tokens {})
+    fn from_value(alloc: Global, value: &Value) -> Result<Tokens, TypesError> {
+        let list: Option<TokenList> = optional(alloc, value, TypesMember::Rfc3161Timestamps)?;
+        Ok(Tokens {
+            list: or_no_tokens(alloc, list),
+        })
+    }
+}
+
+// The tokens of a material that may tell none.
+fn or_none(alloc: Global, tokens: Option<Tokens>) -> Sequence<TimestampToken>
+    ensures { result ≡ or_none tokens }
+{
+    match tokens {
+        Some(tokens) => tokens.list,
+        None => Sequence::new(alloc),
     }
 }
 
@@ -98,7 +145,7 @@ impl FromValue<TypesError> for VerificationMaterial {
     fn from_value(alloc: Global, value: &Value) -> Result<VerificationMaterial, TypesError> {
         let content = read_content(alloc, value)?;
         let tlog_entries = list::<TransparencyLogEntry>(alloc, value, TypesMember::TlogEntries)?;
-        let _tokens: Option<Tokens> = optional(
+        let tokens: Option<Tokens> = optional(
             alloc,
             value,
             TypesMember::TimestampVerificationData,
@@ -106,6 +153,7 @@ impl FromValue<TypesError> for VerificationMaterial {
         Ok(VerificationMaterial {
             content,
             tlog_entries,
+            rfc3161_timestamps: or_none(alloc, tokens),
         })
     }
 }

@@ -1,7 +1,7 @@
 // Readers of members whose other forms aren't built, and of the JSON text itself.
 ghost use Rattle.std.specs.Prelude.{◌≡◌, ◌≢◌, Ok, Err, IfOk, IfErr};
 ghost use Rattle.serde_json.specs.View.{view};
-ghost use Rattle.sigstore_types.specs.Members.{absent, empty, without_items, json};
+ghost use Rattle.sigstore_types.specs.Members.{absent, json};
 
 use serde_json::Value;
 use sigstore_types_parts::{Form, Member, TypesError, TypesMember, parse_json};
@@ -21,45 +21,6 @@ pub(crate) fn absent(value: &Value, member: TypesMember, form: Form) -> Result<(
             Ok(())
         } else {
             Err(TypesError::Unbuilt(form))
-        },
-    }
-}
-
-#[tactic(auto, using(crate::proofs::Items::has_items))]
-fn empty(value: &Value, form: Form) -> Result<(), TypesError>
-    ensures { result ≡ empty form (view value.now) }
-{
-    match value.as_array() {
-        None => Err(TypesError::Json),
-        Some(items) => if items.is_empty() {
-            Ok(())
-        } else {
-            Err(TypesError::Unbuilt(form))
-        },
-    }
-}
-
-// Refuses a member that is there and neither null nor an empty list.
-#[tactic(auto, unfolding(sigstore_types_parts::specs::Read::optional_of))]
-pub(crate) fn without_items(
-    value: &Value,
-    member: TypesMember,
-    form: Form,
-) -> Result<(), TypesError>
-    ensures { result ≡ without_items form member (view value.now) }
-{
-    if !value.is_object() {
-        return Err(TypesError::Json);
-    }
-    match value.get(member.name()) {
-        None => Ok(()),
-        Some(list) => if list.is_null() {
-            Ok(())
-        } else {
-            match empty(list, form) {
-                Ok(()) => Ok(()),
-                Err(e) => Err(member.place(e)),
-            }
         },
     }
 }

@@ -1,9 +1,9 @@
 // A trust file.
 ghost use Rattle.std.specs.Prelude.{◌≡◌, ◌≢◌, Ok, Err, IfOk, IfErr};
 ghost use Rattle.serde_json.specs.View.{view};
-ghost use Rattle.sigstore_types.specs.TrustedRoot.{log_of, key_of_log, trusted_root_of, trusted_root_of_bytes};
+ghost use Rattle.sigstore_types.specs.TrustedRoot.{log_of, key_of_log, trusted_root_of, trusted_root_of_bytes, each_stamping};
 
-use crate::authority::Authority;
+use crate::authority::{Authority, TsaAuthority};
 use crate::members::json;
 use crate::valid_for::{ValidFor, window};
 use foundation::{Duplicate, NoMemory, Sequence};
@@ -130,5 +130,18 @@ impl TrustedRoot {
     {
         let value = json(alloc, bytes)?;
         Ok(TrustedRoot::from_value(alloc, &value)?)
+    }
+
+    /// The authorities that stamp times, in their order. Errors: `Field` of `certificates` exactly where one's
+    /// chain is empty.
+    pub fn tsa_authorities(&self, alloc: Global) -> Result<Sequence<TsaAuthority>, TypesError>
+        ensures ok { IfOk result (λ list. each_stamping self.now.timestamp_authorities ≡ Ok list) }
+        ensures err { IfErr result (λ e. e ≢ TypesError.NoMemory → each_stamping self.now.timestamp_authorities ≡ Err e) }
+    {
+        let mut list = Sequence::new(alloc);
+        'authorities: for authority in self.timestamp_authorities.as_slice() {
+            list.push(authority.stamping(alloc)?)?;
+        }
+        Ok(list)
     }
 }

@@ -64,7 +64,14 @@ const MATERIALS: &str = r#"null => Field { member: VerificationMaterial }
 {"publicKey":{},"timestampVerificationData":{}} => Ok
 {"publicKey":{},"timestampVerificationData":{"rfc3161Timestamps":0}} => Field { member: Rfc3161Timestamps }
 {"publicKey":{},"timestampVerificationData":{"rfc3161Timestamps":[]}} => Ok
-{"publicKey":{},"timestampVerificationData":{"rfc3161Timestamps":[0]}} => Unbuilt(Tokens)"#;
+{"publicKey":{},"timestampVerificationData":{"rfc3161Timestamps":null}} => Ok
+{"publicKey":{},"timestampVerificationData":{"rfc3161Timestamps":[0]}} => Field { member: Rfc3161Timestamps }
+{"publicKey":{},"timestampVerificationData":{"rfc3161Timestamps":[null]}} => Field { member: Rfc3161Timestamps }
+{"publicKey":{},"timestampVerificationData":{"rfc3161Timestamps":[{}]}} => Field { member: SignedTimestamp }
+{"publicKey":{},"timestampVerificationData":{"rfc3161Timestamps":[{"signedTimestamp":null}]}} => Field { member: SignedTimestamp }
+{"publicKey":{},"timestampVerificationData":{"rfc3161Timestamps":[{"signedTimestamp":"A"}]}} => Base64
+{"publicKey":{},"timestampVerificationData":{"rfc3161Timestamps":[{"signedTimestamp":"AQ=="},{}]}} => Field { member: SignedTimestamp }
+{"publicKey":{},"timestampVerificationData":{"rfc3161Timestamps":[{"signedTimestamp":"AQ=="},{"signedTimestamp":""}]}} => Ok"#;
 
 // Message signatures, their digests, and envelopes.
 const CONTENT: &str =

@@ -2,7 +2,7 @@
 use crate::tables::{
     Change, bytes, change_in, display, failures, good, source, string, text_of, there, words,
 };
-use crate::{delegated, logged};
+use crate::{delegated, logged, stamped};
 use jiff::Timestamp;
 use sigstore_app_parts::{MemoryInputs, MemorySink, Which};
 use sigstore_crypto::{MemorySource, sha256};
@@ -80,6 +80,8 @@ promised time
 promised body
 log id
 timeless log id
+stamped
+stamped before
 listed
 delegations
 delegated
@@ -127,7 +129,16 @@ fn trust(change: Change) -> &str {
     if logged::is_logged(change) {
         return logged::trust(change);
     }
-    change.of("trust", "{}")
+    match change.part {
+        "stamped" => stamped::TRUST,
+        "stamped before" => stamped::LATER,
+        _ => change.of("trust", "{}"),
+    }
+}
+
+// Whether the bundle has a time-stamp token.
+fn is_stamped(change: Change) -> bool {
+    matches!(change.part, "stamped" | "stamped before")
 }
 
 // The entry of the trust file, with its length and digest.
@@ -285,6 +296,9 @@ fn provider<X: AllocGlobal + Abort>(rt: &X, change: Change, root: &str, targets:
     sign(rt, change, &mut rows, "targets", targets);
     sign_delegated(rt, change, &mut rows);
     sign_entry(rt, change, &mut rows);
+    if is_stamped(change) {
+        good(rt, rows.push_str(stamped::ROWS));
+    }
     sign(
         rt,
         change,
@@ -325,6 +339,9 @@ fn message(change: Change) -> &str {
 fn material<X: AllocGlobal + Abort>(rt: &X, change: Change) -> String {
     if logged::is_logged(change) {
         return logged::material(rt, change);
+    }
+    if is_stamped(change) {
+        return string(rt, stamped::MATERIAL);
     }
     string(rt, change.of("material", r#""publicKey":{"hint":"k"}"#))
 }

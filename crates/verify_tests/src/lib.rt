@@ -10,4 +10,6 @@ mod logged;
 #[cfg(test)]
 mod runs;
 #[cfg(test)]
+mod stamped;
+#[cfg(test)]
 mod tables;

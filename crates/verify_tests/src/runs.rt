@@ -4,7 +4,8 @@ use crate::tables::hold;
 // A row: the part, the text in its place, and the status with what is written. The second of the
 // timestamp's expiry is in time; of each object, the call after the last one that is made fails. A second root
 // is adopted from the repository, and in a later run from the store alone. The trust file is listed by a role
-// that it is delegated to; a role that isn't pinned is passed over, and one that is pinned is told.
+// that it is delegated to; a role that isn't pinned is passed over, and one that is pinned is told. A token that an authority of the trust file stamped
+// gives its time, in seconds since 1970.
 const ACCEPTED: &str =
     r#"nothing |  | Accepted "accepted\nroot 1\ntimestamp 1\nsnapshot 1\nrole targets 1\ntarget 2\nartifact sha256 2cf24dba5fb0a30e26e83b2ac5b9e29e1b161e5c1fa7425e73043362938b9824\nidentity none\nissuer none\ncertificate no\nsct no\ntlog no\npolicy no\nintegrated none\ntimes 0\n"
 signed artifact |  | Accepted "accepted\nroot 1\ntimestamp 1\nsnapshot 1\nrole targets 1\ntarget 2\nartifact sha256 e3b0c44298fc1c149afbf4c8996fb92427ae41e4649b934ca495991b7852b855\nidentity none\nissuer none\ncertificate no\nsct no\ntlog no\npolicy no\nintegrated none\ntimes 0\n"
@@ -16,6 +17,7 @@ sink fails | 2 | Accepted "accepted\nroot 1\ntimestamp 1\nsnapshot 1\nrole targe
 consistent names |  | Accepted "accepted\nroot 1\ntimestamp 1\nsnapshot 1\nrole targets 1\ntarget 2\nartifact sha256 2cf24dba5fb0a30e26e83b2ac5b9e29e1b161e5c1fa7425e73043362938b9824\nidentity none\nissuer none\ncertificate no\nsct no\ntlog no\npolicy no\nintegrated none\ntimes 0\n"
 second root | 2 | Accepted "accepted\nroot 2\ntimestamp 1\nsnapshot 1\nrole targets 1\ntarget 2\nartifact sha256 2cf24dba5fb0a30e26e83b2ac5b9e29e1b161e5c1fa7425e73043362938b9824\nidentity none\nissuer none\ncertificate no\nsct no\ntlog no\npolicy no\nintegrated none\ntimes 0\n"
 kept root | 2 | Accepted "accepted\nroot 2\ntimestamp 1\nsnapshot 1\nrole targets 1\ntarget 2\nartifact sha256 2cf24dba5fb0a30e26e83b2ac5b9e29e1b161e5c1fa7425e73043362938b9824\nidentity none\nissuer none\ncertificate no\nsct no\ntlog no\npolicy no\nintegrated none\ntimes 0\n"
+stamped |  | Accepted "accepted\nroot 1\ntimestamp 1\nsnapshot 1\nrole targets 1\ntarget 691\nartifact sha256 2cf24dba5fb0a30e26e83b2ac5b9e29e1b161e5c1fa7425e73043362938b9824\nidentity none\nissuer none\ncertificate no\nsct no\ntlog no\npolicy no\nintegrated none\ntimes 1\ntime 1717200000\n"
 delegations | "delegations":{"keys":{},"roles":[{"keyids":["k"],"name":"d","paths":["x"],"terminating":false,"threshold":1}]}, | Accepted "accepted\nroot 1\ntimestamp 1\nsnapshot 1\nrole targets 1\ntarget 2\nartifact sha256 2cf24dba5fb0a30e26e83b2ac5b9e29e1b161e5c1fa7425e73043362938b9824\nidentity none\nissuer none\ncertificate no\nsct no\ntlog no\npolicy no\nintegrated none\ntimes 0\n"
 delegated | d | Accepted "accepted\nroot 1\ntimestamp 1\nsnapshot 1\nrole targets 1\nrole d 3\ntarget 2\nartifact sha256 2cf24dba5fb0a30e26e83b2ac5b9e29e1b161e5c1fa7425e73043362938b9824\nidentity none\nissuer none\ncertificate no\nsct no\ntlog no\npolicy no\nintegrated none\ntimes 0\n"
 delegated | u d | Accepted "accepted\nroot 1\ntimestamp 1\nsnapshot 1\nrole targets 1\nrole d 3\ntarget 2\nartifact sha256 2cf24dba5fb0a30e26e83b2ac5b9e29e1b161e5c1fa7425e73043362938b9824\nidentity none\nissuer none\ncertificate no\nsct no\ntlog no\npolicy no\nintegrated none\ntimes 0\n"
@@ -75,7 +77,8 @@ trust | {"tlogs":[{}]} | Refused "refused verify 28 TrustRoot\n"
 content | "messageSignature":{"messageDigest":{"algorithm":"SHA2_384","digest":"AQ=="},"signature":"AQ=="} | Refused "refused verify 4 ArtifactMismatch\n"
 content | "messageSignature":{"messageDigest":{"algorithm":"SHA3_256","digest":"AAAAAAAAAAAAAAAAAAAAAAAAAAAAAAAAAAAAAAAAAAA="},"signature":"AQ=="} | Refused "refused verify 26 Crypto\n"
 content | "dsseEnvelope":{"payload":"","payloadType":"t","signatures":[{"sig":"AQ=="}]} | Refused "refused verify 90 Unbuilt\n"
-material | "publicKey":{},"timestampVerificationData":{"rfc3161Timestamps":[{"signedTimestamp":"AQ=="}]} | Refused "refused verify 90 Unbuilt\n"
+material | "publicKey":{},"timestampVerificationData":{"rfc3161Timestamps":[{"signedTimestamp":"AQ=="}]} | Refused "refused verify 19 TimestampInvalid\n"
+stamped before |  | Refused "refused verify 20 OutsideAuthorityValidity\n"
 material | "publicKey":{},"tlogEntries":[{}] | Refused "refused verify 22 InvalidBundle\n"
 material | "certificate":{"rawBytes":"AQ=="} | Refused "refused verify 90 Unbuilt\n"
 # An entry that is logged isn't compared with the bundle yet. Its time may be now; it has to have a proof that leads

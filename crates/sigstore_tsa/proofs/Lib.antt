@@ -1,0 +1,3 @@
+pub mod CauseLaw
+pub mod StampedLaw
+pub mod TokensLaw

@@ -1,0 +1,2 @@
+pub mod NoBothLaw
+pub mod Nonce
