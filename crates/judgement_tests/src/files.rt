@@ -1,14 +1,15 @@
 // Tables of trust files, one row a line: a call, a text, ` => ` and the answer, worked out by hand. In a text
 // `<NAME>` stands for the octets of that name, in base64. `read` answers what a file holds: of each log its id
 // and its key, each as its first octet and its length, and its window; of each authority the number of its
-// certificates, and its window. `made` answers whether a verifier is made of it.
+// certificates, and its window. `stamping` answers of each time-stamp authority its own certificate, the number of
+// those between, its root and its window. `made` answers whether a verifier is made of it.
 use crate::data::{OCTETS, OF_SIGSTORE};
 use crate::tables::good;
 use foundation::Duplicate;
 use jiff::Timestamp;
 use sigstore_app_parts::read_provider;
 use sigstore_judgement::{Verifier, usable_exactly};
-use sigstore_types::{Authority, TimeRange, TrustedLog, TrustedRoot};
+use sigstore_types::{Authority, TimeRange, TrustedLog, TrustedRoot, TsaAuthority};
 use std::process::Abort;
 
 // The members and their order.
@@ -57,6 +58,13 @@ read {"certificateAuthorities":[{"certChain":{"certificates":[{"rawBytes":"AA=="
 read {"certificateAuthorities":[{"certChain":{"certificates":[{"rawBytes":"AA=="},{"rawBytes":"AQ=="}]},"validFor":0}]} => Field { member: ValidFor }
 read {"certificateAuthorities":[{"certChain":{"certificates":[{"rawBytes":"AA=="},{"rawBytes":"AQ=="}]},"validFor":{"start":"2021-01-01T00:00:00Z"}}]} => ca 2 2021-01-01T00:00:00Z..;
 read {"timestampAuthorities":[{"certChain":{"certificates":[{"rawBytes":"AA=="}]}},{"certChain":{}}]} => tsa 1 always;tsa 0 always;"#;
+
+const STAMPING: &str = r#"stamping {} => nothing
+stamping {"certificateAuthorities":[{"certChain":{}}]} => nothing
+stamping {"timestampAuthorities":[{"certChain":{}}]} => Field { member: Certificates }
+stamping {"timestampAuthorities":[{"certChain":{"certificates":[{"rawBytes":"AA=="}]}}]} => 00/1 0 00/1 always;
+stamping {"timestampAuthorities":[{"certChain":{"certificates":[{"rawBytes":"AA=="},{"rawBytes":"AQI="}]},"validFor":{}}]} => 00/1 0 01/2 earliest..;
+stamping {"timestampAuthorities":[{"certChain":{"certificates":[{"rawBytes":"AA=="},{"rawBytes":"AQI="},{"rawBytes":"AgMA"},{"rawBytes":"AwM="}]}},{"certChain":{"certificates":[{"rawBytes":"BA=="}]}}]} => 00/1 2 03/2 always;04/1 0 04/1 always;"#;
 
 // The logs of a file.
 const MADE_OF_LOGS: &str = r#"made {} => made
@@ -196,6 +204,33 @@ fn read<X: AllocGlobal + Abort>(rt: &X, text: &str) -> String {
     }
 }
 
+fn tell_stamping<X: AllocGlobal + Abort>(rt: &X, authorities: &[TsaAuthority]) -> String {
+    let mut told = String::new(rt.alloc());
+    for authority in authorities {
+        let leaf = part(rt, authority.leaf.as_bytes());
+        let count = authority.intermediates.len();
+        let root = part(rt, authority.root.as_bytes());
+        let window = window(rt, authority.valid_for);
+        let text = good(
+            rt,
+            format!(in rt.alloc(); "{leaf} {count} {root} {window};"),
+        );
+        good(rt, told.push_str(text.as_str()));
+    }
+    if told.is_empty() {
+        good(rt, told.push_str("nothing"));
+    }
+    told
+}
+
+fn stamping<X: AllocGlobal + Abort>(rt: &X, text: &str) -> String {
+    let trust = good(rt, TrustedRoot::from_json(rt.alloc(), text.as_bytes()));
+    match trust.tsa_authorities(rt.alloc()) {
+        Ok(authorities) => tell_stamping(rt, authorities.as_slice()),
+        Err(refusal) => good(rt, format!(in rt.alloc(); "{refusal:?}")),
+    }
+}
+
 fn made<X: AllocGlobal + Abort>(rt: &X, text: &str) -> String {
     let trust = good(rt, TrustedRoot::from_json(rt.alloc(), text.as_bytes()));
     let tables = good(rt, read_provider(rt.alloc(), &[]));
@@ -216,6 +251,7 @@ fn check_row<X: AllocGlobal + Abort>(rt: &X, row: &str) {
     let text = meant(rt, cell);
     let found = match call {
         "read" => read(rt, text.as_str()),
+        "stamping" => stamping(rt, text.as_str()),
         "made" => made(rt, text.as_str()),
         _ => panic!(rt; "no call {call}"),
     };
@@ -233,6 +269,7 @@ fn files_are_read_by_their_members(rt: HostRuntime) {
     check_rows(&rt, READ);
     check_rows(&rt, LOGS);
     check_rows(&rt, AUTHORITIES);
+    check_rows(&rt, STAMPING);
 }
 
 #[test]

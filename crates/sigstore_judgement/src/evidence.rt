@@ -1,11 +1,11 @@
 // What the judgement finds on its way, and the report of it.
-ghost use Rattle.std.specs.Prelude.{◌≡◌, None};
+ghost use Rattle.std.specs.Prelude.{◌≡◌, ◌++◌, None, IfOk};
 ghost use Rattle.sigstore_judgement.specs.Evidence.{earlier, earliest_from, report_of};
 ghost use Rattle.sigstore_judgement.specs.Signer.{signer_as};
 
 use crate::report::VerificationResult;
 use crate::signing::Signing;
-use foundation::Sequence;
+use foundation::{NoMemory, Sequence};
 use jiff::Timestamp;
 
 /// What was found that vouches for a signer.
@@ -13,7 +13,7 @@ use jiff::Timestamp;
 pub struct Evidence {
     /// The earliest time that a log promised, of an entry that is logged.
     pub integrated_time: Option<Timestamp>,
-    /// The times that logs promised, in the entries' order, then those that authorities stamped, in the tokens' order.
+    /// The times that authorities stamped, in the tokens' order, then those that logs promised, in the entries' order.
     pub times: Sequence<Timestamp>,
 }
 
@@ -35,6 +35,18 @@ pub(crate) fn earliest(times: &[Timestamp]) -> Option<Timestamp>
         first = Some(earlier(first, *time));
     }
     first
+}
+
+/// Times, and others behind them.
+pub(crate) fn joined(
+    first: Sequence<Timestamp>,
+    others: &[Timestamp],
+) -> Result<Sequence<Timestamp>, NoMemory>
+    ensures { IfOk result (λ times. times ≡ first ++ others.now) }
+{
+    let mut times = first.into_vec();
+    times.extend_from_slice(others)?;
+    Ok(Sequence::from_vec(times))
 }
 
 /// What an acceptance shows.

@@ -13,7 +13,7 @@ use crate::artifact::{Had, Handed};
 use crate::content::{check_supported, judge_content, needed, scheme_of, signature_in};
 use crate::entries::{check_described, check_log};
 use crate::error::Error;
-use crate::evidence::{Evidence, earliest, report};
+use crate::evidence::{Evidence, earliest, joined, report};
 use crate::grounds::Grounds;
 use crate::policy::{PolicyKind, PublicKeyVerificationPolicy};
 use crate::report::VerificationResult;
@@ -105,19 +105,13 @@ fn managed_vouched<C: CryptoProvider, M: Armor>(
     ensures err { IfErr result (λ e. e ≢ Error.NoMemory → managed_vouched_of (grounds_by C.CryptoProvider M.Armor grounds.now) policy.now bundle.now ≡ Err e) }
 {
     let entries = bundle.verification_material.tlog_entries.as_slice();
-    let mut times = check_log(alloc, grounds, policy.verify_tlog, entries)?;
-    let integrated_time = earliest(times.as_slice());
+    let promised = check_log(alloc, grounds, policy.verify_tlog, entries)?;
+    let integrated_time = earliest(promised.as_slice());
     let tokens = bundle.verification_material.rfc3161_timestamps.as_slice();
-    check_tokens(
-        alloc,
-        grounds,
-        signature_in(&bundle.content),
-        tokens,
-        &mut times,
-    )?;
+    let stamped = check_tokens(alloc, grounds, signature_in(&bundle.content), tokens)?;
     Ok(Evidence {
         integrated_time,
-        times,
+        times: joined(stamped, promised.as_slice())?,
     })
 }
 

@@ -49,24 +49,24 @@ fn check_token<C: CryptoProvider, M: Armor>(
     }
 }
 
-/// The times of tokens, put behind others. Each has to be a trusted authority's: a good one doesn't cover for one
-/// that is made up. Errors, of the first that isn't: `Timestamp` with `OutsideAuthorityValidity` where an
-/// authority refuses it by its window alone, and `Invalid`.
-#[tactic(auto, using(crate::proofs::Behind::behind_token, crate::proofs::Behind::behind_all))]
+/// The times of tokens. Each has to be a trusted authority's: a good one doesn't cover for one that is made up.
+/// Errors, of the first that isn't: `Timestamp` with `OutsideAuthorityValidity` where an authority refuses it by its
+/// window alone, and `Invalid`.
+#[tactic(auto, using(crate::proofs::Behind::behind_token, crate::proofs::Behind::behind_all, crate::proofs::Behind::behind_nothing))]
 pub(crate) fn check_tokens<C: CryptoProvider, M: Armor>(
     alloc: Global,
     grounds: &Grounds<'_, C, M>,
     signature: &SignatureBytes,
     tokens: &[TimestampToken],
-    times: &mut Sequence<Timestamp>,
-) -> Result<(), Error>
-    ensures ok { OnOk result (behind times.old (tokens_judged_of (grounds_by C.CryptoProvider M.Armor grounds.now) signature.now tokens.now) ≡ Ok times.new) }
+) -> Result<Sequence<Timestamp>, Error>
+    ensures ok { IfOk result (λ times. tokens_judged_of (grounds_by C.CryptoProvider M.Armor grounds.now) signature.now tokens.now ≡ Ok times) }
     ensures err { IfErr result (λ e. e ≢ Error.NoMemory →
-        behind times.old (tokens_judged_of (grounds_by C.CryptoProvider M.Armor grounds.now) signature.now tokens.now) ≡ Err e) }
+        tokens_judged_of (grounds_by C.CryptoProvider M.Armor grounds.now) signature.now tokens.now ≡ Err e) }
 {
+    let mut times = Sequence::new(alloc);
     'tokens: for token in tokens {
         let time = check_token(alloc, grounds, signature, token)?;
         times.push(time)?;
     }
-    Ok(())
+    Ok(times)
 }

@@ -35,6 +35,7 @@ AlgorithmIdentifier 3000 => Truncated
 Imprint 3011300b06096086480165030402010402abcd => kept
 Imprint 300d300b0609608648016503040201 => Truncated
 PkiStatusInfo 3003020100 => kept
+PkiStatusInfo 300902010030040c024f4b => kept
 PkiStatusInfo 300e02010230050c03626164030205a0 => kept
 PkiStatusInfo 300402020100 => Value
 PkiStatusInfo 300802010230030c01ff => Value

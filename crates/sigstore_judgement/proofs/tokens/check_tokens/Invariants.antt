@@ -7,5 +7,5 @@ use Rattle.sigstore_judgement.proofs.tokens.check_tokens.Given as goal
 -- judging all is judging those that are left, behind the times that were found
 abbrev pub invariant-tokens : goal.invariant-tokens
 invariant-tokens g l =
-    behind l.initial.times (tokens_judged_of (grounds_by g.C.CryptoProvider g.M.Armor l.grounds) l.signature l.tokens)
+    tokens_judged_of (grounds_by g.C.CryptoProvider g.M.Armor l.grounds) l.signature l.tokens
     ≡ behind l.times (tokens_judged_of (grounds_by g.C.CryptoProvider g.M.Armor l.grounds) l.signature (drop l.token-index l.tokens))
