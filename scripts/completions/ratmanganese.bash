@@ -17,7 +17,7 @@ _ratmanganese() {
         compopt -o filenames
         return
         ;;
-    --root | --bundle | --artifact | --policy | --provider)
+    --root | --bundle | --artifact | --policy | --provider | --refused)
         mapfile -t COMPREPLY < <(compgen -f -- "$word")
         compopt -o filenames
         return
@@ -33,7 +33,7 @@ _ratmanganese() {
     else
         case ${COMP_WORDS[1]} in
         verify) names="$names --provider=" ;;
-        questions) ;;
+        questions) names="$names --refused=" ;;
         explain)
             [ "$COMP_CWORD" != 2 ] || mapfile -t COMPREPLY < <(compgen -W "tuf verify status" -- "$word")
             return

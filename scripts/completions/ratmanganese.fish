@@ -18,6 +18,7 @@ complete -c ratmanganese -n '__fish_seen_subcommand_from verify questions' -l ar
 complete -c ratmanganese -n '__fish_seen_subcommand_from verify questions' -l policy -r -F -d 'The key, and whether the log is asked for'
 complete -c ratmanganese -n '__fish_seen_subcommand_from verify questions' -l now -x -d 'The moment, as 2025-01-01T00:00:00Z'
 complete -c ratmanganese -n '__fish_seen_subcommand_from verify' -l provider -r -F -d 'The signatures that are good'
+complete -c ratmanganese -n '__fish_seen_subcommand_from questions' -l refused -r -F -d 'Signatures that are not good'
 complete -c verify-real -l root -r -F -d 'The TUF root document that you trust'
 complete -c verify-real -l repository -x -a '(__fish_complete_directories)' -d 'A folder with the documents and targets'
 complete -c verify-real -l store -x -a '(__fish_complete_directories)' -d 'A folder that keeps documents between runs'

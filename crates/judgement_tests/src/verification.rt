@@ -142,7 +142,7 @@ fn plain(number: u8) -> Error {
         29 => Error::TrustedCertificate,
         30 => Error::ArtifactRead(ReadError::Failed),
         31 => Error::NoMemory,
-        _ => Error::Unbuilt(Form::Envelope),
+        _ => Error::Unbuilt(Form::Certificate),
     }
 }
 

@@ -8,6 +8,7 @@ pub mod log;
 pub mod merkle;
 pub mod message;
 pub mod path;
+pub mod rekor;
 pub mod tsa;
 pub mod tuf;
 pub mod verify;

@@ -6,9 +6,11 @@ use Rattle.serde_json.specs.Written.{has_float}
 use Rattle.foundation.specs.Steps.{◌>>=◌}
 use Rattle.sigstore_types_parts.specs.Read as read
 use Rattle.sigstore_types_parts.specs.Encoded as encoded
-use Rattle.sigstore_types_parts.specs.Error.{types_of, placed_at, name_of}
+use Rattle.sigstore_types_parts.specs.Error.{types_of, types_of_fault, placed_at, name_of}
+use Rattle.sigstore_types_parts.specs.Parse.{parsed_of}
 use Rattle.sigstore_types_parts.specs.declared.member.TypesMember.{TypesMember}
 use Rattle.sigstore_types_parts.specs.declared.member.TypesMember.TheVariants as m
+use Rattle.sigstore_types_parts.specs.declared.parse.JsonFault.{JsonFault}
 use Rattle.sigstore_types_parts.specs.declared.error.TypesError.{TypesError}
 use Rattle.sigstore_types_parts.specs.declared.error.TypesError.TheVariants as e
 use Rattle.sigstore_entries.specs.Numbers.{place_of, time_of, known_time_of, or_first}
@@ -23,6 +25,17 @@ use Rattle.sigstore_entries.specs.declared.log_index.LogIndex.{LogIndex}
 use Rattle.sigstore_entries.specs.declared.entry.Placed.{Placed}
 use Rattle.sigstore_entries.specs.declared.entry.InclusionPromise.{InclusionPromise}
 use Rattle.sigstore_entries.specs.declared.entry.TransparencyLogEntry.{TransparencyLogEntry}
+
+-- ---- the text
+
+-- a fault of the JSON text as a refusal
+abbrev pub faulted : Result Data JsonFault → Result Data TypesError
+faulted (Ok d) = Ok d
+faulted (Err fault) = Err (types_of_fault fault)
+
+-- the JSON value of bytes: Json, then Float
+abbrev pub json : List ℕ → Result Data TypesError
+json bytes = faulted (parsed_of bytes)
 
 -- ---- members
 

@@ -46,23 +46,24 @@ impl KindVersion {
     {
         kind == self.kind() && version == self.version()
     }
-}
 
-fn kind_named(kind: &str, version: &str) -> Result<KindVersion, TypesError>
-    ensures { result ≡ kind_named kind.now version.now }
-{
-    if KindVersion::HashedRekordV001.is_named(kind, version) {
-        Ok(KindVersion::HashedRekordV001)
-    } else if KindVersion::HashedRekordV002.is_named(kind, version) {
-        Ok(KindVersion::HashedRekordV002)
-    } else if KindVersion::DsseV001.is_named(kind, version) {
-        Ok(KindVersion::DsseV001)
-    } else if KindVersion::DsseV002.is_named(kind, version) {
-        Ok(KindVersion::DsseV002)
-    } else if KindVersion::IntotoV002.is_named(kind, version) {
-        Ok(KindVersion::IntotoV002)
-    } else {
-        Err(TypesError::Kind)
+    /// The kind that a name and a version name together. Errors: `Kind` for any other pair.
+    pub fn named(kind: &str, version: &str) -> Result<KindVersion, TypesError>
+        ensures { result ≡ kind_named kind.now version.now }
+    {
+        if KindVersion::HashedRekordV001.is_named(kind, version) {
+            Ok(KindVersion::HashedRekordV001)
+        } else if KindVersion::HashedRekordV002.is_named(kind, version) {
+            Ok(KindVersion::HashedRekordV002)
+        } else if KindVersion::DsseV001.is_named(kind, version) {
+            Ok(KindVersion::DsseV001)
+        } else if KindVersion::DsseV002.is_named(kind, version) {
+            Ok(KindVersion::DsseV002)
+        } else if KindVersion::IntotoV002.is_named(kind, version) {
+            Ok(KindVersion::IntotoV002)
+        } else {
+            Err(TypesError::Kind)
+        }
     }
 }
 
@@ -79,6 +80,6 @@ impl FromValue<TypesError> for KindVersion {
     fn from_value(alloc: Global, value: &Value) -> Result<KindVersion, TypesError> {
         let kind: Text = required(alloc, value, TypesMember::Kind)?;
         let version: Text = required(alloc, value, TypesMember::Version)?;
-        Ok(kind_named(kind.as_str(), version.as_str())?)
+        Ok(KindVersion::named(kind.as_str(), version.as_str())?)
     }
 }

@@ -24,6 +24,6 @@ pub use kind_version::KindVersion;
 pub use laws::{checkpoints_are_parted, envelopes_are_kept};
 pub use log_id::LogId;
 pub use log_index::LogIndex;
-pub use members::list;
+pub use members::{json, list};
 pub use promise::promise_payload;
 pub use signature_line::CheckpointSignature;

@@ -1,13 +1,21 @@
-// Readers of members that may be absent.
+// Readers of the JSON text itself, and of members that may be absent.
 ghost use Rattle.std.specs.Prelude.{◌≡◌, ◌≢◌, Ok, Err, IfOk, IfErr};
 ghost use Rattle.serde_json.specs.View.{view};
-ghost use Rattle.sigstore_entries.specs.Entry.{place, list};
+ghost use Rattle.sigstore_entries.specs.Entry.{json, place, list};
 
 use crate::log_index::{LogIndex, or_first};
 use foundation::Sequence;
 use serde_json::Value;
-use sigstore_types_parts::{FromValue, TypesError, TypesMember, optional};
+use sigstore_types_parts::{FromValue, TypesError, TypesMember, optional, parse_json};
 use std::alloc::Global;
+
+/// The JSON value of bytes. Errors: `Json`, then `Float`.
+pub fn json(alloc: Global, bytes: &[u8]) -> Result<Value, TypesError>
+    ensures ok { IfOk result (λ v. json bytes.now ≡ Ok (view v)) }
+    ensures err { IfErr result (λ e. e ≢ TypesError.NoMemory → json bytes.now ≡ Err e) }
+{
+    Ok(parse_json(alloc, bytes)?)
+}
 
 /// A place that is there, or the first one.
 pub(crate) fn place(

@@ -2,7 +2,6 @@
 use Rattle.std.proofs.Common.{◌≡◌, ℕ, List, Bool, true, false, ◌||◌, if◌then◌else◌, Option, Some, None, Result, Ok, Err, refl, sym, ap, subst, ◌∙◌}
 use Rattle.std.specs.Prelude.{⊤, IsTrue}
 use Rattle.std.specs.List.{list_all}
-use Rattle.std.proofs.lemmas.Slice.Eq.{bytes_eq-Decides}
 use Rattle.jiff_core.specs.declared.timestamp.Timestamp.{Timestamp}
 use Rattle.foundation.specs.Steps.{◌>>=◌}
 use Rattle.foundation.specs.Results.{step_ok, ok_same}
@@ -10,8 +9,7 @@ use Rattle.sigstore_types_parts.specs.declared.hash_algorithm.HashAlgorithm.{Has
 use Rattle.sigstore_types_parts.specs.declared.error.TypesError.{TypesError}
 use Rattle.sigstore_types.specs.declared.bundle.Bundle.{Bundle}
 use Rattle.sigstore_types.specs.declared.content.SignatureContent.{SignatureContent}
-use Rattle.sigstore_types.specs.declared.content.SignatureContent.TheVariants.{MessageSignature as OfMessage}
-use Rattle.sigstore_types.specs.declared.content.MessageDigest.{MessageDigest}
+use Rattle.sigstore_types.specs.declared.content.SignatureContent.TheVariants.{MessageSignature as OfMessage, DsseEnvelope as OfEnvelope}
 use Rattle.sigstore_types.specs.Bundle.{entries_in, tokens_in, structure_of}
 use Rattle.sigstore_crypto_parts.specs.declared.error.Error.{Error as CryptoError}
 use Rattle.sigstore_crypto_parts.specs.declared.scheme.SigningScheme.{SigningScheme}
@@ -26,15 +24,17 @@ use Rattle.sigstore_judgement.specs.declared.report.VerificationResult.{Verifica
 use Rattle.sigstore_judgement.specs.declared.policy.PublicKeyVerificationPolicy.{PublicKeyVerificationPolicy}
 use Rattle.sigstore_judgement.specs.Accepts.{ManagedVouches, Vouches, Accepts, AcceptsExactly}
 use Rattle.sigstore_judgement.specs.Artifact.{Artifact, Kind, kind_of, digest_of, bytes_of}
-use Rattle.sigstore_judgement.specs.Content.{scheme_of, needed_of, signs_digest, supported_of, is_digest, is_told, is_bound, IsTold, IsBound, subject_in, signature_in, is_good_of, is_signed, first_refusal, content_judged_of}
+use Rattle.sigstore_judgement.specs.Claim.{Claim, claim_of, needed_of, is_bound, IsBound}
+use Rattle.sigstore_judgement.specs.Content.{scheme_of, signs_digest, supported_of, subject_in, signature_in, is_good_of, is_signed, first_refusal, content_judged_of}
 use Rattle.sigstore_judgement.specs.Entries.{log_judged_of, told_if, entries_described_of}
 use Rattle.sigstore_judgement.specs.Error.{by_types, by_crypto}
 use Rattle.sigstore_judgement.specs.Evidence.{times_of, report_of}
 use Rattle.sigstore_judgement.specs.Grounds.{Grounds, Terms}
-use Rattle.sigstore_judgement.specs.Judged.{Ready, ready_with, ready_of, prepared_of, managed_vouched_of, vouched_of, judged_had, judged_of}
+use Rattle.sigstore_judgement.specs.Judged.{Ready, key_with, ready_with, claimed_of, ready_of, prepared_of, managed_vouched_of, vouched_of, judged_had, judged_of}
 use Rattle.sigstore_judgement.specs.Policy.{Meaning, PublicKey}
 use Rattle.sigstore_judgement.specs.Signer.{Signer, Managed, key_in, managed_of, signer_of, IsSigner}
 use Rattle.sigstore_judgement.specs.Tokens.{tokens_judged_of}
+use Rattle.sigstore_judgement.proofs.ClaimLaw.{bound_so, so_bound}
 use Rattle.sigstore_judgement.proofs.EntryLaw.{are_logged, log_accepted, are_described, described_pass}
 use Rattle.sigstore_judgement.proofs.TokenLaw.{are_stamped, stamped_pass}
 
@@ -53,31 +53,13 @@ both_there : (content : SignatureContent) (b g : Bool) (x : ⊤) → first_refus
 both_there (OfMessage message) true true x h = (refl, refl)
 both_there (OfMessage message) true false x h = cc
 both_there (OfMessage message) false g x h = cc
+both_there (OfEnvelope envelope) true true x h = (refl, refl)
+both_there (OfEnvelope envelope) false true x h = cc
+both_there (OfEnvelope envelope) b false x h = cc
 
 both_pass : (content : SignatureContent) → first_refusal content true true ≡ Ok tt
 both_pass (OfMessage message) = refl
-
-is_it : (told : List ℕ) (o : Option (List ℕ)) → is_digest told o ≡ true → o ≡ Some told
-is_it told None h = cc
-is_it told (Some digest) h = ap Some (sym ((bytes_eq-Decides told digest).0 h))
-
-it_is : (told : List ℕ) (o : Option (List ℕ)) → o ≡ Some told → is_digest told o ≡ true
-it_is told None h = cc
-it_is told (Some digest) h = (bytes_eq-Decides told digest).1 (let same : digest ≡ told = cc in sym same)
-
-told_so : (o : Option MessageDigest) (artifact : Artifact) → is_told o (digest_of artifact) ≡ true → IsTold o artifact
-told_so None artifact h = tt
-told_so (Some told) artifact h = is_it told.digest (digest_of artifact told.algorithm) h
-
-so_told : (o : Option MessageDigest) (artifact : Artifact) → IsTold o artifact → is_told o (digest_of artifact) ≡ true
-so_told None artifact h = refl
-so_told (Some told) artifact h = it_is told.digest (digest_of artifact told.algorithm) h
-
-bound_so : (content : SignatureContent) (artifact : Artifact) → is_bound content (digest_of artifact) ≡ true → IsBound content artifact
-bound_so (OfMessage message) artifact h = told_so message.message_digest artifact h
-
-so_bound : (content : SignatureContent) (artifact : Artifact) → IsBound content artifact → is_bound content (digest_of artifact) ≡ true
-so_bound (OfMessage message) artifact h = so_told message.message_digest artifact h
+both_pass (OfEnvelope envelope) = refl
 
 -- the signature is over a subject, and good
 abbrev pub Signs : Judge → VerificationKey → Option (List ℕ) → List ℕ → Type 0
@@ -93,18 +75,18 @@ signed accepts key o signature s = ap (λ o. is_good_of accepts key o signature)
 abbrev subject_of : VerificationKey → SignatureContent → Artifact → Option (List ℕ)
 subject_of key content artifact = subject_in key.scheme content (digest_of artifact) (bytes_of artifact)
 
-content_means : (accepts : Judge) (key : VerificationKey) (content : SignatureContent) (artifact : Artifact) (x : ⊤)
-    → content_judged_of accepts key content (digest_of artifact) (bytes_of artifact) ≡ Ok x
-    → IsBound content artifact × Signs accepts key (subject_of key content artifact) (signature_in content)
-content_means accepts key content artifact x h =
-    let two = both_there content (is_bound content (digest_of artifact)) (is_signed accepts key content (digest_of artifact) (bytes_of artifact)) x h in
-    (bound_so content artifact two.0, signs accepts key (subject_of key content artifact) (signature_in content) two.1)
+content_means : (accepts : Judge) (key : VerificationKey) (content : SignatureContent) (claim : Claim) (artifact : Artifact) (x : ⊤)
+    → content_judged_of accepts key content claim (digest_of artifact) (bytes_of artifact) ≡ Ok x
+    → IsBound claim artifact × Signs accepts key (subject_of key content artifact) (signature_in content)
+content_means accepts key content claim artifact x h =
+    let two = both_there content (is_bound claim (digest_of artifact)) (is_signed accepts key content (digest_of artifact) (bytes_of artifact)) x h in
+    (bound_so claim artifact two.0, signs accepts key (subject_of key content artifact) (signature_in content) two.1)
 
-content_accepted : (accepts : Judge) (key : VerificationKey) (content : SignatureContent) (artifact : Artifact)
-    → IsBound content artifact → Signs accepts key (subject_of key content artifact) (signature_in content)
-    → content_judged_of accepts key content (digest_of artifact) (bytes_of artifact) ≡ Ok tt
-content_accepted accepts key content artifact b s =
-    ap (λ b. first_refusal content b (is_signed accepts key content (digest_of artifact) (bytes_of artifact))) (so_bound content artifact b)
+content_accepted : (accepts : Judge) (key : VerificationKey) (content : SignatureContent) (claim : Claim) (artifact : Artifact)
+    → IsBound claim artifact → Signs accepts key (subject_of key content artifact) (signature_in content)
+    → content_judged_of accepts key content claim (digest_of artifact) (bytes_of artifact) ≡ Ok tt
+content_accepted accepts key content claim artifact b s =
+    ap (λ b. first_refusal content b (is_signed accepts key content (digest_of artifact) (bytes_of artifact))) (so_bound claim artifact b)
     ∙ ap (first_refusal content true) (signed accepts key (subject_of key content artifact) (signature_in content) s)
     ∙ both_pass content
 
@@ -122,22 +104,21 @@ signer_passes (PublicKey policy) bundle signer i = ap (λ r. by_types r >>= λ _
 
 -- ---- what is prepared
 
--- the key under that scheme
-abbrev pub key_under : SigningScheme → VerificationKey → VerificationKey
-key_under scheme key = record { scheme = scheme; key = key.key }
-
-abbrev pub after_needed : Kind → Signer → VerificationKey → Bundle → SigningScheme → List HashAlgorithm → Result Ready Error
-after_needed kind signer key bundle scheme needed =
-    supported_of kind (signs_digest scheme bundle.content) needed >>= λ _. Ok (ready_with signer (key_under scheme key) needed)
+abbrev pub after_claim : Signer → VerificationKey → SigningScheme → Claim → Result Ready Error
+after_claim signer key scheme claim = Ok (ready_with signer (key_with scheme key) claim)
 
 abbrev pub after_scheme : Kind → Signer → VerificationKey → Bundle → SigningScheme → Result Ready Error
-after_scheme kind signer key bundle scheme = needed_of scheme bundle.content >>= after_needed kind signer key bundle scheme
+after_scheme kind signer key bundle scheme = claimed_of kind scheme bundle.content >>= after_claim signer key scheme
 
 abbrev pub after_key : Kind → Signer → Bundle → VerificationKey → Result Ready Error
 after_key kind signer bundle key = by_crypto (scheme_of key.scheme bundle.content) >>= after_scheme kind signer key bundle
 
 abbrev pub after_signer : Kind → Bundle → Signer → Result Ready Error
 after_signer kind bundle signer = by_crypto (spki_key_of (key_in signer)) >>= after_key kind signer bundle
+
+-- a claim, where the artifact serves
+abbrev pub served : Kind → SigningScheme → SignatureContent → Claim → Result Claim Error
+served kind scheme content claim = supported_of kind (signs_digest scheme content) (needed_of scheme claim) >>= λ _. Ok claim
 
 -- the parts of what was prepared
 pub record Prepared (kind : Kind) (policy : Meaning) (bundle : Bundle) (ready : Ready) : Type 0 where
@@ -147,10 +128,10 @@ pub record Prepared (kind : Kind) (policy : Meaning) (bundle : Bundle) (ready : 
   pub read : spki_key_of (key_in signer) ≡ Ok key
   pub scheme : SigningScheme
   pub chosen : scheme_of key.scheme bundle.content ≡ Ok scheme
-  pub needed : List HashAlgorithm
-  pub needs : needed_of scheme bundle.content ≡ Ok needed
-  pub supported : supported_of kind (signs_digest scheme bundle.content) needed ≡ Ok tt
-  pub same : ready ≡ ready_with signer (key_under scheme key) needed
+  pub claim : Claim
+  pub claims : claim_of bundle.content ≡ Ok claim
+  pub supported : supported_of kind (signs_digest scheme bundle.content) (needed_of scheme claim) ≡ Ok tt
+  pub same : ready ≡ ready_with signer (key_with scheme key) claim
 
 pub prepared_means : (kind : Kind) (policy : Meaning) (bundle : Bundle) (ready : Ready) → prepared_of kind policy bundle ≡ Ok ready → Prepared kind policy bundle ready
 unfolding prepared_of ready_of
@@ -158,8 +139,10 @@ prepared_means kind policy bundle ready h =
     let a = step_ok (signer_of policy bundle) (after_signer kind bundle) ready h in
     let b = step_ok (by_crypto (spki_key_of (key_in a.0))) (after_key kind a.0 bundle) ready a.2 in
     let c = step_ok (by_crypto (scheme_of (b.0).scheme bundle.content)) (after_scheme kind a.0 b.0 bundle) ready b.2 in
-    let d = step_ok (needed_of c.0 bundle.content) (after_needed kind a.0 b.0 bundle c.0) ready c.2 in
-    let e = step_ok (supported_of kind (signs_digest c.0 bundle.content) d.0) (λ _. Ok (ready_with a.0 (key_under c.0 b.0) d.0)) ready d.2 in
+    let d = step_ok (claimed_of kind c.0 bundle.content) (after_claim a.0 b.0 c.0) ready c.2 in
+    let e = step_ok (claim_of bundle.content) (served kind c.0 bundle.content) d.0 d.1 in
+    let f = step_ok (supported_of kind (signs_digest c.0 bundle.content) (needed_of c.0 e.0)) (λ _. Ok e.0) d.0 e.2 in
+    let same = ok_same e.0 d.0 f.2 in
     record {
       signer = a.0;
       is = signer_means policy bundle a.0 a.1;
@@ -167,10 +150,10 @@ prepared_means kind policy bundle ready h =
       read = ok_crypto (spki_key_of (key_in a.0)) b.0 b.1;
       scheme = c.0;
       chosen = ok_crypto (scheme_of (b.0).scheme bundle.content) c.0 c.1;
-      needed = d.0;
-      needs = d.1;
-      supported = e.1;
-      same = sym (ok_same (ready_with a.0 (key_under c.0 b.0) d.0) ready e.2);
+      claim = e.0;
+      claims = e.1;
+      supported = f.1;
+      same = sym (ap (ready_with a.0 (key_with c.0 b.0)) same ∙ ok_same (ready_with a.0 (key_with c.0 b.0) d.0) ready d.2);
     }
 
 -- what was prepared for an artifact that is read or is a blob has hashers alone
@@ -232,19 +215,19 @@ module _ (terms : Terms) (bundle : Bundle) (artifact : Artifact) (report : Verif
   after_content signer evidence u =
       entries_described_of terms.grounds signer bundle (digest_of artifact) (entries_in bundle) >>= after_described signer evidence
 
-  abbrev after_vouched : Signer → VerificationKey → Evidence → Result VerificationResult Error
-  after_vouched signer key evidence =
-      content_judged_of terms.grounds.crypto.accepts key bundle.content (digest_of artifact) (bytes_of artifact) >>= after_content signer evidence
+  abbrev after_vouched : Signer → VerificationKey → Claim → Evidence → Result VerificationResult Error
+  after_vouched signer key claim evidence =
+      content_judged_of terms.grounds.crypto.accepts key bundle.content claim (digest_of artifact) (bytes_of artifact) >>= after_content signer evidence
 
   had_means : (ready : Ready) → Prepared (kind_of artifact) terms.policy bundle ready → after_ready ready ≡ Ok report → Accepts terms bundle artifact report
   unfolding judged_had
   had_means ready p h =
       let k = subst (λ (ready : Ready). after_ready ready ≡ Ok report) p.same h in
-      let under = key_under p.scheme p.key in
-      let a = step_ok (vouched_of terms.grounds p.signer bundle) (after_vouched p.signer under) report k in
-      let b = step_ok (content_judged_of terms.grounds.crypto.accepts under bundle.content (digest_of artifact) (bytes_of artifact)) (after_content p.signer a.0) report a.2 in
+      let under = key_with p.scheme p.key in
+      let a = step_ok (vouched_of terms.grounds p.signer bundle) (after_vouched p.signer under p.claim) report k in
+      let b = step_ok (content_judged_of terms.grounds.crypto.accepts under bundle.content p.claim (digest_of artifact) (bytes_of artifact)) (after_content p.signer a.0) report a.2 in
       let c = step_ok (entries_described_of terms.grounds p.signer bundle (digest_of artifact) (entries_in bundle)) (after_described p.signer a.0) report b.2 in
-      let q = content_means terms.grounds.crypto.accepts under bundle.content artifact b.0 b.1 in
+      let q = content_means terms.grounds.crypto.accepts under bundle.content p.claim artifact b.0 b.1 in
       record {
         signer = p.signer;
         is = p.is;
@@ -252,8 +235,8 @@ module _ (terms : Terms) (bundle : Bundle) (artifact : Artifact) (report : Verif
         read = p.read;
         scheme = p.scheme;
         chosen = p.chosen;
-        needed = p.needed;
-        needs = p.needs;
+        claim = p.claim;
+        claims = p.claims;
         supported = p.supported;
         evidence = a.0;
         vouches = vouches_means terms.grounds p.signer bundle a.0 a.1;
@@ -275,14 +258,14 @@ module _ (terms : Terms) (bundle : Bundle) (artifact : Artifact) (report : Verif
   unfolding judged_of prepared_of ready_of judged_had
   accepted a =
       let kind = kind_of artifact in
-      let under = key_under a.scheme a.key in
+      let under = key_with a.scheme a.key in
       ap (λ r. (r >>= after_signer kind bundle) >>= after_ready) (signer_passes terms.policy bundle a.signer a.is)
       ∙ ap (λ r. (by_crypto r >>= after_key kind a.signer bundle) >>= after_ready) a.read
       ∙ ap (λ r. (by_crypto r >>= after_scheme kind a.signer a.key bundle) >>= after_ready) a.chosen
-      ∙ ap (λ r. (r >>= after_needed kind a.signer a.key bundle a.scheme) >>= after_ready) a.needs
-      ∙ ap (λ r. (r >>= λ _. Ok (ready_with a.signer under a.needed)) >>= after_ready) a.supported
-      ∙ ap (λ r. r >>= after_vouched a.signer under) (vouches_passes terms.grounds a.signer bundle a.evidence a.vouches)
-      ∙ ap (λ r. r >>= after_content a.signer a.evidence) (content_accepted terms.grounds.crypto.accepts under bundle.content artifact a.bound (a.subject, a.signs, a.signed))
+      ∙ ap (λ r. ((r >>= served kind a.scheme bundle.content) >>= after_claim a.signer a.key a.scheme) >>= after_ready) a.claims
+      ∙ ap (λ r. ((r >>= λ _. Ok a.claim) >>= after_claim a.signer a.key a.scheme) >>= after_ready) a.supported
+      ∙ ap (λ r. r >>= after_vouched a.signer under a.claim) (vouches_passes terms.grounds a.signer bundle a.evidence a.vouches)
+      ∙ ap (λ r. r >>= after_content a.signer a.evidence) (content_accepted terms.grounds.crypto.accepts under bundle.content a.claim artifact a.bound (a.subject, a.signs, a.signed))
       ∙ ap (λ r. r >>= after_described a.signer a.evidence) (described_pass terms.grounds a.signer bundle artifact (entries_in bundle) a.described)
       ∙ ap Ok (sym a.shows)
 

@@ -5,7 +5,7 @@ use Rattle.std.specs.List.{list_all}
 use Rattle.foundation.specs.Steps.{◌>>=◌}
 use Rattle.sigstore_types.specs.declared.bundle.Bundle.{Bundle}
 use Rattle.sigstore_types.specs.declared.content.SignatureContent.{SignatureContent}
-use Rattle.sigstore_types.specs.declared.content.SignatureContent.TheVariants.{MessageSignature as OfMessage}
+use Rattle.sigstore_types.specs.declared.content.SignatureContent.TheVariants.{MessageSignature as OfMessage, DsseEnvelope as OfEnvelope}
 use Rattle.sigstore_types_parts.specs.declared.hash_algorithm.HashAlgorithm.{HashAlgorithm}
 use Rattle.sigstore_crypto_parts.specs.declared.key.VerificationKey.{VerificationKey}
 use Rattle.sigstore_crypto_parts.specs.declared.scheme.SigningScheme.{SigningScheme}
@@ -18,13 +18,14 @@ use Rattle.sigstore_judgement.specs.declared.error.Error.TheVariants.{Unsupporte
 use Rattle.sigstore_judgement.specs.declared.report.VerificationResult.{VerificationResult}
 use Rattle.sigstore_judgement.specs.Agree.{BlobAgrees}
 use Rattle.sigstore_judgement.specs.Artifact.{Artifact, Blob, Read, blob_kind, read_kind, digest_of, bytes_of}
-use Rattle.sigstore_judgement.specs.Content.{scheme_of, needed_of, signs_digest, is_told, subject_by, is_good_of, first_refusal, content_judged_of}
+use Rattle.sigstore_judgement.specs.Claim.{Claim, claim_of, needed_of, is_bound}
+use Rattle.sigstore_judgement.specs.Content.{scheme_of, signs_digest, subject_by, is_good_of, signed_in, first_refusal, content_judged_of}
 use Rattle.sigstore_judgement.specs.Error.{by_crypto}
 use Rattle.sigstore_judgement.specs.Grounds.{Terms}
-use Rattle.sigstore_judgement.specs.Judged.{Ready, ready_with, ready_of, prepared_of, judged_had, judged_of}
+use Rattle.sigstore_judgement.specs.Judged.{Ready, key_with, ready_with, ready_of, prepared_of, judged_had, judged_of}
 use Rattle.sigstore_judgement.specs.Signer.{Signer, key_in, signer_of}
 use Rattle.sigstore_judgement.proofs.Stages.{had_alike}
-use Rattle.sigstore_judgement.proofs.Accepts.{after_needed, after_scheme, after_key, after_signer, key_under}
+use Rattle.sigstore_judgement.proofs.Accepts.{served, after_claim, after_scheme, after_key, after_signer}
 
 -- where the scheme has a digest, a signature is over it
 subject_alike : (o : Option HashAlgorithm) (bytes : List ℕ) → (o ≢ None) → subject_by o (digest_of (Blob bytes)) (Some bytes) ≡ subject_by o (digest_of (Read bytes)) None
@@ -38,11 +39,16 @@ there None scheme is h e = not_both (has_digest scheme) h
     not_both b k = cc
 there (Some a) scheme is h e = cc
 
-content_alike : (accepts : Judge) (key : VerificationKey) (content : SignatureContent) (bytes : List ℕ) → signs_digest key.scheme content ≡ true
-    → content_judged_of accepts key content (digest_of (Blob bytes)) (Some bytes) ≡ content_judged_of accepts key content (digest_of (Read bytes)) None
-content_alike accepts key (OfMessage message) bytes h =
-    ap (λ o. first_refusal (OfMessage message) (is_told message.message_digest (digest_of (Read bytes))) (is_good_of accepts key o message.signature))
+content_alike : (accepts : Judge) (key : VerificationKey) (content : SignatureContent) (claim : Claim) (bytes : List ℕ) → signs_digest key.scheme content ≡ true
+    → content_judged_of accepts key content claim (digest_of (Blob bytes)) (Some bytes) ≡ content_judged_of accepts key content claim (digest_of (Read bytes)) None
+content_alike accepts key (OfMessage message) claim bytes h =
+    ap (λ o. first_refusal (OfMessage message) (is_bound claim (digest_of (Read bytes))) (is_good_of accepts key o message.signature))
     (subject_alike (digest_algorithm_of key.scheme) bytes (there (digest_algorithm_of key.scheme) key.scheme refl h))
+content_alike accepts key (OfEnvelope envelope) claim bytes h = refl
+
+signed_alike : (content : SignatureContent) (bytes : List ℕ) → signed_in content (digest_of (Blob bytes)) ≡ signed_in content (digest_of (Read bytes))
+signed_alike (OfMessage message) bytes = refl
+signed_alike (OfEnvelope envelope) bytes = refl
 
 module _ (terms : Terms) (bundle : Bundle) (bytes : List ℕ) where
   abbrev judge : Artifact → Ready → Result VerificationResult Error
@@ -54,27 +60,28 @@ module _ (terms : Terms) (bundle : Bundle) (bytes : List ℕ) where
   abbrev supported : Bool → Bool → Result ⊤ Error
   supported a b = if a then (if b then Ok tt else Err Crypto) else Err UnsupportedArtifact
 
-  abbrev after : Artifact → Signer → VerificationKey → SigningScheme → List HashAlgorithm → Result ⊤ Error → Result VerificationResult Error
-  after artifact signer key scheme needed r = (r >>= λ _. Ok (ready_with signer (key_under scheme key) needed)) >>= judge artifact
+  abbrev after : Artifact → Signer → VerificationKey → SigningScheme → Claim → Result ⊤ Error → Result VerificationResult Error
+  after artifact signer key scheme claim r = ((r >>= λ _. Ok claim) >>= after_claim signer key scheme) >>= judge artifact
 
-  by_support : (signer : Signer) (key : VerificationKey) (scheme : SigningScheme) (needed : List HashAlgorithm) (a b : Bool) → signs_digest scheme bundle.content ≡ a
-      → Differs (after (Read bytes) signer key scheme needed (supported (a || false) b))
-      → after (Blob bytes) signer key scheme needed (supported (a || true) b) ≡ after (Read bytes) signer key scheme needed (supported (a || false) b)
-  by_support signer key scheme needed true true e n =
-      had_alike terms.grounds (ready_with signer (key_under scheme key) needed) bundle (digest_of (Blob bytes)) (digest_of (Read bytes)) (Some bytes) None
-      (content_alike terms.grounds.crypto.accepts (key_under scheme key) bundle.content bytes e)
-  by_support signer key scheme needed true false e n = refl
-  by_support signer key scheme needed false b e n = absurd (n refl)
+  by_support : (signer : Signer) (key : VerificationKey) (scheme : SigningScheme) (claim : Claim) (a b : Bool) → signs_digest scheme bundle.content ≡ a
+      → Differs (after (Read bytes) signer key scheme claim (supported (a || false) b))
+      → after (Blob bytes) signer key scheme claim (supported (a || true) b) ≡ after (Read bytes) signer key scheme claim (supported (a || false) b)
+  by_support signer key scheme claim true true e n =
+      had_alike terms.grounds (ready_with signer (key_with scheme key) claim) bundle (digest_of (Blob bytes)) (digest_of (Read bytes)) (Some bytes) None
+      (content_alike terms.grounds.crypto.accepts (key_with scheme key) bundle.content claim bytes e) (signed_alike bundle.content bytes)
+  by_support signer key scheme claim true false e n = refl
+  by_support signer key scheme claim false b e n = absurd (n refl)
 
-  by_needed : (signer : Signer) (key : VerificationKey) (scheme : SigningScheme) (r : Result (List HashAlgorithm) Error)
-      → Differs ((r >>= after_needed read_kind signer key bundle scheme) >>= judge (Read bytes))
-      → ((r >>= after_needed blob_kind signer key bundle scheme) >>= judge (Blob bytes)) ≡ ((r >>= after_needed read_kind signer key bundle scheme) >>= judge (Read bytes))
-  by_needed signer key scheme (Ok needed) n = by_support signer key scheme needed (signs_digest scheme bundle.content) (list_all is_hashed needed) refl n
-  by_needed signer key scheme (Err e) n = refl
+  by_claim : (signer : Signer) (key : VerificationKey) (scheme : SigningScheme) (r : Result Claim Error)
+      → Differs (((r >>= served read_kind scheme bundle.content) >>= after_claim signer key scheme) >>= judge (Read bytes))
+      → (((r >>= served blob_kind scheme bundle.content) >>= after_claim signer key scheme) >>= judge (Blob bytes))
+      ≡ (((r >>= served read_kind scheme bundle.content) >>= after_claim signer key scheme) >>= judge (Read bytes))
+  by_claim signer key scheme (Ok claim) n = by_support signer key scheme claim (signs_digest scheme bundle.content) (list_all is_hashed (needed_of scheme claim)) refl n
+  by_claim signer key scheme (Err e) n = refl
 
   by_scheme : (signer : Signer) (key : VerificationKey) (r : Result SigningScheme Error) → Differs ((r >>= after_scheme read_kind signer key bundle) >>= judge (Read bytes))
       → ((r >>= after_scheme blob_kind signer key bundle) >>= judge (Blob bytes)) ≡ ((r >>= after_scheme read_kind signer key bundle) >>= judge (Read bytes))
-  by_scheme signer key (Ok scheme) n = by_needed signer key scheme (needed_of scheme bundle.content) n
+  by_scheme signer key (Ok scheme) n = by_claim signer key scheme (claim_of bundle.content) n
   by_scheme signer key (Err e) n = refl
 
   by_key : (signer : Signer) (r : Result VerificationKey Error) → Differs ((r >>= after_key read_kind signer bundle) >>= judge (Read bytes))

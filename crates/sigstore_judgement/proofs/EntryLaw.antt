@@ -12,16 +12,27 @@ use Rattle.sigstore_log.specs.Entry.{logged_of}
 use Rattle.sigstore_log.specs.Logged.{Logged}
 use Rattle.sigstore_log.specs.Promise.{told_time}
 use Rattle.sigstore_log.proofs.LoggedLaw.{logged_exactly}
+use Rattle.sigstore_binding.specs.declared.error.BindingError.{BindingError}
+use Rattle.sigstore_binding.specs.Described as binding
+use Rattle.sigstore_binding.specs.Described.{describes_of}
+use Rattle.sigstore_binding.specs.Rows.{Signed}
+use Rattle.sigstore_binding.specs.Verifier.{Readings, Signatory}
+use Rattle.sigstore_binding.proofs.DescribesLaw.{describes_exactly}
 use Rattle.sigstore_judgement.specs.Accepts.{AreLogged}
 use Rattle.sigstore_judgement.specs.Artifact.{Artifact, digest_of}
-use Rattle.sigstore_judgement.specs.Entries.{entry_judged_of, entries_judged_of, log_judged_of, told_if, entries_described_of, Describes}
-use Rattle.sigstore_judgement.specs.Error.{by_log}
-use Rattle.sigstore_judgement.specs.Grounds.{Grounds}
-use Rattle.sigstore_judgement.specs.Signer.{Signer}
+use Rattle.sigstore_judgement.specs.Content.{signed_in}
+use Rattle.sigstore_judgement.specs.Entries.{entry_judged_of, entries_judged_of, log_judged_of, told_if, each_described_of, entries_described_of, Describes}
+use Rattle.sigstore_judgement.specs.Error.{by_log, by_binding}
+use Rattle.sigstore_judgement.specs.Grounds.{Grounds, readings_in}
+use Rattle.sigstore_judgement.specs.Signer.{Signer, signatory_of}
 
 ok_log : (r : Result (Option Timestamp) LogError) (x : Option Timestamp) → by_log r ≡ Ok x → r ≡ Ok x
 ok_log (Ok y) x h = cc
 ok_log (Err e) x h = cc
+
+ok_binding : (r : Result ⊤ BindingError) (x : ⊤) → by_binding r ≡ Ok x → r ≡ Ok x
+ok_binding (Ok y) x h = refl
+ok_binding (Err e) x h = cc
 
 module _ (grounds : Grounds) where
   abbrev logged : TransparencyLogEntry → Type 0
@@ -58,13 +69,25 @@ module _ (grounds : Grounds) where
   log_accepted true entries a = all_judged entries a
   log_accepted false entries a = refl
 
-  module _ (signer : Signer) (bundle : Bundle) (artifact : Artifact) where
-    pub are_described : (entries : List TransparencyLogEntry) (x : ⊤) → entries_described_of grounds signer bundle (digest_of artifact) entries ≡ Ok x
-        → AllByRecursion (Describes grounds signer bundle artifact) entries
-    are_described [] x h = tt
-    are_described (entry ∷ entries) x h = cc
+-- ---- what entries say
 
-    pub described_pass : (entries : List TransparencyLogEntry) → AllByRecursion (Describes grounds signer bundle artifact) entries
-        → entries_described_of grounds signer bundle (digest_of artifact) entries ≡ Ok tt
-    described_pass [] a = refl
-    described_pass (entry ∷ entries) a = absurd a.0
+module _ (readings : Readings) (who : Signatory) (signed : Signed) where
+  each_is : (entries : List TransparencyLogEntry) (x : ⊤) → each_described_of readings who signed entries ≡ Ok x → AllByRecursion (binding.Describes readings who signed) entries
+  each_is [] x h = tt
+  each_is (entry ∷ entries) x h =
+      let s = step_ok (by_binding (describes_of readings who signed entry)) (λ _. each_described_of readings who signed entries) x h in
+      ((describes_exactly readings who signed entry).0 (ok_binding (describes_of readings who signed entry) s.0 s.1), each_is entries x s.2)
+
+  is_each : (entries : List TransparencyLogEntry) → AllByRecursion (binding.Describes readings who signed) entries → each_described_of readings who signed entries ≡ Ok tt
+  is_each [] a = refl
+  is_each (entry ∷ entries) a =
+      ap (λ r. by_binding r >>= λ _. each_described_of readings who signed entries) ((describes_exactly readings who signed entry).1 a.0) ∙ is_each entries a.1
+
+module _ (grounds : Grounds) (signer : Signer) (bundle : Bundle) (artifact : Artifact) where
+  pub are_described : (entries : List TransparencyLogEntry) (x : ⊤) → entries_described_of grounds signer bundle (digest_of artifact) entries ≡ Ok x
+      → AllByRecursion (Describes grounds signer bundle artifact) entries
+  are_described entries x h = each_is (readings_in grounds.crypto) (signatory_of signer) (signed_in bundle.content (digest_of artifact)) entries x h
+
+  pub described_pass : (entries : List TransparencyLogEntry) → AllByRecursion (Describes grounds signer bundle artifact) entries
+      → entries_described_of grounds signer bundle (digest_of artifact) entries ≡ Ok tt
+  described_pass entries a = is_each (readings_in grounds.crypto) (signatory_of signer) (signed_in bundle.content (digest_of artifact)) entries a

@@ -2,18 +2,19 @@
 use Rattle.std.proofs.Common.{◌≡◌, ◌≢◌, ◌⊎◌, inl, inr, ℕ, List, [], ◌∷◌, Bool, true, false, ◌||◌, if◌then◌else◌, Option, Some, None, Result, Ok, Err, refl, sym, ap, ◌∙◌, subst}
 use Rattle.std.specs.Prelude.{⊤, ◌&&◌, is_some, Contains}
 use Rattle.std.specs.List.{list_all}
-use Rattle.std.proofs.lemmas.Slice.Eq.{bytes_eq-Decides}
 use Rattle.foundation.specs.Watched.{Watched}
 use Rattle.foundation.specs.Results.{err_same, refused_at}
 use Rattle.sigstore_types_parts.specs.declared.form.Form.{Form}
-use Rattle.sigstore_types_parts.specs.declared.form.Form.TheVariants as form
 use Rattle.sigstore_types_parts.specs.declared.hash_algorithm.HashAlgorithm.{HashAlgorithm}
 use Rattle.sigstore_types_parts.specs.declared.error.TypesError.{TypesError}
 use Rattle.sigstore_types_parts.specs.declared.error.TypesError.TheVariants as types
+use Rattle.sigstore_envelopes.specs.declared.envelope.DsseEnvelope.{DsseEnvelope}
+use Rattle.sigstore_envelopes.specs.declared.statement.Statement.{Statement}
+use Rattle.sigstore_envelopes.specs.declared.statement.Subject.{Subject}
+use Rattle.sigstore_envelopes.specs.Statement.{statement_of_bytes, algorithms_of}
 use Rattle.sigstore_types.specs.declared.bundle.Bundle.{Bundle}
-use Rattle.sigstore_types.specs.declared.content.MessageDigest.{MessageDigest}
 use Rattle.sigstore_types.specs.declared.content.SignatureContent.{SignatureContent}
-use Rattle.sigstore_types.specs.declared.content.SignatureContent.TheVariants.{MessageSignature as OfMessage}
+use Rattle.sigstore_types.specs.declared.content.SignatureContent.TheVariants.{MessageSignature as OfMessage, DsseEnvelope as OfEnvelope}
 use Rattle.sigstore_types.specs.declared.trusted_root.TrustedRoot.{TrustedRoot}
 use Rattle.sigstore_types.specs.Bundle.{bundle_of_bytes, entries_in, tokens_in, has_proof, shown_of, structure_of}
 use Rattle.sigstore_types.specs.TrustedRoot.{trusted_root_of_bytes}
@@ -27,6 +28,9 @@ use Rattle.sigstore_entries.specs.declared.entry.TransparencyLogEntry.{Transpare
 use Rattle.sigstore_log.specs.declared.error.LogError.{LogError}
 use Rattle.sigstore_log.specs.declared.error.LogError.TheVariants as entry
 use Rattle.sigstore_log.specs.Cause.{LogCause}
+use Rattle.sigstore_binding.specs.declared.error.BindingError.{BindingError}
+use Rattle.sigstore_binding.specs.declared.error.BindingError.TheVariants as binding
+use Rattle.sigstore_binding.specs.Cause.{BindingCause}
 use Rattle.sigstore_judgement.specs.declared.error.Error.{Error}
 use Rattle.sigstore_judgement.specs.declared.error.Error.TheVariants as verify
 use Rattle.sigstore_judgement.specs.declared.error.TransparencyLogError.{TransparencyLogError}
@@ -34,20 +38,23 @@ use Rattle.sigstore_judgement.specs.declared.error.TransparencyLogError.TheVaria
 use Rattle.sigstore_judgement.specs.declared.evidence.Evidence.{Evidence}
 use Rattle.sigstore_judgement.specs.declared.trust.Material.{Material}
 use Rattle.sigstore_judgement.specs.Artifact.{Artifact, Read, read_kind, digest_of}
-use Rattle.sigstore_judgement.specs.Cause.{IsRefusedAs, IsRead, IsKept, HasSigner, HasScheme, LacksScheme, key_unread, no_scheme, no_hasher, LacksEntry, no_entry, no_proof, form_unread, entry_uncompared}
-use Rattle.sigstore_judgement.specs.Cause.{asks_log, JudgeCause}
-use Rattle.sigstore_judgement.specs.Content.{scheme_of, needed_of, signs_digest, supported_of, signature_in, is_digest, is_told, is_bound, IsOfOther, is_signed, first_refusal, content_judged_of}
+use Rattle.sigstore_judgement.specs.Cause.{IsRefusedAs, IsRead, IsKept, HasSigner, HasScheme, LacksScheme, key_unread, no_scheme, no_hasher, LacksEntry, no_entry, no_proof}
+use Rattle.sigstore_judgement.specs.Cause.{unread, no_statement, no_subject, other_type, no_digest, IsUndescribed, asks_log, JudgeCause}
+use Rattle.sigstore_judgement.specs.Claim.{Claim, is_in_toto, typed_of, or_invalid, subjects_of, digested_of, statement_judged_of, stated_of, claim_of, needed_of, is_bound}
+use Rattle.sigstore_judgement.specs.Content.{scheme_of, signs_digest, supported_of, signature_in, signed_in, is_signed, first_refusal, content_judged_of}
 use Rattle.sigstore_judgement.specs.Entries.{log_judged_of, entries_described_of}
-use Rattle.sigstore_judgement.specs.Error.{error_of_crypto, error_of_log, lowered, by_types, by_crypto}
-use Rattle.sigstore_judgement.specs.Grounds.{Grounds}
-use Rattle.sigstore_judgement.specs.Judged.{Ready, ready_of, prepared_of, managed_vouched_of, vouched_of, judged_had, judged_of}
+use Rattle.sigstore_judgement.specs.Error.{error_of_crypto, error_of_log, error_of_binding, lowered, by_types, by_crypto}
+use Rattle.sigstore_judgement.specs.Grounds.{Grounds, readings_in}
+use Rattle.sigstore_judgement.specs.Judged.{Ready, claimed_of, ready_of, prepared_of, managed_vouched_of, vouched_of, judged_had, judged_of}
 use Rattle.sigstore_judgement.specs.Policy.{Meaning, PublicKey}
 use Rattle.sigstore_judgement.specs.Promise as promise
-use Rattle.sigstore_judgement.specs.Signer.{Signer, key_in, managed_of, signer_of, IsSigner}
+use Rattle.sigstore_judgement.specs.Signer.{Signer, key_in, signatory_of, managed_of, signer_of, IsSigner}
 use Rattle.sigstore_judgement.specs.Tokens.{tokens_judged_of}
 use Rattle.sigstore_judgement.specs.Trust.{material_of}
 use Rattle.sigstore_judgement.specs.Under.{or_fault, trust_fault, bundle_fault, Asked, terms_of, JudgesBundle, trust_refused, verifier_refused, bundle_refused, judged}
 use Rattle.sigstore_judgement.proofs.Accepts.{ok_crypto, signer_means, Prepared, prepared_means}
+use Rattle.sigstore_judgement.proofs.ClaimLaw.{of_other}
+use Rattle.sigstore_judgement.proofs.DescribedCauses.{entries_undescribed}
 use Rattle.sigstore_judgement.proofs.EntryCauses.{among_first, among_later, entries_unlogged}
 use Rattle.sigstore_judgement.proofs.TokenLaw.{tokens_unstamped}
 use Rattle.sigstore_judgement.proofs.TrustReading.{trust_is_built}
@@ -100,28 +107,15 @@ as_lowered o types.NoProof = inr (inr refl)
 as_lowered o types.NoMemory = inl refl
 as_lowered o (types.Unbuilt f) = inr (inl (f, refl, refl))
 
--- the artifact's digest is another than the one that is told
-told_another : (o : Option MessageDigest) (artifact : Artifact) → is_told o (digest_of artifact) ≡ false
-    → (told : MessageDigest) × (o ≡ Some told) × (digest_of artifact told.algorithm ≢ Some told.digest)
-told_another None artifact h = cc
-told_another (Some told) artifact h = (told, refl, λ same. not_it (digest_of artifact told.algorithm) h same)
-  where
-    not_it : (o : Option (List ℕ)) → is_digest told.digest o ≡ false → o ≡ Some told.digest → ⊥
-    not_it None h same = cc
-    not_it (Some digest) h same =
-        let is : digest ≡ told.digest = cc in
-        let equal = (bytes_eq-Decides told.digest digest).1 (sym is) in
-        cc
-
-of_other : (content : SignatureContent) (artifact : Artifact) → is_bound content (digest_of artifact) ≡ false → IsOfOther content artifact
-of_other (OfMessage message) artifact h = told_another message.message_digest artifact h
-
 -- what of a content refuses
 first_refused : {C : Type 0} (content : SignatureContent) (b g : Bool) (e : Error) → first_refusal content b g ≡ Err e
     → (b ≡ false → verify.ArtifactMismatch ≡ e → C) → (g ≡ false → verify.SignatureInvalid ≡ e → C) → C
 first_refused (OfMessage message) true true e h other unsigned = cc
 first_refused (OfMessage message) true false e h other unsigned = unsigned refl (err_same verify.SignatureInvalid e h)
 first_refused (OfMessage message) false g e h other unsigned = other refl (err_same verify.ArtifactMismatch e h)
+first_refused (OfEnvelope envelope) true true e h other unsigned = cc
+first_refused (OfEnvelope envelope) false true e h other unsigned = other refl (err_same verify.ArtifactMismatch e h)
+first_refused (OfEnvelope envelope) b false e h other unsigned = unsigned refl (err_same verify.SignatureInvalid e h)
 
 -- one of these fails the test
 not_all : {A : Type 0} (p : A → Bool) (xs : List A) → list_all p xs ≡ false → (x : A) × Contains xs x × (p x ≡ false)
@@ -173,8 +167,8 @@ module _ (asked : Asked) (file : List ℕ) (source source' : Watched (List ℕ))
 
   by_bundle : (e : Error) (x : TypesError) → bundle_of_bytes asked.bundle ≡ Err x → bundle_fault x ≡ e → IsLowered verify.InvalidBundle x → Cause e
   by_bundle e x h q (inl want) = subst Cause (sym want ∙ q) wanted
-  by_bundle e x h q (inr (inl (f, same, is))) = subst Cause (sym is ∙ q) (inl (form_unread (h ∙ ap Err same)))
-  by_bundle e x h q (inr (inr is)) = subst Cause (sym is ∙ q) (inl (x, h, is))
+  by_bundle e x h q (inr (inl (f, same, is))) = subst Cause (sym is ∙ q) (inl (h ∙ ap Err same))
+  by_bundle e x h q (inr (inr is)) = subst Cause (sym is ∙ q) (inl (unread (x, h, is)))
 
   -- a verifier's making, by what it may refuse
   by_usable : (trust : TrustedRoot) (e : Error) → trusted_root_of_bytes file ≡ Ok trust → material_of trust ≡ Err e → IsFault e → Cause e
@@ -208,7 +202,7 @@ module _ (asked : Asked) (file : List ℕ) (source source' : Watched (List ℕ))
   by_scheme : (e : Error) → LacksScheme asked e → Cause e
   by_scheme e (key_unread has r) = by_kind (error_of_crypto r.0) e r.2 (as_crypto r.0) (key_unread has r)
   by_scheme e (no_scheme has key k r) = by_kind (error_of_crypto r.0) e r.2 (as_crypto r.0) (no_scheme has key k r)
-  by_scheme e (no_hasher is needed needs lacking same) = subst Cause (sym same) (inr (no_hasher is needed needs lacking refl))
+  by_scheme e (no_hasher is claim claims lacking same) = subst Cause (sym same) (inr (no_hasher is claim claims lacking refl))
 
   -- the log is asked for
   unshown : (reading : Bundle) → IsRead asked.bundle reading → asks_log asked.policy ≡ true → (entries : List TransparencyLogEntry) → entries_in reading ≡ entries → (e : Error)
@@ -232,16 +226,52 @@ module _ (asked : Asked) (file : List ℕ) (source source' : Watched (List ℕ))
       refused_at (by_types (structure_of reading policy.verify_tlog)) _ e h (unstructured reading read policy.verify_tlog (ap asks_log under) e) (λ u p k. cc)
 
   -- the artifact can't be judged
-  unsupported : (is : HasScheme asked) (needed : List HashAlgorithm) → needed_of is.scheme is.has.reading.content ≡ Ok needed
-      → (a b : Bool) → signs_digest is.scheme is.has.reading.content ≡ a → list_all is_hashed needed ≡ b → (e : Error)
+  unsupported : (is : HasScheme asked) (claim : Claim) → claim_of is.has.reading.content ≡ Ok claim
+      → (a b : Bool) → signs_digest is.scheme is.has.reading.content ≡ a → list_all is_hashed (needed_of is.scheme claim) ≡ b → (e : Error)
       → ◌≡◌ {A = Result ⊤ Error} (if a || false then (if b then Ok tt else Err verify.Crypto) else Err verify.UnsupportedArtifact) (Err e) → Cause e
-  unsupported is needed needs true true has hashed e h = cc
-  unsupported is needed needs true false has hashed e h = by_scheme e (no_hasher is needed needs hashed (sym (err_same verify.Crypto e h)))
-  unsupported is needed needs false b has hashed e h = subst Cause (err_same verify.UnsupportedArtifact e h) (inr (record { is = is; lacking = has }))
+  unsupported is claim claims true true has hashed e h = cc
+  unsupported is claim claims true false has hashed e h = by_scheme e (no_hasher is claim claims hashed (sym (err_same verify.Crypto e h)))
+  unsupported is claim claims false b has hashed e h = subst Cause (err_same verify.UnsupportedArtifact e h) (inr (record { is = is; lacking = has }))
 
-  -- a content always says which digests are needed
-  needs_there : (scheme : SigningScheme) (content : SignatureContent) (e : Error) → needed_of scheme content ≡ Err e → Cause e
-  needs_there scheme (OfMessage message) e h = cc
+  -- an envelope's payload isn't a statement of something that has a digest
+  module _ (reading : Bundle) (read : IsRead asked.bundle reading) (envelope : DsseEnvelope) (of : reading.content ≡ OfEnvelope envelope) where
+    untyped : (b : Bool) → is_in_toto envelope.payload_type ≡ b → (e : Error)
+        → ◌≡◌ {A = Result ⊤ Error} (if b then Ok tt else Err verify.UnsupportedBundle) (Err e) → Cause e
+    untyped true is e h = cc
+    untyped false is e h = subst Cause (err_same verify.UnsupportedBundle e h) (inl (other_type reading envelope read of is))
+
+    unread_statement : (r : Result Statement TypesError) → statement_of_bytes envelope.payload ≡ r → (e : Error) → or_invalid r ≡ Err e → Cause e
+    unread_statement (Ok statement) is e h = cc
+    unread_statement (Err t) is e h = subst Cause (err_same verify.InvalidBundle e h) (inl (no_statement reading envelope t read of is))
+
+    read_statement : (r : Result Statement TypesError) (statement : Statement) → or_invalid r ≡ Ok statement → r ≡ Ok statement
+    read_statement (Ok x) statement h = cc
+    read_statement (Err t) statement h = cc
+
+    module _ (statement : Statement) (is : statement_of_bytes envelope.payload ≡ Ok statement) where
+      unsubjected : (subjects : List Subject) → statement.subjects ≡ subjects → (e : Error) → subjects_of subjects ≡ Err e → Cause e
+      unsubjected [] none e h = subst Cause (err_same verify.InvalidBundle e h) (inl (no_subject reading envelope statement read of is none))
+      unsubjected (subject ∷ subjects) some e h = cc
+
+      undigested : (algorithms : List HashAlgorithm) → algorithms_of statement ≡ algorithms → (e : Error) → digested_of algorithms ≡ Err e → Cause e
+      undigested [] none e h = subst Cause (err_same verify.UnsupportedBundle e h) (inl (no_digest reading envelope statement read of is none))
+      undigested (algorithm ∷ algorithms) some e h = cc
+
+    unstated : (e : Error) → stated_of envelope ≡ Err e → Cause e
+    unfolding stated_of
+    unstated e h =
+        refused_at (typed_of envelope.payload_type) _ e h (untyped (is_in_toto envelope.payload_type) refl e) (λ t p k.
+        refused_at (or_invalid (statement_of_bytes envelope.payload)) _ e k (unread_statement (statement_of_bytes envelope.payload) refl e) (λ (statement : Statement) q l.
+        let is = read_statement (statement_of_bytes envelope.payload) statement q in
+        refused_at (statement_judged_of statement) _ e l (λ j.
+        refused_at (subjects_of statement.subjects) _ e j (unsubjected statement is statement.subjects refl e)
+        (λ u r m. undigested statement is (algorithms_of statement) refl e m)) (λ v s n. cc)))
+
+  -- what a bundle says of its artifact isn't read
+  unclaimed : (reading : Bundle) → IsRead asked.bundle reading → (content : SignatureContent) → reading.content ≡ content → (e : Error) → claim_of content ≡ Err e → Cause e
+  unclaimed reading read (OfMessage message) of e h = cc
+  unclaimed reading read (OfEnvelope envelope) of e h =
+      refused_at (stated_of envelope) _ e h (unstated reading read envelope of e) (λ statement p k. cc)
 
   unready : (has : HasSigner asked) (e : Error) → ready_of read_kind has.signer has.reading ≡ Err e → Cause e
   unfolding ready_of
@@ -251,8 +281,10 @@ module _ (asked : Asked) (file : List ℕ) (source source' : Watched (List ℕ))
       let known = ok_crypto (spki_key_of (key_in has.signer)) key q in
       refused_at (by_crypto (scheme_of key.scheme content)) _ e l (λ r. by_scheme e (no_scheme has key known (through_crypto (scheme_of key.scheme content) e r))) (λ (scheme : SigningScheme) r m.
       let is : HasScheme asked = record { has = has; key = key; key_read = known; scheme = scheme; chosen = ok_crypto (scheme_of key.scheme content) scheme r } in
-      refused_at (needed_of scheme content) _ e m (needs_there scheme content e) (λ needed s n.
-      refused_at (supported_of read_kind (signs_digest scheme content) needed) _ e n (unsupported is needed s (signs_digest scheme content) (list_all is_hashed needed) refl refl e) (λ u t o. cc))))
+      refused_at (claimed_of read_kind scheme content) _ e m (λ c.
+      refused_at (claim_of content) _ e c (unclaimed has.reading has.read content refl e) (λ (claim : Claim) s n.
+      refused_at (supported_of read_kind (signs_digest scheme content) (needed_of scheme claim)) _ e n
+      (unsupported is claim s (signs_digest scheme content) (list_all is_hashed (needed_of scheme claim)) refl refl e) (λ u t o. cc))) (λ claim s n. cc)))
 
   unprepared : (reading : Bundle) → IsRead asked.bundle reading → (e : Error) → prepared_of read_kind asked.policy reading ≡ Err e → Cause e
   unfolding prepared_of
@@ -265,10 +297,19 @@ module _ (asked : Asked) (file : List ℕ) (source source' : Watched (List ℕ))
   module _ (reading : Bundle) (read : IsRead asked.bundle reading) (bytes : List ℕ) (whole : promise.ReadWhole source source' asked.max bytes) where
     -- the content is another's, or isn't signed
     unaccepted : (ready : Ready) → Prepared read_kind asked.policy reading ready → (e : Error)
-        → content_judged_of asked.crypto.accepts ready.key reading.content (digest_of (Read bytes)) None ≡ Err e → Cause e
+        → content_judged_of asked.crypto.accepts ready.key reading.content ready.claim (digest_of (Read bytes)) None ≡ Err e → Cause e
     unaccepted ready p e h =
-        first_refused reading.content (is_bound reading.content (digest_of (Read bytes))) (is_signed asked.crypto.accepts ready.key reading.content (digest_of (Read bytes)) None) e h
-        (λ other same. subst Cause same (inr (record { reading = reading; read = read; bytes = bytes; whole = whole; other = of_other reading.content (Read bytes) other })))
+        let claim : ready.claim ≡ p.claim = ap (λ (r : Ready). r.claim) p.same in
+        first_refused reading.content (is_bound ready.claim (digest_of (Read bytes))) (is_signed asked.crypto.accepts ready.key reading.content (digest_of (Read bytes)) None) e h
+        (λ other same. subst Cause same (inr (inl (record {
+          reading = reading;
+          read = read;
+          claim = p.claim;
+          claims = p.claims;
+          bytes = bytes;
+          whole = whole;
+          other = of_other p.claim (Read bytes) (ap (λ claim. is_bound claim (digest_of (Read bytes))) (sym claim) ∙ other);
+        }))))
         (λ unsigned same. subst Cause same (inr (record {
           is = record { has = record { reading = reading; read = read; signer = p.signer; is = p.is }; key = p.key; key_read = p.read; scheme = p.scheme; chosen = p.chosen };
           bytes = bytes;
@@ -285,7 +326,7 @@ module _ (asked : Asked) (file : List ℕ) (source source' : Watched (List ℕ))
       where
         as_is : (x : TransparencyLogEntry) → Contains (entries_in reading) x → (why : LogError) → LogCause asked.crypto.accepts material.logs asked.now x why → (fault : TransparencyLogError)
             → error_of_log why ≡ verify.TransparencyLog fault → Cause (verify.TransparencyLog fault)
-        as_is x among why cause fault named = inr (record {
+        as_is x among why cause fault named = inr (inl (record {
           material = material;
           kept = kept;
           reading = reading;
@@ -294,7 +335,7 @@ module _ (asked : Asked) (file : List ℕ) (source source' : Watched (List ℕ))
           whole = whole;
           asks = asks;
           unlogged = record { entry = x; among = among; why = why; named = named; cause = cause };
-        })
+        }))
 
         by_why : (x : TransparencyLogEntry) → Contains (entries_in reading) x → (why : LogError) → LogCause asked.crypto.accepts material.logs asked.now x why → Cause (error_of_log why)
         by_why x among entry.InclusionProof cause = as_is x among entry.InclusionProof cause log.InclusionProof refl
@@ -334,15 +375,30 @@ module _ (asked : Asked) (file : List ℕ) (source source' : Watched (List ℕ))
         refused_at (tokens_judged_of (terms_of asked material).grounds (signature_in reading.content) (tokens_in reading)) _ e k
         (unstamped material kept e) (λ stamped q l. cc))
 
-    -- an entry isn't compared
-    undescribed : (grounds : Grounds) (signer : Signer) (entries : List TransparencyLogEntry) → entries_in reading ≡ entries → (e : Error)
-        → entries_described_of grounds signer reading (digest_of (Read bytes)) entries ≡ Err e → Cause e
-    undescribed grounds signer [] is e h = cc
-    undescribed grounds signer (x ∷ xs) is e h =
-        subst Cause (err_same (verify.Unbuilt form.Binding) e h) (inl (entry_uncompared reading read (λ none. not_empty (sym is ∙ none)) refl))
+    -- an entry isn't of the signature
+    undescribed : (material : Material) (signer : Signer) → IsSigner asked.policy reading signer → (e : Error)
+        → entries_described_of (terms_of asked material).grounds signer reading (digest_of (Read bytes)) (entries_in reading) ≡ Err e → Cause e
+    undescribed material signer is e h =
+        let u = entries_undescribed (terms_of asked material).grounds signer reading (Read bytes) (entries_in reading) e h in
+        subst Cause u.named (by_why u.why u.entry u.among u.cause)
       where
-        not_empty : (x ∷ xs) ≡ [] → ⊥
-        not_empty k = cc
+        as_is : (why : BindingError) (x : TransparencyLogEntry) → Contains (entries_in reading) x → BindingCause (readings_in asked.crypto) (signatory_of signer) (signed_in reading.content (digest_of (Read bytes))) x why
+            → IsUndescribed asked source source' (error_of_binding why)
+        as_is why x among cause = record {
+          reading = reading;
+          read = read;
+          bytes = bytes;
+          whole = whole;
+          undescribed = record { signer = signer; is = is; entry = x; among = among; why = why; named = refl; cause = cause };
+        }
+
+        by_why : (why : BindingError) (x : TransparencyLogEntry) → Contains (entries_in reading) x → BindingCause (readings_in asked.crypto) (signatory_of signer) (signed_in reading.content (digest_of (Read bytes))) x why
+            → Cause (error_of_binding why)
+        by_why binding.Unsupported x among cause = inr (as_is binding.Unsupported x among cause)
+        by_why binding.MalformedEntry x among cause = inr (inr (as_is binding.MalformedEntry x among cause))
+        by_why binding.ArtifactMismatch x among cause = inr (inr (as_is binding.ArtifactMismatch x among cause))
+        by_why binding.EntryMismatch x among cause = inr (inr (as_is binding.EntryMismatch x among cause))
+        by_why binding.NoMemory x among cause = wanted
 
     unjudged : (material : Material) → IsKept file material → (e : Error) → judged_of (terms_of asked material) reading (Read bytes) ≡ Err e → Cause e
     unfolding judged_of judged_had
@@ -353,9 +409,10 @@ module _ (asked : Asked) (file : List ℕ) (source source' : Watched (List ℕ))
         let signer = ap (λ (r : Ready). r.signer) q.same in
         refused_at (vouched_of grounds ready.signer reading) _ e k
         (λ v. unvouched material kept asked.policy refl q.signer q.is e (subst (λ signer. vouched_of grounds signer reading ≡ Err e) signer v)) (λ (evidence : Evidence) v l.
-        refused_at (content_judged_of asked.crypto.accepts ready.key reading.content (digest_of (Read bytes)) None) _ e l (unaccepted ready q e) (λ u r m.
+        refused_at (content_judged_of asked.crypto.accepts ready.key reading.content ready.claim (digest_of (Read bytes)) None) _ e l (unaccepted ready q e) (λ u r m.
         refused_at (entries_described_of grounds ready.signer reading (digest_of (Read bytes)) (entries_in reading)) _ e m
-        (undescribed grounds ready.signer (entries_in reading) refl e) (λ w s n. cc))))
+        (λ d. undescribed material q.signer q.is e
+        (subst (λ signer. entries_described_of grounds signer reading (digest_of (Read bytes)) (entries_in reading) ≡ Err e) signer d)) (λ w s n. cc))))
 
 -- ---- the whole
 

@@ -1,5 +1,7 @@
 pub mod Stages
 pub mod Accepts
+pub mod ClaimLaw
+pub mod DescribedCauses
 pub mod EntryCauses
 mod Behind
 pub mod EntryLaw

@@ -1,14 +1,17 @@
--- A refusal of the log comes from the entries alone.
-use Rattle.std.proofs.Common.{◌≡◌, ◌⊎◌, inl, inr, List, [], ◌∷◌, Bool, true, false, ◌||◌, if◌then◌else◌, Result, Ok, Err, sym, ◌∙◌, subst}
+-- A refusal of the log comes from an entry.
+use Rattle.std.proofs.Common.{◌≡◌, ◌⊎◌, inl, inr, List, [], ◌∷◌, Bool, true, false, ◌||◌, if◌then◌else◌, Result, Ok, Err, sym, ap, ◌∙◌, subst}
 use Rattle.std.specs.Prelude.{⊤}
 use Rattle.std.specs.List.{list_all}
 use Rattle.foundation.specs.Results.{err_same, refused_at}
-use Rattle.sigstore_types_parts.specs.declared.form.Form.TheVariants as form
 use Rattle.sigstore_types_parts.specs.declared.hash_algorithm.HashAlgorithm.{HashAlgorithm}
 use Rattle.sigstore_types_parts.specs.declared.error.TypesError.{TypesError}
+use Rattle.sigstore_envelopes.specs.declared.envelope.DsseEnvelope.{DsseEnvelope}
+use Rattle.sigstore_envelopes.specs.declared.statement.Statement.{Statement}
+use Rattle.sigstore_envelopes.specs.declared.statement.Subject.{Subject}
+use Rattle.sigstore_envelopes.specs.Statement.{statement_of_bytes, algorithms_of}
 use Rattle.sigstore_types.specs.declared.bundle.Bundle.{Bundle}
 use Rattle.sigstore_types.specs.declared.content.SignatureContent.{SignatureContent}
-use Rattle.sigstore_types.specs.declared.content.SignatureContent.TheVariants.{MessageSignature as OfMessage}
+use Rattle.sigstore_types.specs.declared.content.SignatureContent.TheVariants.{MessageSignature as OfMessage, DsseEnvelope as OfEnvelope}
 use Rattle.sigstore_types.specs.Bundle.{entries_in, tokens_in, structure_of}
 use Rattle.sigstore_crypto_parts.specs.declared.error.Error.{Error as CryptoError}
 use Rattle.sigstore_crypto_parts.specs.declared.key.VerificationKey.{VerificationKey}
@@ -19,16 +22,19 @@ use Rattle.sigstore_judgement.specs.declared.error.Error.{Error}
 use Rattle.sigstore_judgement.specs.declared.error.Error.TheVariants as verify
 use Rattle.sigstore_judgement.specs.declared.error.TransparencyLogError.{TransparencyLogError}
 use Rattle.sigstore_judgement.specs.declared.evidence.Evidence.{Evidence}
-use Rattle.sigstore_judgement.specs.Artifact.{Artifact, Blob, Read, Digest, Digests, Kind, kind_of, digest_of, bytes_of}
-use Rattle.sigstore_judgement.specs.Content.{scheme_of, needed_of, signs_digest, supported_of, signature_in, is_bound, is_signed, first_refusal, content_judged_of}
-use Rattle.sigstore_judgement.specs.Entries.{log_judged_of, entries_described_of}
+use Rattle.sigstore_judgement.specs.Artifact.{Artifact, Blob, Read, Digest, Kind, kind_of, digest_of, bytes_of}
+use Rattle.sigstore_judgement.specs.Claim.{Claim, is_in_toto, typed_of, or_invalid, subjects_of, digested_of, statement_judged_of, stated_of, claim_of, needed_of, is_bound}
+use Rattle.sigstore_judgement.specs.Content.{scheme_of, signs_digest, supported_of, signature_in, is_signed, first_refusal, content_judged_of}
+use Rattle.sigstore_judgement.specs.Entries.{log_judged_of, entries_described_of, HasUndescribed}
 use Rattle.sigstore_judgement.specs.Error.{error_of_crypto, by_types, by_crypto}
 use Rattle.sigstore_judgement.specs.Grounds.{Grounds, Terms}
-use Rattle.sigstore_judgement.specs.Judged.{Ready, ready_of, prepared_of, managed_vouched_of, vouched_of, judged_had, judged_of}
+use Rattle.sigstore_judgement.specs.Judged.{Ready, claimed_of, ready_of, prepared_of, managed_vouched_of, vouched_of, judged_had, judged_of}
 use Rattle.sigstore_judgement.specs.Policy.{Meaning, PublicKey}
 use Rattle.sigstore_judgement.specs.Signer.{Signer, Managed, key_in, managed_of, signer_of}
 use Rattle.sigstore_judgement.specs.Unlogged.{HasUnlogged, LogRefusals}
 use Rattle.sigstore_judgement.specs.Tokens.{tokens_judged_of}
+use Rattle.sigstore_judgement.proofs.Accepts.{Prepared, prepared_means}
+use Rattle.sigstore_judgement.proofs.DescribedCauses.{entries_undescribed}
 use Rattle.sigstore_judgement.proofs.EntryCauses.{entries_unlogged}
 use Rattle.sigstore_judgement.proofs.TokenLaw.{tokens_unstamped}
 use Rattle.sigstore_judgement.proofs.JudgeCauses.{IsLowered, as_lowered, as_crypto, through_crypto}
@@ -69,16 +75,43 @@ supported_no_log kind signs needed e l h = by (signs || kind.keeps_bytes) (list_
     by true false k = subst NoLog (err_same kind.lacking e k) l
     by false b k = subst NoLog (err_same verify.UnsupportedArtifact e k) tt
 
-needed_no_log : (scheme : SigningScheme) (content : SignatureContent) (e : Error) → needed_of scheme content ≡ Err e → NoLog e
-needed_no_log scheme (OfMessage message) e h = cc
+invalid_no_log : (r : Result Statement TypesError) (e : Error) → or_invalid r ≡ Err e → NoLog e
+invalid_no_log (Ok x) e h = cc
+invalid_no_log (Err t) e h = subst NoLog (err_same verify.InvalidBundle e h) tt
+
+typed_no_log : (b : Bool) (e : Error) → ◌≡◌ {A = Result ⊤ Error} (if b then Ok tt else Err verify.UnsupportedBundle) (Err e) → NoLog e
+typed_no_log true e h = cc
+typed_no_log false e h = subst NoLog (err_same verify.UnsupportedBundle e h) tt
+
+subjects_no_log : (subjects : List Subject) (e : Error) → subjects_of subjects ≡ Err e → NoLog e
+subjects_no_log [] e h = subst NoLog (err_same verify.InvalidBundle e h) tt
+subjects_no_log (subject ∷ subjects) e h = cc
+
+digested_no_log : (algorithms : List HashAlgorithm) (e : Error) → digested_of algorithms ≡ Err e → NoLog e
+digested_no_log [] e h = subst NoLog (err_same verify.UnsupportedBundle e h) tt
+digested_no_log (algorithm ∷ algorithms) e h = cc
+
+stated_no_log : (envelope : DsseEnvelope) (e : Error) → stated_of envelope ≡ Err e → NoLog e
+unfolding stated_of
+stated_no_log envelope e h =
+    refused_at (typed_of envelope.payload_type) _ e h (typed_no_log (is_in_toto envelope.payload_type) e) (λ t p k.
+    refused_at (or_invalid (statement_of_bytes envelope.payload)) _ e k (invalid_no_log (statement_of_bytes envelope.payload) e) (λ (statement : Statement) q l.
+    refused_at (statement_judged_of statement) _ e l (λ j.
+    refused_at (subjects_of statement.subjects) _ e j (subjects_no_log statement.subjects e) (λ u r m. digested_no_log (algorithms_of statement) e m)) (λ v s n. cc)))
+
+claim_no_log : (content : SignatureContent) (e : Error) → claim_of content ≡ Err e → NoLog e
+claim_no_log (OfMessage message) e h = cc
+claim_no_log (OfEnvelope envelope) e h = refused_at (stated_of envelope) _ e h (stated_no_log envelope e) (λ statement p k. cc)
 
 ready_no_log : (kind : Kind) (signer : Signer) (bundle : Bundle) (e : Error) → NoLog kind.lacking → ready_of kind signer bundle ≡ Err e → NoLog e
 unfolding ready_of
 ready_no_log kind signer bundle e l h =
     refused_at (by_crypto (spki_key_of (key_in signer))) _ e h (crypto_no_log (spki_key_of (key_in signer)) e) (λ (key : VerificationKey) q m.
     refused_at (by_crypto (scheme_of key.scheme bundle.content)) _ e m (crypto_no_log (scheme_of key.scheme bundle.content) e) (λ (scheme : SigningScheme) r n.
-    refused_at (needed_of scheme bundle.content) _ e n (needed_no_log scheme bundle.content e) (λ needed t o.
-    refused_at (supported_of kind (signs_digest scheme bundle.content) needed) _ e o (supported_no_log kind (signs_digest scheme bundle.content) needed e l) (λ v s p. cc))))
+    refused_at (claimed_of kind scheme bundle.content) _ e n (λ c.
+    refused_at (claim_of bundle.content) _ e c (claim_no_log bundle.content e) (λ (claim : Claim) t o.
+    refused_at (supported_of kind (signs_digest scheme bundle.content) (needed_of scheme claim)) _ e o
+    (supported_no_log kind (signs_digest scheme bundle.content) (needed_of scheme claim) e l) (λ v s p. cc))) (λ claim t o. cc)))
 
 signer_no_log : (policy : Meaning) (bundle : Bundle) (e : Error) → signer_of policy bundle ≡ Err e → NoLog e
 unfolding managed_of
@@ -94,15 +127,24 @@ content_no_log : (content : SignatureContent) (b g : Bool) (e : Error) → first
 content_no_log (OfMessage message) true true e k = cc
 content_no_log (OfMessage message) true false e k = subst NoLog (err_same verify.SignatureInvalid e k) tt
 content_no_log (OfMessage message) false g e k = subst NoLog (err_same verify.ArtifactMismatch e k) tt
-
-described_no_log : (grounds : Grounds) (signer : Signer) (bundle : Bundle) (digest : Digests) (entries : List TransparencyLogEntry) (e : Error)
-    → entries_described_of grounds signer bundle digest entries ≡ Err e → NoLog e
-described_no_log grounds signer bundle digest [] e h = cc
-described_no_log grounds signer bundle digest (entry ∷ entries) e h = subst NoLog (err_same (verify.Unbuilt form.Binding) e h) tt
+content_no_log (OfEnvelope envelope) true true e k = cc
+content_no_log (OfEnvelope envelope) false true e k = subst NoLog (err_same verify.ArtifactMismatch e k) tt
+content_no_log (OfEnvelope envelope) b false e k = subst NoLog (err_same verify.SignatureInvalid e k) tt
 
 module _ (terms : Terms) (bundle : Bundle) (artifact : Artifact) (fault : TransparencyLogError) where
   abbrev Has : Type 0
   Has = HasUnlogged terms.grounds (entries_in bundle) fault
+
+  abbrev HasOther : Type 0
+  HasOther = HasUndescribed terms.grounds.crypto terms.policy bundle artifact (verify.TransparencyLog fault)
+
+  undescribed : (ready : Ready) → Prepared (kind_of artifact) terms.policy bundle ready
+      → entries_described_of terms.grounds ready.signer bundle (digest_of artifact) (entries_in bundle) ≡ Err (verify.TransparencyLog fault) → HasOther
+  undescribed ready p h =
+      let same : ready.signer ≡ p.signer = ap (λ (r : Ready). r.signer) p.same in
+      let u = entries_undescribed terms.grounds p.signer bundle artifact (entries_in bundle) (verify.TransparencyLog fault)
+      (subst (λ signer. entries_described_of terms.grounds signer bundle (digest_of artifact) (entries_in bundle) ≡ Err (verify.TransparencyLog fault)) same h) in
+      record { signer = p.signer; is = p.is; entry = u.entry; among = u.among; why = u.why; named = u.named; cause = u.cause }
 
   log_unlogged : (asked : Bool) → log_judged_of terms.grounds asked (entries_in bundle) ≡ Err (verify.TransparencyLog fault) → Has
   log_unlogged true h =
@@ -117,16 +159,16 @@ module _ (terms : Terms) (bundle : Bundle) (artifact : Artifact) (fault : Transp
       refused_at (tokens_judged_of terms.grounds (signature_in bundle.content) (tokens_in bundle)) _ (verify.TransparencyLog fault) k
       (λ q. let u = tokens_unstamped terms.grounds (signature_in bundle.content) (tokens_in bundle) (verify.TransparencyLog fault) q in cc) (λ stamped q l. cc))
 
-  pub unlogged : judged_of terms bundle artifact ≡ Err (verify.TransparencyLog fault) → Has
+  pub unlogged : judged_of terms bundle artifact ≡ Err (verify.TransparencyLog fault) → Has ⊎ HasOther
   unfolding judged_of judged_had
   unlogged h =
       let e = verify.TransparencyLog fault in
       refused_at (prepared_of (kind_of artifact) terms.policy bundle) _ e h (λ p. absurd (prepared_no_log (kind_of artifact) terms.policy bundle e (lacking_no_log artifact) p)) (λ (ready : Ready) p k.
-      refused_at (vouched_of terms.grounds ready.signer bundle) _ e k (signer_unlogged ready.signer) (λ (evidence : Evidence) q l.
-      refused_at (content_judged_of terms.grounds.crypto.accepts ready.key bundle.content (digest_of artifact) (bytes_of artifact)) _ e l
-      (λ r. absurd (content_no_log bundle.content (is_bound bundle.content (digest_of artifact)) (is_signed terms.grounds.crypto.accepts ready.key bundle.content (digest_of artifact) (bytes_of artifact)) e r)) (λ v r m.
+      refused_at (vouched_of terms.grounds ready.signer bundle) _ e k (λ v. inl (signer_unlogged ready.signer v)) (λ (evidence : Evidence) q l.
+      refused_at (content_judged_of terms.grounds.crypto.accepts ready.key bundle.content ready.claim (digest_of artifact) (bytes_of artifact)) _ e l
+      (λ r. absurd (content_no_log bundle.content (is_bound ready.claim (digest_of artifact)) (is_signed terms.grounds.crypto.accepts ready.key bundle.content (digest_of artifact) (bytes_of artifact)) e r)) (λ v r m.
       refused_at (entries_described_of terms.grounds ready.signer bundle (digest_of artifact) (entries_in bundle)) _ e m
-      (λ s. absurd (described_no_log terms.grounds ready.signer bundle (digest_of artifact) (entries_in bundle) e s)) (λ w s n. cc))))
+      (λ s. inr (undescribed ready (prepared_means (kind_of artifact) terms.policy bundle ready p) s)) (λ w s n. cc))))
 
 pub log_refusals : LogRefusals
 log_refusals terms bundle artifact fault h = unlogged terms bundle artifact fault h

@@ -14,49 +14,52 @@ use Rattle.sigstore_judgement.specs.declared.error.Error.{Error}
 use Rattle.sigstore_judgement.specs.declared.error.Error.TheVariants.{ArtifactRead, NoMemory}
 use Rattle.sigstore_judgement.specs.declared.report.VerificationResult.{VerificationResult}
 use Rattle.sigstore_judgement.specs.Artifact.{Artifact, Blob, Read, Digest, Digests, Kind, kind_of, read_kind, blob_kind, digest_of, bytes_of, digest_among}
-use Rattle.sigstore_judgement.specs.Content.{needed_of, content_judged_of}
-use Rattle.sigstore_judgement.specs.Entries.{entries_described_of}
+use Rattle.sigstore_judgement.specs.Claim.{claim_of, needed_of}
+use Rattle.sigstore_judgement.specs.Content.{signed_in, content_judged_of}
+use Rattle.sigstore_judgement.specs.Entries.{each_described_of, entries_described_of}
 use Rattle.sigstore_judgement.specs.Evidence.{report_of}
-use Rattle.sigstore_judgement.specs.Grounds.{Grounds, Terms}
+use Rattle.sigstore_judgement.specs.Grounds.{Grounds, readings_in, Terms}
 use Rattle.sigstore_judgement.specs.Judged.{Ready, prepared_of, vouched_of, judged_had, judged_of, needed_in}
 use Rattle.sigstore_judgement.specs.Policy.{Meaning}
 use Rattle.sigstore_judgement.specs.Promise.{ReadCause, Cause, VerifiesKept, VerifiesHanded}
-use Rattle.sigstore_judgement.specs.Signer.{Signer}
+use Rattle.sigstore_judgement.specs.Signer.{Signer, signatory_of}
 use Rattle.sigstore_judgement.specs.Taking.{Takes}
 use Rattle.sigstore_judgement.proofs.Accepts.{prepared_means, all_hashed}
 use Rattle.sigstore_judgement.proofs.Within.{took_nothing}
-use Rattle.sigstore_judgement.proofs.Had.{judged_by_taken, judged_by_one}
+use Rattle.sigstore_judgement.proofs.Had.{AreAlike, judged_alike, taken_alike, one_alike}
 use Rattle.sigstore_judgement.proofs.Wanting.{wanting}
 
--- what was prepared needs the digests of its scheme
+-- what was prepared has what the bundle says
+pub prepared_claims : (kind : Kind) (policy : Meaning) (bundle : Bundle) (ready : Ready) → prepared_of kind policy bundle ≡ Ok ready
+    → claim_of bundle.content ≡ Ok ready.claim
+prepared_claims kind policy bundle ready p =
+    let q = prepared_means kind policy bundle ready p in
+    subst (λ (r : Ready). claim_of bundle.content ≡ Ok r.claim) (sym q.same) q.claims
+
+-- and needs the digests of that and of its scheme
 pub prepared_needs : (kind : Kind) (policy : Meaning) (bundle : Bundle) (ready : Ready) → prepared_of kind policy bundle ≡ Ok ready
-    → needed_of ready.key.scheme bundle.content ≡ Ok ready.needed
+    → needed_of ready.key.scheme ready.claim ≡ ready.needed
 prepared_needs kind policy bundle ready p =
     let q = prepared_means kind policy bundle ready p in
-    subst (λ (r : Ready). needed_of r.key.scheme bundle.content ≡ Ok r.needed) (sym q.same) q.needs
+    subst (λ (r : Ready). needed_of r.key.scheme r.claim ≡ r.needed) (sym q.same) refl
 
 -- and each of them has a hasher, where the artifact is read or is a blob
 pub prepared_hashed : (kind : Kind) (policy : Meaning) (bundle : Bundle) (ready : Ready) → kind.has ≡ is_hashed → prepared_of kind policy bundle ≡ Ok ready
     → list_all is_hashed ready.needed ≡ true
 prepared_hashed kind policy bundle ready is p =
     let q = prepared_means kind policy bundle ready p in
-    subst (λ (r : Ready). list_all is_hashed r.needed ≡ true) (sym q.same) (all_hashed kind _ q.needed is q.supported)
+    subst (λ (r : Ready). list_all is_hashed r.needed ≡ true) (sym q.same) (all_hashed kind _ (needed_of q.scheme q.claim) is q.supported)
 
--- entries describe a bundle alike, whatever digests are had
-described_alike : (grounds : Grounds) (signer : Signer) (bundle : Bundle) (d d' : Digests) (entries : List TransparencyLogEntry)
-    → entries_described_of grounds signer bundle d entries ≡ entries_described_of grounds signer bundle d' entries
-described_alike grounds signer bundle d d' [] = refl
-described_alike grounds signer bundle d d' (entry ∷ entries) = refl
-
--- what was prepared is judged alike where the content is
+-- what was prepared is judged alike where the content is, and what entries are compared with
 pub had_alike : (grounds : Grounds) (ready : Ready) (bundle : Bundle) (d d' : Digests) (b b' : Option (List ℕ))
-    → content_judged_of grounds.crypto.accepts ready.key bundle.content d b ≡ content_judged_of grounds.crypto.accepts ready.key bundle.content d' b'
+    → content_judged_of grounds.crypto.accepts ready.key bundle.content ready.claim d b ≡ content_judged_of grounds.crypto.accepts ready.key bundle.content ready.claim d' b'
+    → signed_in bundle.content d ≡ signed_in bundle.content d'
     → judged_had grounds ready bundle d b ≡ judged_had grounds ready bundle d' b'
 unfolding judged_had
-had_alike grounds ready bundle d d' b b' h =
+had_alike grounds ready bundle d d' b b' h same =
     ap (λ c. vouched_of grounds ready.signer bundle >>= λ evidence. c >>= λ _. entries_described_of grounds ready.signer bundle d (entries_in bundle) >>= λ _. Ok (report_of ready.signer evidence)) h
-    ∙ ap (λ x. vouched_of grounds ready.signer bundle >>= λ evidence. content_judged_of grounds.crypto.accepts ready.key bundle.content d' b' >>= λ _. x >>= λ _. Ok (report_of ready.signer evidence))
-    (described_alike grounds ready.signer bundle d d' (entries_in bundle))
+    ∙ ap (λ x. vouched_of grounds ready.signer bundle >>= λ evidence. content_judged_of grounds.crypto.accepts ready.key bundle.content ready.claim d' b' >>= λ _. x >>= λ _. Ok (report_of ready.signer evidence))
+    (ap (λ signed. each_described_of (readings_in grounds.crypto) (signatory_of ready.signer) signed (entries_in bundle)) same)
 
 module _ (terms : Terms) (bundle : Bundle) where
   -- the whole judgement of what was prepared
@@ -70,17 +73,23 @@ module _ (terms : Terms) (bundle : Bundle) where
   unfolding judged_of
   unready artifact e p = ap (λ s. s >>= λ (k : Ready). judged_had terms.grounds k bundle (digest_of artifact) (bytes_of artifact)) p
 
-  -- the judgement by the digests of all the bytes is that of the artifact
-  taken_judged : (ready : Ready) (kind : Kind) (kept : Option (List ℕ)) (bytes : List ℕ) (digests : List (HashAlgorithm × List ℕ))
+  -- the digests of all the bytes are those of the artifact, as far as they are looked at
+  taken_same : (ready : Ready) (kind : Kind) (bytes : List ℕ) (digests : List (HashAlgorithm × List ℕ))
       → kind.has ≡ is_hashed → prepared_of kind terms.policy bundle ≡ Ok ready → digests ≡ digests_by ready.needed bytes
-      → content_judged_of terms.grounds.crypto.accepts ready.key bundle.content (digest_of (Read bytes)) kept
-      ≡ content_judged_of terms.grounds.crypto.accepts ready.key bundle.content (digest_among digests) kept
-  taken_judged ready kind kept bytes digests is p d =
-      sym (
-      ap (λ ds. content_judged_of terms.grounds.crypto.accepts ready.key bundle.content (digest_among ds) kept) d
-      ∙ judged_by_taken terms.grounds.crypto.accepts ready.key bundle.content kept bytes ready.needed (prepared_needs kind terms.policy bundle ready p)
-      (prepared_hashed kind terms.policy bundle ready is p)
-      )
+      → AreAlike ready.key bundle.content ready.claim (digest_among digests) (digest_of (Read bytes))
+  taken_same ready kind bytes digests is p d =
+      let needs = prepared_needs kind terms.policy bundle ready p in
+      subst (λ ds. AreAlike ready.key bundle.content ready.claim (digest_among ds) (digest_of (Read bytes)))
+      (ap (λ needed. digests_by needed bytes) needs ∙ sym d)
+      (taken_alike ready.key bundle.content ready.claim bytes (prepared_claims kind terms.policy bundle ready p)
+      (ap (list_all is_hashed) needs ∙ prepared_hashed kind terms.policy bundle ready is p))
+
+  -- so the judgement by them is that of the artifact
+  by_taken : (ready : Ready) (kept : Option (List ℕ)) (one two : Digests) → AreAlike ready.key bundle.content ready.claim one two
+      → judged_had terms.grounds ready bundle two kept ≡ judged_had terms.grounds ready bundle one kept
+  by_taken ready kept one two same =
+      sym (had_alike terms.grounds ready bundle one two kept kept
+      (judged_alike terms.grounds.crypto.accepts ready.key bundle.content ready.claim one two kept same) same.signed)
 
   abbrev judges : Ready → List (HashAlgorithm × List ℕ) → Option (List ℕ) → Result VerificationResult Error
   judges ready digests kept = judged_had terms.grounds ready bundle (digest_among digests) kept
@@ -91,7 +100,7 @@ module _ (terms : Terms) (bundle : Bundle) where
       → judged_of terms bundle (Read bytes) ≡ judges ready digests None
   read_judged bytes ready digests p d =
       judged ready (Read bytes) p
-      ∙ had_alike terms.grounds ready bundle (digest_of (Read bytes)) (digest_among digests) None None (taken_judged ready read_kind None bytes digests refl p d)
+      ∙ by_taken ready None (digest_among digests) (digest_of (Read bytes)) (taken_same ready read_kind bytes digests refl p d)
 
   pub unprepared : (old new : Watched (List ℕ)) (max : ℕ) (e : Error) → old.faults ≤ new.faults → new ≡ old → (e ≢ NoMemory → prepared_of read_kind terms.policy bundle ≡ Err e)
       → VerifiesKept terms bundle old new max (Err e)
@@ -151,11 +160,11 @@ module _ (terms : Terms) (bundle : Bundle) where
       → digests ≡ digests_by ready.needed bytes → judged_of terms bundle (Blob bytes) ≡ judges ready digests (Some bytes)
   blob_judged bytes ready digests p d =
       judged ready (Blob bytes) p
-      ∙ had_alike terms.grounds ready bundle (digest_of (Blob bytes)) (digest_among digests) (Some bytes) (Some bytes) (taken_judged ready blob_kind (Some bytes) bytes digests refl p d)
+      ∙ by_taken ready (Some bytes) (digest_among digests) (digest_of (Blob bytes)) (taken_same ready blob_kind bytes digests refl p d)
 
   pub digest_judged : (given : HashAlgorithm) (digest : List ℕ) (ready : Ready) → prepared_of (kind_of (Digest given digest)) terms.policy bundle ≡ Ok ready
       → judged_of terms bundle (Digest given digest) ≡ judges ready ((given, digest) ∷ []) None
   digest_judged given digest ready p =
       judged ready (Digest given digest) p
-      ∙ had_alike terms.grounds ready bundle (digest_of (Digest given digest)) (digest_among ((given, digest) ∷ [])) None None
-      (sym (judged_by_one terms.grounds.crypto.accepts ready.key bundle.content given digest))
+      ∙ by_taken ready None (digest_among ((given, digest) ∷ [])) (digest_of (Digest given digest))
+      (one_alike ready.key bundle.content ready.claim given digest (prepared_claims (kind_of (Digest given digest)) terms.policy bundle ready p))

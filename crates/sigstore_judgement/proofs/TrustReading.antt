@@ -15,8 +15,8 @@ use Rattle.sigstore_types_parts.specs.Error.{types_of, types_of_fault, placed_at
 use Rattle.sigstore_types_parts.specs.Instant.{instant_of}
 use Rattle.sigstore_types_parts.specs.Parse.{parsed_of}
 use Rattle.sigstore_types_parts.specs.Read.{at, object_of, required_in, optional_in, required_of, optional_of, items_of, sequence_of, moment_of}
-use Rattle.sigstore_entries.specs.Entry.{required, optional, bytes, list, log_id_of}
-use Rattle.sigstore_types.specs.Members.{held_of, each_held, json, faulted}
+use Rattle.sigstore_entries.specs.Entry.{json, faulted, required, optional, bytes, list, log_id_of}
+use Rattle.sigstore_types.specs.Members.{held_of, each_held}
 use Rattle.sigstore_types.specs.TrustedRoot.{valid_for_of, key_of_log, log_of, certificates_of, chain_of, authority_of, trusted_root_of, trusted_root_of_bytes}
 
 -- each refusal is of what is built

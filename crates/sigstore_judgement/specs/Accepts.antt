@@ -2,7 +2,6 @@
 use Rattle.std.specs.Prelude.{◌≡◌, ◌↔◌, ℕ, List, Bool, true, false, ⊤, Some, Ok, IsTrue}
 use Rattle.std.specs.List.{AllByRecursion}
 use Rattle.jiff_core.specs.declared.timestamp.Timestamp.{Timestamp}
-use Rattle.sigstore_types_parts.specs.declared.hash_algorithm.HashAlgorithm.{HashAlgorithm}
 use Rattle.sigstore_types.specs.declared.bundle.Bundle.{Bundle}
 use Rattle.sigstore_types.specs.Bundle.{entries_in, tokens_in}
 use Rattle.sigstore_crypto_parts.specs.declared.scheme.SigningScheme.{SigningScheme}
@@ -15,11 +14,12 @@ use Rattle.sigstore_judgement.specs.declared.evidence.Evidence.{Evidence}
 use Rattle.sigstore_judgement.specs.declared.policy.PublicKeyVerificationPolicy.{PublicKeyVerificationPolicy}
 use Rattle.sigstore_judgement.specs.declared.report.VerificationResult.{VerificationResult}
 use Rattle.sigstore_judgement.specs.Artifact.{Artifact, digest_of, bytes_of, kind_of}
-use Rattle.sigstore_judgement.specs.Content.{scheme_of, needed_of, signs_digest, supported_of, subject_in, signature_in, IsBound}
+use Rattle.sigstore_judgement.specs.Claim.{Claim, claim_of, needed_of, IsBound}
+use Rattle.sigstore_judgement.specs.Content.{scheme_of, signs_digest, supported_of, subject_in, signature_in}
 use Rattle.sigstore_judgement.specs.Entries.{told_if, Describes}
 use Rattle.sigstore_judgement.specs.Evidence.{times_of, report_of}
 use Rattle.sigstore_judgement.specs.Grounds.{Grounds, Terms}
-use Rattle.sigstore_judgement.specs.Judged.{judged_of}
+use Rattle.sigstore_judgement.specs.Judged.{key_with, judged_of}
 use Rattle.sigstore_judgement.specs.Signer.{Signer, Managed, key_in, IsSigner}
 use Rattle.sigstore_judgement.specs.Tokens.{AreStamped}
 
@@ -39,9 +39,10 @@ pub record ManagedVouches (grounds : Grounds) (policy : PublicKeyVerificationPol
 abbrev pub Vouches : Grounds → Signer → Bundle → Evidence → Type 0
 Vouches grounds (Managed policy) bundle evidence = ManagedVouches grounds policy bundle evidence
 
--- Someone signed whom the policy asks for; their key is read, and with the content it has a scheme; the artifact has what is signed and each
--- digest that is needed; the signer is vouched for; what the bundle tells of its artifact is the artifact's; the signature over what the
--- scheme signs is good under the signer's key; each entry describes the bundle; and the report is made of who signed and what was found.
+-- Someone signed whom the policy asks for; their key is read, and with the content it has a scheme; what the bundle says of its artifact is
+-- read, of an envelope its statement; the artifact has what is signed and each digest that is needed; the signer is vouched for; what the
+-- bundle says is of the artifact; the signature over what the scheme signs is good under the signer's key; each entry describes the bundle,
+-- by who signed, what they signed and the signature; and the report is made of who signed and what was found.
 pub record Accepts (terms : Terms) (bundle : Bundle) (artifact : Artifact) (report : VerificationResult) : Type 0 where
   pub signer : Signer
   pub is : IsSigner terms.policy bundle signer
@@ -49,16 +50,16 @@ pub record Accepts (terms : Terms) (bundle : Bundle) (artifact : Artifact) (repo
   pub read : spki_key_of (key_in signer) ≡ Ok key
   pub scheme : SigningScheme
   pub chosen : scheme_of key.scheme bundle.content ≡ Ok scheme
-  pub needed : List HashAlgorithm
-  pub needs : needed_of scheme bundle.content ≡ Ok needed
-  pub supported : supported_of (kind_of artifact) (signs_digest scheme bundle.content) needed ≡ Ok tt
+  pub claim : Claim
+  pub claims : claim_of bundle.content ≡ Ok claim
+  pub supported : supported_of (kind_of artifact) (signs_digest scheme bundle.content) (needed_of scheme claim) ≡ Ok tt
   pub evidence : Evidence
   pub vouches : Vouches terms.grounds signer bundle evidence
-  pub bound : IsBound bundle.content artifact
+  pub bound : IsBound claim artifact
   pub subject : List ℕ
   pub signs : subject_in scheme bundle.content (digest_of artifact) (bytes_of artifact) ≡ Some subject
   pub signed :
-      IsTrue (is_good_over terms.grounds.crypto.accepts (record { scheme = scheme; key = key.key }) subject (signature_in bundle.content))
+      IsTrue (is_good_over terms.grounds.crypto.accepts (key_with scheme key) subject (signature_in bundle.content))
   pub described : AllByRecursion (Describes terms.grounds signer bundle artifact) (entries_in bundle)
   pub shows : report ≡ report_of signer evidence
 

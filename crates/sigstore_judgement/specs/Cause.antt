@@ -1,13 +1,16 @@
 -- What each refusal of the judgement tells: of the trust file, the bundle, the policy and the artifact (Sigstore bundle format; FIPS 180-4,
 -- FIPS 186-5; RFC 6962).
-use Rattle.std.specs.Prelude.{◌≡◌, ◌≢◌, ◌⊎◌, ℕ, List, [], Contains, Bool, true, false, None, Result, Ok, Err, ⊤}
+use Rattle.std.specs.Prelude.{◌≡◌, ◌⊎◌, ℕ, List, [], Contains, Bool, true, false, None, Result, Ok, Err, ⊤}
 use Rattle.std.specs.List.{list_all}
 use Rattle.foundation.specs.Watched.{Watched}
 use Rattle.sigstore_types_parts.specs.declared.form.Form.{Form}
-use Rattle.sigstore_types_parts.specs.declared.form.Form.TheVariants as form
+use Rattle.sigstore_types_parts.specs.declared.error.TypesError.{TypesError}
 use Rattle.sigstore_types_parts.specs.declared.error.TypesError.TheVariants as types
-use Rattle.sigstore_types_parts.specs.declared.hash_algorithm.HashAlgorithm.{HashAlgorithm}
+use Rattle.sigstore_envelopes.specs.declared.envelope.DsseEnvelope.{DsseEnvelope}
+use Rattle.sigstore_envelopes.specs.declared.statement.Statement.{Statement}
+use Rattle.sigstore_envelopes.specs.Statement.{statement_of_bytes, algorithms_of}
 use Rattle.sigstore_types.specs.declared.bundle.Bundle.{Bundle}
+use Rattle.sigstore_types.specs.declared.content.SignatureContent.TheVariants.{DsseEnvelope as OfEnvelope}
 use Rattle.sigstore_types.specs.Bundle.{bundle_of_bytes, entries_in, tokens_in}
 use Rattle.sigstore_types.specs.declared.trusted_root.TrustedRoot.{TrustedRoot}
 use Rattle.sigstore_types.specs.TrustedRoot.{trusted_root_of_bytes}
@@ -24,7 +27,9 @@ use Rattle.sigstore_judgement.specs.declared.error.TransparencyLogError.{Transpa
 use Rattle.sigstore_judgement.specs.declared.error.Error.TheVariants as verify
 use Rattle.sigstore_judgement.specs.declared.trust.Material.{Material}
 use Rattle.sigstore_judgement.specs.Artifact.{Read, digest_of}
-use Rattle.sigstore_judgement.specs.Content.{scheme_of, needed_of, signs_digest, signature_in, is_signed, IsOfOther}
+use Rattle.sigstore_judgement.specs.Claim.{Claim, is_in_toto, claim_of, needed_of, IsOfOther}
+use Rattle.sigstore_judgement.specs.Content.{scheme_of, signs_digest, signature_in, is_signed}
+use Rattle.sigstore_judgement.specs.Entries.{HasUndescribed}
 use Rattle.sigstore_judgement.specs.Error.{error_of_crypto}
 use Rattle.sigstore_judgement.specs.Grounds.{Grounds}
 use Rattle.sigstore_judgement.specs.Policy.{Meaning, PublicKey}
@@ -54,14 +59,30 @@ pub record IsKept (file : List ℕ) (material : Material) : Type 0 where
 abbrev pub IsUnusable : List ℕ → Error → Type 0
 IsUnusable file e = (trust : TrustedRoot) × (trusted_root_of_bytes file ≡ Ok trust) × (material_of trust ≡ Err e)
 
--- the bundle is of a form that isn't built; or it is read and has an entry, and what one says isn't compared with its bundle yet
-pub data IsUnbuilt (bundle : List ℕ) (unbuilt : Form) : Type 0 where
-  form_unread : bundle_of_bytes bundle ≡ Err (types.Unbuilt unbuilt) → IsUnbuilt bundle unbuilt
-  entry_uncompared : (reading : Bundle) → IsRead bundle reading → entries_in reading ≢ [] → unbuilt ≡ form.Binding
-      → IsUnbuilt bundle unbuilt
+-- the bundle has no reading; or it is read, and the payload of its envelope is no statement, or one without a subject
+pub data IsInvalid (bundle : List ℕ) : Type 0 where
+  unread : IsRefusedAs bundle_fault (bundle_of_bytes bundle) verify.InvalidBundle → IsInvalid bundle
+  no_statement : (reading : Bundle) (envelope : DsseEnvelope) (e : TypesError) → IsRead bundle reading → reading.content ≡ OfEnvelope envelope
+      → statement_of_bytes envelope.payload ≡ Err e → IsInvalid bundle
+  no_subject : (reading : Bundle) (envelope : DsseEnvelope) (statement : Statement) → IsRead bundle reading
+      → reading.content ≡ OfEnvelope envelope → statement_of_bytes envelope.payload ≡ Ok statement → statement.subjects ≡ []
+      → IsInvalid bundle
+
+-- the bundle is read, and the payload of its envelope is of another type, or a statement of which no subject tells a digest that can be had
+pub data IsUnsupported (bundle : List ℕ) : Type 0 where
+  other_type : (reading : Bundle) (envelope : DsseEnvelope) → IsRead bundle reading → reading.content ≡ OfEnvelope envelope
+      → is_in_toto envelope.payload_type ≡ false → IsUnsupported bundle
+  no_digest : (reading : Bundle) (envelope : DsseEnvelope) (statement : Statement) → IsRead bundle reading
+      → reading.content ≡ OfEnvelope envelope → statement_of_bytes envelope.payload ≡ Ok statement → algorithms_of statement ≡ []
+      → IsUnsupported bundle
+
+-- the bundle is of a form that isn't built
+abbrev pub IsUnbuilt : List ℕ → Form → Type 0
+IsUnbuilt bundle unbuilt = bundle_of_bytes bundle ≡ Err (types.Unbuilt unbuilt)
 
 abbrev pub SharedCause : Asked → List ℕ → Watched (List ℕ) → Watched (List ℕ) → Error → Type 0
-SharedCause asked file source source' verify.InvalidBundle = IsRefusedAs bundle_fault (bundle_of_bytes asked.bundle) verify.InvalidBundle
+SharedCause asked file source source' verify.InvalidBundle = IsInvalid asked.bundle
+SharedCause asked file source source' verify.UnsupportedBundle = IsUnsupported asked.bundle
 SharedCause asked file source source' verify.InvalidTrustRoot = IsUnusable file verify.InvalidTrustRoot
 SharedCause asked file source source' verify.Types = IsUnusable file verify.Types
 SharedCause asked file source source' verify.Crypto = IsUnusable file verify.Crypto
@@ -104,21 +125,23 @@ pub data LacksScheme (asked : Asked) (e : Error) : Type 0 where
   key_unread : (has : HasSigner asked) → IsRefusedAs error_of_crypto (spki_key_of (key_in has.signer)) e → LacksScheme asked e
   no_scheme : (has : HasSigner asked) (key : VerificationKey) → spki_key_of (key_in has.signer) ≡ Ok key
       → IsRefusedAs error_of_crypto (scheme_of key.scheme has.reading.content) e → LacksScheme asked e
-  no_hasher : (is : HasScheme asked) (needed : List HashAlgorithm) → needed_of is.scheme is.has.reading.content ≡ Ok needed
-      → list_all is_hashed needed ≡ false → e ≡ verify.Crypto → LacksScheme asked e
+  no_hasher : (is : HasScheme asked) (claim : Claim) → claim_of is.has.reading.content ≡ Ok claim
+      → list_all is_hashed (needed_of is.scheme claim) ≡ false → e ≡ verify.Crypto → LacksScheme asked e
 
 -- what is signed is the artifact itself, and only its digests are had
 pub record LacksDigest (asked : Asked) : Type 0 where
   pub is : HasScheme asked
   pub lacking : signs_digest is.scheme is.has.reading.content ≡ false
 
--- the artifact was read whole, and what the bundle tells of its artifact is another's
+-- the artifact was read whole, and what the bundle says is of another
 pub record IsOfAnother (asked : Asked) (source source' : Watched (List ℕ)) : Type 0 where
   pub reading : Bundle
   pub read : IsRead asked.bundle reading
+  pub claim : Claim
+  pub claims : claim_of reading.content ≡ Ok claim
   pub bytes : List ℕ
   pub whole : ReadWhole source source' asked.max bytes
-  pub other : IsOfOther reading.content (Read bytes)
+  pub other : IsOfOther claim (Read bytes)
 
 -- the artifact was read whole, and the bundle's signature isn't good over what the scheme signs under the signer's key
 pub record IsUnsigned (asked : Asked) (source source' : Watched (List ℕ)) : Type 0 where
@@ -139,6 +162,14 @@ pub record IsUnlogged (asked : Asked) (file : List ℕ) (source source' : Watche
   pub whole : ReadWhole source source' asked.max bytes
   pub asks : asks_log asked.policy ≡ true
   pub unlogged : HasUnlogged (terms_of asked material).grounds (entries_in reading) fault
+
+-- the artifact was read whole, and some entry of the bundle isn't of who signed it, of what they signed or of the signature
+pub record IsUndescribed (asked : Asked) (source source' : Watched (List ℕ)) (e : Error) : Type 0 where
+  pub reading : Bundle
+  pub read : IsRead asked.bundle reading
+  pub bytes : List ℕ
+  pub whole : ReadWhole source source' asked.max bytes
+  pub undescribed : HasUndescribed asked.crypto asked.policy reading (Read bytes) e
 
 -- one of the tokens was stamped by no trusted authority over this signature; and why it is refused so
 abbrev pub TokenCause : Grounds → List ℕ → List ℕ → TimestampError → Type 0
@@ -164,10 +195,13 @@ pub record HasNoStamp (asked : Asked) (file : List ℕ) (source source' : Watche
 
 abbrev pub SignedCause : Asked → List ℕ → Watched (List ℕ) → Watched (List ℕ) → Error → Type 0
 SignedCause asked file source source' verify.SignatureInvalid = IsUnsigned asked source source'
-SignedCause asked file source source' verify.ArtifactMismatch = IsOfAnother asked source source'
+SignedCause asked file source source' verify.ArtifactMismatch =
+    IsOfAnother asked source source' ⊎ IsUndescribed asked source source' verify.ArtifactMismatch
 SignedCause asked file source source' verify.UnsupportedArtifact = LacksDigest asked
-SignedCause asked file source source' (verify.TransparencyLog fault) = IsUnlogged asked file source source' fault
+SignedCause asked file source source' (verify.TransparencyLog fault) =
+    IsUnlogged asked file source source' fault ⊎ IsUndescribed asked source source' (verify.TransparencyLog fault)
 SignedCause asked file source source' (verify.Timestamp fault) = HasNoStamp asked file source source' fault
+SignedCause asked file source source' verify.UnsupportedBundle = IsUndescribed asked source source' verify.UnsupportedBundle
 SignedCause asked file source source' verify.Crypto = LacksScheme asked verify.Crypto
 SignedCause asked file source source' verify.Bundle = LacksEntry asked
 SignedCause asked file source source' _ = ⊥

@@ -1,20 +1,28 @@
 -- The entries of a bundle under the logs that are trusted (RFC 6962, sections 2.1.1 and 3.2; C2SP tlog-checkpoint), and what they say of
 -- the bundle.
-use Rattle.std.specs.Prelude.{List, [], ◌∷◌, ◌++◌, filter_map, Bool, true, false, Option, Some, None, Result, Ok, Err, ⊤}
+use Rattle.std.specs.Prelude.{◌≡◌, Contains, List, [], ◌∷◌, ◌++◌, filter_map, Bool, true, false, Option, Some, None, Result, Ok, Err, ⊤}
 use Rattle.std.specs.List.{cons_option}
 use Rattle.foundation.specs.Steps.{◌>>=◌}
 use Rattle.jiff_core.specs.declared.timestamp.Timestamp.{Timestamp}
-use Rattle.sigstore_types_parts.specs.declared.form.Form.TheVariants.{Binding}
 use Rattle.sigstore_types.specs.declared.bundle.Bundle.{Bundle}
+use Rattle.sigstore_types.specs.Bundle.{entries_in}
+use Rattle.sigstore_crypto_parts.specs.Crypto.{Crypto}
 use Rattle.sigstore_entries.specs.declared.entry.TransparencyLogEntry.{TransparencyLogEntry}
 use Rattle.sigstore_log.specs.Entry.{logged_of}
 use Rattle.sigstore_log.specs.Promise.{told_time}
 use Rattle.sigstore_judgement.specs.declared.error.Error.{Error}
-use Rattle.sigstore_judgement.specs.declared.error.Error.TheVariants.{Unbuilt}
-use Rattle.sigstore_judgement.specs.Artifact.{Artifact, Digests}
-use Rattle.sigstore_judgement.specs.Error.{by_log}
-use Rattle.sigstore_judgement.specs.Grounds.{Grounds}
-use Rattle.sigstore_judgement.specs.Signer.{Signer}
+use Rattle.sigstore_binding.specs.declared.error.BindingError.{BindingError}
+use Rattle.sigstore_binding.specs.Cause.{BindingCause}
+use Rattle.sigstore_binding.specs.Described as binding
+use Rattle.sigstore_binding.specs.Rows.{Signed}
+use Rattle.sigstore_binding.specs.Verifier.{Readings, Signatory}
+use Rattle.sigstore_binding.specs.Described.{describes_of}
+use Rattle.sigstore_judgement.specs.Artifact.{Artifact, Digests, digest_of}
+use Rattle.sigstore_judgement.specs.Content.{signed_in}
+use Rattle.sigstore_judgement.specs.Error.{by_log, by_binding, error_of_binding}
+use Rattle.sigstore_judgement.specs.Grounds.{Grounds, readings_in}
+use Rattle.sigstore_judgement.specs.Policy.{Meaning}
+use Rattle.sigstore_judgement.specs.Signer.{Signer, signatory_of, IsSigner}
 
 -- ---- each is logged
 
@@ -54,17 +62,28 @@ behind before judged = judged >>= λ times. Ok (before ++ times)
 
 -- ---- each is of this bundle
 
--- What an entry says isn't compared with its bundle, signer and artifact yet. Whatever the policy asks of the log, a bundle with an entry
--- isn't accepted: else an entry of another signature would count as this one's.
-abbrev pub entry_described_of : Grounds → Signer → Bundle → Digests → TransparencyLogEntry → Result ⊤ Error
-entry_described_of grounds signer bundle digest entry = Err (Unbuilt Binding)
+-- Each entry is of who signed, of what they signed and of the signature; the first that isn't refuses.
+abbrev pub each_described_of : Readings → Signatory → Signed → List TransparencyLogEntry → Result ⊤ Error
+each_described_of readings who signed [] = Ok tt
+each_described_of readings who signed (entry ∷ entries) =
+    by_binding (describes_of readings who signed entry) >>= λ _. each_described_of readings who signed entries
 
--- each entry describes the bundle; the first that doesn't refuses
+-- so of this bundle, whatever the policy asks of the log: else an entry of another signature would count as this one's
 abbrev pub entries_described_of : Grounds → Signer → Bundle → Digests → List TransparencyLogEntry → Result ⊤ Error
-entries_described_of grounds signer bundle digest [] = Ok tt
-entries_described_of grounds signer bundle digest (entry ∷ entries) =
-    entry_described_of grounds signer bundle digest entry >>= λ _. entries_described_of grounds signer bundle digest entries
+entries_described_of grounds signer bundle digest entries =
+    each_described_of (readings_in grounds.crypto) (signatory_of signer) (signed_in bundle.content digest) entries
 
--- an entry is of this very signature; none is, while what one says isn't compared
+-- an entry is of this very signature
 abbrev pub Describes : Grounds → Signer → Bundle → Artifact → TransparencyLogEntry → Type 0
-Describes grounds signer bundle artifact entry = ⊥
+Describes grounds signer bundle artifact entry =
+    binding.Describes (readings_in grounds.crypto) (signatory_of signer) (signed_in bundle.content (digest_of artifact)) entry
+
+-- an entry of the bundle isn't of its signature, and why
+pub record HasUndescribed (crypto : Crypto) (policy : Meaning) (bundle : Bundle) (artifact : Artifact) (e : Error) : Type 0 where
+  pub signer : Signer
+  pub is : IsSigner policy bundle signer
+  pub entry : TransparencyLogEntry
+  pub among : Contains (entries_in bundle) entry
+  pub why : BindingError
+  pub named : error_of_binding why ≡ e
+  pub cause : BindingCause (readings_in crypto) (signatory_of signer) (signed_in bundle.content (digest_of artifact)) entry why

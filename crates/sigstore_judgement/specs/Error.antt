@@ -6,6 +6,8 @@ use Rattle.sigstore_crypto_parts.specs.declared.error.Error.{Error as CryptoErro
 use Rattle.sigstore_crypto_parts.specs.declared.error.Error.TheVariants as crypto
 use Rattle.sigstore_log.specs.declared.error.LogError.{LogError}
 use Rattle.sigstore_log.specs.declared.error.LogError.TheVariants as entry
+use Rattle.sigstore_binding.specs.declared.error.BindingError.{BindingError}
+use Rattle.sigstore_binding.specs.declared.error.BindingError.TheVariants as binding
 use Rattle.sigstore_tsa.specs.declared.authorities.TokenFault.{TokenFault}
 use Rattle.sigstore_tsa.specs.declared.authorities.TokenFault.TheVariants as token
 use Rattle.sigstore_judgement.specs.declared.error.CertificateError.{CertificateError}
@@ -121,12 +123,13 @@ error_of_crypto (crypto.InvalidCertificate fault) = Crypto
 error_of_crypto (crypto.InvalidKey rule) = Crypto
 error_of_crypto crypto.NoMemory = NoMemory
 
--- what a refusal of an entry is of its bundle
+-- what a refusal of a token is of its bundle
 abbrev pub error_of_token : TokenFault → Error
 error_of_token token.Invalid = Timestamp stamp.Invalid
 error_of_token (token.OutsideValidity time) = Timestamp (stamp.OutsideAuthorityValidity time)
 error_of_token token.NoMemory = NoMemory
 
+-- what a refusal of an entry is of its bundle
 abbrev pub error_of_log : LogError → Error
 error_of_log entry.InclusionProof = TransparencyLog log.InclusionProof
 error_of_log entry.Checkpoint = TransparencyLog log.Checkpoint
@@ -135,6 +138,14 @@ error_of_log (entry.UnknownLog log_id) = TransparencyLog (log.UnknownLog log_id)
 error_of_log entry.InclusionPromise = TransparencyLog log.InclusionPromise
 error_of_log entry.IntegratedTime = TransparencyLog log.IntegratedTime
 error_of_log entry.NoMemory = NoMemory
+
+-- what a refusal of what an entry says is of its bundle
+abbrev pub error_of_binding : BindingError → Error
+error_of_binding binding.Unsupported = UnsupportedBundle
+error_of_binding binding.MalformedEntry = TransparencyLog log.MalformedEntry
+error_of_binding binding.ArtifactMismatch = ArtifactMismatch
+error_of_binding binding.EntryMismatch = TransparencyLog log.EntryMismatch
+error_of_binding binding.NoMemory = NoMemory
 
 -- A refusal of the crates of values: want of memory and a form that isn't built stay what they are, and every other is this one.
 abbrev pub lowered : Error → TypesError → Error
@@ -159,3 +170,7 @@ by_token (Err e) = Err (error_of_token e)
 abbrev pub by_log : {A : Type 0} → Result A LogError → Result A Error
 by_log (Ok x) = Ok x
 by_log (Err e) = Err (error_of_log e)
+
+abbrev pub by_binding : {A : Type 0} → Result A BindingError → Result A Error
+by_binding (Ok x) = Ok x
+by_binding (Err e) = Err (error_of_binding e)

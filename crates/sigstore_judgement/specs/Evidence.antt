@@ -15,10 +15,10 @@ abbrev pub earliest_from : Option Timestamp → List Timestamp → Option Timest
 earliest_from first [] = first
 earliest_from first (time ∷ times) = earliest_from (Some (earlier first time)) times
 
--- What was found that vouches for a signer: the earliest time that a log promised, and every time at which the signature was there, by an
--- authority's token or by a log's promise. The report and the judgement both read these.
+-- What was found that vouches for a signer: the earliest time that a log promised, and every time at which the signature was there, by a
+-- log's promise or by an authority's token. The report and the judgement both read these.
 abbrev pub times_of : List Timestamp → List Timestamp → Evidence
-times_of promised stamped = record { integrated_time = earliest_from None promised; times = stamped ++ promised }
+times_of promised stamped = record { integrated_time = earliest_from None promised; times = promised ++ stamped }
 
 -- what an acceptance shows: these times, and which checks the policy asked for
 abbrev pub report_of : Signer → Evidence → VerificationResult

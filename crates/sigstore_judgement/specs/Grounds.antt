@@ -3,6 +3,7 @@ use Rattle.jiff_core.specs.declared.timestamp.Timestamp.{Timestamp}
 use Rattle.sigstore_types_parts.specs.declared.armor.Armor as armor
 use Rattle.sigstore_crypto_parts.specs.declared.provider.CryptoProvider as provider
 use Rattle.sigstore_crypto_parts.specs.Crypto.{Crypto, crypto_by}
+use Rattle.sigstore_binding.specs.Verifier.{Readings}
 use Rattle.sigstore_judgement.specs.declared.grounds.Grounds as declared
 use Rattle.sigstore_judgement.specs.declared.trust.Material.{Material}
 use Rattle.sigstore_judgement.specs.declared.verifier.Verifier.{Verifier}
@@ -13,6 +14,10 @@ pub record Grounds : Type 0 where
   pub crypto : Crypto
   pub material : Material
   pub now : Timestamp
+
+-- what armoured texts hold
+abbrev pub readings_in : Crypto → Readings
+readings_in crypto = record { key_in = crypto.key_in; certificate_in = crypto.certificate_in }
 
 -- and under which policy
 pub record Terms : Type 0 where

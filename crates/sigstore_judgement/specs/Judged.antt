@@ -3,8 +3,10 @@ use Rattle.std.specs.Prelude.{ℕ, List, [], Option, Result, Ok, Err}
 use Rattle.foundation.specs.Steps.{◌>>=◌}
 use Rattle.sigstore_types_parts.specs.declared.hash_algorithm.HashAlgorithm.{HashAlgorithm}
 use Rattle.sigstore_types.specs.declared.bundle.Bundle.{Bundle}
+use Rattle.sigstore_types.specs.declared.content.SignatureContent.{SignatureContent}
 use Rattle.sigstore_types.specs.Bundle.{entries_in, tokens_in}
 use Rattle.sigstore_crypto_parts.specs.declared.key.VerificationKey.{VerificationKey}
+use Rattle.sigstore_crypto_parts.specs.declared.scheme.SigningScheme.{SigningScheme}
 use Rattle.sigstore_crypto_parts.specs.Key.{spki_key_of}
 use Rattle.sigstore_judgement.specs.declared.error.Error.{Error}
 use Rattle.sigstore_judgement.specs.declared.evidence.Evidence.{Evidence}
@@ -12,7 +14,8 @@ use Rattle.sigstore_judgement.specs.declared.judge.Ready.{Ready as Prepared}
 use Rattle.sigstore_judgement.specs.declared.policy.PublicKeyVerificationPolicy.{PublicKeyVerificationPolicy}
 use Rattle.sigstore_judgement.specs.declared.report.VerificationResult.{VerificationResult}
 use Rattle.sigstore_judgement.specs.Artifact.{Artifact, Digests, digest_of, bytes_of, Kind, kind_of, read_kind}
-use Rattle.sigstore_judgement.specs.Content.{scheme_of, needed_of, signs_digest, supported_of, signature_in, content_judged_of}
+use Rattle.sigstore_judgement.specs.Claim.{Claim, claim_as, claim_of, needed_of}
+use Rattle.sigstore_judgement.specs.Content.{scheme_of, signs_digest, supported_of, signature_in, content_judged_of}
 use Rattle.sigstore_judgement.specs.Entries.{log_judged_of, entries_described_of}
 use Rattle.sigstore_judgement.specs.Error.{by_crypto}
 use Rattle.sigstore_judgement.specs.Evidence.{times_of, report_of}
@@ -23,28 +26,36 @@ use Rattle.sigstore_judgement.specs.Tokens.{tokens_judged_of}
 
 -- ---- before the artifact is read
 
--- who signed, their key under the scheme of this bundle, and the digests that are needed of the artifact
+-- who signed, their key under the scheme of this bundle, what it says of the artifact, and the digests of that which are needed
 pub record Ready : Type 0 where
   pub signer : Signer
   pub key : VerificationKey
+  pub claim : Claim
   pub needed : List HashAlgorithm
 
 -- what the code prepared
 abbrev pub ready_as : Prepared → Ready
-ready_as ready = record { signer = signer_as ready.signer; key = ready.key; needed = ready.needed }
+ready_as ready = record { signer = signer_as ready.signer; key = ready.key; claim = claim_as ready.claim; needed = ready.needed }
 
-abbrev pub ready_with : Signer → VerificationKey → List HashAlgorithm → Ready
-ready_with signer key needed = record { signer = signer; key = key; needed = needed }
+abbrev pub ready_with : Signer → VerificationKey → Claim → Ready
+ready_with signer key claim = record { signer = signer; key = key; claim = claim; needed = needed_of key.scheme claim }
 
--- The signer's key (the bundle's own hint is never a key), its scheme (else a bundle could choose a weaker one), the digests that are
--- needed, and whether the artifact serves.
+abbrev pub key_with : SigningScheme → VerificationKey → VerificationKey
+key_with scheme key = record { scheme = scheme; key = key.key }
+
+-- what the bundle says of its artifact, and whether the artifact serves
+abbrev pub claimed_of : Kind → SigningScheme → SignatureContent → Result Claim Error
+claimed_of kind scheme content =
+    claim_of content >>= λ claim. supported_of kind (signs_digest scheme content) (needed_of scheme claim) >>= λ _. Ok claim
+
+-- The signer's key (the bundle's own hint is never a key), its scheme (else a bundle could choose a weaker one), what the bundle says of
+-- its artifact, and whether the artifact serves.
 unfoldable pub ready_of : Kind → Signer → Bundle → Result Ready Error
 ready_of kind signer bundle = do
   key ← by_crypto (spki_key_of (key_in signer))
   scheme ← by_crypto (scheme_of key.scheme bundle.content)
-  needed ← needed_of scheme bundle.content
-  _ ← supported_of kind (signs_digest scheme bundle.content) needed
-  Ok (ready_with signer (record { scheme = scheme; key = key.key }) needed)
+  claim ← claimed_of kind scheme bundle.content
+  Ok (ready_with signer (key_with scheme key) claim)
 
 -- who signed, and what is needed of them
 unfoldable pub prepared_of : Kind → Meaning → Bundle → Result Ready Error
@@ -70,7 +81,7 @@ vouched_of grounds (Managed policy) bundle = managed_vouched_of grounds policy b
 unfoldable pub judged_had : Grounds → Ready → Bundle → Digests → Option (List ℕ) → Result VerificationResult Error
 judged_had grounds ready bundle digest bytes = do
   evidence ← vouched_of grounds ready.signer bundle
-  _ ← content_judged_of grounds.crypto.accepts ready.key bundle.content digest bytes
+  _ ← content_judged_of grounds.crypto.accepts ready.key bundle.content ready.claim digest bytes
   _ ← entries_described_of grounds ready.signer bundle digest (entries_in bundle)
   Ok (report_of ready.signer evidence)
 

@@ -2,12 +2,14 @@ pub mod Accepts
 pub mod Agree
 pub mod Artifact
 pub mod Cause
+pub mod Claim
 pub mod Content
 pub mod Entries
 pub mod Error
 pub mod Evidence
 pub mod Grounds
 pub mod Judged
+pub mod Opened
 pub mod Policy
 pub mod Promise
 pub mod Signer

@@ -3,6 +3,7 @@ use Rattle.std.specs.Prelude.{◌≡◌, ℕ, List, Bool, Result, Ok}
 use Rattle.foundation.specs.Steps.{◌>>=◌}
 use Rattle.sigstore_types.specs.declared.bundle.Bundle.{Bundle}
 use Rattle.sigstore_types.specs.Bundle.{structure_of}
+use Rattle.sigstore_binding.specs.Verifier.{Signatory, Key}
 use Rattle.sigstore_judgement.specs.declared.error.Error.{Error}
 use Rattle.sigstore_judgement.specs.declared.policy.PublicKeyVerificationPolicy.{PublicKeyVerificationPolicy}
 use Rattle.sigstore_judgement.specs.declared.signing.Signing.{Signing}
@@ -22,6 +23,10 @@ signer_as (signing.Managed policy) = Managed policy.now
 -- the key in DER (SubjectPublicKeyInfo)
 abbrev pub key_in : Signer → List ℕ
 key_in (Managed policy) = policy.key
+
+-- who it is to an entry
+abbrev pub signatory_of : Signer → Signatory
+signatory_of (Managed policy) = Key policy.key
 
 -- whether the log is verified
 abbrev pub verifies_log : Signer → Bool

@@ -1,15 +1,21 @@
 // What is signed, before and after the artifact is had.
-ghost use Rattle.std.specs.Prelude.{◌≡◌, ◌≢◌, Ok, Err, IfOk, IfErr, OnOk, option_copied};
-ghost use Rattle.std.specs.List.{list_any};
-ghost use Rattle.sigstore_types_parts.specs.HashAlgorithm.{same_algorithm, with_optional};
+ghost use Rattle.std.specs.Prelude.{◌≡◌, ◌≢◌, Ok, Err, IfOk, IfErr, option_copied};
+ghost use Rattle.std.specs.List.{list_all};
+ghost use Rattle.sigstore_crypto_parts.specs.Good.{is_good};
+ghost use Rattle.sigstore_envelopes.specs.Encoding.{encoding_of};
+ghost use Rattle.sigstore_binding.specs.Rows.{signed_as};
 ghost use Rattle.sigstore_judgement.specs.Artifact.{kind_in, digest_among, digest_had, bytes_had};
-ghost use Rattle.sigstore_judgement.specs.Content.{scheme_of, algorithm_told, needed_of, signs_digest, supported_of, is_told, is_bound, is_artifact_signed, content_judged_of, signature_in};
+ghost use Rattle.sigstore_judgement.specs.Claim.{claim_as};
+ghost use Rattle.sigstore_judgement.specs.Content.{scheme_of, signs_digest, supported_of, is_artifact_signed, content_judged_of, signature_in, signed_in};
+ghost use Rattle.sigstore_judgement.specs.Opened.{content_as};
 
 use crate::artifact::{Had, Handed, has_all, taken};
+use crate::claim::{Claim, is_bound};
 use crate::error::Error;
-use foundation::{NoMemory, Sequence};
+use foundation::NoMemory;
+use sigstore_binding::{HashedEnvelope, Signed};
 use sigstore_crypto_parts::{CryptoProvider, SigningScheme, VerificationKey};
-use sigstore_types::{MessageDigest, SignatureContent};
+use sigstore_types::{MessageSignature, SignatureContent};
 use sigstore_types_parts::{ArtifactDigest, HashAlgorithm, SignatureBytes};
 use std::alloc::Global;
 
@@ -28,59 +34,7 @@ pub(crate) fn scheme_of(
                 .key_algorithm()
                 .resolve_signing_scheme(digest.algorithm),
         },
-    }
-}
-
-// The algorithm of the digest that the bundle tells of its message.
-fn algorithm_told(told: Option<&MessageDigest>) -> Option<HashAlgorithm>
-    ensures { result ≡ algorithm_told (option_copied told.entry) }
-{
-    match told {
-        None => None,
-        Some(told) => Some(told.algorithm),
-    }
-}
-
-fn is_among(list: &[HashAlgorithm], algorithm: HashAlgorithm) -> bool
-    ensures { result ≡ list_any (same_algorithm algorithm) list.now }
-{
-    list.iter().any(|other| algorithm.is_same(*other))
-}
-
-// Puts an algorithm behind a list, unless it stands there already.
-fn add(list: &mut Sequence<HashAlgorithm>, algorithm: Option<HashAlgorithm>) -> Result<(), NoMemory>
-    ensures { OnOk result (list.new ≡ with_optional list.old algorithm) }
-{
-    match algorithm {
-        Some(algorithm) => {
-            if is_among(list.as_slice(), algorithm) {
-                return Ok(());
-            }
-            list.push(algorithm)?;
-            Ok(())
-        }
-        None => Ok(()),
-    }
-}
-
-/// The digests that are needed of the artifact. Of a message SHA-256 always, since each form of entry names it;
-/// that of the digest that the bundle tells; and the one that the scheme signs.
-pub(crate) fn needed(
-    alloc: Global,
-    scheme: SigningScheme,
-    content: &SignatureContent,
-) -> Result<Sequence<HashAlgorithm>, Error>
-    ensures ok { IfOk result (λ list. needed_of scheme content.now ≡ Ok list) }
-    ensures err { IfErr result (λ e. e ≢ Error.NoMemory → needed_of scheme content.now ≡ Err e) }
-{
-    match content {
-        SignatureContent::MessageSignature(message) => {
-            let mut list = Sequence::new(alloc);
-            list.push(HashAlgorithm::Sha2256)?;
-            add(&mut list, algorithm_told(message.message_digest.as_ref()))?;
-            add(&mut list, scheme.hash_algorithm())?;
-            Ok(list)
-        }
+        SignatureContent::DsseEnvelope(_) => Ok(scheme),
     }
 }
 
@@ -90,6 +44,7 @@ fn signs_digest(scheme: SigningScheme, content: &SignatureContent) -> bool
 {
     match content {
         SignatureContent::MessageSignature(_) => scheme.supports_prehashed(),
+        SignatureContent::DsseEnvelope(_) => true,
     }
 }
 
@@ -113,25 +68,51 @@ pub(crate) fn check_supported(
     }
 }
 
-// The digest that the bundle tells of its message is the artifact's by that algorithm.
-fn is_told(told: Option<&MessageDigest>, digests: &[ArtifactDigest]) -> bool
-    ensures { result ≡ is_told (option_copied told.entry) (digest_among digests.now) }
-{
-    match told {
-        None => true,
-        Some(told) => match taken(digests, told.algorithm) {
-            Some(digest) => told.digest.as_bytes() == digest.as_bytes(),
-            None => false,
-        },
-    }
-}
-
 /// The signature of a content.
 pub(crate) fn signature_in(content: &SignatureContent) -> &SignatureBytes
     ensures { result.now ≡ signature_in content.now }
 {
     match content {
         SignatureContent::MessageSignature(message) => &message.signature,
+        SignatureContent::DsseEnvelope(envelope) => &envelope.signature.sig,
+    }
+}
+
+/// A content as it is judged: an envelope is encoded and digested once.
+#[derive(Drop)]
+pub(crate) enum Opened<'b> {
+    Message(&'b MessageSignature),
+    Envelope(HashedEnvelope<'b>),
+}
+
+/// A content, opened.
+pub(crate) fn open_content<'b>(
+    alloc: Global,
+    content: &'b SignatureContent,
+) -> Result<Opened<'b>, NoMemory>
+    ensures { IfOk result (λ opened. content_as opened ≡ content.now) }
+{
+    match content {
+        SignatureContent::MessageSignature(message) => Ok(Opened::Message(message)),
+        SignatureContent::DsseEnvelope(envelope) => {
+            Ok(Opened::Envelope(HashedEnvelope::new(alloc, envelope)?))
+        }
+    }
+}
+
+/// What an entry is compared with.
+pub(crate) fn signed_in<'o>(opened: &'o Opened<'o>, had: &'o Had<'o>) -> Signed<'o>
+    ensures { signed_as result ≡ signed_in (content_as opened.now) (digest_had had.now) }
+{
+    match opened {
+        Opened::Message(message) => Signed::Message {
+            digest: match taken(had.digests, HashAlgorithm::Sha2256) {
+                Some(digest) => Some(digest.as_bytes()),
+                None => None,
+            },
+            signature: &message.signature,
+        },
+        Opened::Envelope(envelope) => Signed::Envelope(envelope),
     }
 }
 
@@ -159,25 +140,54 @@ fn is_artifact_signed<C: CryptoProvider>(
     }
 }
 
+// The signature of an envelope is good over its encoding.
+fn is_encoding_signed<C: CryptoProvider>(
+    provider: &C,
+    key: &VerificationKey,
+    envelope: &HashedEnvelope<'_>,
+) -> bool
+    ensures { result ≡ is_good (C.accepts provider.now) key.now (encoding_of envelope.now) envelope.now.signature.sig }
+{
+    key.verify(
+        provider,
+        envelope.encoding(),
+        &envelope.envelope().signature.sig,
+    )
+    .is_ok()
+}
+
 /// The content over what is had of the artifact. Errors, of a message: `ArtifactMismatch` for a digest that is
-/// another artifact's, which is told from a signature that is bad; `SignatureInvalid`.
+/// another artifact's, which is told from a signature that is bad; `SignatureInvalid`. Of an envelope
+/// `SignatureInvalid` comes first, since what it states counts for nothing before; then `ArtifactMismatch` where no
+/// subject is the artifact.
 pub(crate) fn judge_content<C: CryptoProvider>(
     provider: &C,
     key: &VerificationKey,
-    content: &SignatureContent,
+    opened: &Opened<'_>,
+    claim: &Claim<'_>,
     had: &Had<'_>,
 ) -> Result<(), Error>
-    ensures { result ≡ content_judged_of (C.accepts provider.now) key.now content.now (digest_had had.now) (bytes_had had.now) }
+    ensures { result ≡ content_judged_of (C.accepts provider.now) key.now (content_as opened.now) (claim_as claim.now) (digest_had had.now) (bytes_had had.now) }
 {
-    match content {
-        SignatureContent::MessageSignature(message) => {
-            if !is_told(message.message_digest.as_ref(), had.digests) {
+    match opened {
+        Opened::Message(message) => {
+            if !is_bound(claim, had.digests) {
                 return Err(Error::ArtifactMismatch);
             }
             if is_artifact_signed(provider, key, had.digests, had.bytes, &message.signature) {
                 Ok(())
             } else {
                 Err(Error::SignatureInvalid)
+            }
+        }
+        Opened::Envelope(envelope) => {
+            if !is_encoding_signed(provider, key, envelope) {
+                return Err(Error::SignatureInvalid);
+            }
+            if is_bound(claim, had.digests) {
+                Ok(())
+            } else {
+                Err(Error::ArtifactMismatch)
             }
         }
     }

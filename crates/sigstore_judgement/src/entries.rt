@@ -2,22 +2,28 @@
 ghost use Rattle.std.specs.Prelude.{◌≡◌, ◌≢◌, Ok, Err, IfOk, IfErr, OnOk};
 ghost use Rattle.sigstore_types.specs.Bundle.{entries_in};
 ghost use Rattle.sigstore_judgement.specs.Artifact.{digest_had};
-ghost use Rattle.sigstore_judgement.specs.Entries.{entry_judged_of, with_time, behind, entries_judged_of, log_judged_of, entry_described_of, entries_described_of};
-ghost use Rattle.sigstore_judgement.specs.Error.{error_of_log};
+ghost use Rattle.sigstore_binding.specs.Described.{describes_of};
+ghost use Rattle.sigstore_binding.specs.Rows.{signed_as};
+ghost use Rattle.sigstore_binding.specs.Verifier.{readings_by, signatory_as};
+ghost use Rattle.sigstore_judgement.specs.Entries.{entry_judged_of, with_time, behind, entries_judged_of, log_judged_of, each_described_of, entries_described_of};
+ghost use Rattle.sigstore_judgement.specs.Error.{error_of_log, error_of_binding, by_binding};
+ghost use Rattle.sigstore_judgement.specs.Opened.{content_as};
 ghost use Rattle.sigstore_judgement.specs.Grounds.{grounds_by};
 ghost use Rattle.sigstore_judgement.specs.Signer.{signer_as};
 
 use crate::artifact::Had;
+use crate::content::{Opened, signed_in};
 use crate::error::{Error, TransparencyLogError};
 use crate::grounds::Grounds;
 use crate::signing::Signing;
 use foundation::{NoMemory, Sequence};
 use jiff::Timestamp;
+use sigstore_binding::{BindingError, Signed, SignedBy, describe_entry};
 use sigstore_crypto_parts::CryptoProvider;
 use sigstore_entries::TransparencyLogEntry;
 use sigstore_log::{LogError, judge_entry};
 use sigstore_types::Bundle;
-use sigstore_types_parts::{Armor, Form};
+use sigstore_types_parts::Armor;
 use std::alloc::Global;
 
 // What a refusal of an entry is of its bundle.
@@ -107,31 +113,77 @@ pub(crate) fn check_log<C: CryptoProvider, M: Armor>(
     Ok(times)
 }
 
-// What an entry says isn't compared with its bundle, signer and artifact yet, so that it describes none: else an
-// entry of another signature would count as this one's.
-fn check_entry_described<C: CryptoProvider, M: Armor>(
-    grounds: &Grounds<'_, C, M>,
-    signer: &Signing<'_>,
-    bundle: &Bundle,
-    had: &Had<'_>,
-    entry: &TransparencyLogEntry,
-) -> Result<(), Error>
-    ensures { result ≡ entry_described_of (grounds_by C.CryptoProvider M.Armor grounds.now) (signer_as signer.now) bundle.now (digest_had had.now) entry.now }
+// What a refusal of what an entry says is of its bundle.
+fn refused_description(fault: BindingError) -> Error
+    ensures { result ≡ error_of_binding fault }
 {
-    Err(Error::Unbuilt(Form::Binding))
+    match fault {
+        BindingError::Unsupported => Error::UnsupportedBundle,
+        BindingError::MalformedEntry => {
+            Error::TransparencyLog(TransparencyLogError::MalformedEntry)
+        }
+        BindingError::ArtifactMismatch => Error::ArtifactMismatch,
+        BindingError::EntryMismatch => Error::TransparencyLog(TransparencyLogError::EntryMismatch),
+        BindingError::NoMemory => Error::NoMemory,
+    }
 }
 
-/// Whether each entry of a bundle describes it. Errors: `Unbuilt`, where there is an entry.
+// An entry is of who signed, of what they signed and of the signature.
+fn check_entry_described<M: Armor>(
+    alloc: Global,
+    armor: &M,
+    who: SignedBy<'_>,
+    signed: Signed<'_>,
+    entry: &TransparencyLogEntry,
+) -> Result<(), Error>
+    ensures ok { IfOk result (λ x. by_binding (describes_of (readings_by M.Armor armor.now) (signatory_as who.entry) (signed_as signed.entry) entry.now) ≡ Ok x) }
+    ensures err { IfErr result (λ e. e ≢ Error.NoMemory →
+        by_binding (describes_of (readings_by M.Armor armor.now) (signatory_as who.entry) (signed_as signed.entry) entry.now) ≡ Err e) }
+{
+    match describe_entry(alloc, armor, who, signed, entry) {
+        Ok(()) => Ok(()),
+        Err(fault) => Err(refused_description(fault)),
+    }
+}
+
+// Each entry is; a good one doesn't cover for one that is another's.
+fn check_each_described<M: Armor>(
+    alloc: Global,
+    armor: &M,
+    who: SignedBy<'_>,
+    signed: Signed<'_>,
+    entries: &[TransparencyLogEntry],
+) -> Result<(), Error>
+    ensures ok { IfOk result (λ x. each_described_of (readings_by M.Armor armor.now) (signatory_as who.entry) (signed_as signed.entry) entries.now ≡ Ok x) }
+    ensures err { IfErr result (λ e. e ≢ Error.NoMemory →
+        each_described_of (readings_by M.Armor armor.now) (signatory_as who.entry) (signed_as signed.entry) entries.now ≡ Err e) }
+{
+    'entries: for entry in entries {
+        check_entry_described(alloc, armor, who, signed, entry)?;
+    }
+    Ok(())
+}
+
+/// Whether each entry is of this bundle: an entry of another signature doesn't count as this one's. Errors, of the
+/// first that isn't: `UnsupportedBundle`, `TransparencyLog` with `MalformedEntry` or `EntryMismatch`,
+/// `ArtifactMismatch`.
 pub(crate) fn check_described<C: CryptoProvider, M: Armor>(
+    alloc: Global,
     grounds: &Grounds<'_, C, M>,
     signer: &Signing<'_>,
     bundle: &Bundle,
+    opened: &Opened<'_>,
     had: &Had<'_>,
 ) -> Result<(), Error>
-    ensures { result ≡ entries_described_of (grounds_by C.CryptoProvider M.Armor grounds.now) (signer_as signer.now) bundle.now (digest_had had.now) (entries_in bundle.now) }
+    requires same { content_as opened.now ≡ bundle.now.content }
+    ensures ok { IfOk result (λ x. entries_described_of (grounds_by C.CryptoProvider M.Armor grounds.now) (signer_as signer.now) bundle.now (digest_had had.now) (entries_in bundle.now) ≡ Ok x) }
+    ensures err { IfErr result (λ e. e ≢ Error.NoMemory →
+        entries_described_of (grounds_by C.CryptoProvider M.Armor grounds.now) (signer_as signer.now) bundle.now (digest_had had.now) (entries_in bundle.now) ≡ Err e) }
 {
-    'entries: for entry in bundle.verification_material.tlog_entries.as_slice() {
-        check_entry_described(grounds, signer, bundle, had, entry)?;
+    let entries = bundle.verification_material.tlog_entries.as_slice();
+    let who = signer.to_entry();
+    match check_each_described(alloc, grounds.armor, who, signed_in(opened, had), entries) {
+        Ok(()) => Ok(()),
+        Err(e) => Err(e),
     }
-    Ok(())
 }

@@ -45,11 +45,13 @@ pub enum TransparencyLogError {
     Checkpoint,
     /// The log's promise to include the entry isn't the log's, or is of another entry.
     InclusionPromise,
-    /// The entry is of another signature, artifact or certificate than the bundle.
+    /// The entry has another verifier, signature, payload or payload type than the bundle, or another number of
+    /// signatures than one.
     EntryMismatch,
     /// The time that the log promised is after now.
     IntegratedTime,
-    /// The id of the log that promised isn't a SHA-256 value.
+    /// The id of the log that promised isn't a SHA-256 value; or the entry's body isn't read, or a hash, a verifier or
+    /// a signature in it.
     MalformedEntry,
 }
 
@@ -77,9 +79,10 @@ pub enum Error {
         expected: Text,
         actual: Option<Text>,
     },
-    /// The signature isn't good over the artifact's digest under the key.
+    /// The signature isn't good over the artifact's digest, or over the envelope, under the key.
     SignatureInvalid,
-    /// The bundle tells another digest of its message than the artifact's.
+    /// The bundle tells another digest of its message than the artifact's, no subject of its statement is the
+    /// artifact, or an entry is of another digest.
     ArtifactMismatch,
     /// The scheme signs the message itself, and only the artifact's digest is there.
     UnsupportedArtifact,
@@ -89,9 +92,10 @@ pub enum Error {
     TransparencyLog(TransparencyLogError),
     /// A time-stamp token isn't accepted.
     Timestamp(TimestampError),
-    /// The bundle's bytes have no reading by its grammar.
+    /// The bundle's bytes have no reading by its grammar, or its envelope holds no statement of a subject.
     InvalidBundle,
-    /// The bundle has parts that don't go together.
+    /// The envelope's payload is of another type, or its subjects tell no digest that can be had; or an entry is of a
+    /// kind that isn't compared with the content, or of another digest's algorithm.
     UnsupportedBundle,
     /// The trust file was read, and can't be used.
     InvalidTrustRoot,

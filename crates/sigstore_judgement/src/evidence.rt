@@ -13,7 +13,7 @@ use jiff::Timestamp;
 pub struct Evidence {
     /// The earliest time that a log promised, of an entry that is logged.
     pub integrated_time: Option<Timestamp>,
-    /// The times that authorities stamped, in the tokens' order, then those that logs promised, in the entries' order.
+    /// The times that logs promised, in the entries' order, then those that authorities stamped, in the tokens' order.
     pub times: Sequence<Timestamp>,
 }
 

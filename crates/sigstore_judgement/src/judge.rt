@@ -2,15 +2,18 @@
 ghost use Rattle.std.specs.Prelude.{◌≡◌, ◌≢◌, Ok, Err, IfOk, IfErr};
 ghost use Rattle.sigstore_crypto_parts.specs.Key.{spki_key_of};
 ghost use Rattle.sigstore_judgement.specs.Artifact.{kind_in, digest_had, bytes_had};
+ghost use Rattle.sigstore_judgement.specs.Claim.{claim_as, needed_of};
+ghost use Rattle.sigstore_judgement.specs.Content.{signs_digest, supported_of};
 ghost use Rattle.sigstore_judgement.specs.Error.{by_crypto};
 ghost use Rattle.sigstore_judgement.specs.Evidence.{report_of};
 ghost use Rattle.sigstore_judgement.specs.Grounds.{grounds_by};
-ghost use Rattle.sigstore_judgement.specs.Judged.{ready_as, ready_with, ready_of, prepared_of, managed_vouched_of, vouched_of, judged_had};
+ghost use Rattle.sigstore_judgement.specs.Judged.{ready_as, ready_with, claimed_of, ready_of, prepared_of, managed_vouched_of, vouched_of, judged_had};
 ghost use Rattle.sigstore_judgement.specs.Policy.{meaning_of};
 ghost use Rattle.sigstore_judgement.specs.Signer.{signer_as};
 
 use crate::artifact::{Had, Handed};
-use crate::content::{check_supported, judge_content, needed, scheme_of, signature_in};
+use crate::claim::{Claim, needed, read_claim};
+use crate::content::{check_supported, judge_content, open_content, scheme_of, signature_in};
 use crate::entries::{check_described, check_log};
 use crate::error::Error;
 use crate::evidence::{Evidence, earliest, joined, report};
@@ -20,17 +23,18 @@ use crate::report::VerificationResult;
 use crate::signing::{Signing, who_signed};
 use crate::tokens::check_tokens;
 use foundation::Sequence;
-use sigstore_crypto_parts::{CryptoProvider, VerificationKey};
-use sigstore_types::Bundle;
+use sigstore_crypto_parts::{CryptoProvider, SigningScheme, VerificationKey};
+use sigstore_types::{Bundle, SignatureContent};
 use sigstore_types_parts::{Armor, DerPublicKey, HashAlgorithm};
 use std::alloc::Global;
 
-/// What was prepared for an artifact: who signed, their key under the scheme of this bundle, and the digests that
-/// are needed.
+/// What was prepared for an artifact: who signed, their key under the scheme of this bundle, what it says of the
+/// artifact, and the digests of that which are needed.
 #[derive(Drop)]
 pub(crate) struct Ready<'a> {
     pub(crate) signer: Signing<'a>,
     pub(crate) key: VerificationKey,
+    pub(crate) claim: Claim<'a>,
     pub(crate) needed: Sequence<HashAlgorithm>,
 }
 
@@ -46,44 +50,88 @@ fn key_of(alloc: Global, der: &DerPublicKey) -> Result<VerificationKey, Error>
     }
 }
 
+// The digests that are needed, and whether the artifact serves.
+fn digests_needed(
+    alloc: Global,
+    handed: Handed,
+    scheme: SigningScheme,
+    content: &SignatureContent,
+    claim: &Claim<'_>,
+) -> Result<Sequence<HashAlgorithm>, Error>
+    ensures list { IfOk result (λ list. list ≡ needed_of scheme (claim_as claim.now)) }
+    ensures ok { IfOk result (λ list. supported_of (kind_in handed) (signs_digest scheme content.now) (needed_of scheme (claim_as claim.now)) ≡ Ok tt) }
+    ensures err { IfErr result (λ e. e ≢ Error.NoMemory →
+        supported_of (kind_in handed) (signs_digest scheme content.now) (needed_of scheme (claim_as claim.now)) ≡ Err e) }
+{
+    let list = needed(alloc, scheme, claim)?;
+    check_supported(handed, scheme, content, list.as_slice())?;
+    Ok(list)
+}
+
+// What a bundle says of its artifact, with the digests that are needed.
+fn claim_and_digests<'b>(
+    alloc: Global,
+    handed: Handed,
+    scheme: SigningScheme,
+    content: &'b SignatureContent,
+) -> Result<(Claim<'b>, Sequence<HashAlgorithm>), Error>
+    ensures list { IfOk result (λ had. had.1 ≡ needed_of scheme (claim_as had.0)) }
+    ensures ok { IfOk result (λ had. claimed_of (kind_in handed) scheme content.now ≡ Ok (claim_as had.0)) }
+    ensures err { IfErr result (λ e. e ≢ Error.NoMemory → claimed_of (kind_in handed) scheme content.now ≡ Err e) }
+{
+    let claim = read_claim(alloc, content)?;
+    match digests_needed(alloc, handed, scheme, content, &claim) {
+        Ok(list) => Ok((claim, list)),
+        Err(e) => {
+            drop(claim);
+            Err(e)
+        }
+    }
+}
+
 // What is needed of a signer, who is only lent here: a refusal then has nothing large to let go.
 #[tactic(auto, unfolding(crate::specs::Judged::ready_of))]
-fn key_and_digests(
+fn key_and_claim<'b>(
     alloc: Global,
     handed: Handed,
     signer: &Signing<'_>,
-    bundle: &Bundle,
-) -> Result<(VerificationKey, Sequence<HashAlgorithm>), Error>
-    ensures ok { IfOk result (λ had. ready_of (kind_in handed) (signer_as signer.now) bundle.now ≡ Ok (ready_with (signer_as signer.now) had.0 had.1)) }
+    bundle: &'b Bundle,
+) -> Result<(VerificationKey, Claim<'b>, Sequence<HashAlgorithm>), Error>
+    ensures list { IfOk result (λ had. had.2 ≡ needed_of had.0.scheme (claim_as had.1)) }
+    ensures ok { IfOk result (λ had. ready_of (kind_in handed) (signer_as signer.now) bundle.now ≡ Ok (ready_with (signer_as signer.now) had.0 (claim_as had.1))) }
     ensures err { IfErr result (λ e. e ≢ Error.NoMemory → ready_of (kind_in handed) (signer_as signer.now) bundle.now ≡ Err e) }
 {
     let key = key_of(alloc, signer.key())?;
     let scheme = scheme_of(key.scheme, &bundle.content)?;
-    let list = needed(alloc, scheme, &bundle.content)?;
-    check_supported(handed, scheme, &bundle.content, list.as_slice())?;
-    let key = key.key;
-    Ok((VerificationKey { scheme, key }, list))
+    match claim_and_digests(alloc, handed, scheme, &bundle.content) {
+        Ok((claim, list)) => {
+            let key = key.key;
+            Ok((VerificationKey { scheme, key }, claim, list))
+        }
+        Err(e) => Err(e),
+    }
 }
 
 /// Everything that doesn't need the artifact, so that a bundle that can't be accepted costs no reading of a long
-/// file. Errors, in order: those of `who_signed`; `Crypto` for the signer's key and its scheme; `UnsupportedArtifact`
-/// where the scheme signs the artifact itself and its bytes aren't kept; where a digest that is needed can't be had,
-/// `UnsupportedArtifact` if one was handed in and else `Crypto`.
+/// file. Errors, in order: those of `who_signed`; `Crypto` for the signer's key and its scheme; those of `read_claim`;
+/// `UnsupportedArtifact` where the scheme signs the artifact itself and its bytes aren't kept; where a digest that is
+/// needed can't be had, `UnsupportedArtifact` if one was handed in and else `Crypto`.
 #[tactic(auto, unfolding(crate::specs::Judged::prepared_of))]
 pub(crate) fn prepare<'a>(
     alloc: Global,
     handed: Handed,
     policy: PolicyKind<'a>,
-    bundle: &Bundle,
+    bundle: &'a Bundle,
 ) -> Result<Ready<'a>, Error>
     ensures ok { IfOk result (λ ready. prepared_of (kind_in handed) (meaning_of policy.entry) bundle.now ≡ Ok (ready_as ready)) }
     ensures err { IfErr result (λ e. e ≢ Error.NoMemory → prepared_of (kind_in handed) (meaning_of policy.entry) bundle.now ≡ Err e) }
 {
     let signer = who_signed(policy, bundle)?;
-    match key_and_digests(alloc, handed, &signer, bundle) {
-        Ok((key, needed)) => Ok(Ready {
+    match key_and_claim(alloc, handed, &signer, bundle) {
+        Ok((key, claim, needed)) => Ok(Ready {
             signer,
             key,
+            claim,
             needed,
         }),
         Err(e) => {
@@ -111,7 +159,7 @@ fn managed_vouched<C: CryptoProvider, M: Armor>(
     let stamped = check_tokens(alloc, grounds, signature_in(&bundle.content), tokens)?;
     Ok(Evidence {
         integrated_time,
-        times: joined(stamped, promised.as_slice())?,
+        times: joined(promised, stamped.as_slice())?,
     })
 }
 
@@ -146,15 +194,16 @@ fn accepted<C: CryptoProvider, M: Armor>(
         judged_had (grounds_by C.CryptoProvider M.Armor grounds.now) (ready_as ready.now) bundle.now (digest_had had.now) (bytes_had had.now) ≡ Err e) }
 {
     let evidence = vouched(alloc, grounds, &ready.signer, bundle)?;
-    judge_content(grounds.provider, &ready.key, &bundle.content, had)?;
-    check_described(grounds, &ready.signer, bundle, had)?;
+    let opened = open_content(alloc, &bundle.content)?;
+    judge_content(grounds.provider, &ready.key, &opened, &ready.claim, had)?;
+    check_described(alloc, grounds, &ready.signer, bundle, &opened, had)?;
     Ok(evidence)
 }
 
 /// The judgement of what was prepared over what is had of the artifact. The log comes first: what was never logged
 /// isn't worth a look at its signature. Errors, in order: `TransparencyLog` for the first entry that isn't logged,
-/// where the policy verifies the log; `Timestamp` for the first token that is no trusted authority's; `ArtifactMismatch`,
-/// `SignatureInvalid`; `Unbuilt` where there is an entry.
+/// where the policy verifies the log; `Timestamp` for the first token that is no trusted authority's; those of
+/// `judge_content`; those of `check_described` for the first entry that isn't of this bundle.
 pub(crate) fn judge<C: CryptoProvider, M: Armor>(
     alloc: Global,
     grounds: &Grounds<'_, C, M>,

@@ -2,6 +2,7 @@
 #![tactic(auto)]
 
 mod artifact;
+mod claim;
 mod content;
 mod entries;
 mod error;

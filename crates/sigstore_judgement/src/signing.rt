@@ -1,12 +1,14 @@
 // Who signed.
 ghost use Rattle.std.specs.Prelude.{◌≡◌, Ok, Err, IfOk, IfErr};
 ghost use Rattle.sigstore_types.specs.Bundle.{structure_of};
+ghost use Rattle.sigstore_binding.specs.Verifier.{signatory_as};
 ghost use Rattle.sigstore_judgement.specs.Error.{by_types};
 ghost use Rattle.sigstore_judgement.specs.Policy.{meaning_of};
-ghost use Rattle.sigstore_judgement.specs.Signer.{signer_as, key_in, managed_of, signer_of};
+ghost use Rattle.sigstore_judgement.specs.Signer.{signer_as, key_in, signatory_of, managed_of, signer_of};
 
 use crate::error::{Error, lowered};
 use crate::policy::{PolicyKind, PublicKeyVerificationPolicy};
+use sigstore_binding::SignedBy;
 use sigstore_types::{Bundle, validate_structure};
 use sigstore_types_parts::DerPublicKey;
 
@@ -24,6 +26,15 @@ impl<'a> Signing<'a> {
     {
         match self {
             Signing::Managed(policy) => &policy.key,
+        }
+    }
+
+    // Who it is to an entry.
+    pub(crate) fn to_entry(&self) -> SignedBy<'_>
+        ensures { signatory_as result ≡ signatory_of (signer_as self.now) }
+    {
+        match self {
+            Signing::Managed(policy) => SignedBy::Key(&policy.key),
         }
     }
 }

@@ -149,10 +149,13 @@ impl<'p, C: CryptoProvider, M: Armor> Verifier<'p, C, M> {
     }
 
     /// Verifies the bundle over an artifact that is handed in. Errors, in order: `Bundle`, `Crypto` for the
-    /// policy's key and its scheme, `UnsupportedArtifact` where the scheme signs the bytes themselves or a
-    /// digest that is needed wasn't handed in, `Crypto` where one has no hasher; where the policy verifies the
-    /// log, `TransparencyLog` for the first entry that isn't logged; `ArtifactMismatch`, `SignatureInvalid`;
-    /// `Unbuilt` where there is an entry.
+    /// policy's key and its scheme; of an envelope `UnsupportedBundle` for its payload's type, `InvalidBundle` for
+    /// its statement, `UnsupportedBundle` where no subject tells a digest that can be had; `UnsupportedArtifact`
+    /// where the scheme signs a message's bytes themselves or a digest that is needed wasn't handed in, `Crypto`
+    /// where one has no hasher; where the policy verifies the log, `TransparencyLog` for the first entry that isn't
+    /// logged; `Timestamp` for the first token that isn't an authority's; `ArtifactMismatch`, `SignatureInvalid`, of an
+    /// envelope in the other order; for the first entry that is of another signature `UnsupportedBundle`,
+    /// `TransparencyLog` with `MalformedEntry` or `EntryMismatch`, or `ArtifactMismatch`.
     pub fn verify<P: Policy>(
         &self,
         alloc: Global,
@@ -172,11 +175,8 @@ impl<'p, C: CryptoProvider, M: Armor> Verifier<'p, C, M> {
     }
 
     /// Reads the artifact to its end and verifies the bundle over it; gives also the digests that were
-    /// needed, in their order. Errors, in order: `Bundle`, `Crypto` for the policy's key and
-    /// its scheme, `UnsupportedArtifact` where the scheme signs the bytes themselves, `Crypto` where a
-    /// digest has no hasher, `ArtifactRead`; where the policy verifies the log, `TransparencyLog` for the
-    /// first entry that isn't logged; `ArtifactMismatch`, `SignatureInvalid`; `Unbuilt` where there is an
-    /// entry.
+    /// needed, in their order. Errors, in order: those of `verify` up to the hashers; `ArtifactRead`; the others of
+    /// `verify`.
     pub fn verify_reader_kept<A: ArtifactSource, P: Policy>(
         &self,
         alloc: Global,

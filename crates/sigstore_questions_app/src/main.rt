@@ -1,5 +1,5 @@
 //! Writes which signatures and armoured texts a verification from a pinned TUF root asks for, as lines of a
-//! provider file: `questions` and seven options. With the words of a verification it writes what the refusal
+//! provider file: `questions` and eight options. With the words of a verification it writes what the refusal
 //! holds, for a reader's eye. It judges nothing.
 #![tactic(auto)]
 

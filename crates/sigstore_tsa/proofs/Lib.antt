@@ -1,3 +1,4 @@
+pub mod Any
 pub mod CauseLaw
 pub mod StampedLaw
 pub mod TokensLaw

@@ -1,8 +1,9 @@
 -- A token's time under authorities is given exactly where one of them stamped it.
-use Rattle.std.proofs.Common.{◌≡◌, ◌⊎◌, inl, inr, ℕ, zero, suc, List, [], ◌∷◌, Option, Some, None, Result, Ok, Err, refl, sym, ap, ◌∙◌, subst, arith}
+use Rattle.std.proofs.Common.{◌≡◌, ◌⊎◌, inl, inr, ℕ, zero, suc, List, [], ◌∷◌, Bool, true, false, ◌||◌, Result, Ok, Err, refl, sym, ap, ◌∙◌, subst, arith}
 use Rattle.std.specs.Prelude.{⊤, Contains}
+use Rattle.std.specs.List.{list_any}
 use Rattle.foundation.specs.Steps.{◌>>=◌}
-use Rattle.foundation.specs.Results.{ok_same, err_same, some_same}
+use Rattle.foundation.specs.Results.{step_ok, ok_same, err_same}
 use Rattle.jiff_core.specs.declared.timestamp.Timestamp.{Timestamp}
 use Rattle.sigstore_types.specs.declared.authority.TsaAuthority.{TsaAuthority}
 use Rattle.sigstore_crypto_parts.specs.Good.{Judge}
@@ -13,10 +14,11 @@ use Rattle.sigstore_tsa_parts.specs.Error.{Judged}
 use Rattle.sigstore_tsa.specs.declared.authorities.TokenFault.{TokenFault}
 use Rattle.sigstore_tsa.specs.declared.authorities.TokenFault.TheVariants.{Invalid, OutsideValidity}
 use Rattle.sigstore_tsa.specs.declared.stamp.Stamp.{Stamp}
-use Rattle.sigstore_tsa.specs.Authorities.{last_outside, or_later, under_each_of, each_or_invalid, token_time_of, IsStamped, IsUnstamped, IsOutsideOne, IsOutsideNone, TokenMeans, TokensExactly, RefusedTokens}
-use Rattle.sigstore_tsa.specs.Stamp.{stamp_of, time_of}
+use Rattle.sigstore_tsa.specs.Authorities.{is_accepted, is_of_window, is_outside, answered, under_any_of, any_or_invalid, token_time_of, IsStamped, IsUnstamped, TokenMeans, TokensExactly, RefusedTokens}
+use Rattle.sigstore_tsa_parts.specs.Content.{token_content_of}
+use Rattle.sigstore_tsa.specs.Stamp.{told_of, stamp_at, stamp_of, time_of}
 use Rattle.sigstore_tsa.specs.Stamped.{under_of, stamped_of, Stamped, IsOutside, IsOf}
-use Rattle.sigstore_tsa.proofs.StampedLaw.{stamped_exactly, outside_exactly, NotOutside, by_stamp}
+use Rattle.sigstore_tsa.proofs.StampedLaw.{stamped_exactly, outside_exactly, NotOutside, by_stamp, tells}
 
 among_first : {A : Type 0} (x : A) (xs : List A) → Contains (x ∷ xs) x
 among_first x xs = (0, omega arith, refl)
@@ -29,28 +31,26 @@ where_in : {A : Type 0} (x : A) (xs : List A) (y : A) → Contains (x ∷ xs) y 
 where_in x xs y (zero, below, is) = inl (sym is)
 where_in x xs y (suc i, below, is) = inr (i, omega (arith, below), is)
 
-some_none : {A : Type 0} (x : A) → Some x ≡ None → ⊥
-some_none x e = cc
+or_true : (b : Bool) → (b || true) ≡ true
+or_true true = refl
+or_true false = refl
 
-none_some : {A : Type 0} (x : A) → None ≡ Some x → ⊥
-none_some x e = cc
+-- some of a list passes a test exactly where one that stands in it does
+any_is : {A : Type 0} (test : A → Bool) (xs : List A) → list_any test xs ≡ true → (x : A) × Contains xs x × (test x ≡ true)
+any_is {A} test [] h = cc
+any_is {A} test (x ∷ xs) h = by (test x) refl h (any_is test xs)
+  where
+    by : (b : Bool) → test x ≡ b → (b || list_any test xs) ≡ true → (list_any test xs ≡ true → (y : A) × Contains xs y × (test y ≡ true))
+        → (y : A) × Contains (x ∷ xs) y × (test y ≡ true)
+    by true is k later = (x, among_first x xs, is)
+    by false is k later = let l = later k in (l.0, among_later x xs l.0 l.1, l.2)
 
--- a refusal is by the window, or it isn't and changes nothing of what was refused before
-abbrev IsWindow : Error → Type 0
-IsWindow e =
-    ((time : Timestamp) × (e ≡ refusal.TimestampOutsideValidity time))
-    ⊎ (((time : Timestamp) → e ≡ refusal.TimestampOutsideValidity time → ⊥) × ((last : Option Timestamp) → last_outside last e ≡ last))
-
-is_window : (e : Error) → IsWindow e
-is_window (refusal.Asn1 d) = inr (λ time k. cc, λ last. refl)
-is_window (refusal.InvalidResponse d) = inr (λ time k. cc, λ last. refl)
-is_window (refusal.SignatureVerificationError d) = inr (λ time k. cc, λ last. refl)
-is_window (refusal.HashMismatch a b) = inr (λ time k. cc, λ last. refl)
-is_window refusal.NoTstInfo = inr (λ time k. cc, λ last. refl)
-is_window (refusal.CertificateValidationError d) = inr (λ time k. cc, λ last. refl)
-is_window (refusal.Parse d) = inr (λ time k. cc, λ last. refl)
-is_window (refusal.TimestampOutsideValidity time) = inl (time, refl)
-is_window refusal.NoMemory = inr (λ time k. cc, λ last. refl)
+is_any : {A : Type 0} (test : A → Bool) (xs : List A) (x : A) → Contains xs x → test x ≡ true → list_any test xs ≡ true
+is_any test [] x c h = absurd (omega (arith, c.1))
+is_any test (y ∷ xs) x c h = elim (where_in y xs x c) [
+  | inl here ↦ ap (λ b. b || list_any test xs) (ap test (sym here) ∙ h)
+  | inr there ↦ ap (λ b. test y || b) (is_any test xs x there h) ∙ or_true (test y)
+]
 
 module _ (accepts : Judge) (token signature : List ℕ) where
   -- a token tells one time
@@ -74,108 +74,108 @@ module _ (accepts : Judge) (token signature : List ℕ) where
     not_stamped authority e h time s =
         let k = sym (refused authority e h) ∙ (stamped_exactly accepts token signature authority time).1 s in cc
 
-    -- ---- the authorities one by one
+    abbrev accepted_by : TsaAuthority → Bool
+    accepted_by authority = is_accepted (under_of accepts stamp authority)
 
-    given : (authorities : List TsaAuthority) (last : Option Timestamp) (time : Timestamp) → under_each_of accepts stamp last authorities ≡ Ok time
-        → IsStamped accepts token signature authorities time
-    given [] last time h = cc
-    given (authority ∷ authorities) last time h = by (under_of accepts stamp authority) refl h (λ last k. given authorities last time k)
+    abbrev outside_by : TsaAuthority → Bool
+    outside_by authority = is_outside (under_of accepts stamp authority)
+
+    -- ---- one of the authorities
+
+    stamped_by : (authority : TsaAuthority) → accepted_by authority ≡ true → Stamped accepts token signature authority stamp.time
+    stamped_by authority h = by (under_of accepts stamp authority) refl h
       where
-        by : (r : Judged ⊤) → under_of accepts stamp authority ≡ r → or_later r stamp.time last (λ last. under_each_of accepts stamp last authorities) ≡ Ok time
-            → ((last : Option Timestamp) → under_each_of accepts stamp last authorities ≡ Ok time → IsStamped accepts token signature authorities time)
-            → IsStamped accepts token signature (authority ∷ authorities) time
-        by (Ok x) judged k later = record {
-          authority = authority;
-          among = among_first authority authorities;
-          stamped = subst (Stamped accepts token signature authority) (ok_same stamp.time time k) (accepted authority x judged);
-        }
-        by (Err e) judged k later =
-            let s = later (last_outside last e) k in
-            record { authority = s.authority; among = among_later authority authorities s.authority s.among; stamped = s.stamped }
+        by : (r : Judged ⊤) → under_of accepts stamp authority ≡ r → is_accepted r ≡ true → Stamped accepts token signature authority stamp.time
+        by (Ok x) is k = accepted authority x is
+        by (Err e) is k = cc
 
-    gives : (authorities : List TsaAuthority) (last : Option Timestamp) (one : TsaAuthority) (time : Timestamp) → Contains authorities one
-        → Stamped accepts token signature one time → under_each_of accepts stamp last authorities ≡ Ok stamp.time
-    gives [] last one time c s = absurd (omega (arith, c.1))
-    gives (authority ∷ authorities) last one time c s =
-        by (under_of accepts stamp authority) refl (where_in authority authorities one c) (λ last d. gives authorities last one time d s)
+    by_stamped : (authority : TsaAuthority) (time : Timestamp) → Stamped accepts token signature authority time → accepted_by authority ≡ true
+    by_stamped authority time s = by (under_of accepts stamp authority) refl
       where
-        by : (r : Judged ⊤) → under_of accepts stamp authority ≡ r → (one ≡ authority) ⊎ Contains authorities one
-            → ((last : Option Timestamp) → Contains authorities one → under_each_of accepts stamp last authorities ≡ Ok stamp.time)
-            → or_later r stamp.time last (λ last. under_each_of accepts stamp last authorities) ≡ Ok stamp.time
-        by (Ok x) judged place later = refl
-        by (Err e) judged (inl here) later =
-            absurd (not_stamped authority e judged time (subst (λ a. Stamped accepts token signature a time) here s))
-        by (Err e) judged (inr there) later = later (last_outside last e) there
+        by : (r : Judged ⊤) → under_of accepts stamp authority ≡ r → is_accepted r ≡ true
+        by (Ok x) is = refl
+        by (Err e) is = absurd (not_stamped authority e is time s)
 
-    -- what a refusal says, after what was refused before
-    abbrev Says : List TsaAuthority → Option Timestamp → TokenFault → Type 0
-    Says authorities last fault =
-        ((fault ≡ Invalid) × (last ≡ None) × IsOutsideNone accepts token signature authorities)
-        ⊎ ((time : Timestamp) × (fault ≡ OutsideValidity time) × ((last ≡ Some time) ⊎ IsOutsideOne accepts token signature authorities time))
+    window_time : (e : Error) → is_of_window e ≡ true → (time : Timestamp) × (e ≡ refusal.TimestampOutsideValidity time)
+    window_time (refusal.TimestampOutsideValidity time) h = (time, refl)
+    window_time (refusal.Asn1 d) h = cc
+    window_time (refusal.InvalidResponse d) h = cc
+    window_time (refusal.SignatureVerificationError d) h = cc
+    window_time (refusal.HashMismatch a b) h = cc
+    window_time refusal.NoTstInfo h = cc
+    window_time (refusal.CertificateValidationError d) h = cc
+    window_time (refusal.Parse d) h = cc
+    window_time refusal.NoMemory h = cc
 
-    outside_of : (authority : TsaAuthority) (time : Timestamp) → under_of accepts stamp authority ≡ Err (refusal.TimestampOutsideValidity time)
-        → IsOutside accepts token signature authority time
-    outside_of authority time judged =
-        (outside_exactly accepts token signature authority time).0 (refused authority (refusal.TimestampOutsideValidity time) judged)
+    -- the time is the token's
+    told_time : (authority : TsaAuthority) (time : Timestamp) → IsOf accepts token signature authority time → time ≡ stamp.time
+    unfolding stamp_of
+    told_time authority time i =
+        let a = step_ok (token_content_of token) (λ content. told_of content signature >>= λ time. Ok (stamp_at content time)) stamp is in
+        let b = step_ok (told_of a.0 signature) (λ time. Ok (stamp_at a.0 time)) stamp a.2 in
+        let same : i.content ≡ a.0 = ok_same i.content a.0 (sym i.read ∙ a.1) in
+        i.tells.time_is ∙ ap (λ (c : TokenContent). time_of c.info.gen_time) same ∙ sym (tells a.0 signature b.0 b.1).time_is
+        ∙ ap (λ (s : Stamp). s.time) (ok_same (stamp_at a.0 b.0) stamp b.2)
 
-    not_outside : (authority : TsaAuthority) (e : Error) (time : Timestamp) → under_of accepts stamp authority ≡ Err e → IsOutside accepts token signature authority time
-        → e ≡ refusal.TimestampOutsideValidity time
-    not_outside authority e time judged o =
-        err_same e (refusal.TimestampOutsideValidity time) (sym (refused authority e judged) ∙ (outside_exactly accepts token signature authority time).1 o)
-
-    says : (authorities : List TsaAuthority) (last : Option Timestamp) (fault : TokenFault) → under_each_of accepts stamp last authorities ≡ Err fault
-        → Says authorities last fault
-    says [] None fault h = inl (sym (err_same Invalid fault h), refl, λ authority time c o. absurd (omega (arith, c.1)))
-    says [] (Some time) fault h = inr (time, sym (err_same (OutsideValidity time) fault h), inl refl)
-    says (authority ∷ authorities) last fault h = by (under_of accepts stamp authority) refl h (λ last k. says authorities last fault k)
+    outside_at : (authority : TsaAuthority) → outside_by authority ≡ true → IsOutside accepts token signature authority stamp.time
+    outside_at authority h = by (under_of accepts stamp authority) refl h
       where
-        outside_later : (time : Timestamp) → IsOutsideOne accepts token signature authorities time → IsOutsideOne accepts token signature (authority ∷ authorities) time
-        outside_later time o =
-            record { authority = o.authority; among = among_later authority authorities o.authority o.among; outside = o.outside }
+        by : (r : Judged ⊤) → under_of accepts stamp authority ≡ r → is_outside r ≡ true → IsOutside accepts token signature authority stamp.time
+        by (Ok x) is k = cc
+        by (Err e) is k =
+            let w = window_time e k in
+            let o = (outside_exactly accepts token signature authority w.0).0 (refused authority e is ∙ ap Err w.1) in
+            subst (IsOutside accepts token signature authority) (told_time authority w.0 o.is) o
 
-        -- this one refused by its window
-        by_window : (time : Timestamp) → IsOutside accepts token signature authority time → Says authorities (Some time) fault → Says (authority ∷ authorities) last fault
-        by_window time o (inl none) = absurd (some_none time none.1)
-        by_window time o (inr (other, is_so, inl same)) =
-            inr (other, is_so, inr (record { authority = authority; among = among_first authority authorities; outside = subst (IsOutside accepts token signature authority) (some_same time other same) o }))
-        by_window time o (inr (other, is_so, inr later)) = inr (other, is_so, inr (outside_later other later))
+    at_outside : (authority : TsaAuthority) (time : Timestamp) → IsOutside accepts token signature authority time → outside_by authority ≡ true
+    at_outside authority time o = by (under_of accepts stamp authority) refl
+      where
+        by : (r : Judged ⊤) → under_of accepts stamp authority ≡ r → is_outside r ≡ true
+        by (Ok x) is =
+            let k = sym (whole authority ∙ ap (λ r. r >>= λ _. Ok stamp.time) is) ∙ (outside_exactly accepts token signature authority time).1 o in cc
+        by (Err e) is =
+            ap is_of_window (err_same e (refusal.TimestampOutsideValidity time) (sym (refused authority e is) ∙ (outside_exactly accepts token signature authority time).1 o))
 
-        elsewhere : ((time : Timestamp) → IsOutside accepts token signature authority time → ⊥) → IsOutsideNone accepts token signature authorities
-            → (one : TsaAuthority) (time : Timestamp) → (one ≡ authority) ⊎ Contains authorities one → IsOutside accepts token signature one time → ⊥
-        elsewhere never outside one time (inl here) o = never time (subst (λ a. IsOutside accepts token signature a time) here o)
-        elsewhere never outside one time (inr there) o = outside one time there o
+    -- ---- some of them
 
-        -- this one refused otherwise
-        by_other : ((time : Timestamp) → IsOutside accepts token signature authority time → ⊥) → Says authorities last fault → Says (authority ∷ authorities) last fault
-        by_other never (inl (is_so, none, outside)) =
-            inl (is_so, none, λ one time c o. elsewhere never outside one time (where_in authority authorities one c) o)
-        by_other never (inr (time, is_so, inl same)) = inr (time, is_so, inl same)
-        by_other never (inr (time, is_so, inr later)) = inr (time, is_so, inr (outside_later time later))
+    given : (authorities : List TsaAuthority) (time : Timestamp) → under_any_of accepts stamp authorities ≡ Ok time → IsStamped accepts token signature authorities time
+    given authorities time h = by (list_any accepted_by authorities) refl (list_any outside_by authorities) h
+      where
+        by : (a : Bool) → list_any accepted_by authorities ≡ a → (w : Bool) → answered stamp.time a w ≡ Ok time → IsStamped accepts token signature authorities time
+        by true is w k =
+            let one = any_is accepted_by authorities is in
+            record { authority = one.0; among = one.1; stamped = subst (Stamped accepts token signature one.0) (ok_same stamp.time time k) (stamped_by one.0 one.2) }
+        by false is true k = cc
+        by false is false k = cc
 
-        by_kind : (e : Error) → under_of accepts stamp authority ≡ Err e → IsWindow e → under_each_of accepts stamp (last_outside last e) authorities ≡ Err fault
-            → ((last : Option Timestamp) → under_each_of accepts stamp last authorities ≡ Err fault → Says authorities last fault)
-            → Says (authority ∷ authorities) last fault
-        by_kind e judged (inl (time, is_so)) k later =
-            by_window time (outside_of authority time (judged ∙ ap Err is_so))
-            (later (Some time) (subst (λ (e : Error). under_each_of accepts stamp (last_outside last e) authorities ≡ Err fault) is_so k))
-        by_kind e judged (inr (never, kept)) k later =
-            by_other (λ time o. never time (not_outside authority e time judged o))
-            (later last (subst (λ (o : Option Timestamp). under_each_of accepts stamp o authorities ≡ Err fault) (kept last) k))
+    gives : (authorities : List TsaAuthority) (one : TsaAuthority) (time : Timestamp) → Contains authorities one
+        → Stamped accepts token signature one time → under_any_of accepts stamp authorities ≡ Ok stamp.time
+    gives authorities one time c s =
+        ap (λ a. answered stamp.time a (list_any outside_by authorities)) (is_any accepted_by authorities one c (by_stamped one time s))
 
-        by : (r : Judged ⊤) → under_of accepts stamp authority ≡ r → or_later r stamp.time last (λ last. under_each_of accepts stamp last authorities) ≡ Err fault
-            → ((last : Option Timestamp) → under_each_of accepts stamp last authorities ≡ Err fault → Says authorities last fault)
-            → Says (authority ∷ authorities) last fault
-        by (Ok x) judged k later = cc
-        by (Err e) judged k later = by_kind e judged (is_window e) k later
+    -- where none accepts
+    says : (authorities : List TsaAuthority) (fault : TokenFault) → IsUnstamped accepts token signature authorities → under_any_of accepts stamp authorities ≡ Err fault
+        → TokenMeans accepts token signature authorities fault
+    says authorities fault u h = by (list_any accepted_by authorities) (list_any outside_by authorities) refl h
+      where
+        by : (a w : Bool) → list_any outside_by authorities ≡ w → answered stamp.time a w ≡ Err fault → TokenMeans accepts token signature authorities fault
+        by true w is k = cc
+        by false true is k =
+            let one = any_is outside_by authorities is in
+            subst (TokenMeans accepts token signature authorities) (err_same (OutsideValidity stamp.time) fault k)
+            (u, record { authority = one.0; among = one.1; outside = outside_at one.0 one.2 })
+        by false false is k =
+            subst (TokenMeans accepts token signature authorities) (err_same Invalid fault k)
+            (u, λ authority time among o. let j = sym (is_any outside_by authorities authority among (at_outside authority time o)) ∙ is in cc)
 
   -- ---- the whole
 
   module _ (authorities : List TsaAuthority) where
     abbrev whole_of : Judged Stamp → Result Timestamp TokenFault
-    whole_of r = each_or_invalid accepts authorities r
+    whole_of r = any_or_invalid accepts authorities r
 
     one_given : (r : Judged Stamp) → stamp_of token signature ≡ r → (time : Timestamp) → whole_of r ≡ Ok time → IsStamped accepts token signature authorities time
-    one_given (Ok stamp) is time h = given stamp is authorities None time h
+    one_given (Ok stamp) is time h = given stamp is authorities time h
     one_given (Err e) is time h = cc
 
     unread : (e : Error) → stamp_of token signature ≡ Err e → (authority : TsaAuthority) → stamped_of accepts token signature authority ≡ Err e
@@ -184,8 +184,8 @@ module _ (accepts : Judge) (token signature : List ℕ) where
 
     one_gives : (r : Judged Stamp) → stamp_of token signature ≡ r → (time : Timestamp) → IsStamped accepts token signature authorities time → whole_of r ≡ Ok time
     one_gives (Ok stamp) is time s =
-        let g = gives stamp is authorities None s.authority time s.among s.stamped in
-        let other = given stamp is authorities None stamp.time g in
+        let g = gives stamp is authorities s.authority time s.among s.stamped in
+        let other = given stamp is authorities stamp.time g in
         g ∙ ap Ok (one_time other.authority s.authority stamp.time time other.stamped.is s.stamped.is)
     one_gives (Err e) is time s =
         let k = sym (unread e is s.authority) ∙ (stamped_exactly accepts token signature s.authority time).1 s.stamped in cc
@@ -194,14 +194,8 @@ module _ (accepts : Judge) (token signature : List ℕ) where
     unstamped r is fault h authority time among stamped =
         let k = sym h ∙ one_gives r is time (record { authority = authority; among = among; stamped = stamped }) in cc
 
-    by_says : (stamp : Stamp) (is : stamp_of token signature ≡ Ok stamp) (fault : TokenFault) → IsUnstamped accepts token signature authorities
-        → Says stamp is authorities None fault → TokenMeans accepts token signature authorities fault
-    by_says stamp is fault u (inl (is_so, none, outside)) = subst (TokenMeans accepts token signature authorities) (sym is_so) (u, outside)
-    by_says stamp is fault u (inr (time, is_so, inl same)) = absurd (none_some time same)
-    by_says stamp is fault u (inr (time, is_so, inr outside)) = subst (TokenMeans accepts token signature authorities) (sym is_so) (u, outside)
-
     refused_so : (r : Judged Stamp) → stamp_of token signature ≡ r → (fault : TokenFault) → whole_of r ≡ Err fault → TokenMeans accepts token signature authorities fault
-    refused_so (Ok stamp) is fault h = by_says stamp is fault (unstamped (Ok stamp) is fault h) (says stamp is authorities None fault h)
+    refused_so (Ok stamp) is fault h = says stamp is authorities fault (unstamped (Ok stamp) is fault h) h
     refused_so (Err e) is fault h =
         subst (TokenMeans accepts token signature authorities) (err_same Invalid fault h) (
           unstamped (Err e) is fault h,

@@ -1,5 +1,6 @@
--- A token under the authorities of a trust file, in their order.
-use Rattle.std.specs.Prelude.{◌≡◌, ◌↔◌, ℕ, List, [], ◌∷◌, Contains, Option, Some, None, Result, Ok, Err, ⊤}
+-- A token under the authorities of a trust file, whatever their order.
+use Rattle.std.specs.Prelude.{◌≡◌, ◌↔◌, ℕ, List, Contains, Bool, true, false, if◌then◌else◌, Result, Ok, Err, ⊤}
+use Rattle.std.specs.List.{list_any}
 use Rattle.jiff_core.specs.declared.timestamp.Timestamp.{Timestamp}
 use Rattle.sigstore_types.specs.declared.authority.TsaAuthority.{TsaAuthority}
 use Rattle.sigstore_crypto_parts.specs.Good.{Judge}
@@ -12,34 +13,39 @@ use Rattle.sigstore_tsa.specs.declared.stamp.Stamp.{Stamp}
 use Rattle.sigstore_tsa.specs.Stamp.{stamp_of}
 use Rattle.sigstore_tsa.specs.Stamped.{under_of, Stamped, IsOutside}
 
--- ---- as the code goes through them
+-- ---- the answer
 
--- the time at which the last of them refused by its window alone, after one that refused
-abbrev pub last_outside : Option Timestamp → Error → Option Timestamp
-last_outside last (TimestampOutsideValidity time) = Some time
-last_outside last e = last
+abbrev pub is_accepted : Judged ⊤ → Bool
+is_accepted (Ok x) = true
+is_accepted (Err e) = false
 
-abbrev pub fault_by : Option Timestamp → TokenFault
-fault_by None = Invalid
-fault_by (Some time) = OutsideValidity time
+abbrev pub is_of_window : Error → Bool
+is_of_window (TimestampOutsideValidity time) = true
+is_of_window e = false
 
-abbrev pub or_later : Judged ⊤ → Timestamp → Option Timestamp → (Option Timestamp → Result Timestamp TokenFault) → Result Timestamp TokenFault
-or_later (Ok x) time last later = Ok time
-or_later (Err e) time last later = later (last_outside last e)
+abbrev pub is_outside : Judged ⊤ → Bool
+is_outside (Ok x) = false
+is_outside (Err e) = is_of_window e
 
--- the first authority that accepts gives the time; where none does, the refusal is of a window where one refused by it alone
-abbrev pub under_each_of : Judge → Stamp → Option Timestamp → List TsaAuthority → Result Timestamp TokenFault
-under_each_of accepts stamp last [] = Err (fault_by last)
-under_each_of accepts stamp last (authority ∷ authorities) =
-    or_later (under_of accepts stamp authority) stamp.time last (λ last. under_each_of accepts stamp last authorities)
+-- by whether some authority accepts, and by whether some refuses by its window alone
+abbrev pub answered : Timestamp → Bool → Bool → Result Timestamp TokenFault
+answered time accepted outside = if accepted then Ok time else if outside then Err (OutsideValidity time) else Err Invalid
 
-abbrev pub each_or_invalid : Judge → List TsaAuthority → Judged Stamp → Result Timestamp TokenFault
-each_or_invalid accepts authorities (Ok stamp) = under_each_of accepts stamp None authorities
-each_or_invalid accepts authorities (Err e) = Err Invalid
+-- Some authority accepts: then the token's time; else the refusal is of a window where one refuses by it alone. A token tells one time, so
+-- that it doesn't matter which of them does.
+abbrev pub under_any_of : Judge → Stamp → List TsaAuthority → Result Timestamp TokenFault
+under_any_of accepts stamp authorities =
+    answered stamp.time
+    (list_any (λ authority. is_accepted (under_of accepts stamp authority)) authorities)
+    (list_any (λ authority. is_outside (under_of accepts stamp authority)) authorities)
+
+abbrev pub any_or_invalid : Judge → List TsaAuthority → Judged Stamp → Result Timestamp TokenFault
+any_or_invalid accepts authorities (Ok stamp) = under_any_of accepts stamp authorities
+any_or_invalid accepts authorities (Err e) = Err Invalid
 
 -- the time that a token tells of a signature under these authorities
 unfoldable pub token_time_of : Judge → List ℕ → List ℕ → List TsaAuthority → Result Timestamp TokenFault
-token_time_of accepts token signature authorities = each_or_invalid accepts authorities (stamp_of token signature)
+token_time_of accepts token signature authorities = any_or_invalid accepts authorities (stamp_of token signature)
 
 -- ---- told without any order
 

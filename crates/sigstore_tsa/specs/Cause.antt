@@ -22,7 +22,8 @@ use Rattle.sigstore_tsa_parts.specs.declared.content.TokenContent.{TokenContent}
 use Rattle.sigstore_tsa_parts.specs.declared.error.CertificateFault.{CertificateFault}
 use Rattle.sigstore_tsa_parts.specs.declared.error.CertificateFault.TheVariants as fault
 use Rattle.sigstore_tsa_parts.specs.declared.error.Error.{Error}
-use Rattle.sigstore_tsa_parts.specs.declared.error.Error.TheVariants.{SignatureVerificationError, HashMismatch, NoTstInfo, CertificateValidationError, Parse, TimestampOutsideValidity}
+use Rattle.sigstore_tsa_parts.specs.declared.error.Error.TheVariants.{SignatureVerificationError, HashMismatch, NoTstInfo, CertificateValidationError}
+use Rattle.sigstore_tsa_parts.specs.declared.error.Error.TheVariants.{Parse, TimestampOutsideValidity}
 use Rattle.sigstore_tsa_parts.specs.declared.error.ParseRule.{ParseRule}
 use Rattle.sigstore_tsa_parts.specs.declared.error.ParseRule.TheVariants as parse
 use Rattle.sigstore_tsa_parts.specs.declared.error.SignatureRule.{SignatureRule}

@@ -1,6 +1,6 @@
 // A token under the authorities of a trust file.
-ghost use Rattle.std.specs.Prelude.{◌≡◌, ◌≢◌, Ok, Err, IfOk, IfErr};
-ghost use Rattle.sigstore_tsa.specs.Authorities.{last_outside, fault_by, under_each_of, token_time_of};
+ghost use Rattle.std.specs.Prelude.{◌≡◌, ◌≢◌, false, Ok, Err, IfOk, IfErr};
+ghost use Rattle.sigstore_tsa.specs.Authorities.{is_of_window, answered, under_any_of, token_time_of};
 ghost use Rattle.sigstore_tsa.specs.declared.authorities.TokenFault.TheVariants as faults;
 
 use crate::stamp::{Stamp, read_stamp};
@@ -23,46 +23,46 @@ pub enum TokenFault {
     NoMemory,
 }
 
-fn last_outside(last: Option<Timestamp>, fault: &Error) -> Option<Timestamp>
-    ensures { result ≡ last_outside last fault.now }
+fn is_of_window(fault: &Error) -> bool
+    ensures { result ≡ is_of_window fault.now }
 {
-    match fault {
-        Error::TimestampOutsideValidity { time } => Some(*time),
-        _ => last,
+    matches!(fault, Error::TimestampOutsideValidity { .. })
+}
+
+// The refusal of a token that no authority accepts.
+fn refused(time: Timestamp, is_outside: bool) -> TokenFault
+    ensures { answered time false is_outside ≡ Err result }
+{
+    if is_outside {
+        TokenFault::OutsideValidity { time }
+    } else {
+        TokenFault::Invalid
     }
 }
 
-fn fault_by(last: Option<Timestamp>) -> TokenFault
-    ensures { result ≡ fault_by last }
-{
-    match last {
-        None => TokenFault::Invalid,
-        Some(time) => TokenFault::OutsideValidity { time },
-    }
-}
-
-fn under_each<C: CryptoProvider>(
+#[tactic(auto, using(crate::proofs::Any::one_refuses, crate::proofs::Any::one_accepts))]
+fn under_any<C: CryptoProvider>(
     alloc: Global,
     provider: &C,
     stamp: &Stamp,
     authorities: &[TsaAuthority],
 ) -> Result<Timestamp, TokenFault>
-    ensures ok { IfOk result (λ time. under_each_of (C.accepts provider.now) stamp.now None authorities.now ≡ Ok time) }
-    ensures err { IfErr result (λ e. e ≢ faults.NoMemory → under_each_of (C.accepts provider.now) stamp.now None authorities.now ≡ Err e) }
+    ensures ok { IfOk result (λ time. under_any_of (C.accepts provider.now) stamp.now authorities.now ≡ Ok time) }
+    ensures err { IfErr result (λ e. e ≢ faults.NoMemory → under_any_of (C.accepts provider.now) stamp.now authorities.now ≡ Err e) }
 {
-    let mut last = None;
+    let mut is_outside = false;
     'authorities: for authority in authorities {
         match judge_stamp(alloc, provider, stamp, authority) {
             Ok(()) => return Ok(stamp.time),
             Err(Error::NoMemory) => return Err(TokenFault::NoMemory),
-            Err(fault) => last = last_outside(last, &fault),
+            Err(fault) => is_outside = is_outside || is_of_window(&fault),
         }
     }
-    Err(fault_by(last))
+    Err(refused(stamp.time, is_outside))
 }
 
 /// The time of a signature by a token, under authorities that are trusted (RFC 3161): the token is read once, and
-/// the first authority that accepts it gives the time. Errors: `OutsideValidity` where none accepts it and one
+/// its time is given where an authority accepts it; the others are not asked then. Errors: `OutsideValidity` where none accepts it and one
 /// refuses it by its window alone, `Invalid` where none accepts it otherwise.
 #[tactic(auto, unfolding(crate::specs::Authorities::token_time_of))]
 pub fn token_time<C: CryptoProvider>(
@@ -80,7 +80,7 @@ pub fn token_time<C: CryptoProvider>(
         Err(Error::NoMemory) => return Err(TokenFault::NoMemory),
         Err(_) => return Err(TokenFault::Invalid),
     };
-    let time = under_each(alloc, provider, &stamp, authorities);
+    let time = under_any(alloc, provider, &stamp, authorities);
     drop(stamp);
     time
 }

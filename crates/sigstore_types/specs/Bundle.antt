@@ -22,8 +22,10 @@ use Rattle.sigstore_types.specs.declared.material.Hint.{Hint}
 use Rattle.sigstore_types.specs.declared.material.TokenList.{TokenList}
 use Rattle.sigstore_types.specs.declared.material.Tokens.{Tokens}
 use Rattle.sigstore_entries.specs.declared.entry.TransparencyLogEntry.{TransparencyLogEntry}
-use Rattle.sigstore_entries.specs.Entry.{required, optional, text, bytes, list, entry_of}
-use Rattle.sigstore_types.specs.Members.{absent, each_held, json}
+use Rattle.sigstore_entries.specs.Entry.{json, required, optional, text, bytes, list, entry_of}
+use Rattle.sigstore_envelopes.specs.Envelope.{envelope_of}
+use Rattle.sigstore_envelopes.specs.declared.envelope.DsseEnvelope.{DsseEnvelope}
+use Rattle.sigstore_types.specs.Members.{absent, each_held}
 
 abbrev pub is_media_type : List ℕ → Bool
 is_media_type name =
@@ -99,16 +101,18 @@ message_signature_of d = do
   signature ← required bytes m.Signature d
   Ok (record { message_digest = message_digest; signature = signature })
 
--- exactly one of a message signature and an envelope; none is a misreading of the whole bundle
-abbrev pub message_content_of : Option MessageSignature → Result SignatureContent TypesError
-message_content_of (Some message) = Ok (content.MessageSignature message)
-message_content_of None = Err e.Json
+-- exactly one of a message signature and an envelope; none or both are a misreading of the whole bundle
+abbrev pub one_content_of : Option MessageSignature → Option DsseEnvelope → Result SignatureContent TypesError
+one_content_of (Some message) None = Ok (content.MessageSignature message)
+one_content_of None (Some envelope) = Ok (content.DsseEnvelope envelope)
+one_content_of (Some message) (Some envelope) = Err e.Json
+one_content_of None None = Err e.Json
 
 unfoldable pub content_of : Data → Result SignatureContent TypesError
 content_of d = do
   message ← optional message_signature_of m.MessageSignature d
-  _ ← absent form.Envelope m.DsseEnvelope d
-  message_content_of message
+  envelope ← optional envelope_of m.DsseEnvelope d
+  one_content_of message envelope
 
 unfoldable pub bundle_of : Data → Result Bundle TypesError
 bundle_of d = do

@@ -1,13 +1,11 @@
--- Readers of members whose other forms aren't built, and of the JSON text itself.
+-- Readers of members whose other forms aren't built, and octets that objects hold in base64.
 use Rattle.std.specs.Prelude.{ℕ, List, Result, Ok, Err, ⊤}
 use Rattle.serde_json.specs.Data.{Data}
 use Rattle.foundation.specs.Steps.{◌>>=◌}
-use Rattle.sigstore_types_parts.specs.Parse.{parsed_of}
-use Rattle.sigstore_types_parts.specs.Error.{types_of, types_of_fault}
+use Rattle.sigstore_types_parts.specs.Error.{types_of}
 use Rattle.sigstore_types_parts.specs.Read as read
 use Rattle.sigstore_types_parts.specs.declared.form.Form.{Form}
 use Rattle.sigstore_types_parts.specs.declared.member.TypesMember.{TypesMember}
-use Rattle.sigstore_types_parts.specs.declared.parse.JsonFault.{JsonFault}
 use Rattle.sigstore_types_parts.specs.declared.error.TypesError.{TypesError}
 use Rattle.sigstore_types_parts.specs.declared.error.TypesError.TheVariants.{Unbuilt}
 use Rattle.sigstore_entries.specs.Entry.{required, optional, bytes}
@@ -27,12 +25,3 @@ held_of m d = required bytes m d
 -- those of each object of a list
 abbrev pub each_held : TypesMember → Data → Result (List (List ℕ)) TypesError
 each_held m d = read.sequence_of types_of (held_of m) d
-
--- a fault of the JSON text as a refusal
-abbrev pub faulted : Result Data JsonFault → Result Data TypesError
-faulted (Ok d) = Ok d
-faulted (Err fault) = Err (types_of_fault fault)
-
--- the JSON value of bytes: Json, then Float
-abbrev pub json : List ℕ → Result Data TypesError
-json bytes = faulted (parsed_of bytes)

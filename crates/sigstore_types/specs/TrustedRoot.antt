@@ -18,8 +18,8 @@ use Rattle.sigstore_types.specs.declared.trusted_root.KeyOfLog.{KeyOfLog}
 use Rattle.sigstore_types.specs.declared.trusted_root.TrustedLog.{TrustedLog}
 use Rattle.sigstore_types.specs.declared.trusted_root.TrustedRoot.{TrustedRoot}
 use Rattle.sigstore_types.specs.declared.valid_for.ValidFor.{ValidFor}
-use Rattle.sigstore_entries.specs.Entry.{required, optional, bytes, list, log_id_of}
-use Rattle.sigstore_types.specs.Members.{each_held, json}
+use Rattle.sigstore_entries.specs.Entry.{json, required, optional, bytes, list, log_id_of}
+use Rattle.sigstore_types.specs.Members.{each_held}
 
 -- ---- spans of time
 

@@ -6,10 +6,9 @@ ghost use Rattle.sigstore_types.specs.Bundle.{is_media_type, media_type_of, bund
 
 use crate::content::{SignatureContent, read_content};
 use crate::material::VerificationMaterial;
-use crate::members::json;
 use foundation::{Duplicate, NoMemory};
 use serde_json::Value;
-use sigstore_entries::TransparencyLogEntry;
+use sigstore_entries::{TransparencyLogEntry, json};
 use sigstore_types_parts::{FromValue, Text, TypesError, TypesMember, required};
 use std::alloc::Global;
 

@@ -1,14 +1,14 @@
-// What a bundle signs: a message by its digest.
+// What a bundle signs: a message by its digest, or an envelope.
 ghost use Rattle.std.specs.Prelude.{◌≡◌, ◌≢◌, Ok, Err, IfOk, IfErr};
 ghost use Rattle.serde_json.specs.View.{view};
-ghost use Rattle.sigstore_types.specs.Bundle.{algorithm_of, message_digest_of, message_signature_of, content_of};
+ghost use Rattle.sigstore_types.specs.Bundle.{algorithm_of, message_digest_of, message_signature_of, one_content_of, content_of};
 
-use crate::members::absent;
 use foundation::{Duplicate, NoMemory};
 use serde_json::Value;
+use sigstore_envelopes::DsseEnvelope;
 use sigstore_types_parts::{
-    DigestBytes, Form, FromValue, HashAlgorithm, SignatureBytes, Text, TypesError, TypesMember,
-    optional, required,
+    DigestBytes, FromValue, HashAlgorithm, SignatureBytes, Text, TypesError, TypesMember, optional,
+    required,
 };
 use std::alloc::Global;
 
@@ -16,6 +16,7 @@ use std::alloc::Global;
 #[derive(Debug, PartialEq, Drop)]
 pub enum SignatureContent {
     MessageSignature(MessageSignature),
+    DsseEnvelope(DsseEnvelope),
 }
 
 /// A signature over a message, with the message's digest where the bundle tells it.
@@ -37,6 +38,9 @@ impl Duplicate for SignatureContent {
         match self {
             SignatureContent::MessageSignature(message) => {
                 Ok(SignatureContent::MessageSignature(message.duplicate(alloc)?))
+            }
+            SignatureContent::DsseEnvelope(envelope) => {
+                Ok(SignatureContent::DsseEnvelope(envelope.duplicate(alloc)?))
             }
         }
     }
@@ -98,6 +102,20 @@ impl FromValue<TypesError> for MessageSignature {
     }
 }
 
+// The only one of two contents.
+fn one_content(
+    message: Option<MessageSignature>,
+    envelope: Option<DsseEnvelope>,
+) -> Result<SignatureContent, TypesError>
+    ensures { result ≡ one_content_of message envelope }
+{
+    match (message, envelope) {
+        (Some(message), None) => Ok(SignatureContent::MessageSignature(message)),
+        (None, Some(envelope)) => Ok(SignatureContent::DsseEnvelope(envelope)),
+        _ => Err(TypesError::Json),
+    }
+}
+
 // Exactly one of a message signature and an envelope.
 #[tactic(auto, unfolding(crate::specs::Bundle::content_of))]
 pub(crate) fn read_content(alloc: Global, value: &Value) -> Result<SignatureContent, TypesError>
@@ -105,9 +123,6 @@ pub(crate) fn read_content(alloc: Global, value: &Value) -> Result<SignatureCont
     ensures err { IfErr result (λ e. e ≢ TypesError.NoMemory → content_of (view value.now) ≡ Err e) }
 {
     let message = optional(alloc, value, TypesMember::MessageSignature)?;
-    absent(value, TypesMember::DsseEnvelope, Form::Envelope)?;
-    match message {
-        Some(message) => Ok(SignatureContent::MessageSignature(message)),
-        None => Err(TypesError::Json),
-    }
+    let envelope = optional(alloc, value, TypesMember::DsseEnvelope)?;
+    Ok(one_content(message, envelope)?)
 }

@@ -1,5 +1,5 @@
-//! The bundle and the trust file of Sigstore, read from JSON, and the names of `sigstore_types_parts` and
-//! `sigstore_entries`.
+//! The bundle and the trust file of Sigstore, read from JSON, and the names of `sigstore_types_parts`,
+//! `sigstore_entries` and `sigstore_envelopes`.
 #![tactic(auto)]
 
 mod authority;
@@ -18,6 +18,9 @@ pub use material::{VerificationMaterial, VerificationMaterialContent};
 pub use sigstore_entries::{
     Checkpoint, CheckpointData, CheckpointSignature, InclusionProof, KindVersion, LogId, LogIndex,
     TransparencyLogEntry, checkpoints_are_parted, envelopes_are_kept, list, promise_payload,
+};
+pub use sigstore_envelopes::{
+    DsseEnvelope, DsseSignature, KeyId, Statement, Subject, encodings_are_distinct,
 };
 pub use sigstore_types_parts::{
     Armor, Artifact, ArtifactDigest, ByteString, Bytes, Calls, CanonicalBody, CanonicalizedBody,

@@ -4,11 +4,10 @@ ghost use Rattle.serde_json.specs.View.{view};
 ghost use Rattle.sigstore_types.specs.TrustedRoot.{log_of, key_of_log, trusted_root_of, trusted_root_of_bytes, each_stamping};
 
 use crate::authority::{Authority, TsaAuthority};
-use crate::members::json;
 use crate::valid_for::{ValidFor, window};
 use foundation::{Duplicate, NoMemory, Sequence};
 use serde_json::Value;
-use sigstore_entries::{LogId, list};
+use sigstore_entries::{LogId, json, list};
 use sigstore_types_parts::{
     DerPublicKey, FromValue, TimeRange, TypesError, TypesMember, optional, required,
 };

@@ -3,7 +3,5 @@
 /// A form that isn't built yet; each is refused under number 90 where it arises.
 #[derive(Clone, Copy, Debug, PartialEq, Eq, Drop)]
 pub enum Form {
-    Binding,
-    Envelope,
     Certificate,
 }

@@ -93,8 +93,15 @@ const CONTENTS: &str = r#" => Json
 ,"messageSignature":{"messageDigest":{"algorithm":"SHA2_256"}} => Field { member: Digest }
 ,"messageSignature":{"messageDigest":{"algorithm":"SHA2_256","digest":"?"},"signature":0} => Base64
 ,"messageSignature":{"messageDigest":{"algorithm":"SHA2_256","digest":"AQ=="}} => Field { member: Signature }
-,"dsseEnvelope":{} => Unbuilt(Envelope)
-,"messageSignature":{"signature":"AQ=="},"dsseEnvelope":0 => Unbuilt(Envelope)
+,"messageSignature":null,"dsseEnvelope":null => Json
+,"dsseEnvelope":{} => Field { member: Payload }
+,"dsseEnvelope":{"payload":"A"} => Base64
+,"dsseEnvelope":{"payload":"","payloadType":"t","signatures":[]} => Field { member: Signatures }
+,"dsseEnvelope":{"payload":"","payloadType":"t","signatures":[{"sig":"AQ=="}]} => Ok
+,"messageSignature":null,"dsseEnvelope":{"payload":"","payloadType":"t","signatures":[{"sig":"AQ=="}]} => Ok
+,"messageSignature":{"signature":"AQ=="},"dsseEnvelope":{"payload":"","payloadType":"t","signatures":[{"sig":"AQ=="}]} => Json
+,"messageSignature":{"signature":"AQ=="},"dsseEnvelope":0 => Field { member: DsseEnvelope }
+,"messageSignature":{"signature":"AQ=="},"dsseEnvelope":{} => Field { member: Payload }
 ,"messageSignature":{},"dsseEnvelope":{} => Field { member: Signature }
 ,"messageSignature":{"signature":"AQ=="},"dsseEnvelope":null => Ok"#;
 
@@ -132,6 +139,14 @@ fn structure<X: AllocGlobal + Abort>(rt: &X, bundle: Bundle, verifies_log: bool)
     printed(rt, answer)
 }
 
+const ENVELOPE: &str =
+    r#"{"mediaType":"application/vnd.dev.sigstore.bundle.v0.3+json","verificationMaterial":{"publicKey":{}},"dsseEnvelope":{"payload":"aGk=","payloadType":"t","signatures":[{"sig":"AQ==","keyid":"k"}]}}"#;
+
+/// A copy of a bundle with an envelope.
+pub fn over_envelope<X: AllocGlobal + Abort>(rt: &X) -> String {
+    shown(rt, copied(rt, read(rt, ENVELOPE)))
+}
+
 /// The structure of the bundle with these entries where the log is verified.
 pub fn entries<X: AllocGlobal + Abort>(rt: &X, given: &str) -> String {
     let text = replaced(rt, ENTRIES, &[("*", given)]);
@@ -155,6 +170,9 @@ const OVER_HELLO: &str =
 no log => Ok(())
 log => Err(NoEntry)"#;
 
+const OVER_ENVELOPE: &str =
+    r#"copy => "application/vnd.dev.sigstore.bundle.v0.3+json" DsseEnvelope(DsseEnvelope { payload_type: "t", payload: [104, 105], signature: DsseSignature { sig: [1], keyid: KeyId { text: "k" } } }) PublicKey { hint: None } 0"#;
+
 #[test]
 fn bundles(rt: HostRuntime) {
     hold(&rt, "bundle", MEDIA_TYPES);
@@ -163,4 +181,5 @@ fn bundles(rt: HostRuntime) {
     hold(&rt, "content", CONTENTS);
     hold(&rt, "structure", STRUCTURES);
     hold(&rt, "over_hello", OVER_HELLO);
+    hold(&rt, "over_envelope", OVER_ENVELOPE);
 }

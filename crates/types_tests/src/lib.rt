@@ -1,5 +1,5 @@
 //! Tests of the values that bundles and trust files are made of, of keys and certificates as texts, of entries
-//! of logs and their checkpoints, of inclusion in Merkle trees, and of bundles.
+//! of logs and their checkpoints, of inclusion in Merkle trees, of envelopes and statements, and of bundles.
 #![tactic(auto)]
 
 #[cfg(test)]
@@ -8,6 +8,8 @@ mod bundles;
 mod checkpoints;
 #[cfg(test)]
 mod entries;
+#[cfg(test)]
+mod envelopes;
 #[cfg(test)]
 mod inclusion_data;
 #[cfg(test)]

@@ -75,7 +75,7 @@ fn error(name: &str) -> TypesError {
         9 => TypesError::NoEntry,
         10 => TypesError::NoProof,
         11 => TypesError::NoMemory,
-        _ => TypesError::Unbuilt(Form::Envelope),
+        _ => TypesError::Unbuilt(Form::Certificate),
     }
 }
 

@@ -2,7 +2,7 @@
 use crate::tables::{
     Change, bytes, change_in, display, failures, good, source, string, text_of, there, words,
 };
-use crate::{delegated, logged, stamped};
+use crate::{delegated, enveloped, logged, stamped};
 use jiff::Timestamp;
 use sigstore_app_parts::{MemoryInputs, MemorySink, Which};
 use sigstore_crypto::{MemorySource, sha256};
@@ -92,6 +92,7 @@ bundle
 bundle of blanks
 material
 content
+enveloped
 signed artifact
 artifact
 repository fails
@@ -279,10 +280,20 @@ fn sign_delegated<X: AllocGlobal + Abort>(rt: &X, change: Change, rows: &mut Str
 
 fn sign_entry<X: AllocGlobal + Abort>(rt: &X, change: Change, rows: &mut String) {
     if logged::is_logged(change) {
-        sign(rt, change, rows, "entry", logged::SIGNED);
+        let signed = logged::signed(rt, change);
+        sign(rt, change, rows, "entry", signed.as_str());
+        drop(signed);
         let payload = logged::payload(rt, change);
         sign(rt, change, rows, "promise", payload.as_str());
         drop(payload);
+    }
+}
+
+fn sign_envelope<X: AllocGlobal + Abort>(rt: &X, change: Change, rows: &mut String) {
+    if change.part == "enveloped" {
+        let encoding = enveloped::encoding(rt, change.text);
+        sign(rt, change, rows, "envelope", encoding.as_str());
+        drop(encoding);
     }
 }
 
@@ -296,6 +307,7 @@ fn provider<X: AllocGlobal + Abort>(rt: &X, change: Change, root: &str, targets:
     sign(rt, change, &mut rows, "targets", targets);
     sign_delegated(rt, change, &mut rows);
     sign_entry(rt, change, &mut rows);
+    sign_envelope(rt, change, &mut rows);
     if is_stamped(change) {
         good(rt, rows.push_str(stamped::ROWS));
     }
@@ -329,11 +341,12 @@ fn blanks<X: AllocGlobal + Abort>(rt: &X, count: &str) -> Bytes {
     Bytes::from_vec(good(rt, vec![in rt.alloc(); b' '; count]))
 }
 
-fn message(change: Change) -> &str {
-    if change.part == "signed artifact" {
-        return EMPTY_MESSAGE;
+fn content<X: AllocGlobal + Abort>(rt: &X, change: Change) -> String {
+    match change.part {
+        "signed artifact" => string(rt, EMPTY_MESSAGE),
+        "enveloped" => enveloped::content(rt, change.text),
+        _ => string(rt, change.of("content", MESSAGE)),
     }
-    change.of("content", MESSAGE)
 }
 
 fn material<X: AllocGlobal + Abort>(rt: &X, change: Change) -> String {
@@ -348,11 +361,12 @@ fn material<X: AllocGlobal + Abort>(rt: &X, change: Change) -> String {
 
 fn made_bundle<X: AllocGlobal + Abort>(rt: &X, change: Change) -> Bytes {
     let material = material(rt, change);
-    let content = message(change);
+    let content = content(rt, change);
     let text = format!(in rt.alloc();
         r#"{{"mediaType":"application/vnd.dev.sigstore.bundle.v0.3+json","verificationMaterial":{{{material}}},{content}}}"#
     );
     drop(material);
+    drop(content);
     Bytes::from_vec(good(rt, text).into_bytes())
 }
 

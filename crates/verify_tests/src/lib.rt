@@ -4,6 +4,8 @@
 #[cfg(test)]
 mod delegated;
 #[cfg(test)]
+mod enveloped;
+#[cfg(test)]
 mod fixture;
 #[cfg(test)]
 mod logged;

@@ -5,7 +5,8 @@ use crate::tables::hold;
 // timestamp's expiry is in time; of each object, the call after the last one that is made fails. A second root
 // is adopted from the repository, and in a later run from the store alone. The trust file is listed by a role
 // that it is delegated to; a role that isn't pinned is passed over, and one that is pinned is told. A token that an authority of the trust file stamped
-// gives its time, in seconds since 1970.
+// gives its time, in seconds since 1970, and so does an entry that the policy asks for. An envelope states the artifact by
+// a digest of either sort.
 const ACCEPTED: &str =
     r#"nothing |  | Accepted "accepted\nroot 1\ntimestamp 1\nsnapshot 1\nrole targets 1\ntarget 2\nartifact sha256 2cf24dba5fb0a30e26e83b2ac5b9e29e1b161e5c1fa7425e73043362938b9824\nidentity none\nissuer none\ncertificate no\nsct no\ntlog no\npolicy no\nintegrated none\ntimes 0\n"
 signed artifact |  | Accepted "accepted\nroot 1\ntimestamp 1\nsnapshot 1\nrole targets 1\ntarget 2\nartifact sha256 e3b0c44298fc1c149afbf4c8996fb92427ae41e4649b934ca495991b7852b855\nidentity none\nissuer none\ncertificate no\nsct no\ntlog no\npolicy no\nintegrated none\ntimes 0\n"
@@ -21,7 +22,13 @@ stamped |  | Accepted "accepted\nroot 1\ntimestamp 1\nsnapshot 1\nrole targets 1
 delegations | "delegations":{"keys":{},"roles":[{"keyids":["k"],"name":"d","paths":["x"],"terminating":false,"threshold":1}]}, | Accepted "accepted\nroot 1\ntimestamp 1\nsnapshot 1\nrole targets 1\ntarget 2\nartifact sha256 2cf24dba5fb0a30e26e83b2ac5b9e29e1b161e5c1fa7425e73043362938b9824\nidentity none\nissuer none\ncertificate no\nsct no\ntlog no\npolicy no\nintegrated none\ntimes 0\n"
 delegated | d | Accepted "accepted\nroot 1\ntimestamp 1\nsnapshot 1\nrole targets 1\nrole d 3\ntarget 2\nartifact sha256 2cf24dba5fb0a30e26e83b2ac5b9e29e1b161e5c1fa7425e73043362938b9824\nidentity none\nissuer none\ncertificate no\nsct no\ntlog no\npolicy no\nintegrated none\ntimes 0\n"
 delegated | u d | Accepted "accepted\nroot 1\ntimestamp 1\nsnapshot 1\nrole targets 1\nrole d 3\ntarget 2\nartifact sha256 2cf24dba5fb0a30e26e83b2ac5b9e29e1b161e5c1fa7425e73043362938b9824\nidentity none\nissuer none\ncertificate no\nsct no\ntlog no\npolicy no\nintegrated none\ntimes 0\n"
-delegated | e d | Accepted "accepted\nroot 1\ntimestamp 1\nsnapshot 1\nrole targets 1\nrole e 1\nrole d 3\ntarget 2\nartifact sha256 2cf24dba5fb0a30e26e83b2ac5b9e29e1b161e5c1fa7425e73043362938b9824\nidentity none\nissuer none\ncertificate no\nsct no\ntlog no\npolicy no\nintegrated none\ntimes 0\n""#;
+delegated | e d | Accepted "accepted\nroot 1\ntimestamp 1\nsnapshot 1\nrole targets 1\nrole e 1\nrole d 3\ntarget 2\nartifact sha256 2cf24dba5fb0a30e26e83b2ac5b9e29e1b161e5c1fa7425e73043362938b9824\nidentity none\nissuer none\ncertificate no\nsct no\ntlog no\npolicy no\nintegrated none\ntimes 0\n"
+logged |  | Accepted "accepted\nroot 1\ntimestamp 1\nsnapshot 1\nrole targets 1\ntarget 230\nartifact sha256 2cf24dba5fb0a30e26e83b2ac5b9e29e1b161e5c1fa7425e73043362938b9824\nidentity none\nissuer none\ncertificate no\nsct no\ntlog yes\npolicy no\nintegrated 1700000100\ntimes 1\ntime 1700000100\n"
+unasked |  | Accepted "accepted\nroot 1\ntimestamp 1\nsnapshot 1\nrole targets 1\ntarget 230\nartifact sha256 2cf24dba5fb0a30e26e83b2ac5b9e29e1b161e5c1fa7425e73043362938b9824\nidentity none\nissuer none\ncertificate no\nsct no\ntlog no\npolicy no\nintegrated none\ntimes 0\n"
+promised time | 1735689600 | Accepted "accepted\nroot 1\ntimestamp 1\nsnapshot 1\nrole targets 1\ntarget 230\nartifact sha256 2cf24dba5fb0a30e26e83b2ac5b9e29e1b161e5c1fa7425e73043362938b9824\nidentity none\nissuer none\ncertificate no\nsct no\ntlog yes\npolicy no\nintegrated 1735689600\ntimes 1\ntime 1735689600\n"
+timeless log id | AQEBAQEBAQEBAQEBAQEBAQEBAQEBAQEBAQEBAQEBAQE= | Accepted "accepted\nroot 1\ntimestamp 1\nsnapshot 1\nrole targets 1\ntarget 230\nartifact sha256 2cf24dba5fb0a30e26e83b2ac5b9e29e1b161e5c1fa7425e73043362938b9824\nidentity none\nissuer none\ncertificate no\nsct no\ntlog yes\npolicy no\nintegrated none\ntimes 0\n"
+enveloped | {"_type":"t","subject":[{"digest":{"sha256":"2cf24dba5fb0a30e26e83b2ac5b9e29e1b161e5c1fa7425e73043362938b9824"}}],"predicateType":"p"} | Accepted "accepted\nroot 1\ntimestamp 1\nsnapshot 1\nrole targets 1\ntarget 2\nartifact sha256 2cf24dba5fb0a30e26e83b2ac5b9e29e1b161e5c1fa7425e73043362938b9824\nidentity none\nissuer none\ncertificate no\nsct no\ntlog no\npolicy no\nintegrated none\ntimes 0\n"
+enveloped | {"_type":"t","subject":[{"digest":{"sha256":"00"}},{"digest":{"sha512":"9B71D224BD62F3785D96D46AD3EA3D73319BFBC2890CAADAE2DFF72519673CA72323C3D99BA5C11D7C7ACC6E14B8C5DA0C4663475C2E5C3ADEF46F73BCDEC043"}}],"predicateType":"p","predicate":{"a":[1]}} | Accepted "accepted\nroot 1\ntimestamp 1\nsnapshot 1\nrole targets 1\ntarget 2\nartifact sha256 2cf24dba5fb0a30e26e83b2ac5b9e29e1b161e5c1fa7425e73043362938b9824\nartifact sha512 9b71d224bd62f3785d96d46ad3ea3d73319bfbc2890caadae2dff72519673ca72323c3d99ba5c11d7c7acc6e14b8c5da0c4663475c2e5c3adef46f73bcdec043\nidentity none\nissuer none\ncertificate no\nsct no\ntlog no\npolicy no\nintegrated none\ntimes 0\n""#;
 
 #[test]
 fn the_fixture_is_accepted(rt: HostRuntime) {
@@ -76,15 +83,21 @@ trust | [ | Refused "refused verify 28 TrustRoot\n"
 trust | {"tlogs":[{}]} | Refused "refused verify 28 TrustRoot\n"
 content | "messageSignature":{"messageDigest":{"algorithm":"SHA2_384","digest":"AQ=="},"signature":"AQ=="} | Refused "refused verify 4 ArtifactMismatch\n"
 content | "messageSignature":{"messageDigest":{"algorithm":"SHA3_256","digest":"AAAAAAAAAAAAAAAAAAAAAAAAAAAAAAAAAAAAAAAAAAA="},"signature":"AQ=="} | Refused "refused verify 26 Crypto\n"
-content | "dsseEnvelope":{"payload":"","payloadType":"t","signatures":[{"sig":"AQ=="}]} | Refused "refused verify 90 Unbuilt\n"
+# An envelope of another type; payloads that are no statement, have no subject, or tell no digest; of another artifact; not signed.
+content | "dsseEnvelope":{"payload":"","payloadType":"t","signatures":[{"sig":"AQ=="}]} | Refused "refused verify 23 UnsupportedBundle\n"
+enveloped | {"_type":"t","subject":[]} | Refused "refused verify 22 InvalidBundle\n"
+enveloped | {"_type":"t","subject":[],"predicateType":"p"} | Refused "refused verify 22 InvalidBundle\n"
+enveloped | {"_type":"t","subject":[{"digest":{"sha1":"00"}}],"predicateType":"p"} | Refused "refused verify 23 UnsupportedBundle\n"
+enveloped | {"_type":"t","subject":[{"digest":{"sha256":"00"}}],"predicateType":"p"} | Refused "refused verify 4 ArtifactMismatch\n"
+content | "dsseEnvelope":{"payload":"eyJfdHlwZSI6InQiLCJzdWJqZWN0IjpbeyJkaWdlc3QiOnsic2hhMjU2IjoiMDAifX1dLCJwcmVkaWNhdGVUeXBlIjoicCJ9","payloadType":"application/vnd.in-toto+json","signatures":[{"sig":"AQ=="}]} | Refused "refused verify 3 SignatureInvalid\n"
 material | "publicKey":{},"timestampVerificationData":{"rfc3161Timestamps":[{"signedTimestamp":"AQ=="}]} | Refused "refused verify 19 TimestampInvalid\n"
 stamped before |  | Refused "refused verify 20 OutsideAuthorityValidity\n"
 material | "publicKey":{},"tlogEntries":[{}] | Refused "refused verify 22 InvalidBundle\n"
 material | "certificate":{"rawBytes":"AQ=="} | Refused "refused verify 90 Unbuilt\n"
-# An entry that is logged isn't compared with the bundle yet. Its time may be now; it has to have a proof that leads
-# to the root, a checkpoint that a log signed which has started, and a promise by that log over its own payload.
-logged |  | Refused "refused verify 90 Unbuilt\n"
-unasked |  | Refused "refused verify 90 Unbuilt\n"
+# An entry of another signature, and one whose body is none. It has to have a proof that leads to the root, a
+# checkpoint that a log signed which has started, and a promise by that log over its own payload.
+logged | another signature | Refused "refused verify 16 EntryMismatch\n"
+logged | empty | Refused "refused verify 18 MalformedEntry\n"
 proof | null | Refused "refused verify 27 Bundle\n"
 root of proof | AgICAgICAgICAgICAgICAgICAgICAgICAgICAgICAgI= | Refused "refused verify 13 InclusionProof\n"
 checkpoint |  | Refused "refused verify 14 Checkpoint\n"
@@ -92,11 +105,9 @@ checkpoint | log\n2\nKKOhj2zWQGsIbp/9ofm4oT289EsPPzLLkDGhH9BTrPk=\n\n— log AQE
 checkpoint | log\n1\nKKOhj2zWQGsIbp/9ofm4oT289EsPPzLLkDGhH9BTrPk=\n\n— log AQEBAgE=\n | Refused "refused verify 14 Checkpoint\n"
 later log |  | Refused "refused verify 14 Checkpoint\n"
 promised body | e31= | Refused "refused verify 15 InclusionPromise\n"
-promised time | 1735689600 | Refused "refused verify 90 Unbuilt\n"
 promised time | 1735689601 | Refused "refused verify 17 IntegratedTime\n"
 log id | AgICAgICAgICAgICAgICAgICAgICAgICAgICAgICAgI= | Refused "refused verify 15 InclusionPromise\n"
 log id | AQEBAQEBAQEBAQEBAQEBAQEBAQEBAQEBAQEBAQEBAQ== | Refused "refused verify 18 MalformedEntry\n"
-timeless log id | AQEBAQEBAQEBAQEBAQEBAQEBAQEBAQEBAQEBAQEBAQE= | Refused "refused verify 90 Unbuilt\n"
 timeless log id | AgICAgICAgICAgICAgICAgICAgICAgICAgICAgICAgI= | Refused "refused verify 12 UnknownLog\n"
 # A bundle one byte longer than the limit, and one of the limit, which isn't JSON.
 bundle of blanks | 16777217 | Input "input bundle\n"

@@ -1,0 +1,4 @@
+pub mod Envelope
+pub mod Encoding
+pub mod Statement
+pub mod Laws

@@ -1,0 +1,4 @@
+pub mod PathFacts
+pub mod PlainTexts
+pub mod ValueTexts
+pub mod ReadAgain

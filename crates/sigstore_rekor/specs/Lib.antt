@@ -1,0 +1,10 @@
+pub mod Refused
+pub mod LogEntry
+pub mod BundleEntry
+pub mod TilePath
+pub mod Validate
+pub mod Answers
+pub mod ApiVersion
+pub mod Written
+pub mod Requests
+pub mod ReadAgain
