@@ -11,14 +11,21 @@ OIDS = {
     "message_digest": "1.2.840.113549.1.9.4",
     "tst_info": "1.2.840.113549.1.9.16.1.4",
     "ecdsa_sha256": "1.2.840.10045.4.3.2",
+    "ecdsa_sha384": "1.2.840.10045.4.3.3",
     "common_name": "2.5.4.3",
     "basic_constraints": "2.5.29.19",
     "name_constraints": "2.5.29.30",
     "key_identifier": "2.5.29.14",
+    "key_usage": "2.5.29.15",
+    "alternative_name": "2.5.29.17",
+    "issuer_key_identifier": "2.5.29.35",
     "extended_usage": "2.5.29.37",
     "time_stamping": "1.3.6.1.5.5.7.3.8",
     "code_signing": "1.3.6.1.5.5.7.3.3",
     "policy": "1.2.3.4.1",
+    "log_timestamps": "1.3.6.1.4.1.11129.2.4.2",
+    "old_issuer": "1.3.6.1.4.1.57264.1.1",
+    "new_issuer": "1.3.6.1.4.1.57264.1.8",
 }
 
 

@@ -1,4 +1,4 @@
-# Completes the words of `ratmanganese` and `verify-real` in bash.
+# Completes the words of `ratmanganese`, `verify-real` and `fetch-repository` in bash.
 _ratmanganese() {
     local word=${COMP_WORDS[COMP_CWORD]} before=${COMP_WORDS[COMP_CWORD - 1]} command names name
     command=${COMP_WORDS[0]##*/}
@@ -25,7 +25,14 @@ _ratmanganese() {
     --*) return ;;
     esac
     names="--root= --repository= --store= --bundle= --artifact= --policy= --now="
-    if [ "$command" = verify-real ]; then
+    if [ "$command" = fetch-repository ]; then
+        names="--root= --seconds= --help"
+        if [[ $word != -* ]]; then
+            mapfile -t COMPREPLY < <(compgen -d -- "$word")
+            compopt -o filenames
+            return
+        fi
+    elif [ "$command" = verify-real ]; then
         names="$names --json --help"
     elif [ "$COMP_CWORD" = 1 ]; then
         mapfile -t COMPREPLY < <(compgen -W "verify questions explain build install version help" -- "$word")
@@ -49,4 +56,4 @@ _ratmanganese() {
     mapfile -t COMPREPLY < <(compgen -W "$names" -- "$word")
     [[ ${COMPREPLY[0]} != *= ]] || compopt -o nospace
 }
-complete -F _ratmanganese ratmanganese verify-real
+complete -F _ratmanganese ratmanganese verify-real fetch-repository

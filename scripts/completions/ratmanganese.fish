@@ -1,4 +1,4 @@
-# Completes the words of `ratmanganese` and `verify-real` in fish.
+# Completes the words of `ratmanganese`, `verify-real` and `fetch-repository` in fish.
 complete -c ratmanganese -f
 complete -c verify-real -f
 complete -c ratmanganese -n __fish_use_subcommand -a verify -d 'Verify over a file of good signatures'
@@ -28,3 +28,8 @@ complete -c verify-real -l policy -r -F -d 'The key, and whether the log is aske
 complete -c verify-real -l now -x -d 'The moment, as 2025-01-01T00:00:00Z'
 complete -c verify-real -l json -d 'The answer as one object of JSON'
 complete -c verify-real -l help -d 'The words'
+complete -c fetch-repository -f
+complete -c fetch-repository -a '(__fish_complete_directories)' -d 'The folder to bring it into'
+complete -c fetch-repository -l root -r -F -d 'The TUF root document that you trust'
+complete -c fetch-repository -l seconds -x -d 'How long the whole may take'
+complete -c fetch-repository -l help -d 'The words'
