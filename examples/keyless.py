@@ -16,6 +16,7 @@ import sys
 
 sys.path.insert(0, str(pathlib.Path(__file__).resolve().parent.parent / "bench"))
 from der import algorithm, extension, integer, name_of, octets, oid, sequence, tlv
+from rows import row
 
 IDENTITIES = {
     "email": "releaser@example.com",
@@ -165,6 +166,7 @@ class CertificateLog:
         self.pair = Pair(secret, "certificate_log", "P-256", "sha256")
         self.signs = self.pair if is_true else Pair(secret, "false_log", "P-256", "sha256")
         self.id = hashlib.sha256(self.pair.spki).digest()
+        self.rows = []
 
     def declared(self):
         key = {"rawBytes": spelled(self.pair.spki), "keyDetails": "PKIX_ECDSA_P256_SHA_256"}
@@ -177,7 +179,9 @@ class CertificateLog:
         when = int(moment.timestamp() * 1000).to_bytes(8, "big")
         # version 1, a certificate's timestamp; the moment; an entry of a precertificate; no extensions
         entry = hashlib.sha256(issuer_spki).digest() + behind_length(3, part)
-        signature = self.signs.sign(b"\0\0" + when + b"\0\1" + entry + behind_length(2, b""))
+        signed = b"\0\0" + when + b"\0\1" + entry + behind_length(2, b"")
+        signature = self.signs.sign(signed)
+        self.rows.append(row(self.signs.spki, signed, signature))
         # SHA-256 and ECDSA (RFC 5246, section 7.4.1.4.1)
         one = b"\0" + self.id + when + behind_length(2, b"") + b"\4\3" + behind_length(2, signature)
         return behind_length(2, behind_length(2, one))

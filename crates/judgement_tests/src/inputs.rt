@@ -104,6 +104,16 @@ fn policy<X: AllocGlobal + Abort>(rt: &X, text: String) -> String {
     debug(rt, answer)
 }
 
+// The policy of a text with a line's last byte behind it that isn't UTF-8.
+fn policy_with_ff<X: AllocGlobal + Abort>(rt: &X, text: String) -> String {
+    let mut bytes = text.into_bytes();
+    good(rt, bytes.push(0xff));
+    good(rt, bytes.push(b'\n'));
+    let answer = read_policy(rt.alloc(), &bytes);
+    drop(bytes);
+    debug(rt, answer)
+}
+
 fn provider<X: AllocGlobal + Abort>(rt: &X, text: String) -> String {
     let answer = read_provider(rt.alloc(), text.as_bytes());
     drop(text);
@@ -119,7 +129,7 @@ fn read<X: AllocGlobal + Abort>(rt: &X, row: &str) -> String {
         "words of questions" => asked_layout(rt, text),
         "more words" => whole_layout(rt, text),
         "policy" => policy(rt, lines_of(rt, text)),
-        "policy of byte ff" => debug(rt, read_policy(rt.alloc(), b"key AQI=\n#\xff\n")),
+        "policy with byte ff" => policy_with_ff(rt, lines_of(rt, text)),
         _ => provider(rt, lines_of(rt, text)),
     }
 }
@@ -145,21 +155,6 @@ words |  | none
 words | verify | none
 words | verify --root=a | none
 words | generate --root=a | none
-policy | key AQI=;skip tlog; | Ok(PolicyFile { key: [1, 2], skip_tlog: true })
-policy | ;# a key;key AQI=; | Ok(PolicyFile { key: [1, 2], skip_tlog: false })
-policy | key ; | Ok(PolicyFile { key: [], skip_tlog: false })
-policy |  | Err(Usage)
-policy | # none; | Err(Usage)
-policy | key AQI= | Err(Usage)
-policy | key AQI; | Err(Usage)
-policy | key; | Err(Usage)
-policy | keyless; | Err(Usage)
-policy | skip tlog;key AQI=; | Err(Usage)
-policy | key AQI=;skip tlog;skip tlog; | Err(Usage)
-policy | key AQI=;key AQI=; | Err(Usage)
-policy | key AQI=\r; | Err(Usage)
-policy | key AQI=; skip tlog; | Err(Usage)
-policy of byte ff |  | Err(Usage)
 provider |  | tables
 provider | # none;; | tables
 provider | accept ECDSA_P256_SHA256 BAA= LPJNul+wow4m6DsqxbninhsWHlwfp0JecwQzYpOLmCQ= AQ==; | tables
@@ -174,6 +169,123 @@ provider | armor key YQ== AQ==;armor certificate YQ== Ag==; | tables
 provider | armor key ZGVyOg== AQ==; | Usage
 provider | armor other YQ== AQ==; | Usage
 provider | refuse; | Usage";
+
+// The same of policy files.
+const POLICIES: &str =
+    "# A key: each line, twice, out of its place, in another spelling, and what only a keyless policy asks.
+policy | key AQI=; | Ok(Key { key: [1, 2], skip_tlog: false })
+policy | key AQI=;skip tlog; | Ok(Key { key: [1, 2], skip_tlog: true })
+policy | ;# a key;key AQI=;# the log;;skip tlog;# the end; | Ok(Key { key: [1, 2], skip_tlog: true })
+policy | key ; | Ok(Key { key: [], skip_tlog: false })
+policy |  | Err(Usage)
+policy | # none; | Err(Usage)
+policy | ; | Err(Usage)
+policy | key AQI= | Err(Usage)
+policy | key AQI; | Err(Usage)
+policy | key; | Err(Usage)
+policy | KEY AQI=; | Err(Usage)
+policy |  key AQI=; | Err(Usage)
+policy | key  AQI=; | Err(Usage)
+policy | key AQI= ; | Err(Usage)
+policy | key AQI=\r; | Err(Usage)
+policy | skip tlog;key AQI=; | Err(Usage)
+policy | skip tlog; | Err(Usage)
+policy | key AQI=;skip tlog;skip tlog; | Err(Usage)
+policy | key AQI=;key AQI=; | Err(Usage)
+policy | key AQI=; skip tlog; | Err(Usage)
+policy | key AQI=;skip tlog ; | Err(Usage)
+policy | key AQI=;skip  tlog; | Err(Usage)
+policy | key AQI=;skip tlog\r; | Err(Usage)
+policy | key AQI=;skip tlog | Err(Usage)
+policy | key AQI=;skip; | Err(Usage)
+policy | key AQI=;skip chain; | Err(Usage)
+policy | key AQI=;skip sct; | Err(Usage)
+policy | key AQI=;skip tlog;skip chain; | Err(Usage)
+policy | key AQI=;identity exact a; | Err(Usage)
+policy | key AQI=;identity email a; | Err(Usage)
+policy | key AQI=;identity uri a; | Err(Usage)
+policy | key AQI=;issuer a; | Err(Usage)
+policy | key AQI=;keyless; | Err(Usage)
+# Keyless: each line once, and all in two orders.
+policy | keyless; | Ok(Keyless(KeylessFile { identity: None, issuer: None, skip_tlog: false, skip_chain: false, skip_sct: false }))
+policy | # who;;keyless; | Ok(Keyless(KeylessFile { identity: None, issuer: None, skip_tlog: false, skip_chain: false, skip_sct: false }))
+policy | keyless;skip tlog; | Ok(Keyless(KeylessFile { identity: None, issuer: None, skip_tlog: true, skip_chain: false, skip_sct: false }))
+policy | keyless;skip chain; | Ok(Keyless(KeylessFile { identity: None, issuer: None, skip_tlog: false, skip_chain: true, skip_sct: false }))
+policy | keyless;skip sct; | Ok(Keyless(KeylessFile { identity: None, issuer: None, skip_tlog: false, skip_chain: false, skip_sct: true }))
+policy | keyless;identity exact a; | Ok(Keyless(KeylessFile { identity: Some(Exact(\"a\")), issuer: None, skip_tlog: false, skip_chain: false, skip_sct: false }))
+policy | keyless;identity email a@b.example; | Ok(Keyless(KeylessFile { identity: Some(Email(\"a@b.example\")), issuer: None, skip_tlog: false, skip_chain: false, skip_sct: false }))
+policy | keyless;identity uri https://a/b#c; | Ok(Keyless(KeylessFile { identity: Some(Uri(\"https://a/b#c\")), issuer: None, skip_tlog: false, skip_chain: false, skip_sct: false }))
+policy | keyless;issuer https://a; | Ok(Keyless(KeylessFile { identity: None, issuer: Some(\"https://a\"), skip_tlog: false, skip_chain: false, skip_sct: false }))
+policy | keyless;identity uri u;issuer i;skip tlog;skip chain;skip sct; | Ok(Keyless(KeylessFile { identity: Some(Uri(\"u\")), issuer: Some(\"i\"), skip_tlog: true, skip_chain: true, skip_sct: true }))
+policy | keyless;skip sct;# between;skip chain;;skip tlog;issuer i;identity email e; | Ok(Keyless(KeylessFile { identity: Some(Email(\"e\")), issuer: Some(\"i\"), skip_tlog: true, skip_chain: true, skip_sct: true }))
+# Blanks and other bytes in a text stay as they are, and its words mean nothing.
+policy | keyless;identity exact Ann Other; | Ok(Keyless(KeylessFile { identity: Some(Exact(\"Ann Other\")), issuer: None, skip_tlog: false, skip_chain: false, skip_sct: false }))
+policy | keyless;identity exact  a ; | Ok(Keyless(KeylessFile { identity: Some(Exact(\" a \")), issuer: None, skip_tlog: false, skip_chain: false, skip_sct: false }))
+policy | keyless;identity exact  ; | Ok(Keyless(KeylessFile { identity: Some(Exact(\" \")), issuer: None, skip_tlog: false, skip_chain: false, skip_sct: false }))
+policy | keyless;identity email uri exact; | Ok(Keyless(KeylessFile { identity: Some(Email(\"uri exact\")), issuer: None, skip_tlog: false, skip_chain: false, skip_sct: false }))
+policy | keyless;identity exact #; | Ok(Keyless(KeylessFile { identity: Some(Exact(\"#\")), issuer: None, skip_tlog: false, skip_chain: false, skip_sct: false }))
+policy | keyless;issuer a b  c; | Ok(Keyless(KeylessFile { identity: None, issuer: Some(\"a b  c\"), skip_tlog: false, skip_chain: false, skip_sct: false }))
+policy | keyless;issuer  ; | Ok(Keyless(KeylessFile { identity: None, issuer: Some(\" \"), skip_tlog: false, skip_chain: false, skip_sct: false }))
+policy | keyless;issuer skip tlog; | Ok(Keyless(KeylessFile { identity: None, issuer: Some(\"skip tlog\"), skip_tlog: false, skip_chain: false, skip_sct: false }))
+policy | keyless;issuer a\r; | Ok(Keyless(KeylessFile { identity: None, issuer: Some(\"a\\r\"), skip_tlog: false, skip_chain: false, skip_sct: false }))
+policy | keyless;issuer \u{e9}; | Ok(Keyless(KeylessFile { identity: None, issuer: Some(\"\u{e9}\"), skip_tlog: false, skip_chain: false, skip_sct: false }))
+# Each line twice, and identities of two sorts.
+policy | keyless;skip tlog;skip tlog; | Err(Usage)
+policy | keyless;skip chain;skip chain; | Err(Usage)
+policy | keyless;skip sct;skip sct; | Err(Usage)
+policy | keyless;issuer a;issuer a; | Err(Usage)
+policy | keyless;issuer a;issuer b; | Err(Usage)
+policy | keyless;identity exact a;identity exact a; | Err(Usage)
+policy | keyless;identity email a;identity email a; | Err(Usage)
+policy | keyless;identity uri a;identity uri a; | Err(Usage)
+policy | keyless;identity exact a;identity email a; | Err(Usage)
+policy | keyless;identity exact a;identity uri a; | Err(Usage)
+policy | keyless;identity email a;identity exact a; | Err(Usage)
+policy | keyless;identity email a;identity uri a; | Err(Usage)
+policy | keyless;identity uri a;identity exact a; | Err(Usage)
+policy | keyless;identity uri a;identity email a; | Err(Usage)
+policy | keyless;keyless; | Err(Usage)
+# Texts that are empty or lacking, sorts and checks that aren't known, and lines out of their place or spelling.
+policy | keyless;issuer ; | Err(Usage)
+policy | keyless;issuer; | Err(Usage)
+policy | keyless;identity exact ; | Err(Usage)
+policy | keyless;identity exact; | Err(Usage)
+policy | keyless;identity email ; | Err(Usage)
+policy | keyless;identity uri ; | Err(Usage)
+policy | keyless;identity ; | Err(Usage)
+policy | keyless;identity; | Err(Usage)
+policy | keyless;identity  exact a; | Err(Usage)
+policy | keyless;identity a; | Err(Usage)
+policy | keyless;identity Exact a; | Err(Usage)
+policy | keyless;identity dns a; | Err(Usage)
+policy | keyless;skip; | Err(Usage)
+policy | keyless;skip ; | Err(Usage)
+policy | keyless;skip log; | Err(Usage)
+policy | keyless;skip tlog ; | Err(Usage)
+policy | keyless;skip sct\r; | Err(Usage)
+policy | keyless;skip tlog chain; | Err(Usage)
+policy | keyless;skip tsa; | Err(Usage)
+policy | keyless;Issuer a; | Err(Usage)
+policy | keyless; issuer a; | Err(Usage)
+policy | keyless;key AQI=; | Err(Usage)
+policy | keyless;a; | Err(Usage)
+policy | keyless ; | Err(Usage)
+policy |  keyless; | Err(Usage)
+policy | keyless a; | Err(Usage)
+policy | keyless\r; | Err(Usage)
+policy | Keyless; | Err(Usage)
+policy | keyless | Err(Usage)
+policy | keyless;issuer a | Err(Usage)
+policy | keyless;skip sct | Err(Usage)
+policy | issuer a;keyless; | Err(Usage)
+policy | skip sct;keyless; | Err(Usage)
+policy | identity exact a;keyless; | Err(Usage)
+policy | identity exact a; | Err(Usage)
+policy | issuer a; | Err(Usage)
+# A byte that isn't UTF-8.
+policy with byte ff | key AQI=;# | Err(Usage)
+policy with byte ff | keyless;issuer  | Err(Usage)
+policy with byte ff | keyless;identity exact a | Err(Usage)";
 
 const PROVIDER: &str =
     "accept ECDSA_P256_SHA256 BAA= LPJNul+wow4m6DsqxbninhsWHlwfp0JecwQzYpOLmCQ= AQ==
@@ -398,6 +510,7 @@ decimal | "> 0""#;
 fn parts_of_the_program(rt: HostRuntime) {
     hold(&rt, "fault", NAMES);
     hold(&rt, "reading", READINGS);
+    hold(&rt, "reading", POLICIES);
     hold(&rt, "table", TABLES);
     hold(&rt, "sink", TAKEN);
     hold(&rt, "line", LINES);

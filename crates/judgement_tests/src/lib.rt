@@ -1,12 +1,22 @@
-//! Tests of trust files, of the verifier, and of the parts of the program.
+//! Tests of trust files, of the verifier, of signing certificates, and of the parts of the program.
 #![tactic(auto)]
 
+#[cfg(test)]
+mod certificates;
 #[cfg(test)]
 mod data;
 #[cfg(test)]
 mod files;
 #[cfg(test)]
 mod inputs;
+#[cfg(test)]
+mod keyless;
+#[cfg(test)]
+mod keyless_data;
+#[cfg(test)]
+mod keyless_rows;
+#[cfg(test)]
+mod policies;
 #[cfg(test)]
 mod stamped;
 #[cfg(test)]

@@ -7,10 +7,12 @@ use crate::tables::{
 };
 use foundation::{Duplicate, NoMemory, Sequence};
 use jiff::Timestamp;
-use sigstore_crypto::{CryptoProvider, ReadError, SigningScheme, sha256, sha384, sha512};
+use sigstore_crypto::{
+    CryptoProvider, ReadError, SigningScheme, SubjectAltName, sha256, sha384, sha512,
+};
 use sigstore_judgement::*;
 use sigstore_types::{
-    Armor, Artifact, ArtifactDigest, Bundle, Bytes, DerPublicKey, DigestBytes, Form, HashAlgorithm,
+    Armor, Artifact, ArtifactDigest, Bundle, Bytes, DerPublicKey, DigestBytes, HashAlgorithm,
     MessageDigest, MessageSignature, SignatureBytes, SignatureContent, Text, TrustedRoot,
     VerificationMaterial, VerificationMaterialContent,
 };
@@ -101,7 +103,7 @@ fn certificate(number: u8) -> CertificateError {
             time,
             not_after: time,
         },
-        _ => CertificateError::Sct,
+        _ => CertificateError::Sct(SctRule::NotOne),
     }
 }
 
@@ -141,8 +143,7 @@ fn plain(number: u8) -> Error {
         28 => Error::TrustRoot,
         29 => Error::TrustedCertificate,
         30 => Error::ArtifactRead(ReadError::Failed),
-        31 => Error::NoMemory,
-        _ => Error::Unbuilt(Form::Certificate),
+        _ => Error::NoMemory,
     }
 }
 
@@ -151,8 +152,8 @@ fn sample<X: AllocGlobal + Abort>(rt: &X, given: &str) -> Error {
     let number = good(rt, given.parse::<u8>());
     match number {
         1 => Error::IdentityMismatch {
-            expected: text(rt, "a"),
-            actual: None,
+            expected: IdentityMatcher::Email(text(rt, "a")),
+            actual: Some(SubjectAltName::Uri(text(rt, "a"))),
         },
         2 => Error::IssuerMismatch {
             expected: text(rt, "a"),
@@ -219,8 +220,7 @@ const REFUSALS: &str = "1 | 1 IdentityMismatch IdentityMismatch
 28 | 28 TrustRoot TrustRoot
 29 | 29 TrustedCertificate TrustedCertificate
 30 | 30 ArtifactRead ArtifactRead
-31 | 31 NoMemory NoMemory
-90 | 90 Unbuilt Unbuilt";
+31 | 31 NoMemory NoMemory";
 
 // An Ed25519 key of 32 zero bytes (RFC 8410).
 const ED25519: &str = "MCowBQYDK2VwAyEAAAAAAAAAAAAAAAAAAAAAAAAAAAAAAAAAAAAAAAAAAAA=";

@@ -1,7 +1,7 @@
 //! A caller of `sigstore_judgement`.
 use jiff::Timestamp;
 use sigstore_crypto::CryptoProvider;
-use sigstore_judgement::{Error, PublicKeyVerificationPolicy, VerificationResult, Verifier};
+use sigstore_judgement::{Error, Policy, VerificationResult, Verifier};
 use sigstore_types::{Bundle, TrustedRoot};
 use sigstore_types_parts::{Armor, Artifact, TypesError};
 use std::alloc::Global;
@@ -20,11 +20,11 @@ pub fn verifier_of<'p, C: CryptoProvider, M: Armor>(
     }
 }
 
-/// Judges a bundle over an artifact that is in memory.
-pub fn check_release<C: CryptoProvider, M: Armor>(
+/// Judges a bundle over an artifact that is in memory, under a key or under a policy for certificates.
+pub fn check_release<C: CryptoProvider, M: Armor, P: Policy>(
     alloc: Global,
     verifier: &Verifier<'_, C, M>,
-    policy: &PublicKeyVerificationPolicy,
+    policy: &P,
     bundle: &[u8],
     artifact: &[u8],
     now: Timestamp,

@@ -1,6 +1,7 @@
 //! Callers of the libraries, as somebody writes them who takes one library alone. docs/LIBRARIES.md shows them.
 #![tactic(auto)]
 
+pub mod certificate;
 pub mod crypto;
 pub mod der;
 pub mod judgement;

@@ -1,8 +1,14 @@
-//! Tests of the questions of a run, and of runs over a stored world with real signatures.
+//! Tests of the questions of a run, and of runs over stored worlds with real signatures.
 #![tactic(auto)]
 
 #[cfg(test)]
+mod answered;
+#[cfg(test)]
+mod choices;
+#[cfg(test)]
 mod notes;
+#[cfg(test)]
+mod rounds;
 #[cfg(test)]
 mod runs;
 #[cfg(test)]

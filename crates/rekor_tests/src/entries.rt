@@ -217,7 +217,8 @@ const DIGESTS: &str = r#"p256 => (true, "<payload.digest>", "<encoding>", 138)"#
 const ENVELOPE: &str =
     r#"{"payload":"<payload>","payloadType":"application/vnd.in-toto+json","signatures":[{"sig":"<.envelope>"}]}"#;
 
-fn entry<X: AllocGlobal + Abort>(rt: &X, given: &str, key: &str) -> TransparencyLogEntry {
+/// An entry without a time, of the kind, the version and the body that a row tells for a key.
+pub fn entry<X: AllocGlobal + Abort>(rt: &X, given: &str, key: &str) -> TransparencyLogEntry {
     let (kind, rest) = halves(rt, given, " ");
     let (version, rest) = halves(rt, rest, " ");
     let kind_version = good(rt, KindVersion::named(kind, version));
@@ -239,11 +240,11 @@ fn entry<X: AllocGlobal + Abort>(rt: &X, given: &str, key: &str) -> Transparency
 
 fn told<X: AllocGlobal + Abort>(
     rt: &X,
-    key: &DerPublicKey,
+    who: SignedBy<'_>,
     signed: Signed<'_>,
     entry: &TransparencyLogEntry,
 ) -> String {
-    match describe_entry(rt.alloc(), &PemArmor, SignedBy::Key(key), signed, entry) {
+    match describe_entry(rt.alloc(), &PemArmor, who, signed, entry) {
         Ok(()) => string(rt, "accepted"),
         Err(refusal) => printed(rt, refusal),
     }
@@ -275,53 +276,75 @@ pub fn envelope_of<X: AllocGlobal + Abort>(rt: &X, name: &str) -> DsseEnvelope {
     good(rt, envelope)
 }
 
-fn of_message<X: AllocGlobal + Abort>(rt: &X, name: &str, entry: &TransparencyLogEntry) -> String {
-    let (key, signature, digest) = (key_of(rt, name), signature_of(rt, name), digest(rt));
+fn of_message<X: AllocGlobal + Abort>(
+    rt: &X,
+    who: SignedBy<'_>,
+    name: &str,
+    entry: &TransparencyLogEntry,
+) -> String {
+    let (signature, digest) = (signature_of(rt, name), digest(rt));
     let signed = Signed::Message {
         digest: Some(digest.as_bytes()),
         signature: &signature,
     };
-    let answer = told(rt, &key, signed, entry);
-    drop((key, signature, digest));
+    let answer = told(rt, who, signed, entry);
+    drop((signature, digest));
     answer
 }
 
 fn of_undigested<X: AllocGlobal + Abort>(
     rt: &X,
+    who: SignedBy<'_>,
     name: &str,
     entry: &TransparencyLogEntry,
 ) -> String {
-    let (key, signature) = (key_of(rt, name), signature_of(rt, name));
+    let signature = signature_of(rt, name);
     let signed = Signed::Message {
         digest: None,
         signature: &signature,
     };
-    let answer = told(rt, &key, signed, entry);
-    drop((key, signature));
+    let answer = told(rt, who, signed, entry);
+    drop(signature);
     answer
 }
 
-fn of_envelope<X: AllocGlobal + Abort>(rt: &X, name: &str, entry: &TransparencyLogEntry) -> String {
-    let (key, envelope) = (key_of(rt, name), envelope_of(rt, name));
+fn of_envelope<X: AllocGlobal + Abort>(
+    rt: &X,
+    who: SignedBy<'_>,
+    name: &str,
+    entry: &TransparencyLogEntry,
+) -> String {
+    let envelope = envelope_of(rt, name);
     let hashed = good(rt, HashedEnvelope::new(rt.alloc(), &envelope));
-    let answer = told(rt, &key, Signed::Envelope(&hashed), entry);
+    let answer = told(rt, who, Signed::Envelope(&hashed), entry);
     drop(hashed);
-    drop((key, envelope));
+    drop(envelope);
     answer
 }
 
-/// Whether an entry is of a signature.
+/// Whether an entry is of somebody's signature: the one that a name made over what this word says.
+pub fn described_by<X: AllocGlobal + Abort>(
+    rt: &X,
+    who: SignedBy<'_>,
+    name: &str,
+    what: &str,
+    entry: &TransparencyLogEntry,
+) -> String {
+    match place(what, "message undigested envelope") {
+        0 => of_message(rt, who, name, entry),
+        1 => of_undigested(rt, who, name, entry),
+        2 => of_envelope(rt, who, name, entry),
+        _ => string(rt, "nothing signed"),
+    }
+}
+
+/// Whether an entry is of a signature by a key.
 pub fn described<X: AllocGlobal + Abort>(rt: &X, given: &str) -> String {
     let (name, rest) = halves(rt, given, " ");
     let (what, rest) = halves(rt, rest, " ");
-    let entry = entry(rt, rest, name);
-    let answer = match place(what, "message undigested envelope") {
-        0 => of_message(rt, name, &entry),
-        1 => of_undigested(rt, name, &entry),
-        2 => of_envelope(rt, name, &entry),
-        _ => string(rt, "nothing signed"),
-    };
-    drop(entry);
+    let (entry, key) = (entry(rt, rest, name), key_of(rt, name));
+    let answer = described_by(rt, SignedBy::Key(&key), name, what, &entry);
+    drop((entry, key));
     answer
 }
 

@@ -8,6 +8,8 @@ mod bodies;
 #[cfg(test)]
 mod bodies_data;
 #[cfg(test)]
+mod certified;
+#[cfg(test)]
 mod data;
 #[cfg(test)]
 mod entries;

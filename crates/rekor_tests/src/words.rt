@@ -1,7 +1,7 @@
 // How tables of rows are tried, and what the marks of texts mean. A call is found by its place in a list of names.
 use crate::bodies_data::BODIES;
 use crate::data::PARTS;
-use crate::{answers, bodies, entries, ids, requests};
+use crate::{answers, bodies, certified, entries, ids, requests};
 use foundation::Duplicate;
 use sigstore_rekor_parts::{Error, ResponseRule};
 use std::fmt::{Debug, Display};
@@ -33,7 +33,7 @@ fn check<X: Abort>(rt: &X, row: &str, wanted: &str, found: String) {
 
 const CALLS: &str = "\
 read parsed octets armored described digests id hash refusal \
-path request answer value of_bundle search checkpoint tile bundle valid second";
+path request answer value of_bundle search checkpoint tile bundle valid second signed";
 
 fn answer<X: AllocGlobal + Abort>(rt: &X, call: &str, given: &str) -> String {
     match place(call, CALLS) {
@@ -57,6 +57,7 @@ fn answer<X: AllocGlobal + Abort>(rt: &X, call: &str, given: &str) -> String {
         17 => answers::bundle(rt, given),
         18 => answers::valid(rt, given),
         19 => answers::second_answered(rt, given),
+        20 => certified::signed(rt, given),
         _ => string(rt, "no call"),
     }
 }

@@ -33,7 +33,7 @@ pub use lines::{ByLine, take_file};
 pub use memory_inputs::MemoryInputs;
 pub use memory_sink::MemorySink;
 pub use named::{moment_at, named_words, text_at};
-pub use policy::{PolicyFile, read_policy};
+pub use policy::{IdentityLine, KeylessFile, PolicyFile, read_policy};
 pub use printed::{
     push_answer_line, push_decimal, push_hex_line, push_line, push_named_line, push_number_line,
     push_pair_line, push_printed, push_refused_line, push_text_line,

@@ -1,18 +1,43 @@
 // The policy file.
 ghost use Rattle.std.specs.Prelude.{◌≡◌, ◌≢◌, Ok, Err, IfOk, IfErr, OnOk, None};
-ghost use Rattle.sigstore_app_parts.specs.Policy.{key_line_of, waiver_line_of, policy_line_of, policy_of};
+ghost use Rattle.sigstore_app_parts.specs.Policy.{key_line_of, first_line_of, waived_of, key_waiver_of, rest_of, identity_as, identity_of, once};
+ghost use Rattle.sigstore_app_parts.specs.Policy.{keyless_waiver_of, keyless_line_of, later_line_of, policy_line_of, policy_of};
 
 use crate::fields::spelled;
 use crate::lines::{ByLine, cut, take_file};
 use crate::usage_fault::UsageFault;
-use sigstore_types_parts::{ByteString, DerPublicKey};
+use sigstore_types_parts::{ByteString, DerPublicKey, Text};
 use std::alloc::Global;
 
-/// A policy: the key under which the bundle is judged, and whether the log is passed over.
+/// The name in the certificate of whoever signed.
 #[derive(Debug, PartialEq, Drop)]
-pub struct PolicyFile {
-    pub key: DerPublicKey,
+pub enum IdentityLine {
+    /// A name of any sort.
+    Exact(Text),
+    /// An e-mail address.
+    Email(Text),
+    /// A URI.
+    Uri(Text),
+}
+
+/// A policy for a signer with a certificate: the name in it, who vouched for the name, and what is
+/// passed over: the log, the certificate's chain, its timestamps.
+#[derive(Debug, PartialEq, Drop)]
+pub struct KeylessFile {
+    pub identity: Option<IdentityLine>,
+    pub issuer: Option<Text>,
     pub skip_tlog: bool,
+    pub skip_chain: bool,
+    pub skip_sct: bool,
+}
+
+/// A policy: who signs.
+#[derive(Debug, PartialEq, Drop)]
+pub enum PolicyFile {
+    /// Whoever has the key; and whether the log is passed over.
+    Key { key: DerPublicKey, skip_tlog: bool },
+    /// Whoever has a certificate of that name.
+    Keyless(KeylessFile),
 }
 
 fn key_line(alloc: Global, line: &str) -> Result<PolicyFile, UsageFault>
@@ -21,7 +46,7 @@ fn key_line(alloc: Global, line: &str) -> Result<PolicyFile, UsageFault>
 {
     match cut(line, ' ') {
         Some(("key", text)) => match spelled(alloc, text) {
-            Ok(key) => Ok(PolicyFile {
+            Ok(key) => Ok(PolicyFile::Key {
                 key: ByteString::new(key),
                 skip_tlog: false,
             }),
@@ -31,15 +56,145 @@ fn key_line(alloc: Global, line: &str) -> Result<PolicyFile, UsageFault>
     }
 }
 
-fn waiver_line(policy: &mut PolicyFile, line: &str) -> Result<(), UsageFault>
-    ensures ok { OnOk result (waiver_line_of policy.old line.now ≡ Ok policy.new) }
-    ensures err { IfErr result (λ e. waiver_line_of policy.old line.now ≡ Err e) }
+fn first_line(alloc: Global, line: &str) -> Result<PolicyFile, UsageFault>
+    ensures ok { IfOk result (λ p. first_line_of line.now ≡ Ok p) }
+    ensures err { IfErr result (λ e. e ≢ UsageFault.NoMemory → first_line_of line.now ≡ Err e) }
 {
-    if policy.skip_tlog || line != "skip tlog" {
+    if line == "keyless" {
+        return Ok(PolicyFile::Keyless(KeylessFile {
+            identity: None,
+            issuer: None,
+            skip_tlog: false,
+            skip_chain: false,
+            skip_sct: false,
+        }));
+    }
+    match key_line(alloc, line) {
+        Ok(policy) => Ok(policy),
+        Err(e) => Err(e),
+    }
+}
+
+// A line that stands twice is a mistake of whoever made the file, and what was meant in its place is lost.
+fn waive(waived: &mut bool) -> Result<(), UsageFault>
+    ensures ok { OnOk result (waived_of waived.old ≡ Ok waived.new) }
+    ensures err { IfErr result (λ e. waived_of waived.old ≡ Err e) }
+{
+    if *waived {
         return Err(UsageFault::Usage);
     }
-    policy.skip_tlog = true;
+    *waived = true;
     Ok(())
+}
+
+// Under a key no certificate is judged: a line about one would look as if something had come of it.
+fn key_waiver(skip_tlog: &mut bool, line: &str) -> Result<(), UsageFault>
+    ensures ok { OnOk result (key_waiver_of skip_tlog.old line.now ≡ Ok skip_tlog.new) }
+    ensures err { IfErr result (λ e. key_waiver_of skip_tlog.old line.now ≡ Err e) }
+{
+    if line != "skip tlog" {
+        return Err(UsageFault::Usage);
+    }
+    match waive(skip_tlog) {
+        Ok(()) => Ok(()),
+        Err(e) => Err(e),
+    }
+}
+
+// The rest of a line. An empty one is a value that was lost while the file was made, and it would name nobody.
+fn rest(alloc: Global, text: &str) -> Result<Text, UsageFault>
+    ensures ok { IfOk result (λ t. rest_of text.now ≡ Ok t) }
+    ensures err { IfErr result (λ e. e ≢ UsageFault.NoMemory → rest_of text.now ≡ Err e) }
+{
+    if text.is_empty() {
+        return Err(UsageFault::Usage);
+    }
+    Ok(Text::new(alloc, text)?)
+}
+
+fn identity_as(sort: &str, text: Text) -> Result<IdentityLine, UsageFault>
+    ensures { result ≡ identity_as sort.now text }
+{
+    match sort {
+        "exact" => Ok(IdentityLine::Exact(text)),
+        "email" => Ok(IdentityLine::Email(text)),
+        "uri" => Ok(IdentityLine::Uri(text)),
+        _ => Err(UsageFault::Usage),
+    }
+}
+
+fn identity(alloc: Global, text: &str) -> Result<IdentityLine, UsageFault>
+    ensures ok { IfOk result (λ i. identity_of text.now ≡ Ok i) }
+    ensures err { IfErr result (λ e. e ≢ UsageFault.NoMemory → identity_of text.now ≡ Err e) }
+{
+    match cut(text, ' ') {
+        Some((sort, text)) => Ok(identity_as(sort, rest(alloc, text)?)?),
+        None => Err(UsageFault::Usage),
+    }
+}
+
+// Of two names whoever reads the file may overlook the one that somebody else put there.
+fn name_identity(
+    alloc: Global,
+    named: &mut Option<IdentityLine>,
+    text: &str,
+) -> Result<(), UsageFault>
+    ensures ok { OnOk result (once named.old (identity_of text.now) ≡ Ok named.new) }
+    ensures err { IfErr result (λ e. e ≢ UsageFault.NoMemory → once named.old (identity_of text.now) ≡ Err e) }
+{
+    if named.is_some() {
+        return Err(UsageFault::Usage);
+    }
+    *named = Some(identity(alloc, text)?);
+    Ok(())
+}
+
+// The same of issuers.
+fn name_issuer(alloc: Global, issuer: &mut Option<Text>, text: &str) -> Result<(), UsageFault>
+    ensures ok { OnOk result (once issuer.old (rest_of text.now) ≡ Ok issuer.new) }
+    ensures err { IfErr result (λ e. e ≢ UsageFault.NoMemory → once issuer.old (rest_of text.now) ≡ Err e) }
+{
+    if issuer.is_some() {
+        return Err(UsageFault::Usage);
+    }
+    *issuer = Some(rest(alloc, text)?);
+    Ok(())
+}
+
+impl KeylessFile {
+    fn take_waiver(&mut self, check: &str) -> Result<(), UsageFault>
+        ensures ok { OnOk result (keyless_waiver_of self.old check.now ≡ Ok self.new) }
+        ensures err { IfErr result (λ e. keyless_waiver_of self.old check.now ≡ Err e) }
+    {
+        match check {
+            "tlog" => waive(&mut self.skip_tlog),
+            "chain" => waive(&mut self.skip_chain),
+            "sct" => waive(&mut self.skip_sct),
+            _ => Err(UsageFault::Usage),
+        }
+    }
+
+    fn take_line(&mut self, alloc: Global, line: &str) -> Result<(), UsageFault>
+        ensures ok { OnOk result (keyless_line_of self.old line.now ≡ Ok self.new) }
+        ensures err { IfErr result (λ e. e ≢ UsageFault.NoMemory → keyless_line_of self.old line.now ≡ Err e) }
+    {
+        match cut(line, ' ') {
+            Some(("skip", check)) => self.take_waiver(check),
+            Some(("identity", text)) => name_identity(alloc, &mut self.identity, text),
+            Some(("issuer", text)) => name_issuer(alloc, &mut self.issuer, text),
+            _ => Err(UsageFault::Usage),
+        }
+    }
+}
+
+fn later_line(alloc: Global, policy: &mut PolicyFile, line: &str) -> Result<(), UsageFault>
+    ensures ok { OnOk result (later_line_of policy.old line.now ≡ Ok policy.new) }
+    ensures err { IfErr result (λ e. e ≢ UsageFault.NoMemory → later_line_of policy.old line.now ≡ Err e) }
+{
+    match policy {
+        PolicyFile::Key { skip_tlog, .. } => key_waiver(skip_tlog, line),
+        PolicyFile::Keyless(file) => file.take_line(alloc, line),
+    }
 }
 
 impl ByLine for Option<PolicyFile> {
@@ -47,11 +202,11 @@ impl ByLine for Option<PolicyFile> {
 
     fn take(&mut self, alloc: Global, line: &str) -> Result<(), UsageFault> {
         match self {
-            Some(policy) => match waiver_line(policy, line) {
+            Some(policy) => match later_line(alloc, policy, line) {
                 Ok(()) => Ok(()),
                 Err(e) => Err(e),
             },
-            None => match key_line(alloc, line) {
+            None => match first_line(alloc, line) {
                 Ok(policy) => {
                     *self = Some(policy);
                     Ok(())
@@ -62,7 +217,9 @@ impl ByLine for Option<PolicyFile> {
     }
 }
 
-/// The policy of a file: `key BASE64`, then at most once `skip tlog`. Errors: `Usage` for every other file; `NoMemory`.
+/// The policy of a file: `key BASE64` and at most once `skip tlog`; or `keyless`, and in any order, each at
+/// most once, `skip tlog`, `skip chain`, `skip sct`, `issuer TEXT`, and one of `identity exact TEXT`,
+/// `identity email TEXT` and `identity uri TEXT`. Errors: `Usage` for every other file; `NoMemory`.
 #[tactic(auto, unfolding(crate::specs::Policy::policy_of))]
 pub fn read_policy(alloc: Global, bytes: &[u8]) -> Result<PolicyFile, UsageFault>
     ensures ok { IfOk result (λ p. policy_of bytes.now ≡ Ok p) }

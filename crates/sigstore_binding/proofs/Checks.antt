@@ -1,9 +1,9 @@
 -- What passes, and what fails, of a list of checks.
-use Rattle.std.proofs.Common.{◌≡◌, ◌⊎◌, inl, inr, ℕ, zero, suc, List, [], ◌∷◌, Bool, true, false, Option, Some, None, Result, Ok, Err, refl, sym, ap, ◌∙◌, subst, arith}
+use Rattle.std.proofs.Common.{◌≡◌, inl, inr, ℕ, suc, List, [], ◌∷◌, Bool, true, false, Option, Some, None, Result, Ok, Err, refl, sym, ap, ◌∙◌, arith}
 use Rattle.std.specs.Prelude.{⊤, Contains}
 use Rattle.std.proofs.lemmas.Slice.Eq.{bytes_eq-Decides}
 use Rattle.foundation.specs.Steps.{◌>>=◌}
-use Rattle.foundation.specs.Results.{step_ok, ok_same, err_same}
+use Rattle.foundation.specs.Results.{step_ok, err_same}
 use Rattle.sigstore_binding.specs.declared.error.BindingError.{BindingError}
 use Rattle.sigstore_binding.specs.Checks.{Check, Same, Holds, is_own, holds_or, check_of, checks_of, Passes, AllPass, Fails}
 

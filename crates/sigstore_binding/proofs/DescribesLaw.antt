@@ -1,5 +1,5 @@
 -- An entry is of a signature exactly where it describes it.
-use Rattle.std.proofs.Common.{◌≡◌, Bool, true, false, Result, Ok, Err, refl, ap, ◌∙◌}
+use Rattle.std.proofs.Common.{◌≡◌, Result, Ok, Err, ap, ◌∙◌}
 use Rattle.std.specs.Prelude.{⊤}
 use Rattle.foundation.specs.Steps.{◌>>=◌}
 use Rattle.foundation.specs.Results.{step_ok}
@@ -21,7 +21,7 @@ read_so (Err e) body h = cc
 
 module _ (readings : Readings) (who : Signatory) (signed : Signed) (entry : TransparencyLogEntry) where
   abbrev after_body : RekorEntryBody → Result ⊤ BindingError
-  after_body body = checks_of (row_of readings who signed body)
+  after_body body = checks_of (row_of readings who signed entry.integrated_time body)
 
   abbrev after_row : ⊤ → Result ⊤ BindingError
   after_row u = or_malformed (body_of entry.kind_version entry.canonicalized_body) >>= after_body
@@ -35,7 +35,7 @@ module _ (readings : Readings) (who : Signatory) (signed : Signed) (entry : Tran
         body = b.0;
         read = read_so (body_of entry.kind_version entry.canonicalized_body) b.0 b.1;
         row = holds_there Unsupported (has_row signed entry.kind_version) a.0 a.1;
-        same = all_pass (row_of readings who signed b.0) tt b.2;
+        same = all_pass (row_of readings who signed entry.integrated_time b.0) tt b.2;
       }
 
   accepts : Describes readings who signed entry → describes_of readings who signed entry ≡ Ok tt
@@ -43,7 +43,7 @@ module _ (readings : Readings) (who : Signatory) (signed : Signed) (entry : Tran
   accepts d =
       ap (λ b. holds_or Unsupported b >>= after_row) d.row
       ∙ ap (λ r. or_malformed r >>= after_body) d.read
-      ∙ pass_all (row_of readings who signed d.body) d.same
+      ∙ pass_all (row_of readings who signed entry.integrated_time d.body) d.same
 
 pub describes_exactly : DescribesExactly
 describes_exactly readings who signed entry = (means readings who signed entry, accepts readings who signed entry)

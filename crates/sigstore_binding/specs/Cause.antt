@@ -17,7 +17,7 @@ pub data BindingCause (readings : Readings) (who : Signatory) (signed : Signed) 
   body_unread : (e : RekorError) → body_of entry.kind_version entry.canonicalized_body ≡ Err e → fault ≡ MalformedEntry
       → BindingCause readings who signed entry fault
   another : (body : RekorEntryBody) → body_of entry.kind_version entry.canonicalized_body ≡ Ok body → (check : Check)
-      → Contains (row_of readings who signed body) check → Fails fault check → BindingCause readings who signed entry fault
+      → Contains (row_of readings who signed entry.integrated_time body) check → Fails fault check → BindingCause readings who signed entry fault
 
 -- each refusal has its cause
 abbrev pub RefusalsHaveCauses : Type 0

@@ -1,5 +1,5 @@
 -- When an entry is of a signature: the function that gives the first refusal, and the relation without an order.
-use Rattle.std.specs.Prelude.{◌≡◌, ◌↔◌, true, Result, Ok, Err, ⊤}
+use Rattle.std.specs.Prelude.{◌≡◌, ◌↔◌, true, Result, Ok, ⊤}
 use Rattle.foundation.specs.Steps.{◌>>=◌}
 use Rattle.sigstore_entries.specs.declared.entry.TransparencyLogEntry.{TransparencyLogEntry}
 use Rattle.sigstore_rekor_parts.specs.Body.{body_of}
@@ -15,14 +15,14 @@ unfoldable pub describes_of : Readings → Signatory → Signed → Transparency
 describes_of readings who signed entry = do
   _ ← holds_or Unsupported (has_row signed entry.kind_version)
   body ← or_malformed (body_of entry.kind_version entry.canonicalized_body)
-  checks_of (row_of readings who signed body)
+  checks_of (row_of readings who signed entry.integrated_time body)
 
 -- the body is read, and everything that its row names is this signature's
 pub record Describes (readings : Readings) (who : Signatory) (signed : Signed) (entry : TransparencyLogEntry) : Type 0 where
   pub body : RekorEntryBody
   pub read : body_of entry.kind_version entry.canonicalized_body ≡ Ok body
   pub row : has_row signed entry.kind_version ≡ true
-  pub same : AllPass (row_of readings who signed body)
+  pub same : AllPass (row_of readings who signed entry.integrated_time body)
 
 -- an entry is of a signature exactly where it describes it
 abbrev pub DescribesExactly : Type 0

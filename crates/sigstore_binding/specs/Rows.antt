@@ -1,7 +1,6 @@
 -- The table of what is compared, by what was signed and the kind of the entry (Rekor, "pluggable types").
-use Rattle.std.specs.Prelude.{ℕ, List, [], ◌∷◌, Bool, true, false, Option, Some, None, Result, Ok, Err, ok_or, option_copied}
+use Rattle.std.specs.Prelude.{ℕ, ℤ, List, [], ◌∷◌, Bool, true, false, Option, Some, Result, Ok, Err, ok_or, option_copied}
 use Rattle.std.specs.Result.{result_ok}
-use Rattle.foundation.specs.Steps.{◌>>=◌}
 use Rattle.base64.specs.Engines.{standard}
 use Rattle.base64.specs.GeneralPurpose.{decode_of}
 use Rattle.hex.specs.Hex as hex
@@ -9,6 +8,8 @@ use Rattle.sha2.specs.Sha256.{sha256}
 use Rattle.sigstore_types_parts.specs.HashAlgorithm.{same_algorithm}
 use Rattle.sigstore_types_parts.specs.Encoded.{sized_of, hex_of}
 use Rattle.sigstore_types_parts.specs.Error.{types_of}
+use Rattle.sigstore_types_parts.specs.Instant.{at_second}
+use Rattle.sigstore_types_parts.specs.TimeRange.{contains}
 use Rattle.sigstore_types_parts.specs.declared.error.TypesError.{TypesError}
 use Rattle.sigstore_types_parts.specs.declared.hash_algorithm.HashAlgorithm.{HashAlgorithm}
 use Rattle.sigstore_types_parts.specs.declared.hash_algorithm.HashAlgorithm.TheVariants.{Sha2256}
@@ -25,11 +26,11 @@ use Rattle.sigstore_rekor_parts.specs.declared.dsse_v001.DsseV001Signature.{Dsse
 use Rattle.sigstore_rekor_parts.specs.declared.intoto_v002.IntotoV002Body.{IntotoV002Body}
 use Rattle.sigstore_rekor_parts.specs.declared.intoto_v002.IntotoSignature.{IntotoSignature}
 use Rattle.sigstore_binding.specs.declared.error.BindingError.{BindingError}
-use Rattle.sigstore_binding.specs.declared.error.BindingError.TheVariants.{Unsupported, MalformedEntry, ArtifactMismatch, EntryMismatch}
+use Rattle.sigstore_binding.specs.declared.error.BindingError.TheVariants.{Unsupported, MalformedEntry, ArtifactMismatch, EntryMismatch, IntegratedTime}
 use Rattle.sigstore_binding.specs.declared.signed.Signed.{Signed as Given}
 use Rattle.sigstore_binding.specs.declared.signed.Signed.TheVariants as given
 use Rattle.sigstore_binding.specs.Checks.{Check, Same, Holds}
-use Rattle.sigstore_binding.specs.Verifier.{Readings, Signatory, armored_check, raw_check, certified_check}
+use Rattle.sigstore_binding.specs.Verifier.{Readings, Signatory, Certificate, armored_check, raw_check, certified_check, enveloped_check}
 
 -- What was signed: a message, of which the SHA-256 value is told where it can be had, with its signature; or an envelope.
 pub data Signed : Type 0 where
@@ -74,6 +75,11 @@ abbrev pub of_sole : {A : Type 0} → (A → Check) → Result A BindingError �
 of_sole check (Ok x) = check x
 of_sole check (Err e) = Holds false e
 
+-- a certificate's window has the time, where the entry has one: its two ends belong to it; a key has no window
+abbrev pub is_within : Signatory → Option ℤ → Bool
+is_within (Certificate certificate key validity) (Some second) = contains validity (at_second second)
+is_within who time = true
+
 -- ---- what is compared in each kind
 
 -- the digest is by SHA-256 (else another algorithm's value would be taken for one)
@@ -84,12 +90,18 @@ by_sha256 algorithm = Holds (same_algorithm algorithm Sha2256) Unsupported
 abbrev pub signature_check : List ℕ → List ℕ → Check
 signature_check logged signature = Same (Ok logged) (Some signature) EntryMismatch
 
--- what is signed, by its SHA-256 value; whose algorithm the entry names isn't looked at
-abbrev pub hashed_rekord_v001 : Readings → Signatory → Option (List ℕ) → List ℕ → HashedRekordV001Body → List Check
-hashed_rekord_v001 readings who digest signature body =
+-- it was logged within the certificate's window (else an entry could be logged after the certificate ended, by whoever found its key then)
+abbrev pub window_check : Signatory → Option ℤ → Check
+window_check who time = Holds (is_within who time) IntegratedTime
+
+-- what is signed, by its SHA-256 value; whose algorithm the entry names isn't looked at. Behind it the time at which it was logged, whether
+-- it's promised or not
+abbrev pub hashed_rekord_v001 : Readings → Signatory → Option (List ℕ) → List ℕ → Option ℤ → HashedRekordV001Body → List Check
+hashed_rekord_v001 readings who digest signature time body =
     Same (hex_sha256_of body.spec.data_.hash.value) digest ArtifactMismatch
     ∷ armored_check readings who body.spec.signature.public_key.content
     ∷ signature_check body.spec.signature.content signature
+    ∷ window_check who time
     ∷ []
 
 abbrev pub hashed_rekord_v002 : Signatory → Option (List ℕ) → List ℕ → HashedRekordV002Body → List Check
@@ -109,7 +121,7 @@ dsse_v001 readings who envelope body =
     by_sha256 body.spec.payload_hash.algorithm
     ∷ Same (Ok body.spec.payload_hash.value) (Some (hex.encode_lower (sha256 envelope.payload))) EntryMismatch
     ∷ of_sole (λ (s : DsseV001Signature). signature_check s.signature envelope.signature.sig) one
-    ∷ of_sole (λ (s : DsseV001Signature). certified_check readings who s.verifier) one
+    ∷ of_sole (λ (s : DsseV001Signature). enveloped_check readings who s.verifier) one
     ∷ []
 
 abbrev pub intoto_v002 : Readings → Signatory → DsseEnvelope → IntotoV002Body → List Check
@@ -134,11 +146,11 @@ has_row (Envelope envelope) kind.DsseV001 = true
 has_row (Envelope envelope) kind.IntotoV002 = true
 has_row signed other = false
 
--- what is compared of a body
-abbrev pub row_of : Readings → Signatory → Signed → RekorEntryBody → List Check
-row_of readings who (Message digest signature) (body.HashedRekordV001 b) = hashed_rekord_v001 readings who digest signature b
-row_of readings who (Message digest signature) (body.HashedRekordV002 b) = hashed_rekord_v002 who digest signature b
-row_of readings who (Envelope e) (body.HashedRekordV002 b) = hashed_rekord_v002 who (Some (sha256 (encoding_of e))) e.signature.sig b
-row_of readings who (Envelope e) (body.DsseV001 b) = dsse_v001 readings who e b
-row_of readings who (Envelope e) (body.IntotoV002 b) = intoto_v002 readings who e b
-row_of readings who signed other = Holds false Unsupported ∷ []
+-- what is compared of a body, and of the time at which it was logged
+abbrev pub row_of : Readings → Signatory → Signed → Option ℤ → RekorEntryBody → List Check
+row_of readings who (Message digest signature) time (body.HashedRekordV001 b) = hashed_rekord_v001 readings who digest signature time b
+row_of readings who (Message digest signature) time (body.HashedRekordV002 b) = hashed_rekord_v002 who digest signature b
+row_of readings who (Envelope e) time (body.HashedRekordV002 b) = hashed_rekord_v002 who (Some (sha256 (encoding_of e))) e.signature.sig b
+row_of readings who (Envelope e) time (body.DsseV001 b) = dsse_v001 readings who e b
+row_of readings who (Envelope e) time (body.IntotoV002 b) = intoto_v002 readings who e b
+row_of readings who signed time other = Holds false Unsupported ∷ []

@@ -52,16 +52,17 @@ fn check_message<M: Armor>(
     who: SignedBy<'_>,
     digest: Option<&[u8]>,
     signature: &SignatureBytes,
+    time: Option<i64>,
     body: &RekorEntryBody,
 ) -> Result<(), BindingError>
     ensures ok { IfOk result (λ x.
-        checks_of (row_of (readings_by M.Armor armor.now) (signatory_as who.entry) (Message (option_copied digest.entry) signature.now) body.now) ≡ Ok x) }
+        checks_of (row_of (readings_by M.Armor armor.now) (signatory_as who.entry) (Message (option_copied digest.entry) signature.now) time body.now) ≡ Ok x) }
     ensures err { IfErr result (λ e. e ≢ BindingError.NoMemory →
-        checks_of (row_of (readings_by M.Armor armor.now) (signatory_as who.entry) (Message (option_copied digest.entry) signature.now) body.now) ≡ Err e) }
+        checks_of (row_of (readings_by M.Armor armor.now) (signatory_as who.entry) (Message (option_copied digest.entry) signature.now) time body.now) ≡ Err e) }
 {
     match body {
         RekorEntryBody::HashedRekordV001(body) => {
-            hashed_rekord::check_v001(alloc, armor, who, digest, signature, body)
+            hashed_rekord::check_v001(alloc, armor, who, digest, signature, time, body)
         }
         RekorEntryBody::HashedRekordV002(body) => {
             hashed_rekord::check_v002(who, digest, signature, body)
@@ -76,11 +77,12 @@ fn check_envelope<M: Armor>(
     armor: &M,
     who: SignedBy<'_>,
     envelope: &HashedEnvelope<'_>,
+    time: Option<i64>,
     body: &RekorEntryBody,
 ) -> Result<(), BindingError>
-    ensures ok { IfOk result (λ x. checks_of (row_of (readings_by M.Armor armor.now) (signatory_as who.entry) (Envelope envelope.now) body.now) ≡ Ok x) }
+    ensures ok { IfOk result (λ x. checks_of (row_of (readings_by M.Armor armor.now) (signatory_as who.entry) (Envelope envelope.now) time body.now) ≡ Ok x) }
     ensures err { IfErr result (λ e. e ≢ BindingError.NoMemory →
-        checks_of (row_of (readings_by M.Armor armor.now) (signatory_as who.entry) (Envelope envelope.now) body.now) ≡ Err e) }
+        checks_of (row_of (readings_by M.Armor armor.now) (signatory_as who.entry) (Envelope envelope.now) time body.now) ≡ Err e) }
 {
     match body {
         RekorEntryBody::HashedRekordV002(body) => {
@@ -99,24 +101,25 @@ fn check_row<M: Armor>(
     armor: &M,
     who: SignedBy<'_>,
     signed: Signed<'_>,
+    time: Option<i64>,
     body: &RekorEntryBody,
 ) -> Result<(), BindingError>
     ensures ok { IfOk result (λ x.
-        checks_of (row_of (readings_by M.Armor armor.now) (signatory_as who.entry) (signed_as signed.entry) body.now) ≡ Ok x) }
+        checks_of (row_of (readings_by M.Armor armor.now) (signatory_as who.entry) (signed_as signed.entry) time body.now) ≡ Ok x) }
     ensures err { IfErr result (λ e. e ≢ BindingError.NoMemory →
-        checks_of (row_of (readings_by M.Armor armor.now) (signatory_as who.entry) (signed_as signed.entry) body.now) ≡ Err e) }
+        checks_of (row_of (readings_by M.Armor armor.now) (signatory_as who.entry) (signed_as signed.entry) time body.now) ≡ Err e) }
 {
     match signed {
         Signed::Message { digest, signature } => {
-            check_message(alloc, armor, who, digest, signature, body)
+            check_message(alloc, armor, who, digest, signature, time, body)
         }
-        Signed::Envelope(envelope) => check_envelope(alloc, armor, who, envelope, body),
+        Signed::Envelope(envelope) => check_envelope(alloc, armor, who, envelope, time, body),
     }
 }
 
 /// Whether an entry is of this very signature. Errors, in order: `Unsupported` for a kind of entries that isn't
 /// compared with what was signed; `MalformedEntry` for its body; those of what its kind names, in the order of its
-/// row.
+/// row, of which `IntegratedTime` is the last: it comes for hashedrekord 0.0.1 under a certificate alone.
 #[tactic(auto, unfolding(crate::specs::Described::describes_of))]
 pub fn describe_entry<M: Armor>(
     alloc: Global,
@@ -134,5 +137,5 @@ pub fn describe_entry<M: Armor>(
         BindingError::Unsupported,
     )?;
     let body = read_body(alloc, entry)?;
-    check_row(alloc, armor, who, signed, &body)
+    check_row(alloc, armor, who, signed, entry.integrated_time, &body)
 }

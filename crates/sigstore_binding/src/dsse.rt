@@ -9,7 +9,7 @@ use crate::check::{check_algorithm, check_signature, same, sole};
 use crate::envelope::HashedEnvelope;
 use crate::error::BindingError;
 use crate::signed::SignedBy;
-use crate::verifier::check_certified;
+use crate::verifier::check_enveloped;
 use sigstore_rekor_parts::DsseV001Body;
 use sigstore_types_parts::{Armor, Text};
 use std::alloc::Global;
@@ -50,6 +50,6 @@ pub(crate) fn check_v001<M: Armor>(
     )?;
     let one = sole(&body.spec.signatures)?;
     check_signature(&one.signature, &envelope.envelope().signature.sig)?;
-    check_certified(alloc, armor, who, &one.verifier)?;
+    check_enveloped(alloc, armor, who, &one.verifier)?;
     Ok(())
 }

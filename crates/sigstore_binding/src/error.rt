@@ -18,6 +18,8 @@ pub enum BindingError {
     /// The entry has another verifier, signature, payload or payload type, or another number of signatures than
     /// one.
     EntryMismatch,
+    /// The entry was logged outside the window of the signer's certificate.
+    IntegratedTime,
     /// An allocation was refused.
     NoMemory,
 }
@@ -37,6 +39,7 @@ impl fmt::Display for BindingError {
             BindingError::MalformedEntry => "MalformedEntry",
             BindingError::ArtifactMismatch => "ArtifactMismatch",
             BindingError::EntryMismatch => "EntryMismatch",
+            BindingError::IntegratedTime => "IntegratedTime",
             BindingError::NoMemory => "NoMemory",
         })
     }

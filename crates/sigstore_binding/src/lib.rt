@@ -12,6 +12,7 @@ mod intoto;
 mod laws;
 mod signed;
 mod verifier;
+mod window;
 
 pub use describe::describe_entry;
 pub use envelope::HashedEnvelope;

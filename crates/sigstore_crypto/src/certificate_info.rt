@@ -69,6 +69,20 @@ pub struct CertificateInfo {
     pub ci_claims: FulcioCiClaims,
 }
 
+impl Duplicate for CertificateInfo {
+    fn duplicate(&self, alloc: Global) -> Result<CertificateInfo, NoMemory> {
+        Ok(CertificateInfo {
+            identity: self.identity.duplicate(alloc)?,
+            issuer: self.issuer.duplicate(alloc)?,
+            not_before: self.not_before,
+            not_after: self.not_after,
+            public_key: self.public_key.duplicate(alloc)?,
+            key_algorithm: self.key_algorithm,
+            ci_claims: self.ci_claims.duplicate(alloc)?,
+        })
+    }
+}
+
 fn owned(alloc: Global, name: Option<FoundName>) -> Result<Option<SubjectAltName>, Error>
     ensures ok { IfOk result (λ identity. identity ≡ said name.entry) }
     ensures err { IfErr result (λ e. e ≡ errors.NoMemory) }

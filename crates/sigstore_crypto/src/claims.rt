@@ -3,10 +3,11 @@ ghost use Rattle.std.specs.Prelude.{◌≡◌, ◌≢◌, ◌↔◌, true, None,
 ghost use Rattle.der_core_parts.specs.Grammar.{read_all};
 ghost use Rattle.der_core.specs.Strings.{utf8_type};
 ghost use Rattle.x509_core_parts.specs.Walk.{coming};
-ghost use Rattle.sigstore_crypto_parts.specs.declared.error.Error.TheVariants.{NoMemory};
+ghost use Rattle.sigstore_crypto_parts.specs.declared.error.Error.TheVariants.{NoMemory as NoRoom};
 ghost use Rattle.sigstore_crypto.specs.Claims.{value_of, fulcio_value, utf8_string_of, old_text_of, new_claim, old_claim, claim_of, old_claim_of, old_claims_of, claims_of, no_old_claims, no_claims, or_issuer, issuer_of};
 
 use der_core::{DerError, Reader, tag};
+use foundation::{Duplicate, NoMemory};
 use sigstore_crypto_parts::{CertificateFault, Error};
 use sigstore_types_parts::Text;
 use std::alloc::Global;
@@ -42,6 +43,46 @@ pub struct DeprecatedGitHubClaims {
     pub workflow_name: Option<Text>,
     pub workflow_repository: Option<Text>,
     pub workflow_ref: Option<Text>,
+}
+
+impl Duplicate for FulcioCiClaims {
+    fn duplicate(&self, alloc: Global) -> Result<FulcioCiClaims, NoMemory> {
+        Ok(FulcioCiClaims {
+            build_signer_uri: self.build_signer_uri.duplicate(alloc)?,
+            build_signer_digest: self.build_signer_digest.duplicate(alloc)?,
+            runner_environment: self.runner_environment.duplicate(alloc)?,
+            source_repository_uri: self.source_repository_uri.duplicate(alloc)?,
+            source_repository_digest: self.source_repository_digest.duplicate(alloc)?,
+            source_repository_ref: self.source_repository_ref.duplicate(alloc)?,
+            source_repository_identifier: self.source_repository_identifier.duplicate(alloc)?,
+            source_repository_owner_uri: self.source_repository_owner_uri.duplicate(alloc)?,
+            source_repository_owner_identifier: self
+                .source_repository_owner_identifier
+                .duplicate(alloc)?,
+            build_config_uri: self.build_config_uri.duplicate(alloc)?,
+            build_config_digest: self.build_config_digest.duplicate(alloc)?,
+            build_trigger: self.build_trigger.duplicate(alloc)?,
+            run_invocation_uri: self.run_invocation_uri.duplicate(alloc)?,
+            source_repository_visibility_at_signing: self
+                .source_repository_visibility_at_signing
+                .duplicate(alloc)?,
+            deployment_environment: self.deployment_environment.duplicate(alloc)?,
+            token_subject: self.token_subject.duplicate(alloc)?,
+            deprecated_github: self.deprecated_github.duplicate(alloc)?,
+        })
+    }
+}
+
+impl Duplicate for DeprecatedGitHubClaims {
+    fn duplicate(&self, alloc: Global) -> Result<DeprecatedGitHubClaims, NoMemory> {
+        Ok(DeprecatedGitHubClaims {
+            workflow_trigger: self.workflow_trigger.duplicate(alloc)?,
+            workflow_sha: self.workflow_sha.duplicate(alloc)?,
+            workflow_name: self.workflow_name.duplicate(alloc)?,
+            workflow_repository: self.workflow_repository.duplicate(alloc)?,
+            workflow_ref: self.workflow_ref.duplicate(alloc)?,
+        })
+    }
 }
 
 fn are_none(
@@ -194,7 +235,7 @@ fn old_claim(value: Option<&[u8]>) -> Option<&str>
 
 fn copied(alloc: Global, text: Option<&str>) -> Result<Option<Text>, Error>
     ensures ok { IfOk result (λ copy. copy ≡ option_copied text.entry) }
-    ensures err { IfErr result (λ e. e ≡ NoMemory) }
+    ensures err { IfErr result (λ e. e ≡ NoRoom) }
 {
     match text {
         Some(text) => Ok(Some(Text::new(alloc, text)?)),
@@ -205,7 +246,7 @@ fn copied(alloc: Global, text: Option<&str>) -> Result<Option<Text>, Error>
 #[tactic(auto, unfolding(crate::specs::Claims::claim_of))]
 fn claim(alloc: Global, extensions: Extensions, number: u8) -> Result<Option<Text>, Error>
     ensures ok { IfOk result (λ text. text ≡ claim_of (coming extensions.entry) number) }
-    ensures err { IfErr result (λ e. e ≡ NoMemory) }
+    ensures err { IfErr result (λ e. e ≡ NoRoom) }
 {
     copied(alloc, new_claim(fulcio_value(extensions, number)))
 }
@@ -213,7 +254,7 @@ fn claim(alloc: Global, extensions: Extensions, number: u8) -> Result<Option<Tex
 #[tactic(auto, unfolding(crate::specs::Claims::old_claim_of))]
 fn old_claim_at(alloc: Global, extensions: Extensions, number: u8) -> Result<Option<Text>, Error>
     ensures ok { IfOk result (λ text. text ≡ old_claim_of (coming extensions.entry) number) }
-    ensures err { IfErr result (λ e. e ≡ NoMemory) }
+    ensures err { IfErr result (λ e. e ≡ NoRoom) }
 {
     copied(alloc, old_claim(fulcio_value(extensions, number)))
 }
@@ -221,7 +262,7 @@ fn old_claim_at(alloc: Global, extensions: Extensions, number: u8) -> Result<Opt
 #[tactic(auto, unfolding(crate::specs::Claims::old_claims_of))]
 fn old_claims(alloc: Global, extensions: Extensions) -> Result<DeprecatedGitHubClaims, Error>
     ensures ok { IfOk result (λ claims. claims ≡ old_claims_of (coming extensions.entry)) }
-    ensures err { IfErr result (λ e. e ≡ NoMemory) }
+    ensures err { IfErr result (λ e. e ≡ NoRoom) }
 {
     Ok(DeprecatedGitHubClaims {
         workflow_trigger: old_claim_at(alloc, extensions, 2)?,
@@ -244,7 +285,7 @@ fn four(
       claim_of (coming extensions.entry) numbers.2,
       claim_of (coming extensions.entry) numbers.3,
     )) }
-    ensures err { IfErr result (λ e. e ≡ NoMemory) }
+    ensures err { IfErr result (λ e. e ≡ NoRoom) }
 {
     Ok((
         claim(alloc, extensions, numbers.0)?,
@@ -258,7 +299,7 @@ fn four(
 #[tactic(auto, unfolding(crate::specs::Claims::claims_of))]
 pub fn read_claims(alloc: Global, extensions: Extensions) -> Result<FulcioCiClaims, Error>
     ensures ok { IfOk result (λ claims. claims ≡ claims_of (coming extensions.entry)) }
-    ensures err { IfErr result (λ e. e ≡ NoMemory) }
+    ensures err { IfErr result (λ e. e ≡ NoRoom) }
 {
     let signer = four(alloc, extensions, (9, 10, 11, 12))?;
     let source = four(alloc, extensions, (13, 14, 15, 16))?;

@@ -17,26 +17,34 @@ use Rattle.sigstore_crypto_parts.specs.declared.key.VerificationKey.{Verificatio
 use Rattle.sigstore_crypto_parts.specs.Digest.{is_hashed}
 use Rattle.sigstore_crypto_parts.specs.Key.{spki_key_of}
 use Rattle.sigstore_crypto_parts.specs.Good.{Judge, is_good_over}
+use Rattle.sigstore_crypto.specs.declared.certificate_info.CertificateInfo.{CertificateInfo}
+use Rattle.sigstore_crypto.specs.Info.{info_of}
+use Rattle.sigstore_certificate.specs.declared.error.Refusal.{Refusal}
+use Rattle.sigstore_certificate.specs.declared.policy.VerificationPolicy.{VerificationPolicy}
+use Rattle.sigstore_certificate.specs.Certified.{certified_of}
+use Rattle.sigstore_certificate.proofs.CertifiedLaw.{certified_exactly}
 use Rattle.sigstore_judgement.specs.declared.error.Error.{Error}
 use Rattle.sigstore_judgement.specs.declared.error.Error.TheVariants.{UnsupportedArtifact}
 use Rattle.sigstore_judgement.specs.declared.evidence.Evidence.{Evidence}
 use Rattle.sigstore_judgement.specs.declared.report.VerificationResult.{VerificationResult}
 use Rattle.sigstore_judgement.specs.declared.policy.PublicKeyVerificationPolicy.{PublicKeyVerificationPolicy}
-use Rattle.sigstore_judgement.specs.Accepts.{ManagedVouches, Vouches, Accepts, AcceptsExactly}
+use Rattle.sigstore_judgement.specs.Accepts.{ManagedVouches, OwnerVouches, Vouches, Accepts, AcceptsExactly}
 use Rattle.sigstore_judgement.specs.Artifact.{Artifact, Kind, kind_of, digest_of, bytes_of}
 use Rattle.sigstore_judgement.specs.Claim.{Claim, claim_of, needed_of, is_bound, IsBound}
 use Rattle.sigstore_judgement.specs.Content.{scheme_of, signs_digest, supported_of, subject_in, signature_in, is_good_of, is_signed, first_refusal, content_judged_of}
 use Rattle.sigstore_judgement.specs.Entries.{log_judged_of, told_if, entries_described_of}
-use Rattle.sigstore_judgement.specs.Error.{by_types, by_crypto}
-use Rattle.sigstore_judgement.specs.Evidence.{times_of, report_of}
-use Rattle.sigstore_judgement.specs.Grounds.{Grounds, Terms}
-use Rattle.sigstore_judgement.specs.Judged.{Ready, key_with, ready_with, claimed_of, ready_of, prepared_of, managed_vouched_of, vouched_of, judged_had, judged_of}
-use Rattle.sigstore_judgement.specs.Policy.{Meaning, PublicKey}
-use Rattle.sigstore_judgement.specs.Signer.{Signer, Managed, key_in, managed_of, signer_of, IsSigner}
+use Rattle.sigstore_judgement.specs.Error.{by_types, by_crypto, by_info, by_certificate}
+use Rattle.sigstore_judgement.specs.Evidence.{earliest_from, times_of, report_of}
+use Rattle.sigstore_judgement.specs.Grounds.{Grounds, trust_in, Terms}
+use Rattle.sigstore_judgement.specs.Judged.{Ready, key_with, ready_with, claimed_of, ready_of, prepared_of, managed_vouched_of, intermediates_in, owner_vouched_of, vouched_of, judged_had, judged_of}
+use Rattle.sigstore_judgement.specs.Policy.{Meaning, PublicKey, Certificate}
+use Rattle.sigstore_judgement.specs.Signer.{Signer, Managed, Certified, key_in, certificate_in, keyed_of, named_of, managed_of, owner_of, signer_of, IsSigner}
 use Rattle.sigstore_judgement.specs.Tokens.{tokens_judged_of}
+use Rattle.sigstore_judgement.specs.Verified.{verified_of}
 use Rattle.sigstore_judgement.proofs.ClaimLaw.{bound_so, so_bound}
 use Rattle.sigstore_judgement.proofs.EntryLaw.{are_logged, log_accepted, are_described, described_pass}
 use Rattle.sigstore_judgement.proofs.TokenLaw.{are_stamped, stamped_pass}
+use Rattle.sigstore_judgement.proofs.VerifiedLaw.{verified_means, verified_passes}
 
 through_types : {A : Type 0} (r : Result A TypesError) (x : A) → by_types r ≡ Ok x → r ≡ Ok x
 through_types (Ok y) x h = cc
@@ -92,15 +100,63 @@ content_accepted accepts key content claim artifact b s =
 
 -- ---- who signed
 
+pub ok_info : {A : Type 0} (r : Result A CryptoError) (x : A) → by_info r ≡ Ok x → r ≡ Ok x
+ok_info (Ok y) x h = cc
+ok_info (Err e) x h = cc
+
+keyed_means : (o : Option (List ℕ)) (x : ⊤) → keyed_of o ≡ Ok x → o ≡ None
+keyed_means None x h = refl
+keyed_means (Some certificate) x h = cc
+
+pub named_means : (o : Option (List ℕ)) (certificate : List ℕ) → named_of o ≡ Ok certificate → o ≡ Some certificate
+named_means None certificate h = cc
+named_means (Some c) certificate h = ap Some (ok_same c certificate h)
+
+abbrev after_keyed : PublicKeyVerificationPolicy → Bundle → Result Signer Error
+after_keyed policy bundle = by_types (structure_of bundle policy.verify_tlog) >>= λ _. Ok (Managed policy)
+
+abbrev after_info : VerificationPolicy → List ℕ → CertificateInfo → Result Signer Error
+after_info policy certificate info = Ok (Certified policy info certificate)
+
+abbrev after_named : VerificationPolicy → List ℕ → Result Signer Error
+after_named policy certificate = by_info (info_of certificate) >>= after_info policy certificate
+
+abbrev after_structure : VerificationPolicy → Bundle → Result Signer Error
+after_structure policy bundle = named_of (certificate_in bundle) >>= after_named policy
+
 pub signer_means : (policy : Meaning) (bundle : Bundle) (signer : Signer) → signer_of policy bundle ≡ Ok signer → IsSigner policy bundle signer
-unfolding managed_of
+unfolding managed_of owner_of
 signer_means (PublicKey policy) bundle signer h =
-    let a = step_ok (by_types (structure_of bundle policy.verify_tlog)) (λ _. Ok (Managed policy)) signer h in
-    record { structure = through_types (structure_of bundle policy.verify_tlog) a.0 a.1; is = sym (ok_same (Managed policy) signer a.2) }
+    let k = step_ok (keyed_of (certificate_in bundle)) (λ _. after_keyed policy bundle) signer h in
+    let a = step_ok (by_types (structure_of bundle policy.verify_tlog)) (λ _. Ok (Managed policy)) signer k.2 in
+    record {
+      keyed = keyed_means (certificate_in bundle) k.0 k.1;
+      structure = through_types (structure_of bundle policy.verify_tlog) a.0 a.1;
+      is = sym (ok_same (Managed policy) signer a.2);
+    }
+signer_means (Certificate policy) bundle signer h =
+    let a = step_ok (by_types (structure_of bundle policy.verify_tlog)) (λ _. after_structure policy bundle) signer h in
+    let b = step_ok (named_of (certificate_in bundle)) (after_named policy) signer a.2 in
+    let c = step_ok (by_info (info_of b.0)) (after_info policy b.0) signer b.2 in
+    record {
+      structure = through_types (structure_of bundle policy.verify_tlog) a.0 a.1;
+      certificate = b.0;
+      named = named_means (certificate_in bundle) b.0 b.1;
+      info = c.0;
+      says = ok_info (info_of b.0) c.0 c.1;
+      is = sym (ok_same (Certified policy c.0 b.0) signer c.2);
+    }
 
 signer_passes : (policy : Meaning) (bundle : Bundle) (signer : Signer) → IsSigner policy bundle signer → signer_of policy bundle ≡ Ok signer
-unfolding managed_of
-signer_passes (PublicKey policy) bundle signer i = ap (λ r. by_types r >>= λ _. Ok (Managed policy)) i.structure ∙ ap Ok (sym i.is)
+unfolding managed_of owner_of
+signer_passes (PublicKey policy) bundle signer i =
+    ap (λ o. keyed_of o >>= λ _. after_keyed policy bundle) i.keyed
+    ∙ ap (λ r. by_types r >>= λ _. Ok (Managed policy)) i.structure ∙ ap Ok (sym i.is)
+signer_passes (Certificate policy) bundle signer i =
+    ap (λ r. by_types r >>= λ _. after_structure policy bundle) i.structure
+    ∙ ap (λ o. named_of o >>= after_named policy) i.named
+    ∙ ap (λ r. by_info r >>= after_info policy i.certificate) i.says
+    ∙ ap Ok (sym i.is)
 
 -- ---- what is prepared
 
@@ -178,9 +234,9 @@ module _ (grounds : Grounds) (policy : PublicKeyVerificationPolicy) (bundle : Bu
   managed_means : (evidence : Evidence) → managed_vouched_of grounds policy bundle ≡ Ok evidence → ManagedVouches grounds policy bundle evidence
   unfolding managed_vouched_of
   managed_means evidence h =
-      let a = step_ok (log_judged_of grounds policy.verify_tlog (entries_in bundle)) after_promised evidence h in
+      let a = step_ok (log_judged_of grounds (Managed policy) policy.verify_tlog (entries_in bundle)) after_promised evidence h in
       let b = step_ok (tokens_judged_of grounds (signature_in bundle.content) (tokens_in bundle)) (after_stamped a.0) evidence a.2 in
-      let l = are_logged grounds policy.verify_tlog (entries_in bundle) a.0 a.1 in
+      let l = are_logged grounds (Managed policy) policy.verify_tlog (entries_in bundle) a.0 a.1 in
       record {
         logged = l.0;
         stamped = b.0;
@@ -192,15 +248,56 @@ module _ (grounds : Grounds) (policy : PublicKeyVerificationPolicy) (bundle : Bu
   unfolding managed_vouched_of
   managed_passes evidence v =
       let promised = told_if policy.verify_tlog (entries_in bundle) in
-      ap (λ r. r >>= after_promised) (log_accepted grounds policy.verify_tlog (entries_in bundle) v.logged)
+      ap (λ r. r >>= after_promised) (log_accepted grounds (Managed policy) policy.verify_tlog (entries_in bundle) v.logged)
       ∙ ap (λ r. r >>= after_stamped promised) (stamped_pass grounds (signature_in bundle.content) (tokens_in bundle) v.stamped v.are)
       ∙ ap Ok (sym v.times)
 
+ok_certificate : (r : Result ⊤ Refusal) (x : ⊤) → by_certificate r ≡ Ok x → r ≡ Ok tt
+ok_certificate (Ok y) x h = refl
+ok_certificate (Err e) x h = cc
+
+module _ (grounds : Grounds) (policy : VerificationPolicy) (info : CertificateInfo) (certificate : List ℕ) (bundle : Bundle) where
+  abbrev after_logged : List Timestamp → List Timestamp → Result Evidence Error
+  after_logged times promised = Ok (record { integrated_time = earliest_from None promised; times = times })
+
+  abbrev after_certified : List Timestamp → ⊤ → Result Evidence Error
+  after_certified times x = log_judged_of grounds (Certified policy info certificate) policy.verify_tlog (entries_in bundle) >>= after_logged times
+
+  abbrev after_verified : List Timestamp → Result Evidence Error
+  after_verified times = by_certificate (certified_of (trust_in grounds) policy info certificate (intermediates_in bundle) times) >>= after_certified times
+
+  owner_means : (evidence : Evidence) → owner_vouched_of grounds policy info certificate bundle ≡ Ok evidence → OwnerVouches grounds policy info certificate bundle evidence
+  unfolding owner_vouched_of
+  owner_means evidence h =
+      let a = step_ok (verified_of grounds bundle) after_verified evidence h in
+      let b = step_ok (by_certificate (certified_of (trust_in grounds) policy info certificate (intermediates_in bundle) a.0)) (after_certified a.0) evidence a.2 in
+      let c = step_ok (log_judged_of grounds (Certified policy info certificate) policy.verify_tlog (entries_in bundle)) (after_logged a.0) evidence b.2 in
+      let l = are_logged grounds (Certified policy info certificate) policy.verify_tlog (entries_in bundle) c.0 c.1 in
+      let shown : List Timestamp → Evidence = λ promised. record { integrated_time = earliest_from None promised; times = a.0 } in
+      record {
+        times = a.0;
+        verified = verified_means grounds bundle a.0 a.1;
+        certified = (certified_exactly (trust_in grounds) policy info certificate (intermediates_in bundle) a.0).0
+            (ok_certificate (certified_of (trust_in grounds) policy info certificate (intermediates_in bundle) a.0) b.0 b.1);
+        logged = l.0;
+        shows = sym (ok_same (shown c.0) evidence c.2) ∙ ap shown l.1;
+      }
+
+  owner_passes : (evidence : Evidence) → OwnerVouches grounds policy info certificate bundle evidence → owner_vouched_of grounds policy info certificate bundle ≡ Ok evidence
+  unfolding owner_vouched_of
+  owner_passes evidence v =
+      ap (λ r. r >>= after_verified) (verified_passes grounds bundle v.times v.verified)
+      ∙ ap (λ r. by_certificate r >>= after_certified v.times) ((certified_exactly (trust_in grounds) policy info certificate (intermediates_in bundle) v.times).1 v.certified)
+      ∙ ap (λ r. r >>= after_logged v.times) (log_accepted grounds (Certified policy info certificate) policy.verify_tlog (entries_in bundle) v.logged)
+      ∙ ap Ok (sym v.shows)
+
 vouches_means : (grounds : Grounds) (signer : Signer) (bundle : Bundle) (evidence : Evidence) → vouched_of grounds signer bundle ≡ Ok evidence → Vouches grounds signer bundle evidence
 vouches_means grounds (Managed policy) bundle evidence h = managed_means grounds policy bundle evidence h
+vouches_means grounds (Certified policy info certificate) bundle evidence h = owner_means grounds policy info certificate bundle evidence h
 
 vouches_passes : (grounds : Grounds) (signer : Signer) (bundle : Bundle) (evidence : Evidence) → Vouches grounds signer bundle evidence → vouched_of grounds signer bundle ≡ Ok evidence
 vouches_passes grounds (Managed policy) bundle evidence v = managed_passes grounds policy bundle evidence v
+vouches_passes grounds (Certified policy info certificate) bundle evidence v = owner_passes grounds policy info certificate bundle evidence v
 
 -- ---- both ways
 

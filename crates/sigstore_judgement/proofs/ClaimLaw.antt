@@ -1,6 +1,6 @@
 -- What a bundle says is of an artifact exactly where the comparison of digests says so.
-use Rattle.std.proofs.Common.{◌≡◌, ◌≢◌, ◌⊎◌, inl, inr, ℕ, zero, suc, List, [], ◌∷◌, Bool, true, false, ◌||◌, if◌then◌else◌, Option, Some, None, Result, Ok, Err, refl, sym, ap, ◌∙◌, subst, arith}
-use Rattle.std.specs.Prelude.{⊤, Contains}
+use Rattle.std.proofs.Common.{◌≡◌, ◌≢◌, ◌⊎◌, inl, inr, ℕ, zero, suc, List, [], ◌∷◌, Bool, true, false, ◌||◌, Option, Some, None, refl, sym, ap, ◌∙◌, arith}
+use Rattle.std.specs.Prelude.{Contains}
 use Rattle.std.specs.List.{list_any}
 use Rattle.std.proofs.lemmas.Slice.Eq.{bytes_eq-Decides}
 use Rattle.sigstore_types_parts.specs.declared.hash_algorithm.HashAlgorithm.TheVariants.{Sha2256, Sha2512}
@@ -9,7 +9,7 @@ use Rattle.sigstore_envelopes.specs.declared.statement.Subject.{Subject}
 use Rattle.sigstore_envelopes.specs.Statement.{is_spelled}
 use Rattle.sigstore_types.specs.declared.content.MessageDigest.{MessageDigest}
 use Rattle.sigstore_judgement.specs.Artifact.{Artifact, digest_of}
-use Rattle.sigstore_judgement.specs.Claim.{Claim, OfDigest, OfStatement, is_digest, is_told, tells_digest, is_bound, IsTold, IsSpelled, IsSubject, IsBound, IsOfOther}
+use Rattle.sigstore_judgement.specs.Claim.{Claim, OfDigest, OfStatement, is_digest, is_told, tells_digest, is_bound, IsTold, IsSpelled, IsBound, IsOfOther}
 
 -- ---- lists and truths
 

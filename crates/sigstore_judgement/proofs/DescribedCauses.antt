@@ -1,5 +1,5 @@
 -- A refusal of what entries say is of one of them, and has its cause.
-use Rattle.std.proofs.Common.{◌≡◌, List, [], ◌∷◌, Option, Result, Ok, Err, refl}
+use Rattle.std.proofs.Common.{◌≡◌, List, [], ◌∷◌, Result, Ok, Err, refl}
 use Rattle.std.specs.Prelude.{⊤, Contains}
 use Rattle.foundation.specs.Results.{err_same, refused_at}
 use Rattle.sigstore_types.specs.declared.bundle.Bundle.{Bundle}

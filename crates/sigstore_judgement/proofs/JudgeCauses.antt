@@ -1,10 +1,10 @@
 -- Each refusal of the judgement has its cause.
-use Rattle.std.proofs.Common.{◌≡◌, ◌≢◌, ◌⊎◌, inl, inr, ℕ, List, [], ◌∷◌, Bool, true, false, ◌||◌, if◌then◌else◌, Option, Some, None, Result, Ok, Err, refl, sym, ap, ◌∙◌, subst}
+use Rattle.std.proofs.Common.{◌≡◌, ◌≢◌, ◌⊎◌, inl, inr, ℕ, List, [], ◌∷◌, ◌++◌, Bool, true, false, ◌||◌, if◌then◌else◌, Option, Some, None, Result, Ok, Err, refl, sym, ap, ◌∙◌, subst}
 use Rattle.std.specs.Prelude.{⊤, ◌&&◌, is_some, Contains}
 use Rattle.std.specs.List.{list_all}
+use Rattle.jiff_core.specs.declared.timestamp.Timestamp.{Timestamp}
 use Rattle.foundation.specs.Watched.{Watched}
 use Rattle.foundation.specs.Results.{err_same, refused_at}
-use Rattle.sigstore_types_parts.specs.declared.form.Form.{Form}
 use Rattle.sigstore_types_parts.specs.declared.hash_algorithm.HashAlgorithm.{HashAlgorithm}
 use Rattle.sigstore_types_parts.specs.declared.error.TypesError.{TypesError}
 use Rattle.sigstore_types_parts.specs.declared.error.TypesError.TheVariants as types
@@ -28,37 +28,48 @@ use Rattle.sigstore_entries.specs.declared.entry.TransparencyLogEntry.{Transpare
 use Rattle.sigstore_log.specs.declared.error.LogError.{LogError}
 use Rattle.sigstore_log.specs.declared.error.LogError.TheVariants as entry
 use Rattle.sigstore_log.specs.Cause.{LogCause}
+use Rattle.sigstore_crypto.specs.declared.certificate_info.CertificateInfo.{CertificateInfo}
+use Rattle.sigstore_crypto.specs.Info.{info_of}
+use Rattle.sigstore_certificate.specs.declared.error.Refusal.{Refusal}
+use Rattle.sigstore_certificate.specs.declared.error.Refusal.TheVariants as refusal
+use Rattle.sigstore_certificate.specs.declared.policy.VerificationPolicy.{VerificationPolicy}
+use Rattle.sigstore_certificate.specs.Cause.{Cause as CertificateCause}
+use Rattle.sigstore_certificate.specs.Certified.{certified_of}
+use Rattle.sigstore_certificate.proofs.CauseLaw.{refusals as certificate_causes}
 use Rattle.sigstore_binding.specs.declared.error.BindingError.{BindingError}
 use Rattle.sigstore_binding.specs.declared.error.BindingError.TheVariants as binding
 use Rattle.sigstore_binding.specs.Cause.{BindingCause}
+use Rattle.sigstore_judgement.specs.declared.error.CertificateError.TheVariants as certificate
 use Rattle.sigstore_judgement.specs.declared.error.Error.{Error}
 use Rattle.sigstore_judgement.specs.declared.error.Error.TheVariants as verify
 use Rattle.sigstore_judgement.specs.declared.error.TransparencyLogError.{TransparencyLogError}
 use Rattle.sigstore_judgement.specs.declared.error.TransparencyLogError.TheVariants as log
 use Rattle.sigstore_judgement.specs.declared.evidence.Evidence.{Evidence}
+use Rattle.sigstore_judgement.specs.declared.policy.PublicKeyVerificationPolicy.{PublicKeyVerificationPolicy}
 use Rattle.sigstore_judgement.specs.declared.trust.Material.{Material}
-use Rattle.sigstore_judgement.specs.Artifact.{Artifact, Read, read_kind, digest_of}
+use Rattle.sigstore_judgement.specs.Artifact.{Read, read_kind, digest_of}
 use Rattle.sigstore_judgement.specs.Cause.{IsRefusedAs, IsRead, IsKept, HasSigner, HasScheme, LacksScheme, key_unread, no_scheme, no_hasher, LacksEntry, no_entry, no_proof}
-use Rattle.sigstore_judgement.specs.Cause.{unread, no_statement, no_subject, other_type, no_digest, IsUndescribed, asks_log, JudgeCause}
+use Rattle.sigstore_judgement.specs.Cause.{unread, no_statement, no_subject, other_type, no_digest, IsUndescribed, IsUncertified, JudgeCause}
 use Rattle.sigstore_judgement.specs.Claim.{Claim, is_in_toto, typed_of, or_invalid, subjects_of, digested_of, statement_judged_of, stated_of, claim_of, needed_of, is_bound}
 use Rattle.sigstore_judgement.specs.Content.{scheme_of, signs_digest, supported_of, signature_in, signed_in, is_signed, first_refusal, content_judged_of}
 use Rattle.sigstore_judgement.specs.Entries.{log_judged_of, entries_described_of}
-use Rattle.sigstore_judgement.specs.Error.{error_of_crypto, error_of_log, error_of_binding, lowered, by_types, by_crypto}
-use Rattle.sigstore_judgement.specs.Grounds.{Grounds, readings_in}
-use Rattle.sigstore_judgement.specs.Judged.{Ready, claimed_of, ready_of, prepared_of, managed_vouched_of, vouched_of, judged_had, judged_of}
-use Rattle.sigstore_judgement.specs.Policy.{Meaning, PublicKey}
+use Rattle.sigstore_judgement.specs.Error.{error_of_crypto, error_of_info, error_of_certificate, error_of_log, error_of_binding, lowered, by_types, by_crypto, by_info, by_certificate}
+use Rattle.sigstore_judgement.specs.Grounds.{Grounds, trust_in, readings_in}
+use Rattle.sigstore_judgement.specs.Judged.{Ready, claimed_of, ready_of, prepared_of, managed_vouched_of, intermediates_in, owner_vouched_of, vouched_of, judged_had, judged_of}
+use Rattle.sigstore_judgement.specs.Policy.{Meaning, PublicKey, Certificate, asks_log}
 use Rattle.sigstore_judgement.specs.Promise as promise
-use Rattle.sigstore_judgement.specs.Signer.{Signer, key_in, signatory_of, managed_of, signer_of, IsSigner}
+use Rattle.sigstore_judgement.specs.Signer.{Signer, Managed, Certified, key_in, certificate_in, keyed_of, named_of, signatory_of, managed_of, owner_of, signer_of, IsSigner}
 use Rattle.sigstore_judgement.specs.Tokens.{tokens_judged_of}
 use Rattle.sigstore_judgement.specs.Trust.{material_of}
+use Rattle.sigstore_judgement.specs.Verified.{promises_judged_of, some_time, verified_of, AreVerified}
 use Rattle.sigstore_judgement.specs.Under.{or_fault, trust_fault, bundle_fault, Asked, terms_of, JudgesBundle, trust_refused, verifier_refused, bundle_refused, judged}
-use Rattle.sigstore_judgement.proofs.Accepts.{ok_crypto, signer_means, Prepared, prepared_means}
+use Rattle.sigstore_judgement.proofs.Accepts.{ok_crypto, named_means, signer_means, Prepared, prepared_means}
 use Rattle.sigstore_judgement.proofs.ClaimLaw.{of_other}
 use Rattle.sigstore_judgement.proofs.DescribedCauses.{entries_undescribed}
-use Rattle.sigstore_judgement.proofs.EntryCauses.{among_first, among_later, entries_unlogged}
-use Rattle.sigstore_judgement.proofs.TokenLaw.{tokens_unstamped}
-use Rattle.sigstore_judgement.proofs.TrustReading.{trust_is_built}
+use Rattle.sigstore_judgement.proofs.EntryCauses.{among_first, among_later, Unlogged, Untimely, entries_unlogged}
+use Rattle.sigstore_judgement.proofs.TokenLaw.{are_stamped, tokens_unstamped}
 use Rattle.sigstore_judgement.proofs.UsableCauses.{IsFault, material_fault}
+use Rattle.sigstore_judgement.proofs.VerifiedLaw.{each_told, Unpromised, promises_refused, none_there, none_joined, no_tokens, verified_means}
 use Rattle.sigstore_judgement.proofs.Wanting.{is_want}
 
 by_fault : {T : Type 0} (fault : TypesError → Error) (r : Result T TypesError) (e : Error) → or_fault fault r ≡ Err e → IsRefusedAs fault r e
@@ -87,25 +98,46 @@ as_crypto (crypto.InvalidCertificate a) = inl refl
 as_crypto (crypto.InvalidKey a) = inl refl
 as_crypto crypto.NoMemory = inr refl
 
+abbrev pub IsMute : Error → Type 0
+IsMute e = (e ≡ verify.Certificate certificate.Malformed) ⊎ (e ≡ verify.NoMemory)
+
+-- and where a certificate says nothing
+pub as_info : (x : CryptoError) → IsMute (error_of_info x)
+as_info crypto.Signing = inl refl
+as_info (crypto.Verification a) = inl refl
+as_info crypto.InvalidKeyFormat = inl refl
+as_info crypto.UnsupportedAlgorithm = inl refl
+as_info (crypto.Checkpoint a) = inl refl
+as_info (crypto.InvalidCertificate a) = inl refl
+as_info (crypto.InvalidKey a) = inl refl
+as_info crypto.NoMemory = inr refl
+
+pub through_info : {A : Type 0} (r : Result A CryptoError) (e : Error) → by_info r ≡ Err e → IsRefusedAs error_of_info r e
+through_info (Ok x) e h = cc
+through_info (Err t) e h = (t, refl, err_same (error_of_info t) e h)
+
+pub through_certificate : {A : Type 0} (r : Result A Refusal) (e : Error) → by_certificate r ≡ Err e → IsRefusedAs error_of_certificate r e
+through_certificate (Ok x) e h = cc
+through_certificate (Err t) e h = (t, refl, err_same (error_of_certificate t) e h)
+
 -- what a refusal of the crates of values is here
 abbrev pub IsLowered : Error → TypesError → Type 0
 IsLowered otherwise x =
-    (lowered otherwise x ≡ verify.NoMemory) ⊎ (((f : Form) × (x ≡ types.Unbuilt f) × (lowered otherwise x ≡ verify.Unbuilt f)) ⊎ (lowered otherwise x ≡ otherwise))
+    (lowered otherwise x ≡ verify.NoMemory) ⊎ (lowered otherwise x ≡ otherwise)
 
 pub as_lowered : (otherwise : Error) (x : TypesError) → IsLowered otherwise x
-as_lowered o types.Json = inr (inr refl)
-as_lowered o types.Float = inr (inr refl)
-as_lowered o (types.Field a) = inr (inr refl)
-as_lowered o types.Base64 = inr (inr refl)
-as_lowered o types.Hex = inr (inr refl)
-as_lowered o (types.Length a b) = inr (inr refl)
-as_lowered o types.MediaType = inr (inr refl)
-as_lowered o types.Kind = inr (inr refl)
-as_lowered o (types.Checkpoint a) = inr (inr refl)
-as_lowered o types.NoEntry = inr (inr refl)
-as_lowered o types.NoProof = inr (inr refl)
+as_lowered o types.Json = inr refl
+as_lowered o types.Float = inr refl
+as_lowered o (types.Field a) = inr refl
+as_lowered o types.Base64 = inr refl
+as_lowered o types.Hex = inr refl
+as_lowered o (types.Length a b) = inr refl
+as_lowered o types.MediaType = inr refl
+as_lowered o types.Kind = inr refl
+as_lowered o (types.Checkpoint a) = inr refl
+as_lowered o types.NoEntry = inr refl
+as_lowered o types.NoProof = inr refl
 as_lowered o types.NoMemory = inl refl
-as_lowered o (types.Unbuilt f) = inr (inl (f, refl, refl))
 
 -- what of a content refuses
 first_refused : {C : Type 0} (content : SignatureContent) (b g : Bool) (e : Error) → first_refusal content b g ≡ Err e
@@ -162,13 +194,11 @@ module _ (asked : Asked) (file : List ℕ) (source source' : Watched (List ℕ))
 
   by_trust : (e : Error) (x : TypesError) → trusted_root_of_bytes file ≡ Err x → trust_fault x ≡ e → IsLowered verify.TrustRoot x → Cause e
   by_trust e x h q (inl want) = subst Cause (sym want ∙ q) wanted
-  by_trust e x h q (inr (inl (f, same, is))) = subst Cause (sym is ∙ q) (trust_is_built file f (h ∙ ap Err same))
-  by_trust e x h q (inr (inr is)) = subst Cause (sym is ∙ q) (inl (x, h, is))
+  by_trust e x h q (inr is) = subst Cause (sym is ∙ q) (inl (x, h, is))
 
   by_bundle : (e : Error) (x : TypesError) → bundle_of_bytes asked.bundle ≡ Err x → bundle_fault x ≡ e → IsLowered verify.InvalidBundle x → Cause e
   by_bundle e x h q (inl want) = subst Cause (sym want ∙ q) wanted
-  by_bundle e x h q (inr (inl (f, same, is))) = subst Cause (sym is ∙ q) (inl (h ∙ ap Err same))
-  by_bundle e x h q (inr (inr is)) = subst Cause (sym is ∙ q) (inl (unread (x, h, is)))
+  by_bundle e x h q (inr is) = subst Cause (sym is ∙ q) (inl (unread (x, h, is)))
 
   -- a verifier's making, by what it may refuse
   by_usable : (trust : TrustedRoot) (e : Error) → trusted_root_of_bytes file ≡ Ok trust → material_of trust ≡ Err e → IsFault e → Cause e
@@ -190,7 +220,6 @@ module _ (asked : Asked) (file : List ℕ) (source source' : Watched (List ℕ))
   by_usable trust verify.TrustedCertificate t h f = inl (trust, t, h)
   by_usable trust (verify.ArtifactRead a) t h f = absurd f
   by_usable trust verify.NoMemory t h f = wanted
-  by_usable trust (verify.Unbuilt a) t h f = absurd f
 
   -- ---- the signer, their key and its scheme
 
@@ -220,10 +249,44 @@ module _ (asked : Asked) (file : List ℕ) (source source' : Watched (List ℕ))
   unstructured reading read true asks e h = subst Cause (lacks_bundle (entries_in reading) e h) (inr (unshown reading read asks (entries_in reading) refl e h))
   unstructured reading read false asks e h = cc
 
+  -- the policy is for a key, and there is a certificate
+  met : (reading : Bundle) → IsRead asked.bundle reading → (policy : PublicKeyVerificationPolicy) → asked.policy ≡ PublicKey policy → (o : Option (List ℕ)) → certificate_in reading ≡ o
+      → (e : Error) → keyed_of o ≡ Err e → Cause e
+  met reading read policy under None is e h = cc
+  met reading read policy under (Some certificate) is e h =
+      subst Cause (err_same verify.UnsupportedBundle e h) (inr (inl (record { policy = policy; under = under; reading = reading; read = read; certificate = certificate; has = is })))
+
+  -- the policy is for certificates, and there is none
+  unnamed : (reading : Bundle) → IsRead asked.bundle reading → (policy : VerificationPolicy) → asked.policy ≡ Certificate policy → (o : Option (List ℕ)) → certificate_in reading ≡ o
+      → (e : Error) → named_of o ≡ Err e → Cause e
+  unnamed reading read policy under None is e h =
+      subst Cause (err_same verify.InvalidBundle e h) (inr (record { policy = policy; under = under; reading = reading; read = read; none = is }))
+  unnamed reading read policy under (Some certificate) is e h = cc
+
+  -- and one that says nothing
+  mute : (reading : Bundle) → IsRead asked.bundle reading → (policy : VerificationPolicy) → asked.policy ≡ Certificate policy → (certificate : List ℕ) → certificate_in reading ≡ Some certificate
+      → (x : CryptoError) → info_of certificate ≡ Err x → (e : Error) → error_of_info x ≡ e → IsMute (error_of_info x) → Cause e
+  mute reading read policy under certificate has x h e q (inl is) = subst Cause (sym is ∙ q) (inr (inl (record {
+    policy = policy;
+    under = under;
+    reading = reading;
+    read = read;
+    certificate = certificate;
+    has = has;
+    unread = (x, h, is);
+  })))
+  mute reading read policy under certificate has x h e q (inr is) = subst Cause (sym is ∙ q) wanted
+
   nobody : (reading : Bundle) → IsRead asked.bundle reading → (policy : Meaning) → asked.policy ≡ policy → (e : Error) → signer_of policy reading ≡ Err e → Cause e
-  unfolding managed_of
+  unfolding managed_of owner_of
   nobody reading read (PublicKey policy) under e h =
-      refused_at (by_types (structure_of reading policy.verify_tlog)) _ e h (unstructured reading read policy.verify_tlog (ap asks_log under) e) (λ u p k. cc)
+      refused_at (keyed_of (certificate_in reading)) _ e h (met reading read policy under (certificate_in reading) refl e) (λ v q l.
+      refused_at (by_types (structure_of reading policy.verify_tlog)) _ e l (unstructured reading read policy.verify_tlog (ap asks_log under) e) (λ u p k. cc))
+  nobody reading read (Certificate policy) under e h =
+      refused_at (by_types (structure_of reading policy.verify_tlog)) _ e h (unstructured reading read policy.verify_tlog (ap asks_log under) e) (λ u p k.
+      refused_at (named_of (certificate_in reading)) _ e k (unnamed reading read policy under (certificate_in reading) refl e) (λ (certificate : List ℕ) q l.
+      refused_at (by_info (info_of certificate)) _ e l (λ n. let x = through_info (info_of certificate) e n in
+      mute reading read policy under certificate (named_means (certificate_in reading) certificate q) x.0 x.1 e x.2 (as_info x.0)) (λ info r m. cc)))
 
   -- the artifact can't be judged
   unsupported : (is : HasScheme asked) (claim : Claim) → claim_of is.has.reading.content ≡ Ok claim
@@ -317,16 +380,14 @@ module _ (asked : Asked) (file : List ℕ) (source source' : Watched (List ℕ))
           unsigned = ap (λ (r : Ready). is_signed asked.crypto.accepts r.key reading.content (digest_of (Read bytes)) None) (sym p.same) ∙ unsigned;
         })))
 
-    -- an entry isn't logged
-    unlogged : (material : Material) → IsKept file material → (b : Bool) → asks_log asked.policy ≡ b → (e : Error)
-        → log_judged_of (terms_of asked material).grounds b (entries_in reading) ≡ Err e → Cause e
-    unlogged material kept true asks e h =
-        let u = entries_unlogged (terms_of asked material).grounds (entries_in reading) e h in
-        subst Cause u.named (by_why u.entry u.among u.why u.cause)
+    -- an entry isn't logged, or at a time that isn't the signer's
+    unlogged : (material : Material) → IsKept file material → (signer : Signer) → IsSigner asked.policy reading signer → (b : Bool) → asks_log asked.policy ≡ b → (e : Error)
+        → log_judged_of (terms_of asked material).grounds signer b (entries_in reading) ≡ Err e → Cause e
+    unlogged material kept signer is true asks e h = either (entries_unlogged (terms_of asked material).grounds signer (entries_in reading) e h)
       where
         as_is : (x : TransparencyLogEntry) → Contains (entries_in reading) x → (why : LogError) → LogCause asked.crypto.accepts material.logs asked.now x why → (fault : TransparencyLogError)
             → error_of_log why ≡ verify.TransparencyLog fault → Cause (verify.TransparencyLog fault)
-        as_is x among why cause fault named = inr (inl (record {
+        as_is x among why cause fault named = inr (inl (inl (record {
           material = material;
           kept = kept;
           reading = reading;
@@ -335,7 +396,7 @@ module _ (asked : Asked) (file : List ℕ) (source source' : Watched (List ℕ))
           whole = whole;
           asks = asks;
           unlogged = record { entry = x; among = among; why = why; named = named; cause = cause };
-        }))
+        })))
 
         by_why : (x : TransparencyLogEntry) → Contains (entries_in reading) x → (why : LogError) → LogCause asked.crypto.accepts material.logs asked.now x why → Cause (error_of_log why)
         by_why x among entry.InclusionProof cause = as_is x among entry.InclusionProof cause log.InclusionProof refl
@@ -345,14 +406,25 @@ module _ (asked : Asked) (file : List ℕ) (source source' : Watched (List ℕ))
         by_why x among entry.InclusionPromise cause = as_is x among entry.InclusionPromise cause log.InclusionPromise refl
         by_why x among entry.IntegratedTime cause = as_is x among entry.IntegratedTime cause log.IntegratedTime refl
         by_why x among entry.NoMemory cause = absurd cause
-    unlogged material kept false asks e h = cc
+
+        either : Unlogged (terms_of asked material).grounds (entries_in reading) e ⊎ Untimely signer (entries_in reading) e → Cause e
+        either (inl u) = subst Cause u.named (by_why u.entry u.among u.why u.cause)
+        either (inr u) = subst Cause u.named (inr (inr (inl (record {
+          reading = reading;
+          read = read;
+          bytes = bytes;
+          whole = whole;
+          asks = asks;
+          untimely = record { signer = signer; is = is; entry = u.entry; among = u.among; untimely = u.untimely; named = refl };
+        }))))
+    unlogged material kept signer is false asks e h = cc
 
     -- a token isn't a trusted authority's
     unstamped : (material : Material) → IsKept file material → (e : Error)
         → tokens_judged_of (terms_of asked material).grounds (signature_in reading.content) (tokens_in reading) ≡ Err e → Cause e
     unstamped material kept e h =
         let u = tokens_unstamped (terms_of asked material).grounds (signature_in reading.content) (tokens_in reading) e h in
-        subst Cause u.named (inr (record {
+        subst Cause u.named (inr (inl (record {
           material = material;
           kept = kept;
           reading = reading;
@@ -362,18 +434,139 @@ module _ (asked : Asked) (file : List ℕ) (source source' : Watched (List ℕ))
           token = u.token;
           among = u.among;
           why = u.why;
-        }))
+        })))
+
+    -- under a certificate
+    module _ (material : Material) (kept : IsKept file material) (policy : VerificationPolicy) (under : asked.policy ≡ Certificate policy) (certificate : List ℕ) (info : CertificateInfo)
+        (has : certificate_in reading ≡ Some certificate) (says : info_of certificate ≡ Ok info) where
+      abbrev grounds : Grounds
+      grounds = (terms_of asked material).grounds
+
+      -- a promise that tells a time isn't its log's
+      unpromised : (e : Error) → promises_judged_of grounds (entries_in reading) ≡ Err e → Cause e
+      unpromised e h = let u = promises_refused grounds (entries_in reading) e h in subst Cause u.named (by_why u u.why refl u.cause)
+        where
+          as_is : (u : Unpromised grounds (entries_in reading) e) (why : LogError) → LogCause asked.crypto.accepts material.logs asked.now u.entry why → (fault : TransparencyLogError)
+              → error_of_log why ≡ verify.TransparencyLog fault → Cause (verify.TransparencyLog fault)
+          as_is u why cause fault named = inr (inl (inr (record {
+            material = material;
+            kept = kept;
+            policy = policy;
+            under = under;
+            reading = reading;
+            read = read;
+            bytes = bytes;
+            whole = whole;
+            entry = u.entry;
+            among = u.among;
+            time = u.time;
+            tells = u.tells;
+            why = why;
+            named = named;
+            cause = cause;
+          })))
+
+          by_why : (u : Unpromised grounds (entries_in reading) e) (why : LogError) → u.why ≡ why → LogCause asked.crypto.accepts material.logs asked.now u.entry why → Cause (error_of_log why)
+          by_why u entry.InclusionProof is cause = as_is u entry.InclusionProof cause log.InclusionProof refl
+          by_why u entry.Checkpoint is cause = as_is u entry.Checkpoint cause log.Checkpoint refl
+          by_why u entry.MalformedEntry is cause = as_is u entry.MalformedEntry cause log.MalformedEntry refl
+          by_why u (entry.UnknownLog id) is cause = as_is u (entry.UnknownLog id) cause (log.UnknownLog id) refl
+          by_why u entry.InclusionPromise is cause = as_is u entry.InclusionPromise cause log.InclusionPromise refl
+          by_why u entry.IntegratedTime is cause = as_is u entry.IntegratedTime cause log.IntegratedTime refl
+          by_why u entry.NoMemory is cause = absurd cause
+
+      -- there is no time
+      timeless : (stamped promised : List Timestamp) → tokens_judged_of grounds (signature_in reading.content) (tokens_in reading) ≡ Ok stamped
+          → promises_judged_of grounds (entries_in reading) ≡ Ok promised → (e : Error) → some_time (stamped ++ promised) ≡ Err e → Cause e
+      timeless stamped promised t p e h =
+          let none = none_there (stamped ++ promised) e h in
+          let both = none_joined stamped promised none.0 in
+          subst Cause none.1 (inr (inr (record {
+            policy = policy;
+            under = under;
+            reading = reading;
+            read = read;
+            bytes = bytes;
+            whole = whole;
+            tokens = no_tokens (tokens_in reading) grounds (signature_in reading.content) stamped (are_stamped grounds (signature_in reading.content) (tokens_in reading) stamped t) both.0;
+            promises = sym (each_told grounds (entries_in reading) promised p).1 ∙ both.1;
+            named = refl;
+          })))
+
+      unverified : (e : Error) → verified_of grounds reading ≡ Err e → Cause e
+      unfolding verified_of
+      unverified e h =
+          refused_at (tokens_judged_of grounds (signature_in reading.content) (tokens_in reading)) _ e h (unstamped material kept e) (λ (stamped : List Timestamp) p k.
+          refused_at (promises_judged_of grounds (entries_in reading)) _ e k (unpromised e) (λ (promised : List Timestamp) q l. timeless stamped promised p q e l))
+
+      -- the certificate isn't to be accepted
+      uncertified : (times : List Timestamp) → AreVerified grounds reading times → (e : Error)
+          → by_certificate (certified_of (trust_in grounds) policy info certificate (intermediates_in reading) times) ≡ Err e → Cause e
+      uncertified times verified e h =
+          let d = through_certificate (certified_of (trust_in grounds) policy info certificate (intermediates_in reading) times) e h in
+          subst Cause d.2 (by_why d.0 (certificate_causes (trust_in grounds) policy info certificate (intermediates_in reading) times d.0 d.1))
+        where
+          as_is : (why : Refusal) → CertificateCause (trust_in grounds) policy info certificate (intermediates_in reading) times why
+              → IsUncertified asked file source source' (error_of_certificate why)
+          as_is why cause = record {
+            material = material;
+            kept = kept;
+            reading = reading;
+            read = read;
+            bytes = bytes;
+            whole = whole;
+            policy = policy;
+            under = under;
+            certificate = certificate;
+            has = has;
+            info = info;
+            says = says;
+            times = times;
+            verified = verified;
+            why = why;
+            named = refl;
+            cause = cause;
+          }
+
+          by_why : (why : Refusal) → CertificateCause (trust_in grounds) policy info certificate (intermediates_in reading) times why → Cause (error_of_certificate why)
+          by_why refusal.Malformed cause = inr (inr (as_is refusal.Malformed cause))
+          by_why refusal.ChainInvalid cause = inr (inr (as_is refusal.ChainInvalid cause))
+          by_why (refusal.NoValidAuthority time) cause = inr (inr (as_is (refusal.NoValidAuthority time) cause))
+          by_why (refusal.NotYetValid time not_before) cause = inr (inr (as_is (refusal.NotYetValid time not_before) cause))
+          by_why (refusal.Expired time not_after) cause = inr (inr (as_is (refusal.Expired time not_after) cause))
+          by_why (refusal.Sct rule) cause = inr (inr (as_is (refusal.Sct rule) cause))
+          by_why refusal.InvalidTrustRoot cause = inr (as_is refusal.InvalidTrustRoot cause)
+          by_why (refusal.IdentityMismatch expected actual) cause = inr (as_is (refusal.IdentityMismatch expected actual) cause)
+          by_why (refusal.IssuerMismatch expected actual) cause = inr (as_is (refusal.IssuerMismatch expected actual) cause)
+          by_why refusal.NoMemory cause = absurd cause
+
+      unowned : IsSigner asked.policy reading (Certified policy info certificate) → (e : Error) → owner_vouched_of grounds policy info certificate reading ≡ Err e → Cause e
+      unfolding owner_vouched_of
+      unowned is e h =
+          refused_at (verified_of grounds reading) _ e h (unverified e) (λ (times : List Timestamp) p k.
+          refused_at (by_certificate (certified_of (trust_in grounds) policy info certificate (intermediates_in reading) times)) _ e k
+          (uncertified times (verified_means grounds reading times p) e) (λ u q l.
+          refused_at (log_judged_of grounds (Certified policy info certificate) policy.verify_tlog (entries_in reading)) _ e l
+          (unlogged material kept (Certified policy info certificate) is policy.verify_tlog (ap asks_log under) e) (λ promised r m. cc)))
 
     -- nothing vouches for the signer
     unvouched : (material : Material) → IsKept file material → (policy : Meaning) → asked.policy ≡ policy → (signer : Signer) → IsSigner policy reading signer → (e : Error)
         → vouched_of (terms_of asked material).grounds signer reading ≡ Err e → Cause e
     unfolding managed_vouched_of
     unvouched material kept (PublicKey policy) under signer i e h =
-        refused_at (log_judged_of (terms_of asked material).grounds policy.verify_tlog (entries_in reading)) _ e
+        let is : IsSigner asked.policy reading (Managed policy) =
+        subst (λ meaning. IsSigner meaning reading (Managed policy)) (sym under) (record { keyed = i.keyed; structure = i.structure; is = refl }) in
+        refused_at (log_judged_of (terms_of asked material).grounds (Managed policy) policy.verify_tlog (entries_in reading)) _ e
         (subst (λ signer. vouched_of (terms_of asked material).grounds signer reading ≡ Err e) i.is h)
-        (unlogged material kept policy.verify_tlog (ap asks_log under) e) (λ promised p k.
+        (unlogged material kept (Managed policy) is policy.verify_tlog (ap asks_log under) e) (λ promised p k.
         refused_at (tokens_judged_of (terms_of asked material).grounds (signature_in reading.content) (tokens_in reading)) _ e k
         (unstamped material kept e) (λ stamped q l. cc))
+    unvouched material kept (Certificate policy) under signer i e h =
+        let is : IsSigner asked.policy reading (Certified policy i.info i.certificate) =
+        subst (λ meaning. IsSigner meaning reading (Certified policy i.info i.certificate)) (sym under)
+        (record { structure = i.structure; certificate = i.certificate; named = i.named; info = i.info; says = i.says; is = refl }) in
+        unowned material kept policy under i.certificate i.info i.named i.says is e
+        (subst (λ signer. vouched_of (terms_of asked material).grounds signer reading ≡ Err e) i.is h)
 
     -- an entry isn't of the signature
     undescribed : (material : Material) (signer : Signer) → IsSigner asked.policy reading signer → (e : Error)
@@ -394,10 +587,11 @@ module _ (asked : Asked) (file : List ℕ) (source source' : Watched (List ℕ))
 
         by_why : (why : BindingError) (x : TransparencyLogEntry) → Contains (entries_in reading) x → BindingCause (readings_in asked.crypto) (signatory_of signer) (signed_in reading.content (digest_of (Read bytes))) x why
             → Cause (error_of_binding why)
-        by_why binding.Unsupported x among cause = inr (as_is binding.Unsupported x among cause)
-        by_why binding.MalformedEntry x among cause = inr (inr (as_is binding.MalformedEntry x among cause))
+        by_why binding.Unsupported x among cause = inr (inr (as_is binding.Unsupported x among cause))
+        by_why binding.MalformedEntry x among cause = inr (inr (inr (as_is binding.MalformedEntry x among cause)))
         by_why binding.ArtifactMismatch x among cause = inr (inr (as_is binding.ArtifactMismatch x among cause))
-        by_why binding.EntryMismatch x among cause = inr (inr (as_is binding.EntryMismatch x among cause))
+        by_why binding.EntryMismatch x among cause = inr (inr (inr (as_is binding.EntryMismatch x among cause)))
+        by_why binding.IntegratedTime x among cause = inr (inr (inr (as_is binding.IntegratedTime x among cause)))
         by_why binding.NoMemory x among cause = wanted
 
     unjudged : (material : Material) → IsKept file material → (e : Error) → judged_of (terms_of asked material) reading (Read bytes) ≡ Err e → Cause e

@@ -6,6 +6,7 @@ pub mod EntryCauses
 mod Behind
 pub mod EntryLaw
 pub mod TokenLaw
+pub mod VerifiedLaw
 pub mod LogRefusals
 pub mod UsableCauses
 pub mod JudgeCauses
@@ -17,4 +18,3 @@ pub mod Taken
 pub mod Usable
 pub mod Wanting
 pub mod Within
-mod TrustReading

@@ -1,7 +1,8 @@
 -- A refusal of the log comes from an entry.
-use Rattle.std.proofs.Common.{◌≡◌, ◌⊎◌, inl, inr, List, [], ◌∷◌, Bool, true, false, ◌||◌, if◌then◌else◌, Result, Ok, Err, sym, ap, ◌∙◌, subst}
+use Rattle.std.proofs.Common.{◌≡◌, ◌⊎◌, inl, inr, ℕ, List, [], ◌∷◌, ◌++◌, Bool, true, false, ◌||◌, if◌then◌else◌, Option, Some, None, Result, Ok, Err, sym, ap, ◌∙◌, subst}
 use Rattle.std.specs.Prelude.{⊤}
 use Rattle.std.specs.List.{list_all}
+use Rattle.jiff_core.specs.declared.timestamp.Timestamp.{Timestamp}
 use Rattle.foundation.specs.Results.{err_same, refused_at}
 use Rattle.sigstore_types_parts.specs.declared.hash_algorithm.HashAlgorithm.{HashAlgorithm}
 use Rattle.sigstore_types_parts.specs.declared.error.TypesError.{TypesError}
@@ -17,27 +18,34 @@ use Rattle.sigstore_crypto_parts.specs.declared.error.Error.{Error as CryptoErro
 use Rattle.sigstore_crypto_parts.specs.declared.key.VerificationKey.{VerificationKey}
 use Rattle.sigstore_crypto_parts.specs.declared.scheme.SigningScheme.{SigningScheme}
 use Rattle.sigstore_crypto_parts.specs.Key.{spki_key_of}
-use Rattle.sigstore_entries.specs.declared.entry.TransparencyLogEntry.{TransparencyLogEntry}
+use Rattle.sigstore_crypto.specs.Info.{info_of}
+use Rattle.sigstore_certificate.specs.declared.error.Refusal.{Refusal}
+use Rattle.sigstore_certificate.specs.declared.error.Refusal.TheVariants as refusal
+use Rattle.sigstore_certificate.specs.Certified.{certified_of}
+use Rattle.sigstore_judgement.specs.declared.error.CertificateError.TheVariants as certificate
 use Rattle.sigstore_judgement.specs.declared.error.Error.{Error}
 use Rattle.sigstore_judgement.specs.declared.error.Error.TheVariants as verify
 use Rattle.sigstore_judgement.specs.declared.error.TransparencyLogError.{TransparencyLogError}
+use Rattle.sigstore_judgement.specs.declared.error.TransparencyLogError.TheVariants as log
 use Rattle.sigstore_judgement.specs.declared.evidence.Evidence.{Evidence}
 use Rattle.sigstore_judgement.specs.Artifact.{Artifact, Blob, Read, Digest, Kind, kind_of, digest_of, bytes_of}
 use Rattle.sigstore_judgement.specs.Claim.{Claim, is_in_toto, typed_of, or_invalid, subjects_of, digested_of, statement_judged_of, stated_of, claim_of, needed_of, is_bound}
 use Rattle.sigstore_judgement.specs.Content.{scheme_of, signs_digest, supported_of, signature_in, is_signed, first_refusal, content_judged_of}
 use Rattle.sigstore_judgement.specs.Entries.{log_judged_of, entries_described_of, HasUndescribed}
-use Rattle.sigstore_judgement.specs.Error.{error_of_crypto, by_types, by_crypto}
-use Rattle.sigstore_judgement.specs.Grounds.{Grounds, Terms}
-use Rattle.sigstore_judgement.specs.Judged.{Ready, claimed_of, ready_of, prepared_of, managed_vouched_of, vouched_of, judged_had, judged_of}
-use Rattle.sigstore_judgement.specs.Policy.{Meaning, PublicKey}
-use Rattle.sigstore_judgement.specs.Signer.{Signer, Managed, key_in, managed_of, signer_of}
-use Rattle.sigstore_judgement.specs.Unlogged.{HasUnlogged, LogRefusals}
+use Rattle.sigstore_judgement.specs.Error.{error_of_crypto, error_of_info, error_of_certificate, by_types, by_crypto, by_info, by_certificate}
+use Rattle.sigstore_judgement.specs.Grounds.{trust_in, Terms}
+use Rattle.sigstore_judgement.specs.Judged.{Ready, claimed_of, ready_of, prepared_of, managed_vouched_of, intermediates_in, owner_vouched_of, vouched_of, judged_had, judged_of}
+use Rattle.sigstore_judgement.specs.Policy.{Meaning, PublicKey, Certificate}
+use Rattle.sigstore_judgement.specs.Signer.{Signer, Managed, Certified, key_in, certificate_in, keyed_of, named_of, managed_of, owner_of, signer_of, IsSigner}
+use Rattle.sigstore_judgement.specs.Unlogged.{HasUnlogged, HasUntimely, LogRefusals}
 use Rattle.sigstore_judgement.specs.Tokens.{tokens_judged_of}
+use Rattle.sigstore_judgement.specs.Verified.{promises_judged_of, verified_of}
 use Rattle.sigstore_judgement.proofs.Accepts.{Prepared, prepared_means}
 use Rattle.sigstore_judgement.proofs.DescribedCauses.{entries_undescribed}
-use Rattle.sigstore_judgement.proofs.EntryCauses.{entries_unlogged}
+use Rattle.sigstore_judgement.proofs.EntryCauses.{Unlogged, Untimely, entries_unlogged}
 use Rattle.sigstore_judgement.proofs.TokenLaw.{tokens_unstamped}
-use Rattle.sigstore_judgement.proofs.JudgeCauses.{IsLowered, as_lowered, as_crypto, through_crypto}
+use Rattle.sigstore_judgement.proofs.JudgeCauses.{IsLowered, as_lowered, as_crypto, as_info, through_crypto, through_info, through_certificate}
+use Rattle.sigstore_judgement.proofs.VerifiedLaw.{promises_refused, none_there}
 
 -- the refusals that aren't of the log
 abbrev pub NoLog : Error → Type 0
@@ -50,8 +58,7 @@ types_no_log (Err t) e h = by (as_lowered verify.Bundle t)
   where
     by : IsLowered verify.Bundle t → NoLog e
     by (inl want) = subst NoLog (sym want ∙ err_same _ e h) tt
-    by (inr (inl (f, same, is))) = subst NoLog (sym is ∙ err_same _ e h) tt
-    by (inr (inr is)) = subst NoLog (sym is ∙ err_same _ e h) tt
+    by (inr is) = subst NoLog (sym is ∙ err_same _ e h) tt
 
 crypto_no_log : {A : Type 0} (r : Result A CryptoError) (e : Error) → by_crypto r ≡ Err e → NoLog e
 crypto_no_log r e h =
@@ -61,6 +68,32 @@ crypto_no_log r e h =
     by : (t : CryptoError) → (error_of_crypto t ≡ verify.Crypto) ⊎ (error_of_crypto t ≡ verify.NoMemory) → error_of_crypto t ≡ e → NoLog e
     by t (inl is) k = subst NoLog (sym is ∙ k) tt
     by t (inr is) k = subst NoLog (sym is ∙ k) tt
+
+info_no_log : {A : Type 0} (r : Result A CryptoError) (e : Error) → by_info r ≡ Err e → NoLog e
+info_no_log r e h =
+    let t = through_info r e h in
+    by t.0 (as_info t.0) t.2
+  where
+    by : (t : CryptoError) → (error_of_info t ≡ verify.Certificate certificate.Malformed) ⊎ (error_of_info t ≡ verify.NoMemory) → error_of_info t ≡ e → NoLog e
+    by t (inl is) k = subst NoLog (sym is ∙ k) tt
+    by t (inr is) k = subst NoLog (sym is ∙ k) tt
+
+certificate_no_log : {A : Type 0} (r : Result A Refusal) (e : Error) → by_certificate r ≡ Err e → NoLog e
+certificate_no_log r e h =
+    let t = through_certificate r e h in
+    subst NoLog t.2 (by t.0)
+  where
+    by : (t : Refusal) → NoLog (error_of_certificate t)
+    by refusal.Malformed = tt
+    by refusal.ChainInvalid = tt
+    by (refusal.NoValidAuthority time) = tt
+    by (refusal.NotYetValid time not_before) = tt
+    by (refusal.Expired time not_after) = tt
+    by (refusal.Sct rule) = tt
+    by refusal.InvalidTrustRoot = tt
+    by (refusal.IdentityMismatch expected actual) = tt
+    by (refusal.IssuerMismatch expected actual) = tt
+    by refusal.NoMemory = tt
 
 lacking_no_log : (artifact : Artifact) → NoLog (kind_of artifact).lacking
 lacking_no_log (Blob bytes) = tt
@@ -113,10 +146,23 @@ ready_no_log kind signer bundle e l h =
     refused_at (supported_of kind (signs_digest scheme bundle.content) (needed_of scheme claim)) _ e o
     (supported_no_log kind (signs_digest scheme bundle.content) (needed_of scheme claim) e l) (λ v s p. cc))) (λ claim t o. cc)))
 
+keyed_no_log : (o : Option (List ℕ)) (e : Error) → keyed_of o ≡ Err e → NoLog e
+keyed_no_log None e h = cc
+keyed_no_log (Some certificate) e h = subst NoLog (err_same verify.UnsupportedBundle e h) tt
+
+named_no_log : (o : Option (List ℕ)) (e : Error) → named_of o ≡ Err e → NoLog e
+named_no_log None e h = subst NoLog (err_same verify.InvalidBundle e h) tt
+named_no_log (Some certificate) e h = cc
+
 signer_no_log : (policy : Meaning) (bundle : Bundle) (e : Error) → signer_of policy bundle ≡ Err e → NoLog e
-unfolding managed_of
+unfolding managed_of owner_of
 signer_no_log (PublicKey policy) bundle e h =
-    refused_at (by_types (structure_of bundle policy.verify_tlog)) _ e h (types_no_log (structure_of bundle policy.verify_tlog) e) (λ u p k. cc)
+    refused_at (keyed_of (certificate_in bundle)) _ e h (keyed_no_log (certificate_in bundle) e) (λ v q l.
+    refused_at (by_types (structure_of bundle policy.verify_tlog)) _ e l (types_no_log (structure_of bundle policy.verify_tlog) e) (λ u p k. cc))
+signer_no_log (Certificate policy) bundle e h =
+    refused_at (by_types (structure_of bundle policy.verify_tlog)) _ e h (types_no_log (structure_of bundle policy.verify_tlog) e) (λ u p k.
+    refused_at (named_of (certificate_in bundle)) _ e k (named_no_log (certificate_in bundle) e) (λ (certificate : List ℕ) q l.
+    refused_at (by_info (info_of certificate)) _ e l (info_no_log (info_of certificate) e) (λ info r m. cc)))
 
 prepared_no_log : (kind : Kind) (policy : Meaning) (bundle : Bundle) (e : Error) → NoLog kind.lacking → prepared_of kind policy bundle ≡ Err e → NoLog e
 unfolding prepared_of
@@ -146,29 +192,60 @@ module _ (terms : Terms) (bundle : Bundle) (artifact : Artifact) (fault : Transp
       (subst (λ signer. entries_described_of terms.grounds signer bundle (digest_of artifact) (entries_in bundle) ≡ Err (verify.TransparencyLog fault)) same h) in
       record { signer = p.signer; is = p.is; entry = u.entry; among = u.among; why = u.why; named = u.named; cause = u.cause }
 
-  log_unlogged : (asked : Bool) → log_judged_of terms.grounds asked (entries_in bundle) ≡ Err (verify.TransparencyLog fault) → Has
-  log_unlogged true h =
-      let u = entries_unlogged terms.grounds (entries_in bundle) (verify.TransparencyLog fault) h in
-      record { entry = u.entry; among = u.among; why = u.why; named = u.named; cause = u.cause }
-  log_unlogged false h = cc
+  abbrev HasLate : Type 0
+  HasLate = HasUntimely terms.policy bundle fault
 
-  signer_unlogged : (signer : Signer) → vouched_of terms.grounds signer bundle ≡ Err (verify.TransparencyLog fault) → Has
-  unfolding managed_vouched_of
-  signer_unlogged (Managed policy) h =
-      refused_at (log_judged_of terms.grounds policy.verify_tlog (entries_in bundle)) _ (verify.TransparencyLog fault) h (log_unlogged policy.verify_tlog) (λ promised p k.
-      refused_at (tokens_judged_of terms.grounds (signature_in bundle.content) (tokens_in bundle)) _ (verify.TransparencyLog fault) k
-      (λ q. let u = tokens_unstamped terms.grounds (signature_in bundle.content) (tokens_in bundle) (verify.TransparencyLog fault) q in cc) (λ stamped q l. cc))
+  log_fault : (one two : TransparencyLogError) → verify.TransparencyLog one ≡ verify.TransparencyLog two → two ≡ one
+  log_fault one two h = cc
 
-  pub unlogged : judged_of terms bundle artifact ≡ Err (verify.TransparencyLog fault) → Has ⊎ HasOther
+  log_unlogged : (signer : Signer) → IsSigner terms.policy bundle signer → (asked : Bool) → log_judged_of terms.grounds signer asked (entries_in bundle) ≡ Err (verify.TransparencyLog fault)
+      → Has ⊎ HasLate
+  log_unlogged signer is true h = by (entries_unlogged terms.grounds signer (entries_in bundle) (verify.TransparencyLog fault) h)
+    where
+      by : Unlogged terms.grounds (entries_in bundle) (verify.TransparencyLog fault) ⊎ Untimely signer (entries_in bundle) (verify.TransparencyLog fault) → Has ⊎ HasLate
+      by (inl u) = inl (record { entry = u.entry; among = u.among; why = u.why; named = u.named; cause = u.cause })
+      by (inr u) = inr (record { signer = signer; is = is; entry = u.entry; among = u.among; untimely = u.untimely; named = log_fault log.IntegratedTime fault u.named })
+  log_unlogged signer is false h = cc
+
+  tokens_no_log : {C : Type 0} → tokens_judged_of terms.grounds (signature_in bundle.content) (tokens_in bundle) ≡ Err (verify.TransparencyLog fault) → C
+  tokens_no_log h = let u = tokens_unstamped terms.grounds (signature_in bundle.content) (tokens_in bundle) (verify.TransparencyLog fault) h in cc
+
+  verified_unlogged : verified_of terms.grounds bundle ≡ Err (verify.TransparencyLog fault) → Has
+  unfolding verified_of
+  verified_unlogged h =
+      refused_at (tokens_judged_of terms.grounds (signature_in bundle.content) (tokens_in bundle)) _ (verify.TransparencyLog fault) h tokens_no_log (λ (stamped : List Timestamp) p k.
+      refused_at (promises_judged_of terms.grounds (entries_in bundle)) _ (verify.TransparencyLog fault) k (λ r.
+      let u = promises_refused terms.grounds (entries_in bundle) (verify.TransparencyLog fault) r in
+      record { entry = u.entry; among = u.among; why = u.why; named = u.named; cause = u.cause }) (λ (promised : List Timestamp) q l.
+      let none = none_there (stamped ++ promised) (verify.TransparencyLog fault) l in cc))
+
+  signer_unlogged : (signer : Signer) → IsSigner terms.policy bundle signer → vouched_of terms.grounds signer bundle ≡ Err (verify.TransparencyLog fault) → Has ⊎ HasLate
+  unfolding managed_vouched_of owner_vouched_of
+  signer_unlogged (Managed policy) is h =
+      refused_at (log_judged_of terms.grounds (Managed policy) policy.verify_tlog (entries_in bundle)) _ (verify.TransparencyLog fault) h (log_unlogged (Managed policy) is policy.verify_tlog) (λ promised p k.
+      refused_at (tokens_judged_of terms.grounds (signature_in bundle.content) (tokens_in bundle)) _ (verify.TransparencyLog fault) k tokens_no_log (λ stamped q l. cc))
+  signer_unlogged (Certified policy info certificate) is h =
+      refused_at (verified_of terms.grounds bundle) _ (verify.TransparencyLog fault) h (λ v. inl (verified_unlogged v)) (λ (times : List Timestamp) p k.
+      refused_at (by_certificate (certified_of (trust_in terms.grounds) policy info certificate (intermediates_in bundle) times)) _ (verify.TransparencyLog fault) k
+      (λ c. absurd (certificate_no_log (certified_of (trust_in terms.grounds) policy info certificate (intermediates_in bundle) times) (verify.TransparencyLog fault) c)) (λ u q l.
+      refused_at (log_judged_of terms.grounds (Certified policy info certificate) policy.verify_tlog (entries_in bundle)) _ (verify.TransparencyLog fault) l
+      (log_unlogged (Certified policy info certificate) is policy.verify_tlog) (λ promised r m. cc)))
+
+  sorted : Has ⊎ HasLate → Has ⊎ (HasLate ⊎ HasOther)
+  sorted (inl u) = inl u
+  sorted (inr u) = inr (inl u)
+
+  pub unlogged : judged_of terms bundle artifact ≡ Err (verify.TransparencyLog fault) → Has ⊎ (HasLate ⊎ HasOther)
   unfolding judged_of judged_had
   unlogged h =
       let e = verify.TransparencyLog fault in
       refused_at (prepared_of (kind_of artifact) terms.policy bundle) _ e h (λ p. absurd (prepared_no_log (kind_of artifact) terms.policy bundle e (lacking_no_log artifact) p)) (λ (ready : Ready) p k.
-      refused_at (vouched_of terms.grounds ready.signer bundle) _ e k (λ v. inl (signer_unlogged ready.signer v)) (λ (evidence : Evidence) q l.
+      refused_at (vouched_of terms.grounds ready.signer bundle) _ e k (λ v. let q = prepared_means (kind_of artifact) terms.policy bundle ready p in
+      sorted (signer_unlogged q.signer q.is (subst (λ signer. vouched_of terms.grounds signer bundle ≡ Err e) (ap (λ (r : Ready). r.signer) q.same) v))) (λ (evidence : Evidence) q l.
       refused_at (content_judged_of terms.grounds.crypto.accepts ready.key bundle.content ready.claim (digest_of artifact) (bytes_of artifact)) _ e l
       (λ r. absurd (content_no_log bundle.content (is_bound ready.claim (digest_of artifact)) (is_signed terms.grounds.crypto.accepts ready.key bundle.content (digest_of artifact) (bytes_of artifact)) e r)) (λ v r m.
       refused_at (entries_described_of terms.grounds ready.signer bundle (digest_of artifact) (entries_in bundle)) _ e m
-      (λ s. inr (undescribed ready (prepared_means (kind_of artifact) terms.policy bundle ready p) s)) (λ w s n. cc))))
+      (λ s. inr (inr (undescribed ready (prepared_means (kind_of artifact) terms.policy bundle ready p) s))) (λ w s n. cc))))
 
 pub log_refusals : LogRefusals
 log_refusals terms bundle artifact fault h = unlogged terms bundle artifact fault h

@@ -7,7 +7,6 @@ use Rattle.foundation.specs.Steps.{◌>>=◌}
 use Rattle.sigstore_types_parts.specs.declared.hash_algorithm.HashAlgorithm.{HashAlgorithm}
 use Rattle.sigstore_types.specs.declared.bundle.Bundle.{Bundle}
 use Rattle.sigstore_types.specs.Bundle.{entries_in}
-use Rattle.sigstore_entries.specs.declared.entry.TransparencyLogEntry.{TransparencyLogEntry}
 use Rattle.sigstore_crypto_parts.specs.Digest.{is_hashed, digests_by}
 use Rattle.sigstore_crypto_parts.specs.declared.reader.ReadError.{ReadError}
 use Rattle.sigstore_judgement.specs.declared.error.Error.{Error}
@@ -22,7 +21,7 @@ use Rattle.sigstore_judgement.specs.Grounds.{Grounds, readings_in, Terms}
 use Rattle.sigstore_judgement.specs.Judged.{Ready, prepared_of, vouched_of, judged_had, judged_of, needed_in}
 use Rattle.sigstore_judgement.specs.Policy.{Meaning}
 use Rattle.sigstore_judgement.specs.Promise.{ReadCause, Cause, VerifiesKept, VerifiesHanded}
-use Rattle.sigstore_judgement.specs.Signer.{Signer, signatory_of}
+use Rattle.sigstore_judgement.specs.Signer.{signatory_of}
 use Rattle.sigstore_judgement.specs.Taking.{Takes}
 use Rattle.sigstore_judgement.proofs.Accepts.{prepared_means, all_hashed}
 use Rattle.sigstore_judgement.proofs.Within.{took_nothing}

@@ -22,7 +22,6 @@ is_want verify.Bundle = inr (λ h. cc)
 is_want verify.TrustRoot = inr (λ h. cc)
 is_want verify.TrustedCertificate = inr (λ h. cc)
 is_want (verify.ArtifactRead a) = inr (λ h. cc)
-is_want (verify.Unbuilt a) = inr (λ h. cc)
 
 -- want of memory, or what holds of every other refusal
 pub wanting : {A : Type 0} (e : Error) → (e ≢ verify.NoMemory → A) → (e ≡ verify.NoMemory) ⊎ A

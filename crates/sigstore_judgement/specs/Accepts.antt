@@ -1,5 +1,5 @@
 -- What it means that a bundle is accepted, told without any order of checks.
-use Rattle.std.specs.Prelude.{◌≡◌, ◌↔◌, ℕ, List, Bool, true, false, ⊤, Some, Ok, IsTrue}
+use Rattle.std.specs.Prelude.{◌≡◌, ◌↔◌, ℕ, List, Bool, true, false, ⊤, Some, None, Ok, IsTrue}
 use Rattle.std.specs.List.{AllByRecursion}
 use Rattle.jiff_core.specs.declared.timestamp.Timestamp.{Timestamp}
 use Rattle.sigstore_types.specs.declared.bundle.Bundle.{Bundle}
@@ -9,35 +9,50 @@ use Rattle.sigstore_crypto_parts.specs.declared.key.VerificationKey.{Verificatio
 use Rattle.sigstore_crypto_parts.specs.Key.{spki_key_of}
 use Rattle.sigstore_crypto_parts.specs.Good.{is_good_over}
 use Rattle.sigstore_entries.specs.declared.entry.TransparencyLogEntry.{TransparencyLogEntry}
-use Rattle.sigstore_log.specs.Logged.{Logged}
+use Rattle.sigstore_crypto.specs.declared.certificate_info.CertificateInfo.{CertificateInfo}
+use Rattle.sigstore_certificate.specs.declared.policy.VerificationPolicy.{VerificationPolicy}
+use Rattle.sigstore_certificate.specs.IsCertified.{IsCertified}
 use Rattle.sigstore_judgement.specs.declared.evidence.Evidence.{Evidence}
 use Rattle.sigstore_judgement.specs.declared.policy.PublicKeyVerificationPolicy.{PublicKeyVerificationPolicy}
 use Rattle.sigstore_judgement.specs.declared.report.VerificationResult.{VerificationResult}
 use Rattle.sigstore_judgement.specs.Artifact.{Artifact, digest_of, bytes_of, kind_of}
 use Rattle.sigstore_judgement.specs.Claim.{Claim, claim_of, needed_of, IsBound}
 use Rattle.sigstore_judgement.specs.Content.{scheme_of, signs_digest, supported_of, subject_in, signature_in}
-use Rattle.sigstore_judgement.specs.Entries.{told_if, Describes}
-use Rattle.sigstore_judgement.specs.Evidence.{times_of, report_of}
-use Rattle.sigstore_judgement.specs.Grounds.{Grounds, Terms}
-use Rattle.sigstore_judgement.specs.Judged.{key_with, judged_of}
-use Rattle.sigstore_judgement.specs.Signer.{Signer, Managed, key_in, IsSigner}
+use Rattle.sigstore_judgement.specs.Entries.{IsLogged, told_if, Describes}
+use Rattle.sigstore_judgement.specs.Evidence.{earliest_from, times_of, report_of}
+use Rattle.sigstore_judgement.specs.Grounds.{Grounds, trust_in, Terms}
+use Rattle.sigstore_judgement.specs.Judged.{intermediates_in, key_with, judged_of}
+use Rattle.sigstore_judgement.specs.Signer.{Signer, Managed, Certified, key_in, IsSigner}
 use Rattle.sigstore_judgement.specs.Tokens.{AreStamped}
+use Rattle.sigstore_judgement.specs.Verified.{AreVerified}
 
--- where the policy verifies the log, each entry is logged
-abbrev pub AreLogged : Grounds → Bool → List TransparencyLogEntry → Type 0
-AreLogged grounds true entries = AllByRecursion (Logged grounds.crypto.accepts grounds.material.logs grounds.now) entries
-AreLogged grounds false entries = ⊤
+-- where the policy verifies the log, each entry is logged, at a time of the signer's
+abbrev pub AreLogged : Grounds → Signer → Bool → List TransparencyLogEntry → Type 0
+AreLogged grounds signer true entries = AllByRecursion (IsLogged grounds signer) entries
+AreLogged grounds signer false entries = ⊤
 
 -- under a managed key: the log does, each token is a trusted authority's, and what is found are the times of both
 pub record ManagedVouches (grounds : Grounds) (policy : PublicKeyVerificationPolicy) (bundle : Bundle) (evidence : Evidence) : Type 0 where
-  pub logged : AreLogged grounds policy.verify_tlog (entries_in bundle)
+  pub logged : AreLogged grounds (Managed policy) policy.verify_tlog (entries_in bundle)
   pub stamped : List Timestamp
   pub are : AreStamped grounds (signature_in bundle.content) (tokens_in bundle) stamped
   pub times : evidence ≡ times_of (told_if policy.verify_tlog (entries_in bundle)) stamped
 
+-- Under a certificate: these are the verified times, and there is one; at each of them the certificate was valid, a certificate log saw it,
+-- and it names whom the policy asks for, as far as the policy asks; and the log does vouch, where the policy verifies it.
+pub record OwnerVouches (grounds : Grounds) (policy : VerificationPolicy) (info : CertificateInfo) (certificate : List ℕ) (bundle : Bundle)
+    (evidence : Evidence) : Type 0 where
+  pub times : List Timestamp
+  pub verified : AreVerified grounds bundle times
+  pub certified : IsCertified (trust_in grounds) policy info certificate (intermediates_in bundle) times
+  pub logged : AreLogged grounds (Certified policy info certificate) policy.verify_tlog (entries_in bundle)
+  pub shows :
+      evidence ≡ record { integrated_time = earliest_from None (told_if policy.verify_tlog (entries_in bundle)); times = times }
+
 -- what vouches for the signer, and what is found of it
 abbrev pub Vouches : Grounds → Signer → Bundle → Evidence → Type 0
 Vouches grounds (Managed policy) bundle evidence = ManagedVouches grounds policy bundle evidence
+Vouches grounds (Certified policy info certificate) bundle evidence = OwnerVouches grounds policy info certificate bundle evidence
 
 -- Someone signed whom the policy asks for; their key is read, and with the content it has a scheme; what the bundle says of its artifact is
 -- read, of an envelope its statement; the artifact has what is signed and each digest that is needed; the signer is vouched for; what the

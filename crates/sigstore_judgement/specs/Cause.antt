@@ -1,11 +1,10 @@
 -- What each refusal of the judgement tells: of the trust file, the bundle, the policy and the artifact (Sigstore bundle format; FIPS 180-4,
 -- FIPS 186-5; RFC 6962).
-use Rattle.std.specs.Prelude.{◌≡◌, ◌⊎◌, ℕ, List, [], Contains, Bool, true, false, None, Result, Ok, Err, ⊤}
+use Rattle.std.specs.Prelude.{◌≡◌, ◌⊎◌, ℕ, List, [], filter_map, Contains, true, false, Some, None, Result, Ok, Err, ⊤}
 use Rattle.std.specs.List.{list_all}
 use Rattle.foundation.specs.Watched.{Watched}
-use Rattle.sigstore_types_parts.specs.declared.form.Form.{Form}
+use Rattle.jiff_core.specs.declared.timestamp.Timestamp.{Timestamp}
 use Rattle.sigstore_types_parts.specs.declared.error.TypesError.{TypesError}
-use Rattle.sigstore_types_parts.specs.declared.error.TypesError.TheVariants as types
 use Rattle.sigstore_envelopes.specs.declared.envelope.DsseEnvelope.{DsseEnvelope}
 use Rattle.sigstore_envelopes.specs.declared.statement.Statement.{Statement}
 use Rattle.sigstore_envelopes.specs.Statement.{statement_of_bytes, algorithms_of}
@@ -19,25 +18,37 @@ use Rattle.sigstore_crypto_parts.specs.declared.scheme.SigningScheme.{SigningSch
 use Rattle.sigstore_crypto_parts.specs.Digest.{is_hashed}
 use Rattle.sigstore_crypto_parts.specs.Key.{spki_key_of}
 use Rattle.sigstore_entries.specs.declared.entry.TransparencyLogEntry.{TransparencyLogEntry}
+use Rattle.sigstore_crypto.specs.declared.certificate_info.CertificateInfo.{CertificateInfo}
+use Rattle.sigstore_crypto.specs.Info.{info_of}
+use Rattle.sigstore_log.specs.declared.error.LogError.{LogError}
+use Rattle.sigstore_log.specs.Cause.{LogCause}
+use Rattle.sigstore_log.specs.Promise.{told_time}
+use Rattle.sigstore_certificate.specs.declared.error.Refusal.{Refusal}
+use Rattle.sigstore_certificate.specs.declared.policy.VerificationPolicy.{VerificationPolicy}
+use Rattle.sigstore_certificate.specs.Cause.{Cause as CertificateCause}
 use Rattle.sigstore_tsa.specs.Authorities.{IsUnstamped, IsOutsideNone, IsOutsideOne}
+use Rattle.sigstore_judgement.specs.declared.error.CertificateError.{CertificateError}
 use Rattle.sigstore_judgement.specs.declared.error.Error.{Error}
 use Rattle.sigstore_judgement.specs.declared.error.TimestampError.{TimestampError}
 use Rattle.sigstore_judgement.specs.declared.error.TimestampError.TheVariants as stamp
 use Rattle.sigstore_judgement.specs.declared.error.TransparencyLogError.{TransparencyLogError}
 use Rattle.sigstore_judgement.specs.declared.error.Error.TheVariants as verify
+use Rattle.sigstore_judgement.specs.declared.policy.PublicKeyVerificationPolicy.{PublicKeyVerificationPolicy}
 use Rattle.sigstore_judgement.specs.declared.trust.Material.{Material}
 use Rattle.sigstore_judgement.specs.Artifact.{Read, digest_of}
 use Rattle.sigstore_judgement.specs.Claim.{Claim, is_in_toto, claim_of, needed_of, IsOfOther}
 use Rattle.sigstore_judgement.specs.Content.{scheme_of, signs_digest, signature_in, is_signed}
 use Rattle.sigstore_judgement.specs.Entries.{HasUndescribed}
-use Rattle.sigstore_judgement.specs.Error.{error_of_crypto}
-use Rattle.sigstore_judgement.specs.Grounds.{Grounds}
-use Rattle.sigstore_judgement.specs.Policy.{Meaning, PublicKey}
+use Rattle.sigstore_judgement.specs.Error.{error_of_crypto, error_of_info, error_of_certificate, error_of_log}
+use Rattle.sigstore_judgement.specs.Grounds.{Grounds, trust_in}
+use Rattle.sigstore_judgement.specs.Judged.{intermediates_in}
+use Rattle.sigstore_judgement.specs.Policy.{PublicKey, Certificate, asks_log}
 use Rattle.sigstore_judgement.specs.Promise.{ReadWhole, ReadCause}
-use Rattle.sigstore_judgement.specs.Signer.{Signer, key_in, IsSigner}
+use Rattle.sigstore_judgement.specs.Signer.{Signer, certificate_in, key_in, IsSigner}
 use Rattle.sigstore_judgement.specs.Trust.{material_of}
 use Rattle.sigstore_judgement.specs.Under.{Asked, terms_of, trust_fault, bundle_fault}
-use Rattle.sigstore_judgement.specs.Unlogged.{HasUnlogged}
+use Rattle.sigstore_judgement.specs.Unlogged.{HasUnlogged, HasUntimely}
+use Rattle.sigstore_judgement.specs.Verified.{AreVerified}
 
 -- a lower definition refuses, and its refusal is this one here
 abbrev pub IsRefusedAs : {T X : Type 0} → (X → Error) → Result T X → Error → Type 0
@@ -76,10 +87,6 @@ pub data IsUnsupported (bundle : List ℕ) : Type 0 where
       → reading.content ≡ OfEnvelope envelope → statement_of_bytes envelope.payload ≡ Ok statement → algorithms_of statement ≡ []
       → IsUnsupported bundle
 
--- the bundle is of a form that isn't built
-abbrev pub IsUnbuilt : List ℕ → Form → Type 0
-IsUnbuilt bundle unbuilt = bundle_of_bytes bundle ≡ Err (types.Unbuilt unbuilt)
-
 abbrev pub SharedCause : Asked → List ℕ → Watched (List ℕ) → Watched (List ℕ) → Error → Type 0
 SharedCause asked file source source' verify.InvalidBundle = IsInvalid asked.bundle
 SharedCause asked file source source' verify.UnsupportedBundle = IsUnsupported asked.bundle
@@ -89,15 +96,10 @@ SharedCause asked file source source' verify.Crypto = IsUnusable file verify.Cry
 SharedCause asked file source source' verify.TrustRoot = IsRefusedAs trust_fault (trusted_root_of_bytes file) verify.TrustRoot
 SharedCause asked file source source' verify.TrustedCertificate = IsUnusable file verify.TrustedCertificate
 SharedCause asked file source source' (verify.ArtifactRead fault) = ReadCause source source' asked.max fault
-SharedCause asked file source source' (verify.Unbuilt unbuilt) = IsUnbuilt asked.bundle unbuilt
 SharedCause asked file source source' verify.NoMemory = ⊤
 SharedCause asked file source source' _ = ⊥
 
 -- ---- those that rest on the policy, and so on who signed
-
--- whether the policy verifies the log
-abbrev pub asks_log : Meaning → Bool
-asks_log (PublicKey policy) = policy.verify_tlog
 
 -- the bundle is read, and this signer signed it under the policy
 pub record HasSigner (asked : Asked) : Type 0 where
@@ -105,6 +107,34 @@ pub record HasSigner (asked : Asked) : Type 0 where
   pub read : IsRead asked.bundle reading
   pub signer : Signer
   pub is : IsSigner asked.policy reading signer
+
+-- the policy is for a key, and the bundle that was read has a certificate
+pub record MeetsCertificate (asked : Asked) : Type 0 where
+  pub policy : PublicKeyVerificationPolicy
+  pub under : asked.policy ≡ PublicKey policy
+  pub reading : Bundle
+  pub read : IsRead asked.bundle reading
+  pub certificate : List ℕ
+  pub has : certificate_in reading ≡ Some certificate
+
+-- the policy is for certificates, and the bundle that was read has none
+pub record LacksCertificate (asked : Asked) : Type 0 where
+  pub policy : VerificationPolicy
+  pub under : asked.policy ≡ Certificate policy
+  pub reading : Bundle
+  pub read : IsRead asked.bundle reading
+  pub none : certificate_in reading ≡ None
+
+-- the signing certificate of the bundle that was read says nothing of its owner: it isn't read, or its key is of no known sort, or its names
+-- aren't read
+pub record SaysNothing (asked : Asked) (fault : CertificateError) : Type 0 where
+  pub policy : VerificationPolicy
+  pub under : asked.policy ≡ Certificate policy
+  pub reading : Bundle
+  pub read : IsRead asked.bundle reading
+  pub certificate : List ℕ
+  pub has : certificate_in reading ≡ Some certificate
+  pub unread : IsRefusedAs error_of_info (info_of certificate) (verify.Certificate fault)
 
 -- their key is read, and with the content it has this scheme
 pub record HasScheme (asked : Asked) : Type 0 where
@@ -193,15 +223,87 @@ pub record HasNoStamp (asked : Asked) (file : List ℕ) (source source' : Watche
   pub among : Contains (tokens_in reading) token
   pub why : TokenCause (terms_of asked material).grounds (signature_in reading.content) token fault
 
+-- the policy is for certificates, the artifact was read whole, and of the certificate that signed, at the verified times, this doesn't hold
+pub record IsUncertified (asked : Asked) (file : List ℕ) (source source' : Watched (List ℕ)) (e : Error) : Type 0 where
+  pub material : Material
+  pub kept : IsKept file material
+  pub reading : Bundle
+  pub read : IsRead asked.bundle reading
+  pub bytes : List ℕ
+  pub whole : ReadWhole source source' asked.max bytes
+  pub policy : VerificationPolicy
+  pub under : asked.policy ≡ Certificate policy
+  pub certificate : List ℕ
+  pub has : certificate_in reading ≡ Some certificate
+  pub info : CertificateInfo
+  pub says : info_of certificate ≡ Ok info
+  pub times : List Timestamp
+  pub verified : AreVerified (terms_of asked material).grounds reading times
+  pub why : Refusal
+  pub named : error_of_certificate why ≡ e
+  pub cause :
+      CertificateCause (trust_in (terms_of asked material).grounds) policy info certificate (intermediates_in reading) times why
+
+-- the policy is for certificates, the artifact was read whole, and the bundle has no token, and no entry whose promise tells a time
+pub record LacksTime (asked : Asked) (source source' : Watched (List ℕ)) (fault : TimestampError) : Type 0 where
+  pub policy : VerificationPolicy
+  pub under : asked.policy ≡ Certificate policy
+  pub reading : Bundle
+  pub read : IsRead asked.bundle reading
+  pub bytes : List ℕ
+  pub whole : ReadWhole source source' asked.max bytes
+  pub tokens : tokens_in reading ≡ []
+  pub promises : filter_map told_time (entries_in reading) ≡ []
+  pub named : fault ≡ stamp.NoVerifiedTimestamp
+
+-- the policy is for certificates, the artifact was read whole, and the promise of some entry tells a time and isn't its log's, or its time is
+-- after now
+pub record IsUnpromised (asked : Asked) (file : List ℕ) (source source' : Watched (List ℕ)) (fault : TransparencyLogError) : Type 0 where
+  pub material : Material
+  pub kept : IsKept file material
+  pub policy : VerificationPolicy
+  pub under : asked.policy ≡ Certificate policy
+  pub reading : Bundle
+  pub read : IsRead asked.bundle reading
+  pub bytes : List ℕ
+  pub whole : ReadWhole source source' asked.max bytes
+  pub entry : TransparencyLogEntry
+  pub among : Contains (entries_in reading) entry
+  pub time : Timestamp
+  pub tells : told_time entry ≡ Some time
+  pub why : LogError
+  pub named : error_of_log why ≡ verify.TransparencyLog fault
+  pub cause : LogCause asked.crypto.accepts material.logs asked.now entry why
+
+-- the policy verifies the log, the artifact was read whole, and a promised time isn't one at which the signer's certificate was valid
+pub record IsUntimely (asked : Asked) (source source' : Watched (List ℕ)) (fault : TransparencyLogError) : Type 0 where
+  pub reading : Bundle
+  pub read : IsRead asked.bundle reading
+  pub bytes : List ℕ
+  pub whole : ReadWhole source source' asked.max bytes
+  pub asks : asks_log asked.policy ≡ true
+  pub untimely : HasUntimely asked.policy reading fault
+
 abbrev pub SignedCause : Asked → List ℕ → Watched (List ℕ) → Watched (List ℕ) → Error → Type 0
 SignedCause asked file source source' verify.SignatureInvalid = IsUnsigned asked source source'
 SignedCause asked file source source' verify.ArtifactMismatch =
     IsOfAnother asked source source' ⊎ IsUndescribed asked source source' verify.ArtifactMismatch
 SignedCause asked file source source' verify.UnsupportedArtifact = LacksDigest asked
+SignedCause asked file source source' (verify.Certificate fault) =
+    SaysNothing asked fault ⊎ IsUncertified asked file source source' (verify.Certificate fault)
+SignedCause asked file source source' (verify.IdentityMismatch expected actual) =
+    IsUncertified asked file source source' (verify.IdentityMismatch expected actual)
+SignedCause asked file source source' (verify.IssuerMismatch expected actual) =
+    IsUncertified asked file source source' (verify.IssuerMismatch expected actual)
+SignedCause asked file source source' verify.InvalidTrustRoot = IsUncertified asked file source source' verify.InvalidTrustRoot
 SignedCause asked file source source' (verify.TransparencyLog fault) =
-    IsUnlogged asked file source source' fault ⊎ IsUndescribed asked source source' (verify.TransparencyLog fault)
-SignedCause asked file source source' (verify.Timestamp fault) = HasNoStamp asked file source source' fault
-SignedCause asked file source source' verify.UnsupportedBundle = IsUndescribed asked source source' verify.UnsupportedBundle
+    (IsUnlogged asked file source source' fault ⊎ IsUnpromised asked file source source' fault)
+    ⊎ (IsUntimely asked source source' fault ⊎ IsUndescribed asked source source' (verify.TransparencyLog fault))
+SignedCause asked file source source' (verify.Timestamp fault) =
+    HasNoStamp asked file source source' fault ⊎ LacksTime asked source source' fault
+SignedCause asked file source source' verify.InvalidBundle = LacksCertificate asked
+SignedCause asked file source source' verify.UnsupportedBundle =
+    MeetsCertificate asked ⊎ IsUndescribed asked source source' verify.UnsupportedBundle
 SignedCause asked file source source' verify.Crypto = LacksScheme asked verify.Crypto
 SignedCause asked file source source' verify.Bundle = LacksEntry asked
 SignedCause asked file source source' _ = ⊥

@@ -4,7 +4,6 @@ use Rattle.std.specs.Prelude.{ℕ, List, Bool, true, false, ◌||◌, if◌then�
 use Rattle.std.specs.List.{list_all}
 use Rattle.sigstore_types_parts.specs.declared.hash_algorithm.HashAlgorithm.{HashAlgorithm}
 use Rattle.sigstore_types_parts.specs.declared.hash_algorithm.HashAlgorithm.TheVariants.{Sha2256}
-use Rattle.sigstore_envelopes.specs.declared.envelope.DsseEnvelope.{DsseEnvelope}
 use Rattle.sigstore_envelopes.specs.Encoding.{encoding_of}
 use Rattle.sigstore_types.specs.declared.content.SignatureContent.{SignatureContent}
 use Rattle.sigstore_types.specs.declared.content.SignatureContent.TheVariants.{MessageSignature as OfMessage, DsseEnvelope as OfEnvelope}

@@ -1,16 +1,20 @@
 -- The entries of a bundle under the logs that are trusted (RFC 6962, sections 2.1.1 and 3.2; C2SP tlog-checkpoint), and what they say of
 -- the bundle.
-use Rattle.std.specs.Prelude.{◌≡◌, Contains, List, [], ◌∷◌, ◌++◌, filter_map, Bool, true, false, Option, Some, None, Result, Ok, Err, ⊤}
+use Rattle.std.specs.Prelude.{◌≡◌, Contains, List, [], ◌∷◌, ◌++◌, filter_map, Bool, true, false, if◌then◌else◌, Option, Some, None, Result, Ok, Err, ⊤, IsTrue}
 use Rattle.std.specs.List.{cons_option}
 use Rattle.foundation.specs.Steps.{◌>>=◌}
 use Rattle.jiff_core.specs.declared.timestamp.Timestamp.{Timestamp}
+use Rattle.sigstore_types_parts.specs.TimeRange.{contains}
 use Rattle.sigstore_types.specs.declared.bundle.Bundle.{Bundle}
 use Rattle.sigstore_types.specs.Bundle.{entries_in}
 use Rattle.sigstore_crypto_parts.specs.Crypto.{Crypto}
 use Rattle.sigstore_entries.specs.declared.entry.TransparencyLogEntry.{TransparencyLogEntry}
 use Rattle.sigstore_log.specs.Entry.{logged_of}
+use Rattle.sigstore_log.specs.Logged.{Logged}
 use Rattle.sigstore_log.specs.Promise.{told_time}
 use Rattle.sigstore_judgement.specs.declared.error.Error.{Error}
+use Rattle.sigstore_judgement.specs.declared.error.Error.TheVariants.{TransparencyLog}
+use Rattle.sigstore_judgement.specs.declared.error.TransparencyLogError.TheVariants as log
 use Rattle.sigstore_binding.specs.declared.error.BindingError.{BindingError}
 use Rattle.sigstore_binding.specs.Cause.{BindingCause}
 use Rattle.sigstore_binding.specs.Described as binding
@@ -22,32 +26,50 @@ use Rattle.sigstore_judgement.specs.Content.{signed_in}
 use Rattle.sigstore_judgement.specs.Error.{by_log, by_binding, error_of_binding}
 use Rattle.sigstore_judgement.specs.Grounds.{Grounds, readings_in}
 use Rattle.sigstore_judgement.specs.Policy.{Meaning}
-use Rattle.sigstore_judgement.specs.Signer.{Signer, signatory_of, IsSigner}
+use Rattle.sigstore_judgement.specs.Signer.{Signer, Managed, Certified, validity_of, signatory_of, IsSigner}
 
 -- ---- each is logged
 
--- an entry is, or the first check that fails; it shows the time that its log promised
-abbrev pub entry_judged_of : Grounds → TransparencyLogEntry → Result (Option Timestamp) Error
-entry_judged_of grounds entry = by_log (logged_of grounds.crypto.accepts grounds.material.logs grounds.now entry)
+-- whether the signer's certificate was valid at a time
+abbrev pub is_valid_at : Signer → Timestamp → Bool
+is_valid_at (Managed policy) time = true
+is_valid_at (Certified policy info certificate) time = contains (validity_of info) time
+
+-- it was at a time that a log promised: else who found its key later could still sign
+abbrev pub is_timely : Signer → Option Timestamp → Bool
+is_timely signer None = true
+is_timely signer (Some time) = is_valid_at signer time
+
+abbrev pub timely_of : Signer → Option Timestamp → Result (Option Timestamp) Error
+timely_of signer time = if is_timely signer time then Ok time else Err (TransparencyLog log.IntegratedTime)
+
+-- an entry is logged, or the first check that fails; it shows the time that its log promised
+abbrev pub entry_judged_of : Grounds → Signer → TransparencyLogEntry → Result (Option Timestamp) Error
+entry_judged_of grounds signer entry = by_log (logged_of grounds.crypto.accepts grounds.material.logs grounds.now entry) >>= timely_of signer
 
 -- the times that logs promised, in the entries' order; each entry is logged (else a good one would cover for one that is made up), and the
 -- first that isn't refuses
-abbrev pub entries_judged_of : Grounds → List TransparencyLogEntry → Result (List Timestamp) Error
-entries_judged_of grounds [] = Ok []
-entries_judged_of grounds (entry ∷ entries) = do
-  time ← entry_judged_of grounds entry
-  times ← entries_judged_of grounds entries
+abbrev pub entries_judged_of : Grounds → Signer → List TransparencyLogEntry → Result (List Timestamp) Error
+entries_judged_of grounds signer [] = Ok []
+entries_judged_of grounds signer (entry ∷ entries) = do
+  time ← entry_judged_of grounds signer entry
+  times ← entries_judged_of grounds signer entries
   Ok (cons_option time times)
 
 -- where the policy verifies the log
-abbrev pub log_judged_of : Grounds → Bool → List TransparencyLogEntry → Result (List Timestamp) Error
-log_judged_of grounds true entries = entries_judged_of grounds entries
-log_judged_of grounds false entries = Ok []
+abbrev pub log_judged_of : Grounds → Signer → Bool → List TransparencyLogEntry → Result (List Timestamp) Error
+log_judged_of grounds signer true entries = entries_judged_of grounds signer entries
+log_judged_of grounds signer false entries = Ok []
 
 -- the times that entries tell, where the policy verifies the log
 abbrev pub told_if : Bool → List TransparencyLogEntry → List Timestamp
 told_if true entries = filter_map told_time entries
 told_if false entries = []
+
+-- an entry is logged, at a time of the signer's
+pub record IsLogged (grounds : Grounds) (signer : Signer) (entry : TransparencyLogEntry) : Type 0 where
+  pub logged : Logged grounds.crypto.accepts grounds.material.logs grounds.now entry
+  pub timely : IsTrue (is_timely signer (told_time entry))
 
 -- ---- as they are gathered
 

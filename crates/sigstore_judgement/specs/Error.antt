@@ -10,6 +10,8 @@ use Rattle.sigstore_binding.specs.declared.error.BindingError.{BindingError}
 use Rattle.sigstore_binding.specs.declared.error.BindingError.TheVariants as binding
 use Rattle.sigstore_tsa.specs.declared.authorities.TokenFault.{TokenFault}
 use Rattle.sigstore_tsa.specs.declared.authorities.TokenFault.TheVariants as token
+use Rattle.sigstore_certificate.specs.declared.error.Refusal.{Refusal}
+use Rattle.sigstore_certificate.specs.declared.error.Refusal.TheVariants as refusal
 use Rattle.sigstore_judgement.specs.declared.error.CertificateError.{CertificateError}
 use Rattle.sigstore_judgement.specs.declared.error.CertificateError.TheVariants.{Malformed, ChainInvalid, NoValidAuthority}
 use Rattle.sigstore_judgement.specs.declared.error.CertificateError.TheVariants.{NotYetValid, Expired, Sct}
@@ -23,7 +25,7 @@ use Rattle.sigstore_judgement.specs.declared.error.Error.TheVariants.{ArtifactMi
 use Rattle.sigstore_judgement.specs.declared.error.Error.TheVariants.{TransparencyLog, Timestamp, InvalidBundle}
 use Rattle.sigstore_judgement.specs.declared.error.Error.TheVariants.{UnsupportedBundle, InvalidTrustRoot, Types, Crypto}
 use Rattle.sigstore_judgement.specs.declared.error.Error.TheVariants.{Bundle, TrustRoot, TrustedCertificate, ArtifactRead}
-use Rattle.sigstore_judgement.specs.declared.error.Error.TheVariants.{NoMemory, Unbuilt}
+use Rattle.sigstore_judgement.specs.declared.error.Error.TheVariants.{NoMemory}
 
 abbrev pub certificate_number_of : CertificateError → ℕ
 certificate_number_of Malformed = 6
@@ -31,7 +33,7 @@ certificate_number_of ChainInvalid = 7
 certificate_number_of (NoValidAuthority time) = 8
 certificate_number_of (NotYetValid time not_before) = 9
 certificate_number_of (Expired time not_after) = 10
-certificate_number_of Sct = 11
+certificate_number_of (Sct rule) = 11
 
 abbrev pub certificate_name_of : CertificateError → List ℕ
 certificate_name_of Malformed = codes "CertificateMalformed"
@@ -39,7 +41,7 @@ certificate_name_of ChainInvalid = codes "ChainInvalid"
 certificate_name_of (NoValidAuthority time) = codes "NoValidAuthority"
 certificate_name_of (NotYetValid time not_before) = codes "NotYetValid"
 certificate_name_of (Expired time not_after) = codes "CertificateExpired"
-certificate_name_of Sct = codes "Sct"
+certificate_name_of (Sct rule) = codes "Sct"
 
 abbrev pub log_number_of : TransparencyLogError → ℕ
 log_number_of (log.UnknownLog log_id) = 12
@@ -88,7 +90,6 @@ number_of TrustRoot = 28
 number_of TrustedCertificate = 29
 number_of (ArtifactRead fault) = 30
 number_of NoMemory = 31
-number_of (Unbuilt form) = 90
 
 -- the name as it is printed
 abbrev pub name_of : Error → List ℕ
@@ -110,7 +111,6 @@ name_of TrustRoot = codes "TrustRoot"
 name_of TrustedCertificate = codes "TrustedCertificate"
 name_of (ArtifactRead fault) = codes "ArtifactRead"
 name_of NoMemory = codes "NoMemory"
-name_of (Unbuilt form) = codes "Unbuilt"
 
 -- an unusable key, or a key and a digest that have no scheme
 abbrev pub error_of_crypto : CryptoError → Error
@@ -122,6 +122,30 @@ error_of_crypto (crypto.Checkpoint fault) = Crypto
 error_of_crypto (crypto.InvalidCertificate fault) = Crypto
 error_of_crypto (crypto.InvalidKey rule) = Crypto
 error_of_crypto crypto.NoMemory = NoMemory
+
+-- a certificate that isn't read, or that has a key of no known sort, or whose names aren't read
+abbrev pub error_of_info : CryptoError → Error
+error_of_info crypto.Signing = Certificate Malformed
+error_of_info (crypto.Verification fault) = Certificate Malformed
+error_of_info crypto.InvalidKeyFormat = Certificate Malformed
+error_of_info crypto.UnsupportedAlgorithm = Certificate Malformed
+error_of_info (crypto.Checkpoint fault) = Certificate Malformed
+error_of_info (crypto.InvalidCertificate fault) = Certificate Malformed
+error_of_info (crypto.InvalidKey rule) = Certificate Malformed
+error_of_info crypto.NoMemory = NoMemory
+
+-- what a refusal of the certificate's judgement is of its bundle
+abbrev pub error_of_certificate : Refusal → Error
+error_of_certificate refusal.Malformed = Certificate Malformed
+error_of_certificate refusal.ChainInvalid = Certificate ChainInvalid
+error_of_certificate (refusal.NoValidAuthority time) = Certificate (NoValidAuthority time)
+error_of_certificate (refusal.NotYetValid time not_before) = Certificate (NotYetValid time not_before)
+error_of_certificate (refusal.Expired time not_after) = Certificate (Expired time not_after)
+error_of_certificate (refusal.Sct rule) = Certificate (Sct rule)
+error_of_certificate refusal.InvalidTrustRoot = InvalidTrustRoot
+error_of_certificate (refusal.IdentityMismatch expected actual) = IdentityMismatch expected actual
+error_of_certificate (refusal.IssuerMismatch expected actual) = IssuerMismatch expected actual
+error_of_certificate refusal.NoMemory = NoMemory
 
 -- what a refusal of a token is of its bundle
 abbrev pub error_of_token : TokenFault → Error
@@ -145,12 +169,12 @@ error_of_binding binding.Unsupported = UnsupportedBundle
 error_of_binding binding.MalformedEntry = TransparencyLog log.MalformedEntry
 error_of_binding binding.ArtifactMismatch = ArtifactMismatch
 error_of_binding binding.EntryMismatch = TransparencyLog log.EntryMismatch
+error_of_binding binding.IntegratedTime = TransparencyLog log.IntegratedTime
 error_of_binding binding.NoMemory = NoMemory
 
--- A refusal of the crates of values: want of memory and a form that isn't built stay what they are, and every other is this one.
+-- A refusal of the crates of values: want of memory stays what it is, and every other is this one.
 abbrev pub lowered : Error → TypesError → Error
 lowered otherwise types.NoMemory = NoMemory
-lowered otherwise (types.Unbuilt form) = Unbuilt form
 lowered otherwise _ = otherwise
 
 -- ---- a lower call's value, or what its refusal is here
@@ -158,6 +182,14 @@ lowered otherwise _ = otherwise
 abbrev pub by_crypto : {A : Type 0} → Result A CryptoError → Result A Error
 by_crypto (Ok x) = Ok x
 by_crypto (Err e) = Err (error_of_crypto e)
+
+abbrev pub by_info : {A : Type 0} → Result A CryptoError → Result A Error
+by_info (Ok x) = Ok x
+by_info (Err e) = Err (error_of_info e)
+
+abbrev pub by_certificate : {A : Type 0} → Result A Refusal → Result A Error
+by_certificate (Ok x) = Ok x
+by_certificate (Err e) = Err (error_of_certificate e)
 
 abbrev pub by_types : {A : Type 0} → Result A TypesError → Result A Error
 by_types (Ok x) = Ok x

@@ -1,10 +1,12 @@
 -- What the judgement finds on its way, of which the report is made.
-use Rattle.std.specs.Prelude.{List, [], ◌∷◌, ◌++◌, Option, Some, None, false, if◌then◌else◌}
+use Rattle.std.specs.Prelude.{List, [], ◌∷◌, ◌++◌, Bool, false, ◌||◌, is_some, Option, Some, None, if◌then◌else◌}
 use Rattle.jiff_core.specs.declared.timestamp.Timestamp.{Timestamp}
 use Rattle.sigstore_types_parts.specs.TimeRange.{is_by}
+use Rattle.sigstore_certificate.specs.declared.policy.VerificationPolicy.{VerificationPolicy}
+use Rattle.sigstore_certificate.specs.Policy.{verifies_chain, verifies_sct}
 use Rattle.sigstore_judgement.specs.declared.evidence.Evidence.{Evidence}
 use Rattle.sigstore_judgement.specs.declared.report.VerificationResult.{VerificationResult}
-use Rattle.sigstore_judgement.specs.Signer.{Signer, Managed}
+use Rattle.sigstore_judgement.specs.Signer.{Signer, Managed, Certified}
 
 abbrev pub earlier : Option Timestamp → Timestamp → Timestamp
 earlier None time = time
@@ -15,19 +17,33 @@ abbrev pub earliest_from : Option Timestamp → List Timestamp → Option Timest
 earliest_from first [] = first
 earliest_from first (time ∷ times) = earliest_from (Some (earlier first time)) times
 
--- What was found that vouches for a signer: the earliest time that a log promised, and every time at which the signature was there, by a
--- log's promise or by an authority's token. The report and the judgement both read these.
+-- What was found that vouches for a signer: the earliest time that a log promised, where the log is verified, and every time at which the
+-- signature was there, by a log's promise or by an authority's token. Under a managed key the promises' times come first.
 abbrev pub times_of : List Timestamp → List Timestamp → Evidence
 times_of promised stamped = record { integrated_time = earliest_from None promised; times = promised ++ stamped }
 
--- what an acceptance shows: these times, and which checks the policy asked for
+-- ---- what an acceptance shows: what the certificate says, these times, and which checks the policy asked for
+
+-- whether the policy names whom it asks for
+abbrev pub asks_name : VerificationPolicy → Bool
+asks_name policy = is_some policy.identity || is_some policy.issuer
+
 abbrev pub report_of : Signer → Evidence → VerificationResult
 report_of (Managed policy) evidence = record {
+  certificate = None;
   integrated_time = evidence.integrated_time;
-  issuer = None;
   certificate_verified = false;
   sct_verified = false;
   tlog_verified = policy.verify_tlog;
   identity_policy_checked = false;
+  verified_timestamps = evidence.times;
+}
+report_of (Certified policy info certificate) evidence = record {
+  certificate = Some info;
+  integrated_time = evidence.integrated_time;
+  certificate_verified = verifies_chain policy.certificate;
+  sct_verified = verifies_sct policy.certificate;
+  tlog_verified = policy.verify_tlog;
+  identity_policy_checked = asks_name policy;
   verified_timestamps = evidence.times;
 }

@@ -4,6 +4,7 @@ use Rattle.sigstore_types_parts.specs.declared.armor.Armor as armor
 use Rattle.sigstore_crypto_parts.specs.declared.provider.CryptoProvider as provider
 use Rattle.sigstore_crypto_parts.specs.Crypto.{Crypto, crypto_by}
 use Rattle.sigstore_binding.specs.Verifier.{Readings}
+use Rattle.sigstore_certificate.specs.Certified.{Trust}
 use Rattle.sigstore_judgement.specs.declared.grounds.Grounds as declared
 use Rattle.sigstore_judgement.specs.declared.trust.Material.{Material}
 use Rattle.sigstore_judgement.specs.declared.verifier.Verifier.{Verifier}
@@ -18,6 +19,10 @@ pub record Grounds : Type 0 where
 -- what armoured texts hold
 abbrev pub readings_in : Crypto → Readings
 readings_in crypto = record { key_in = crypto.key_in; certificate_in = crypto.certificate_in }
+
+-- by which a certificate is judged
+abbrev pub trust_in : Grounds → Trust
+trust_in grounds = record { accepts = grounds.crypto.accepts; anchors = grounds.material.anchors; ct_logs = grounds.material.ct_logs }
 
 -- and under which policy
 pub record Terms : Type 0 where

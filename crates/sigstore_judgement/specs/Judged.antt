@@ -1,13 +1,16 @@
 -- When a bundle is accepted, whoever signed it, by its artifact (Sigstore bundle format; FIPS 180-4, FIPS 186-5).
-use Rattle.std.specs.Prelude.{ℕ, List, [], Option, Result, Ok, Err}
+use Rattle.std.specs.Prelude.{ℕ, List, [], Option, None, Result, Ok, Err}
 use Rattle.foundation.specs.Steps.{◌>>=◌}
 use Rattle.sigstore_types_parts.specs.declared.hash_algorithm.HashAlgorithm.{HashAlgorithm}
 use Rattle.sigstore_types.specs.declared.bundle.Bundle.{Bundle}
 use Rattle.sigstore_types.specs.declared.content.SignatureContent.{SignatureContent}
-use Rattle.sigstore_types.specs.Bundle.{entries_in, tokens_in}
+use Rattle.sigstore_types.specs.Bundle.{entries_in, tokens_in, intermediates_of}
 use Rattle.sigstore_crypto_parts.specs.declared.key.VerificationKey.{VerificationKey}
 use Rattle.sigstore_crypto_parts.specs.declared.scheme.SigningScheme.{SigningScheme}
 use Rattle.sigstore_crypto_parts.specs.Key.{spki_key_of}
+use Rattle.sigstore_crypto.specs.declared.certificate_info.CertificateInfo.{CertificateInfo}
+use Rattle.sigstore_certificate.specs.declared.policy.VerificationPolicy.{VerificationPolicy}
+use Rattle.sigstore_certificate.specs.Certified.{certified_of}
 use Rattle.sigstore_judgement.specs.declared.error.Error.{Error}
 use Rattle.sigstore_judgement.specs.declared.evidence.Evidence.{Evidence}
 use Rattle.sigstore_judgement.specs.declared.judge.Ready.{Ready as Prepared}
@@ -17,12 +20,13 @@ use Rattle.sigstore_judgement.specs.Artifact.{Artifact, Digests, digest_of, byte
 use Rattle.sigstore_judgement.specs.Claim.{Claim, claim_as, claim_of, needed_of}
 use Rattle.sigstore_judgement.specs.Content.{scheme_of, signs_digest, supported_of, signature_in, content_judged_of}
 use Rattle.sigstore_judgement.specs.Entries.{log_judged_of, entries_described_of}
-use Rattle.sigstore_judgement.specs.Error.{by_crypto}
-use Rattle.sigstore_judgement.specs.Evidence.{times_of, report_of}
-use Rattle.sigstore_judgement.specs.Grounds.{Grounds, Terms}
+use Rattle.sigstore_judgement.specs.Error.{by_crypto, by_certificate}
+use Rattle.sigstore_judgement.specs.Evidence.{earliest_from, times_of, report_of}
+use Rattle.sigstore_judgement.specs.Grounds.{Grounds, trust_in, Terms}
 use Rattle.sigstore_judgement.specs.Policy.{Meaning}
-use Rattle.sigstore_judgement.specs.Signer.{Signer, Managed, signer_as, key_in, signer_of}
+use Rattle.sigstore_judgement.specs.Signer.{Signer, Managed, Certified, signer_as, key_in, signer_of}
 use Rattle.sigstore_judgement.specs.Tokens.{tokens_judged_of}
+use Rattle.sigstore_judgement.specs.Verified.{verified_of}
 
 -- ---- before the artifact is read
 
@@ -68,13 +72,27 @@ prepared_of kind policy bundle = do
 -- under a managed key: the entries, where the policy verifies the log, and the tokens of its signature
 unfoldable pub managed_vouched_of : Grounds → PublicKeyVerificationPolicy → Bundle → Result Evidence Error
 managed_vouched_of grounds policy bundle = do
-  promised ← log_judged_of grounds policy.verify_tlog (entries_in bundle)
+  promised ← log_judged_of grounds (Managed policy) policy.verify_tlog (entries_in bundle)
   stamped ← tokens_judged_of grounds (signature_in bundle.content) (tokens_in bundle)
   Ok (times_of promised stamped)
+
+-- The certificates that a bundle brings beside the signing one: they may stand between it and an anchor, and are trusted in nothing.
+abbrev pub intermediates_in : Bundle → List (List ℕ)
+intermediates_in bundle = intermediates_of bundle.verification_material.content
+
+-- Under a certificate: the verified times; the certificate at each of them, whether a certificate log saw it, and whom it names; then the
+-- entries, where the policy verifies the log.
+unfoldable pub owner_vouched_of : Grounds → VerificationPolicy → CertificateInfo → List ℕ → Bundle → Result Evidence Error
+owner_vouched_of grounds policy info certificate bundle = do
+  times ← verified_of grounds bundle
+  _ ← by_certificate (certified_of (trust_in grounds) policy info certificate (intermediates_in bundle) times)
+  promised ← log_judged_of grounds (Certified policy info certificate) policy.verify_tlog (entries_in bundle)
+  Ok (record { integrated_time = earliest_from None promised; times = times })
 
 -- what vouches for the signer, and what it shows
 abbrev pub vouched_of : Grounds → Signer → Bundle → Result Evidence Error
 vouched_of grounds (Managed policy) bundle = managed_vouched_of grounds policy bundle
+vouched_of grounds (Certified policy info certificate) bundle = owner_vouched_of grounds policy info certificate bundle
 
 -- The judgement of what was prepared, over digests and bytes that are had: what vouches for the signer (what wasn't logged isn't worth a
 -- look at its signature), the content, and what the entries say of the bundle.

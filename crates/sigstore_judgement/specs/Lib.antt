@@ -12,6 +12,7 @@ pub mod Judged
 pub mod Opened
 pub mod Policy
 pub mod Promise
+pub mod Report
 pub mod Signer
 pub mod Taken
 pub mod Taking
@@ -20,3 +21,4 @@ pub mod Trust
 pub mod Under
 pub mod Unlogged
 pub mod Usable
+pub mod Verified

@@ -1,12 +1,13 @@
 // The entries of a bundle under the logs that are trusted, and what they say of the bundle.
 ghost use Rattle.std.specs.Prelude.{◌≡◌, ◌≢◌, Ok, Err, IfOk, IfErr, OnOk};
 ghost use Rattle.sigstore_types.specs.Bundle.{entries_in};
+ghost use Rattle.sigstore_log.specs.Entry.{logged_of};
 ghost use Rattle.sigstore_judgement.specs.Artifact.{digest_had};
 ghost use Rattle.sigstore_binding.specs.Described.{describes_of};
 ghost use Rattle.sigstore_binding.specs.Rows.{signed_as};
 ghost use Rattle.sigstore_binding.specs.Verifier.{readings_by, signatory_as};
-ghost use Rattle.sigstore_judgement.specs.Entries.{entry_judged_of, with_time, behind, entries_judged_of, log_judged_of, each_described_of, entries_described_of};
-ghost use Rattle.sigstore_judgement.specs.Error.{error_of_log, error_of_binding, by_binding};
+ghost use Rattle.sigstore_judgement.specs.Entries.{is_valid_at, timely_of, entry_judged_of, with_time, behind, entries_judged_of, log_judged_of, each_described_of, entries_described_of};
+ghost use Rattle.sigstore_judgement.specs.Error.{error_of_log, error_of_binding, by_log, by_binding};
 ghost use Rattle.sigstore_judgement.specs.Opened.{content_as};
 ghost use Rattle.sigstore_judgement.specs.Grounds.{grounds_by};
 ghost use Rattle.sigstore_judgement.specs.Signer.{signer_as};
@@ -15,7 +16,7 @@ use crate::artifact::Had;
 use crate::content::{Opened, signed_in};
 use crate::error::{Error, TransparencyLogError};
 use crate::grounds::Grounds;
-use crate::signing::Signing;
+use crate::signing::{Signing, validity_of};
 use foundation::{NoMemory, Sequence};
 use jiff::Timestamp;
 use sigstore_binding::{BindingError, Signed, SignedBy, describe_entry};
@@ -27,7 +28,7 @@ use sigstore_types_parts::Armor;
 use std::alloc::Global;
 
 // What a refusal of an entry is of its bundle.
-fn refused(fault: LogError) -> Error
+pub(crate) fn refused(fault: LogError) -> Error
     ensures { result ≡ error_of_log fault }
 {
     match fault {
@@ -45,14 +46,41 @@ fn refused(fault: LogError) -> Error
     }
 }
 
+fn is_valid_at(signer: &Signing<'_>, time: Timestamp) -> bool
+    ensures { result ≡ is_valid_at (signer_as signer.now) time }
+{
+    match signer {
+        Signing::Managed(_) => true,
+        Signing::Certified(_, info, _) => validity_of(info).contains(time),
+    }
+}
+
+// A time that a log promised is one at which the signer's certificate was valid: who found its key later could
+// still sign.
+fn check_timely(signer: &Signing<'_>, time: Option<Timestamp>) -> Result<Option<Timestamp>, Error>
+    ensures { result ≡ timely_of (signer_as signer.now) time }
+{
+    match time {
+        Some(time) => {
+            if is_valid_at(signer, time) {
+                Ok(Some(time))
+            } else {
+                Err(Error::TransparencyLog(TransparencyLogError::IntegratedTime))
+            }
+        }
+        None => Ok(None),
+    }
+}
+
 // The time that an entry's log promised, where the entry is logged.
-fn check_entry<C: CryptoProvider, M: Armor>(
+fn check_logged<C: CryptoProvider, M: Armor>(
     alloc: Global,
     grounds: &Grounds<'_, C, M>,
     entry: &TransparencyLogEntry,
 ) -> Result<Option<Timestamp>, Error>
-    ensures ok { IfOk result (λ time. entry_judged_of (grounds_by C.CryptoProvider M.Armor grounds.now) entry.now ≡ Ok time) }
-    ensures err { IfErr result (λ e. e ≢ Error.NoMemory → entry_judged_of (grounds_by C.CryptoProvider M.Armor grounds.now) entry.now ≡ Err e) }
+    ensures ok { IfOk result (λ time. by_log (logged_of (C.accepts grounds.now.provider.now) grounds.now.material.now.logs grounds.now.moment entry.now) ≡ Ok time) }
+    ensures err { IfErr result (λ e. e ≢ Error.NoMemory →
+        by_log (logged_of (C.accepts grounds.now.provider.now) grounds.now.material.now.logs grounds.now.moment entry.now) ≡ Err e) }
 {
     match judge_entry(
         alloc,
@@ -66,7 +94,25 @@ fn check_entry<C: CryptoProvider, M: Armor>(
     }
 }
 
-fn add_time(time: Option<Timestamp>, times: &mut Sequence<Timestamp>) -> Result<(), NoMemory>
+// And whether it is a time of the signer's.
+fn check_entry<C: CryptoProvider, M: Armor>(
+    alloc: Global,
+    grounds: &Grounds<'_, C, M>,
+    signer: &Signing<'_>,
+    entry: &TransparencyLogEntry,
+) -> Result<Option<Timestamp>, Error>
+    ensures ok { IfOk result (λ time. entry_judged_of (grounds_by C.CryptoProvider M.Armor grounds.now) (signer_as signer.now) entry.now ≡ Ok time) }
+    ensures err { IfErr result (λ e. e ≢ Error.NoMemory →
+        entry_judged_of (grounds_by C.CryptoProvider M.Armor grounds.now) (signer_as signer.now) entry.now ≡ Err e) }
+{
+    let time = check_logged(alloc, grounds, entry)?;
+    check_timely(signer, time)
+}
+
+pub(crate) fn add_time(
+    time: Option<Timestamp>,
+    times: &mut Sequence<Timestamp>,
+) -> Result<(), NoMemory>
     ensures { OnOk result (times.new ≡ with_time time times.old) }
 {
     if let Some(time) = time {
@@ -80,35 +126,38 @@ fn add_time(time: Option<Timestamp>, times: &mut Sequence<Timestamp>) -> Result<
 fn check_entries<C: CryptoProvider, M: Armor>(
     alloc: Global,
     grounds: &Grounds<'_, C, M>,
+    signer: &Signing<'_>,
     entries: &[TransparencyLogEntry],
     times: &mut Sequence<Timestamp>,
 ) -> Result<(), Error>
-    ensures ok { OnOk result (behind times.old (entries_judged_of (grounds_by C.CryptoProvider M.Armor grounds.now) entries.now) ≡ Ok times.new) }
+    ensures ok { OnOk result (behind times.old (entries_judged_of (grounds_by C.CryptoProvider M.Armor grounds.now) (signer_as signer.now) entries.now) ≡ Ok times.new) }
     ensures err { IfErr result (λ e. e ≢ Error.NoMemory →
-        behind times.old (entries_judged_of (grounds_by C.CryptoProvider M.Armor grounds.now) entries.now) ≡ Err e) }
+        behind times.old (entries_judged_of (grounds_by C.CryptoProvider M.Armor grounds.now) (signer_as signer.now) entries.now) ≡ Err e) }
 {
     'entries: for entry in entries {
-        let time = check_entry(alloc, grounds, entry)?;
+        let time = check_entry(alloc, grounds, signer, entry)?;
         add_time(time, times)?;
     }
     Ok(())
 }
 
-/// Where the log is to be verified, whether each entry is logged by the trusted logs at this moment, and the times
-/// that they promised. Errors: those of the first entry that isn't.
+/// Where the log is to be verified, whether each entry is logged by the trusted logs at this moment, at a time of the
+/// signer's, and the times that they promised. Errors: those of the first entry that isn't.
 #[tactic(auto, using(crate::proofs::Behind::behind_nothing))]
 pub(crate) fn check_log<C: CryptoProvider, M: Armor>(
     alloc: Global,
     grounds: &Grounds<'_, C, M>,
+    signer: &Signing<'_>,
     verify_tlog: bool,
     entries: &[TransparencyLogEntry],
 ) -> Result<Sequence<Timestamp>, Error>
-    ensures ok { IfOk result (λ times. log_judged_of (grounds_by C.CryptoProvider M.Armor grounds.now) verify_tlog entries.now ≡ Ok times) }
-    ensures err { IfErr result (λ e. e ≢ Error.NoMemory → log_judged_of (grounds_by C.CryptoProvider M.Armor grounds.now) verify_tlog entries.now ≡ Err e) }
+    ensures ok { IfOk result (λ times. log_judged_of (grounds_by C.CryptoProvider M.Armor grounds.now) (signer_as signer.now) verify_tlog entries.now ≡ Ok times) }
+    ensures err { IfErr result (λ e. e ≢ Error.NoMemory →
+        log_judged_of (grounds_by C.CryptoProvider M.Armor grounds.now) (signer_as signer.now) verify_tlog entries.now ≡ Err e) }
 {
     let mut times = Sequence::new(alloc);
     if verify_tlog {
-        check_entries(alloc, grounds, entries, &mut times)?;
+        check_entries(alloc, grounds, signer, entries, &mut times)?;
     }
     Ok(times)
 }
@@ -124,6 +173,9 @@ fn refused_description(fault: BindingError) -> Error
         }
         BindingError::ArtifactMismatch => Error::ArtifactMismatch,
         BindingError::EntryMismatch => Error::TransparencyLog(TransparencyLogError::EntryMismatch),
+        BindingError::IntegratedTime => {
+            Error::TransparencyLog(TransparencyLogError::IntegratedTime)
+        }
         BindingError::NoMemory => Error::NoMemory,
     }
 }
@@ -165,7 +217,7 @@ fn check_each_described<M: Armor>(
 }
 
 /// Whether each entry is of this bundle: an entry of another signature doesn't count as this one's. Errors, of the
-/// first that isn't: `UnsupportedBundle`, `TransparencyLog` with `MalformedEntry` or `EntryMismatch`,
+/// first that isn't: `UnsupportedBundle`, `TransparencyLog` with `MalformedEntry`, `EntryMismatch` or `IntegratedTime`,
 /// `ArtifactMismatch`.
 pub(crate) fn check_described<C: CryptoProvider, M: Armor>(
     alloc: Global,
@@ -181,9 +233,20 @@ pub(crate) fn check_described<C: CryptoProvider, M: Armor>(
         entries_described_of (grounds_by C.CryptoProvider M.Armor grounds.now) (signer_as signer.now) bundle.now (digest_had had.now) (entries_in bundle.now) ≡ Err e) }
 {
     let entries = bundle.verification_material.tlog_entries.as_slice();
-    let who = signer.to_entry();
-    match check_each_described(alloc, grounds.armor, who, signed_in(opened, had), entries) {
-        Ok(()) => Ok(()),
-        Err(e) => Err(e),
+    let signed = signed_in(opened, had);
+    match signer {
+        Signing::Managed(policy) => {
+            let who = SignedBy::Key(&policy.key);
+            check_each_described(alloc, grounds.armor, who, signed, entries)
+        }
+        Signing::Certified(_, info, certificate) => {
+            let validity = validity_of(info);
+            let who = SignedBy::Certificate {
+                certificate,
+                key: &info.public_key,
+                validity: &validity,
+            };
+            check_each_described(alloc, grounds.armor, who, signed, entries)
+        }
     }
 }

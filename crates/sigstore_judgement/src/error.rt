@@ -1,18 +1,21 @@
 // Why a bundle isn't accepted.
 ghost use Rattle.std.specs.Prelude.{◌≡◌};
-ghost use Rattle.sigstore_judgement.specs.Error.{number_of, name_of, certificate_number_of, certificate_name_of, log_number_of, log_name_of, timestamp_number_of, timestamp_name_of, error_of_crypto, lowered};
+ghost use Rattle.sigstore_judgement.specs.Error.{number_of, name_of, certificate_number_of, certificate_name_of, log_number_of, log_name_of, timestamp_number_of, timestamp_name_of, error_of_crypto, error_of_certificate, lowered};
 ghost use Rattle.sigstore_judgement.specs.declared.error.Error.TheVariants.{NoMemory};
 
 use foundation::NoMemory;
 use jiff::Timestamp;
+use sigstore_certificate::{IdentityMatcher, Refusal, SctRule};
+use sigstore_crypto::SubjectAltName;
 use sigstore_crypto_parts::ReadError;
-use sigstore_types_parts::{Form, Sha256Hash, Text, TypesError};
+use sigstore_types_parts::{Sha256Hash, Text, TypesError};
 use std::{error, fmt};
 
 /// Why a signing certificate isn't accepted.
 #[derive(Debug, PartialEq, Drop)]
 pub enum CertificateError {
-    /// The certificate has no reading by its grammar (RFC 5280, section 4.1).
+    /// The certificate isn't read (RFC 5280, section 4.1), its key is of no known sort, its names aren't read, it isn't
+    /// of the third version, or it has a critical extension that isn't known.
     Malformed,
     /// No path leads from the certificate to an authority of the trust file (RFC 5280, section 6).
     ChainInvalid,
@@ -30,8 +33,8 @@ pub enum CertificateError {
         time: Timestamp,
         not_after: Timestamp,
     },
-    /// No timestamp of a certificate log in the certificate is good (RFC 6962, section 3.2).
-    Sct,
+    /// The certificate has not exactly one timestamp of a certificate log, or it isn't good (RFC 6962, section 3.2).
+    Sct(SctRule),
 }
 
 /// Why an entry of a transparency log isn't accepted.
@@ -48,7 +51,8 @@ pub enum TransparencyLogError {
     /// The entry has another verifier, signature, payload or payload type than the bundle, or another number of
     /// signatures than one.
     EntryMismatch,
-    /// The time that the log promised is after now.
+    /// The time that the log promised is after now; or an entry's time isn't one at which the signing certificate was
+    /// valid.
     IntegratedTime,
     /// The id of the log that promised isn't a SHA-256 value; or the entry's body isn't read, or a hash, a verifier or
     /// a signature in it.
@@ -71,8 +75,8 @@ pub enum TimestampError {
 pub enum Error {
     /// The certificate is for another identity than the policy's.
     IdentityMismatch {
-        expected: Text,
-        actual: Option<Text>,
+        expected: IdentityMatcher,
+        actual: Option<SubjectAltName>,
     },
     /// The certificate names another issuer of identities than the policy's.
     IssuerMismatch {
@@ -92,12 +96,14 @@ pub enum Error {
     TransparencyLog(TransparencyLogError),
     /// A time-stamp token isn't accepted.
     Timestamp(TimestampError),
-    /// The bundle's bytes have no reading by its grammar, or its envelope holds no statement of a subject.
+    /// The bundle's bytes have no reading by its grammar; or the policy is for certificates and it has none; or its
+    /// envelope holds no statement of a subject.
     InvalidBundle,
-    /// The envelope's payload is of another type, or its subjects tell no digest that can be had; or an entry is of a
+    /// The policy is for a key and the bundle has a certificate; or the envelope's payload is of another type, or its subjects tell no digest that can be had; or an entry is of a
     /// kind that isn't compared with the content, or of another digest's algorithm.
     UnsupportedBundle,
-    /// The trust file was read, and can't be used.
+    /// The trust file was read, and can't be used; or none of its certificate logs has a key of the scheme of the
+    /// certificate's timestamp.
     InvalidTrustRoot,
     /// A value of the trust file or the bundle is outside its type's grammar.
     Types,
@@ -113,8 +119,6 @@ pub enum Error {
     ArtifactRead(ReadError),
     /// An allocation was refused.
     NoMemory,
-    /// The input is of a form that is known and isn't built yet.
-    Unbuilt(Form),
 }
 
 impl CertificateError {
@@ -127,7 +131,7 @@ impl CertificateError {
             CertificateError::NoValidAuthority { .. } => 8,
             CertificateError::NotYetValid { .. } => 9,
             CertificateError::Expired { .. } => 10,
-            CertificateError::Sct => 11,
+            CertificateError::Sct(_) => 11,
         }
     }
 
@@ -140,7 +144,7 @@ impl CertificateError {
             CertificateError::NoValidAuthority { .. } => "NoValidAuthority",
             CertificateError::NotYetValid { .. } => "NotYetValid",
             CertificateError::Expired { .. } => "CertificateExpired",
-            CertificateError::Sct => "Sct",
+            CertificateError::Sct(_) => "Sct",
         }
     }
 }
@@ -221,7 +225,6 @@ impl Error {
             Error::TrustedCertificate => 29,
             Error::ArtifactRead(_) => 30,
             Error::NoMemory => 31,
-            Error::Unbuilt(_) => 90,
         }
     }
 
@@ -248,7 +251,6 @@ impl Error {
             Error::TrustedCertificate => "TrustedCertificate",
             Error::ArtifactRead(_) => "ArtifactRead",
             Error::NoMemory => "NoMemory",
-            Error::Unbuilt(_) => "Unbuilt",
         }
     }
 }
@@ -272,8 +274,7 @@ impl From<sigstore_crypto_parts::Error> for Error {
     }
 }
 
-// A refusal of the crates of values: want of memory and a form that isn't built stay what they are, and every
-// other is this one.
+// A refusal of the crates of values: want of memory stays what it is, and every other is this one.
 pub(crate) fn lowered(fault: TypesError, otherwise: Error) -> Error
     ensures { result ≡ lowered otherwise fault }
 {
@@ -282,11 +283,33 @@ pub(crate) fn lowered(fault: TypesError, otherwise: Error) -> Error
             drop(otherwise);
             Error::NoMemory
         }
-        TypesError::Unbuilt(form) => {
-            drop(otherwise);
-            Error::Unbuilt(form)
-        }
         _ => otherwise,
+    }
+}
+
+// What a refusal of the certificate's judgement is of its bundle.
+pub(crate) fn uncertified(fault: Refusal) -> Error
+    ensures { result ≡ error_of_certificate fault }
+{
+    match fault {
+        Refusal::Malformed => Error::Certificate(CertificateError::Malformed),
+        Refusal::ChainInvalid => Error::Certificate(CertificateError::ChainInvalid),
+        Refusal::NoValidAuthority { time } => {
+            Error::Certificate(CertificateError::NoValidAuthority { time })
+        }
+        Refusal::NotYetValid { time, not_before } => {
+            Error::Certificate(CertificateError::NotYetValid { time, not_before })
+        }
+        Refusal::Expired { time, not_after } => {
+            Error::Certificate(CertificateError::Expired { time, not_after })
+        }
+        Refusal::Sct(rule) => Error::Certificate(CertificateError::Sct(rule)),
+        Refusal::InvalidTrustRoot => Error::InvalidTrustRoot,
+        Refusal::IdentityMismatch { expected, actual } => {
+            Error::IdentityMismatch { expected, actual }
+        }
+        Refusal::IssuerMismatch { expected, actual } => Error::IssuerMismatch { expected, actual },
+        Refusal::NoMemory => Error::NoMemory,
     }
 }
 
@@ -298,7 +321,7 @@ impl fmt::Display for CertificateError {
             CertificateError::NoValidAuthority { .. } => "NoValidAuthority",
             CertificateError::NotYetValid { .. } => "NotYetValid",
             CertificateError::Expired { .. } => "Expired",
-            CertificateError::Sct => "Sct",
+            CertificateError::Sct(_) => "Sct",
         })
     }
 }
@@ -354,7 +377,6 @@ impl fmt::Display for Error {
             Error::TrustedCertificate => "TrustedCertificate",
             Error::ArtifactRead(_) => "ArtifactRead",
             Error::NoMemory => "NoMemory",
-            Error::Unbuilt(_) => "Unbuilt",
         })
     }
 }

@@ -1,19 +1,21 @@
 // What the judgement finds on its way, and the report of it.
 ghost use Rattle.std.specs.Prelude.{◌≡◌, ◌++◌, None, IfOk};
-ghost use Rattle.sigstore_judgement.specs.Evidence.{earlier, earliest_from, report_of};
+ghost use Rattle.sigstore_judgement.specs.Evidence.{earlier, earliest_from, asks_name, report_of};
 ghost use Rattle.sigstore_judgement.specs.Signer.{signer_as};
 
 use crate::report::VerificationResult;
 use crate::signing::Signing;
 use foundation::{NoMemory, Sequence};
 use jiff::Timestamp;
+use sigstore_certificate::VerificationPolicy;
 
 /// What was found that vouches for a signer.
 #[derive(Drop)]
 pub struct Evidence {
-    /// The earliest time that a log promised, of an entry that is logged.
+    /// The earliest time that a log promised, of an entry that is logged, where the log is verified.
     pub integrated_time: Option<Timestamp>,
-    /// The times that logs promised, in the entries' order, then those that authorities stamped, in the tokens' order.
+    /// Under a key the times that logs promised, in the entries' order, then those that authorities stamped, in the
+    /// tokens' order; under a certificate those of the tokens first.
     pub times: Sequence<Timestamp>,
 }
 
@@ -49,9 +51,16 @@ pub(crate) fn joined(
     Ok(Sequence::from_vec(times))
 }
 
+// Whether the policy names whom it asks for.
+fn asks_name(policy: &VerificationPolicy) -> bool
+    ensures { result ≡ asks_name policy.now }
+{
+    policy.identity.is_some() || policy.issuer.is_some()
+}
+
 /// What an acceptance shows.
-pub(crate) fn report(signer: &Signing<'_>, evidence: Evidence) -> VerificationResult
-    ensures { result ≡ report_of (signer_as signer.now) evidence }
+pub(crate) fn report(signer: Signing<'_>, evidence: Evidence) -> VerificationResult
+    ensures { result ≡ report_of (signer_as signer.entry) evidence }
 {
     let Evidence {
         integrated_time,
@@ -59,12 +68,21 @@ pub(crate) fn report(signer: &Signing<'_>, evidence: Evidence) -> VerificationRe
     } = evidence;
     match signer {
         Signing::Managed(policy) => VerificationResult {
+            certificate: None,
             integrated_time,
-            issuer: None,
             certificate_verified: false,
             sct_verified: false,
             tlog_verified: policy.verify_tlog,
             identity_policy_checked: false,
+            verified_timestamps: times,
+        },
+        Signing::Certified(policy, info, _) => VerificationResult {
+            certificate: Some(info),
+            integrated_time,
+            certificate_verified: policy.certificate.verifies_chain(),
+            sct_verified: policy.certificate.verifies_sct(),
+            tlog_verified: policy.verify_tlog,
+            identity_policy_checked: asks_name(policy),
             verified_timestamps: times,
         },
     }

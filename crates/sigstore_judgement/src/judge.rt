@@ -1,31 +1,36 @@
 // The judgement of a bundle, before and after its artifact is had.
 ghost use Rattle.std.specs.Prelude.{◌≡◌, ◌≢◌, Ok, Err, IfOk, IfErr};
 ghost use Rattle.sigstore_crypto_parts.specs.Key.{spki_key_of};
+ghost use Rattle.sigstore_certificate.specs.Certified.{certified_of};
 ghost use Rattle.sigstore_judgement.specs.Artifact.{kind_in, digest_had, bytes_had};
 ghost use Rattle.sigstore_judgement.specs.Claim.{claim_as, needed_of};
 ghost use Rattle.sigstore_judgement.specs.Content.{signs_digest, supported_of};
-ghost use Rattle.sigstore_judgement.specs.Error.{by_crypto};
+ghost use Rattle.sigstore_judgement.specs.Error.{by_crypto, by_certificate};
 ghost use Rattle.sigstore_judgement.specs.Evidence.{report_of};
-ghost use Rattle.sigstore_judgement.specs.Grounds.{grounds_by};
-ghost use Rattle.sigstore_judgement.specs.Judged.{ready_as, ready_with, claimed_of, ready_of, prepared_of, managed_vouched_of, vouched_of, judged_had};
+ghost use Rattle.sigstore_judgement.specs.Grounds.{grounds_by, trust_in};
+ghost use Rattle.sigstore_judgement.specs.Judged.{ready_as, ready_with, claimed_of, ready_of, prepared_of, managed_vouched_of, intermediates_in, owner_vouched_of, vouched_of, judged_had};
 ghost use Rattle.sigstore_judgement.specs.Policy.{meaning_of};
-ghost use Rattle.sigstore_judgement.specs.Signer.{signer_as};
+ghost use Rattle.sigstore_judgement.specs.Signer.{Managed, Certified, signer_as};
 
 use crate::artifact::{Had, Handed};
 use crate::claim::{Claim, needed, read_claim};
 use crate::content::{check_supported, judge_content, open_content, scheme_of, signature_in};
 use crate::entries::{check_described, check_log};
-use crate::error::Error;
+use crate::error::{Error, uncertified};
 use crate::evidence::{Evidence, earliest, joined, report};
 use crate::grounds::Grounds;
 use crate::policy::{PolicyKind, PublicKeyVerificationPolicy};
 use crate::report::VerificationResult;
 use crate::signing::{Signing, who_signed};
 use crate::tokens::check_tokens;
+use crate::verified::verified_times;
 use foundation::Sequence;
+use jiff::Timestamp;
+use sigstore_certificate::{VerificationPolicy, judge_certificate};
+use sigstore_crypto::CertificateInfo;
 use sigstore_crypto_parts::{CryptoProvider, SigningScheme, VerificationKey};
 use sigstore_types::{Bundle, SignatureContent};
-use sigstore_types_parts::{Armor, DerPublicKey, HashAlgorithm};
+use sigstore_types_parts::{Armor, DerCertificate, DerPublicKey, HashAlgorithm};
 use std::alloc::Global;
 
 /// What was prepared for an artifact: who signed, their key under the scheme of this bundle, what it says of the
@@ -126,7 +131,7 @@ pub(crate) fn prepare<'a>(
     ensures ok { IfOk result (λ ready. prepared_of (kind_in handed) (meaning_of policy.entry) bundle.now ≡ Ok (ready_as ready)) }
     ensures err { IfErr result (λ e. e ≢ Error.NoMemory → prepared_of (kind_in handed) (meaning_of policy.entry) bundle.now ≡ Err e) }
 {
-    let signer = who_signed(policy, bundle)?;
+    let signer = who_signed(alloc, policy, bundle)?;
     match key_and_claim(alloc, handed, &signer, bundle) {
         Ok((key, claim, needed)) => Ok(Ready {
             signer,
@@ -146,20 +151,89 @@ pub(crate) fn prepare<'a>(
 fn managed_vouched<C: CryptoProvider, M: Armor>(
     alloc: Global,
     grounds: &Grounds<'_, C, M>,
+    signer: &Signing<'_>,
     policy: &PublicKeyVerificationPolicy,
     bundle: &Bundle,
 ) -> Result<Evidence, Error>
+    requires same { signer_as signer.now ≡ Managed policy.now }
     ensures ok { IfOk result (λ evidence. managed_vouched_of (grounds_by C.CryptoProvider M.Armor grounds.now) policy.now bundle.now ≡ Ok evidence) }
     ensures err { IfErr result (λ e. e ≢ Error.NoMemory → managed_vouched_of (grounds_by C.CryptoProvider M.Armor grounds.now) policy.now bundle.now ≡ Err e) }
 {
     let entries = bundle.verification_material.tlog_entries.as_slice();
-    let promised = check_log(alloc, grounds, policy.verify_tlog, entries)?;
+    let promised = check_log(alloc, grounds, signer, policy.verify_tlog, entries)?;
     let integrated_time = earliest(promised.as_slice());
     let tokens = bundle.verification_material.rfc3161_timestamps.as_slice();
     let stamped = check_tokens(alloc, grounds, signature_in(&bundle.content), tokens)?;
     Ok(Evidence {
         integrated_time,
         times: joined(promised, stamped.as_slice())?,
+    })
+}
+
+// The certificate at the verified times, whether a certificate log saw it, and whom it names.
+fn check_certificate<C: CryptoProvider, M: Armor>(
+    alloc: Global,
+    grounds: &Grounds<'_, C, M>,
+    policy: &VerificationPolicy,
+    info: &CertificateInfo,
+    certificate: &DerCertificate,
+    bundle: &Bundle,
+    times: &[Timestamp],
+) -> Result<(), Error>
+    ensures ok { IfOk result (λ x.
+        by_certificate (certified_of (trust_in (grounds_by C.CryptoProvider M.Armor grounds.now)) policy.now info.now certificate.now (intermediates_in bundle.now) times.now) ≡ Ok x) }
+    ensures err { IfErr result (λ e. e ≢ Error.NoMemory →
+        by_certificate (certified_of (trust_in (grounds_by C.CryptoProvider M.Armor grounds.now)) policy.now info.now certificate.now (intermediates_in bundle.now) times.now) ≡ Err e) }
+{
+    match judge_certificate(
+        alloc,
+        grounds.provider,
+        grounds.material.anchors.as_slice(),
+        &grounds.material.ct_logs,
+        policy,
+        info,
+        certificate,
+        bundle.intermediates(),
+        times,
+    ) {
+        Ok(()) => Ok(()),
+        Err(fault) => Err(uncertified(fault)),
+    }
+}
+
+// Under a certificate: the verified times, the certificate at each of them with whom it names, and the log, where the
+// policy verifies it.
+#[tactic(auto, unfolding(crate::specs::Judged::owner_vouched_of))]
+fn owner_vouched<C: CryptoProvider, M: Armor>(
+    alloc: Global,
+    grounds: &Grounds<'_, C, M>,
+    signer: &Signing<'_>,
+    policy: &VerificationPolicy,
+    info: &CertificateInfo,
+    certificate: &DerCertificate,
+    bundle: &Bundle,
+) -> Result<Evidence, Error>
+    requires same { signer_as signer.now ≡ Certified policy.now info.now certificate.now }
+    ensures ok { IfOk result (λ evidence. owner_vouched_of (grounds_by C.CryptoProvider M.Armor grounds.now) policy.now info.now certificate.now bundle.now ≡ Ok evidence) }
+    ensures err { IfErr result (λ e. e ≢ Error.NoMemory →
+        owner_vouched_of (grounds_by C.CryptoProvider M.Armor grounds.now) policy.now info.now certificate.now bundle.now ≡ Err e) }
+{
+    let times = verified_times(alloc, grounds, bundle)?;
+    check_certificate(
+        alloc,
+        grounds,
+        policy,
+        info,
+        certificate,
+        bundle,
+        times.as_slice(),
+    )?;
+    let entries = bundle.verification_material.tlog_entries.as_slice();
+    let promised = check_log(alloc, grounds, signer, policy.verify_tlog, entries)?;
+    let integrated_time = earliest(promised.as_slice());
+    Ok(Evidence {
+        integrated_time,
+        times,
     })
 }
 
@@ -174,7 +248,16 @@ fn vouched<C: CryptoProvider, M: Armor>(
     ensures err { IfErr result (λ e. e ≢ Error.NoMemory → vouched_of (grounds_by C.CryptoProvider M.Armor grounds.now) (signer_as signer.now) bundle.now ≡ Err e) }
 {
     match signer {
-        Signing::Managed(policy) => managed_vouched(alloc, grounds, policy, bundle),
+        Signing::Managed(policy) => managed_vouched(alloc, grounds, signer, policy, bundle),
+        Signing::Certified(policy, info, certificate) => owner_vouched(
+            alloc,
+            grounds,
+            signer,
+            policy,
+            info,
+            certificate,
+            bundle,
+        ),
     }
 }
 
@@ -203,21 +286,25 @@ fn accepted<C: CryptoProvider, M: Armor>(
 /// The judgement of what was prepared over what is had of the artifact. The log comes first: what was never logged
 /// isn't worth a look at its signature. Errors, in order: `TransparencyLog` for the first entry that isn't logged,
 /// where the policy verifies the log; `Timestamp` for the first token that is no trusted authority's; those of
-/// `judge_content`; those of `check_described` for the first entry that isn't of this bundle.
+/// `judge_content`; those of `check_described` for the first entry that isn't of this bundle. Under a certificate those
+/// of `verified_times`, of `judge_certificate` and of `check_log` come first.
 pub(crate) fn judge<C: CryptoProvider, M: Armor>(
     alloc: Global,
     grounds: &Grounds<'_, C, M>,
-    ready: &Ready<'_>,
+    ready: Ready<'_>,
     bundle: &Bundle,
     had: &Had<'_>,
 ) -> Result<VerificationResult, Error>
     ensures ok { IfOk result (λ report.
-        judged_had (grounds_by C.CryptoProvider M.Armor grounds.now) (ready_as ready.now) bundle.now (digest_had had.now) (bytes_had had.now) ≡ Ok report) }
+        judged_had (grounds_by C.CryptoProvider M.Armor grounds.now) (ready_as ready.entry) bundle.now (digest_had had.now) (bytes_had had.now) ≡ Ok report) }
     ensures err { IfErr result (λ e. e ≢ Error.NoMemory →
-        judged_had (grounds_by C.CryptoProvider M.Armor grounds.now) (ready_as ready.now) bundle.now (digest_had had.now) (bytes_had had.now) ≡ Err e) }
+        judged_had (grounds_by C.CryptoProvider M.Armor grounds.now) (ready_as ready.entry) bundle.now (digest_had had.now) (bytes_had had.now) ≡ Err e) }
 {
-    match accepted(alloc, grounds, ready, bundle, had) {
-        Ok(evidence) => Ok(report(&ready.signer, evidence)),
-        Err(e) => Err(e),
+    match accepted(alloc, grounds, &ready, bundle, had) {
+        Ok(evidence) => Ok(report(ready.signer, evidence)),
+        Err(e) => {
+            drop(ready);
+            Err(e)
+        }
     }
 }

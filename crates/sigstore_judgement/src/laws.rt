@@ -4,7 +4,7 @@ ghost use Rattle.sigstore_judgement.specs.Agree.{BlobAgrees};
 ghost use Rattle.sigstore_judgement.specs.Unlogged.{LogRefusals};
 ghost use Rattle.sigstore_judgement.specs.Usable.{UsableExactly};
 
-/// The judgement under a managed key accepts exactly the bundles that are to be accepted.
+/// The judgement accepts exactly the bundles that are to be accepted, whoever signed them.
 pub fn accepts_exactly()
     ensures { AcceptsExactly }
 {}
@@ -15,7 +15,8 @@ pub fn blob_and_reader_agree()
     ensures { BlobAgrees }
 {}
 
-/// The law of refusals of the log: each comes only where an entry of the bundle isn't logged, and names why.
+/// The law of refusals of the log: each comes only where an entry of the bundle isn't logged, its promise isn't its
+/// log's, the promised time isn't the certificate's, or it isn't of the bundle's signature, and names why.
 pub fn log_refusals_have_causes()
     ensures { LogRefusals }
 {}

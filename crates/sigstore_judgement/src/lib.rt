@@ -17,6 +17,7 @@ mod taking;
 mod tokens;
 mod trust;
 mod under;
+mod verified;
 mod verifier;
 
 pub use error::{CertificateError, Error, TimestampError, TransparencyLogError};
@@ -24,6 +25,9 @@ pub use evidence::Evidence;
 pub use laws::{accepts_exactly, blob_and_reader_agree, log_refusals_have_causes, usable_exactly};
 pub use policy::{Policy, PolicyKind, PublicKeyVerificationPolicy};
 pub use report::{Kept, VerificationResult};
+pub use sigstore_certificate::{
+    CertificatePolicy, DigitallySigned, IdentityMatcher, SctRule, VerificationPolicy,
+};
 pub use trust::Material;
 pub use under::judge_bundle;
 pub use verifier::{Verifier, verify};

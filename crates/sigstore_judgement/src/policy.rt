@@ -3,6 +3,7 @@ ghost use Rattle.std.specs.Prelude.{◌≡◌, true, false};
 ghost use Rattle.sigstore_judgement.specs.Policy.{meaning_of};
 
 use foundation::{Duplicate, NoMemory};
+use sigstore_certificate::VerificationPolicy;
 use sigstore_types_parts::DerPublicKey;
 use std::alloc::Global;
 
@@ -60,8 +61,9 @@ impl PublicKeyVerificationPolicy {
     }
 }
 
-/// What a policy is.
+/// What a policy is: of certificates and whom they name, or of a key.
 pub enum PolicyKind<'a> {
+    Certificate(&'a VerificationPolicy),
     PublicKey(&'a PublicKeyVerificationPolicy),
 }
 
@@ -74,6 +76,16 @@ pub trait Policy {
     /// What this policy is.
     fn kind(&self) -> PolicyKind<'_>
         ensures { meaning_of result ≡ meant self.now };
+}
+
+impl Policy for VerificationPolicy {
+    ghost use Rattle.sigstore_judgement.specs.Policy.{Certificate};
+
+    ghost meant = { λ policy. Certificate policy };
+
+    fn kind(&self) -> PolicyKind<'_> {
+        PolicyKind::Certificate(self)
+    }
 }
 
 impl Policy for PublicKeyVerificationPolicy {

@@ -1,17 +1,20 @@
 // What an accepted bundle shows.
 ghost use Rattle.std.specs.Prelude.{◌≡◌};
 ghost use Rattle.std.specs.Option.{option_copied};
+ghost use Rattle.sigstore_judgement.specs.Report.{identity_said, issuer_said};
 
 use foundation::{Duplicate, NoMemory, Sequence};
 use jiff::Timestamp;
-use sigstore_types_parts::{ArtifactDigest, Text};
+use sigstore_crypto::{CertificateInfo, SubjectAltName};
+use sigstore_types_parts::ArtifactDigest;
 use std::alloc::Global;
 
 /// What an accepted bundle shows, and which checks were made.
 #[derive(PartialEq, Drop)]
 pub struct VerificationResult {
+    /// What the signing certificate says of its owner; none where a key signed.
+    pub certificate: Option<CertificateInfo>,
     pub integrated_time: Option<Timestamp>,
-    pub issuer: Option<Text>,
     pub certificate_verified: bool,
     pub sct_verified: bool,
     pub tlog_verified: bool,
@@ -27,12 +30,32 @@ impl VerificationResult {
         self.integrated_time
     }
 
-    /// The issuer that the certificate names.
-    pub fn issuer(&self) -> Option<&str>
-        ensures { option_copied result ≡ self.now.issuer }
+    /// What the signing certificate says of its owner; none where a key signed.
+    pub fn certificate(&self) -> Option<&CertificateInfo>
+        ensures { option_copied result ≡ self.now.certificate }
     {
-        match &self.issuer {
-            Some(issuer) => Some(issuer.as_str()),
+        self.certificate.as_ref()
+    }
+
+    /// Whom the certificate names.
+    pub fn identity(&self) -> Option<&SubjectAltName>
+        ensures { option_copied result ≡ identity_said self.now.certificate }
+    {
+        match &self.certificate {
+            Some(info) => info.identity.as_ref(),
+            None => None,
+        }
+    }
+
+    /// The issuer of that identity, by the certificate.
+    pub fn issuer(&self) -> Option<&str>
+        ensures { option_copied result ≡ issuer_said self.now.certificate }
+    {
+        match &self.certificate {
+            Some(info) => match &info.issuer {
+                Some(issuer) => Some(issuer.as_str()),
+                None => None,
+            },
             None => None,
         }
     }
@@ -76,8 +99,8 @@ impl VerificationResult {
 impl Duplicate for VerificationResult {
     fn duplicate(&self, alloc: Global) -> Result<VerificationResult, NoMemory> {
         Ok(VerificationResult {
+            certificate: self.certificate.duplicate(alloc)?,
             integrated_time: self.integrated_time,
-            issuer: self.issuer.duplicate(alloc)?,
             certificate_verified: self.certificate_verified,
             sct_verified: self.sct_verified,
             tlog_verified: self.tlog_verified,

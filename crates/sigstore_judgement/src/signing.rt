@@ -1,22 +1,25 @@
 // Who signed.
-ghost use Rattle.std.specs.Prelude.{◌≡◌, Ok, Err, IfOk, IfErr};
+ghost use Rattle.std.specs.Prelude.{◌≡◌, ◌≢◌, Ok, Err, IfOk, IfErr, MatchResult, option_copied};
 ghost use Rattle.sigstore_types.specs.Bundle.{structure_of};
-ghost use Rattle.sigstore_binding.specs.Verifier.{signatory_as};
-ghost use Rattle.sigstore_judgement.specs.Error.{by_types};
+ghost use Rattle.sigstore_crypto.specs.Info.{info_of};
+ghost use Rattle.sigstore_judgement.specs.Error.{by_types, by_info};
 ghost use Rattle.sigstore_judgement.specs.Policy.{meaning_of};
-ghost use Rattle.sigstore_judgement.specs.Signer.{signer_as, key_in, signatory_of, managed_of, signer_of};
+ghost use Rattle.sigstore_judgement.specs.Signer.{signer_as, key_in, validity_of, certificate_in, keyed_of, named_of, managed_of, owner_of, signer_of};
 
-use crate::error::{Error, lowered};
+use crate::error::{CertificateError, Error, lowered};
 use crate::policy::{PolicyKind, PublicKeyVerificationPolicy};
-use sigstore_binding::SignedBy;
+use sigstore_certificate::VerificationPolicy;
+use sigstore_crypto::{CertificateInfo, parse_certificate_info};
 use sigstore_types::{Bundle, validate_structure};
-use sigstore_types_parts::DerPublicKey;
+use sigstore_types_parts::{DerCertificate, DerPublicKey, TimeRange};
+use std::alloc::Global;
 
-/// Who signed, with the policy that says what is asked of it: a key that its holder manages. What comes later
-/// looks at this alone, and at the policy's kind no more.
+/// Who signed, with the policy that says what is asked of it: a key that its holder manages, or the owner of a
+/// certificate. What comes later looks at this alone, and at the policy's kind no more.
 #[derive(Drop)]
 pub(crate) enum Signing<'a> {
     Managed(&'a PublicKeyVerificationPolicy),
+    Certified(&'a VerificationPolicy, CertificateInfo, &'a DerCertificate),
 }
 
 impl<'a> Signing<'a> {
@@ -26,16 +29,18 @@ impl<'a> Signing<'a> {
     {
         match self {
             Signing::Managed(policy) => &policy.key,
+            Signing::Certified(_, info, _) => &info.public_key,
         }
     }
+}
 
-    // Who it is to an entry.
-    pub(crate) fn to_entry(&self) -> SignedBy<'_>
-        ensures { signatory_as result ≡ signatory_of (signer_as self.now) }
-    {
-        match self {
-            Signing::Managed(policy) => SignedBy::Key(&policy.key),
-        }
+// When a certificate is valid.
+pub(crate) fn validity_of(info: &CertificateInfo) -> TimeRange
+    ensures { result ≡ validity_of info.now }
+{
+    TimeRange {
+        start: info.not_before,
+        end: Some(info.not_after),
     }
 }
 
@@ -50,6 +55,38 @@ fn check_structure(bundle: &Bundle, verify_tlog: bool) -> Result<(), Error>
     }
 }
 
+// A bundle with a certificate isn't judged under a policy for a key: what the certificate says would be passed over.
+fn check_keyed(bundle: &Bundle) -> Result<(), Error>
+    ensures { result ≡ keyed_of (certificate_in bundle.now) }
+{
+    match bundle.signing_certificate() {
+        Some(_) => Err(Error::UnsupportedBundle),
+        None => Ok(()),
+    }
+}
+
+// The certificate with which the bundle was signed.
+fn certificate_in(bundle: &Bundle) -> Result<&DerCertificate, Error>
+    ensures { MatchResult result (λ certificate. named_of (certificate_in bundle.now) ≡ Ok certificate.now) (λ e. named_of (certificate_in bundle.now) ≡ Err e) }
+{
+    match bundle.signing_certificate() {
+        Some(certificate) => Ok(certificate),
+        None => Err(Error::InvalidBundle),
+    }
+}
+
+// What it says of its owner.
+fn info_in(alloc: Global, certificate: &DerCertificate) -> Result<CertificateInfo, Error>
+    ensures ok { IfOk result (λ info. by_info (info_of certificate.now) ≡ Ok info) }
+    ensures err { IfErr result (λ e. e ≢ Error.NoMemory → by_info (info_of certificate.now) ≡ Err e) }
+{
+    match parse_certificate_info(alloc, certificate) {
+        Ok(info) => Ok(info),
+        Err(sigstore_crypto_parts::Error::NoMemory) => Err(Error::NoMemory),
+        Err(_) => Err(Error::Certificate(CertificateError::Malformed)),
+    }
+}
+
 // Under a managed key its holder signed.
 #[tactic(auto, unfolding(crate::specs::Signer::managed_of))]
 fn managed<'a>(
@@ -59,16 +96,40 @@ fn managed<'a>(
     ensures ok { IfOk result (λ signer. managed_of policy.now bundle.now ≡ Ok (signer_as signer)) }
     ensures err { IfErr result (λ e. managed_of policy.now bundle.now ≡ Err e) }
 {
+    check_keyed(bundle)?;
     check_structure(bundle, policy.verify_tlog)?;
     Ok(Signing::Managed(policy))
 }
 
-/// Who signed a bundle under a policy. Errors: `Bundle` where it lacks what the policy needs of the log.
-pub(crate) fn who_signed<'a>(policy: PolicyKind<'a>, bundle: &Bundle) -> Result<Signing<'a>, Error>
+// Under a policy for certificates the owner of the signing certificate signed.
+#[tactic(auto, unfolding(crate::specs::Signer::owner_of))]
+fn owner<'a>(
+    alloc: Global,
+    policy: &'a VerificationPolicy,
+    bundle: &'a Bundle,
+) -> Result<Signing<'a>, Error>
+    ensures ok { IfOk result (λ signer. owner_of policy.now bundle.now ≡ Ok (signer_as signer)) }
+    ensures err { IfErr result (λ e. e ≢ Error.NoMemory → owner_of policy.now bundle.now ≡ Err e) }
+{
+    check_structure(bundle, policy.verify_tlog)?;
+    let certificate = certificate_in(bundle)?;
+    let info = info_in(alloc, certificate)?;
+    Ok(Signing::Certified(policy, info, certificate))
+}
+
+/// Who signed a bundle under a policy. Errors, in order: under a key `UnsupportedBundle` for a bundle with a
+/// certificate; `Bundle` where it lacks what the policy needs of the log; under a policy for certificates
+/// `InvalidBundle` for a bundle without one, `Certificate` with `Malformed` where it isn't read.
+pub(crate) fn who_signed<'a>(
+    alloc: Global,
+    policy: PolicyKind<'a>,
+    bundle: &'a Bundle,
+) -> Result<Signing<'a>, Error>
     ensures ok { IfOk result (λ signer. signer_of (meaning_of policy.entry) bundle.now ≡ Ok (signer_as signer)) }
-    ensures err { IfErr result (λ e. signer_of (meaning_of policy.entry) bundle.now ≡ Err e) }
+    ensures err { IfErr result (λ e. e ≢ Error.NoMemory → signer_of (meaning_of policy.entry) bundle.now ≡ Err e) }
 {
     match policy {
+        PolicyKind::Certificate(policy) => owner(alloc, policy, bundle),
         PolicyKind::PublicKey(policy) => managed(policy, bundle),
     }
 }

@@ -35,7 +35,7 @@ fn read_bundle(alloc: Global, bytes: &[u8]) -> Result<Bundle, Error>
 
 /// Judges a bundle under a trust file over an artifact that is read to its end, and keeps the digests that were
 /// needed. Errors are those of the first that refuses: `TrustRoot` for the file's bytes, those of `Verifier::new`,
-/// `InvalidBundle` for the bundle's bytes, or `Unbuilt` for a form of it that isn't built, those of
+/// `InvalidBundle` for the bundle's bytes, those of
 /// `Verifier::verify_reader_kept`.
 pub fn judge_bundle<C: CryptoProvider, M: Armor, A: ArtifactSource, P: Policy>(
     alloc: Global,

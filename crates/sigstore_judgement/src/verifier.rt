@@ -87,12 +87,15 @@ impl<'p, C: CryptoProvider, M: Armor> Verifier<'p, C, M> {
                         digests: digests.as_slice(),
                         bytes: None,
                     };
-                    match judge(alloc, &self.grounds(now), &ready, bundle, &had) {
+                    match judge(alloc, &self.grounds(now), ready, bundle, &had) {
                         Ok(result) => Ok(Kept { result, digests }),
                         Err(e) => Err(e),
                     }
                 }
-                Err(e) => Err(e),
+                Err(e) => {
+                    drop(ready);
+                    Err(e)
+                }
             },
             Err(e) => Err(e),
         }
@@ -116,9 +119,12 @@ impl<'p, C: CryptoProvider, M: Armor> Verifier<'p, C, M> {
                         digests: digests.as_slice(),
                         bytes: Some(bytes),
                     };
-                    judge(alloc, &self.grounds(now), &ready, bundle, &had)
+                    judge(alloc, &self.grounds(now), ready, bundle, &had)
                 }
-                Err(e) => Err(e),
+                Err(e) => {
+                    drop(ready);
+                    Err(e)
+                }
             },
             Err(e) => Err(e),
         }
@@ -142,20 +148,25 @@ impl<'p, C: CryptoProvider, M: Armor> Verifier<'p, C, M> {
                     digests: slice::from_ref(digest),
                     bytes: None,
                 };
-                judge(alloc, &self.grounds(now), &ready, bundle, &had)
+                judge(alloc, &self.grounds(now), ready, bundle, &had)
             }
             Err(e) => Err(e),
         }
     }
 
-    /// Verifies the bundle over an artifact that is handed in. Errors, in order: `Bundle`, `Crypto` for the
-    /// policy's key and its scheme; of an envelope `UnsupportedBundle` for its payload's type, `InvalidBundle` for
-    /// its statement, `UnsupportedBundle` where no subject tells a digest that can be had; `UnsupportedArtifact`
-    /// where the scheme signs a message's bytes themselves or a digest that is needed wasn't handed in, `Crypto`
-    /// where one has no hasher; where the policy verifies the log, `TransparencyLog` for the first entry that isn't
-    /// logged; `Timestamp` for the first token that isn't an authority's; `ArtifactMismatch`, `SignatureInvalid`, of an
+    /// Verifies the bundle over an artifact that is handed in. Errors, in order: under a key `UnsupportedBundle` for a
+    /// bundle with a certificate; `Bundle`; under a policy for certificates `InvalidBundle` for a bundle without one,
+    /// `Certificate` for one that isn't read; `Crypto` for the signer's key and its scheme; of an envelope
+    /// `UnsupportedBundle` for its payload's type, `InvalidBundle` for its statement, `UnsupportedBundle` where no
+    /// subject tells a digest that can be had; `UnsupportedArtifact` where the scheme signs a message's bytes themselves
+    /// or a digest that is needed wasn't handed in, `Crypto` where one has no hasher. Then under a key, where the policy
+    /// verifies the log, `TransparencyLog` for the first entry that isn't logged; `Timestamp` for the first token that
+    /// isn't an authority's. Under a policy for certificates `Timestamp` for the first such token; `TransparencyLog` for
+    /// the first promise that tells a time and isn't its log's; `Timestamp` with `NoVerifiedTimestamp`; those of
+    /// `judge_certificate` over the verified times; where the policy verifies the log, `TransparencyLog` for the first
+    /// entry that isn't logged, or not at a time of the certificate. Then `ArtifactMismatch`, `SignatureInvalid`, of an
     /// envelope in the other order; for the first entry that is of another signature `UnsupportedBundle`,
-    /// `TransparencyLog` with `MalformedEntry` or `EntryMismatch`, or `ArtifactMismatch`.
+    /// `TransparencyLog` with `MalformedEntry`, `EntryMismatch` or `IntegratedTime`, or `ArtifactMismatch`.
     pub fn verify<P: Policy>(
         &self,
         alloc: Global,

@@ -3,6 +3,7 @@ use Rattle.std.proofs.Common.{◌≡◌, ℕ, ℤ, List, length, Bool, true, fal
 use Rattle.std.specs.Prelude.{⊤}
 use Rattle.foundation.specs.Results.{err_same, refused_at}
 use Rattle.jiff_core.specs.declared.timestamp.Timestamp.{Timestamp}
+use Rattle.sigstore_types_parts.specs.Instant.{at_second}
 use Rattle.sigstore_crypto_parts.specs.declared.key.VerificationKey.{VerificationKey}
 use Rattle.sigstore_crypto_parts.specs.Good.{Judge}
 use Rattle.sigstore_crypto_parts.specs.Keyring.{Ring, key_at, key_by}
@@ -16,7 +17,7 @@ use Rattle.sigstore_log.specs.declared.error.LogError.TheVariants as refusal
 use Rattle.sigstore_log.specs.Entry.{logged_of}
 use Rattle.sigstore_log.specs.Inclusion.{Place, stands_at, stands_in, place_of, included_of}
 use Rattle.sigstore_log.specs.Signed.{is_signed_by, is_of_tree, checkpoint_judged}
-use Rattle.sigstore_log.specs.Promise.{moment_of, id_of, key_of, is_promised, promise_of, tells_time, is_past_or_now, time_judged, promise_judged}
+use Rattle.sigstore_log.specs.Promise.{id_of, key_of, is_promised, promise_of, tells_time, is_past_or_now, time_judged, promise_judged}
 use Rattle.sigstore_log.specs.Cause.{no_proof, not_there, no_checkpoint, other_tree, unsigned, no_key, not_good, LogCause, RefusalsHaveCauses}
 use Rattle.sigstore_log.proofs.Including.{some_of, root_passes, tree_fails, none_from_place}
 use Rattle.sigstore_log.proofs.Promising.{after_id, id_means}
@@ -74,7 +75,7 @@ module _ (accepts : Judge) (logs : Ring) (now : Timestamp) (entry : Transparency
       length_is = λ same. let fits = eq-eqb (length entry.log_id.key_id) 32 same in cc;
     })
 
-    keyless_at : (time : ℤ) → entry.integrated_time ≡ Some time → (o : Option VerificationKey) → key_at entry.log_id.key_id (moment_of time) logs ≡ o
+    keyless_at : (time : ℤ) → entry.integrated_time ≡ Some time → (o : Option VerificationKey) → key_at entry.log_id.key_id (at_second time) logs ≡ o
         → ok_or o refusal.InclusionPromise ≡ Err e → Cause e
     keyless_at time time_is None is h = subst Cause (err_same refusal.InclusionPromise e h) (no_key promise time promise_is time_is is)
     keyless_at time time_is (Some key) is h = cc
@@ -91,7 +92,7 @@ module _ (accepts : Judge) (logs : Ring) (now : Timestamp) (entry : Transparency
 
     keyless : (o : Option ℤ) → entry.integrated_time ≡ o → key_of logs now entry.log_id.key_id o ≡ Err e → Cause e
     keyless None is h = keyless_by is (key_by entry.log_id.key_id now logs) refl h
-    keyless (Some time) is h = keyless_at time is (key_at entry.log_id.key_id (moment_of time) logs) refl h
+    keyless (Some time) is h = keyless_at time is (key_at entry.log_id.key_id (at_second time) logs) refl h
 
     unpromised_under : (key : VerificationKey) → key_of logs now entry.log_id.key_id entry.integrated_time ≡ Ok key → (b : Bool) → is_promised accepts key (payload_of entry) promise ≡ b
         → ◌≡◌ {A = Result ⊤ LogError} (if b then Ok tt else Err refusal.InclusionPromise) (Err e) → Cause e
@@ -115,7 +116,7 @@ module _ (accepts : Judge) (logs : Ring) (now : Timestamp) (entry : Transparency
       tells = tells;
       time = time;
       time_is = is;
-      ahead = not_false (int_lt now.nanosecond (moment_of time).nanosecond) ahead;
+      ahead = not_false (int_lt now.nanosecond (at_second time).nanosecond) ahead;
     })
 
     untimely : (a b : Bool) → tells_time entry.kind_version ≡ a → is_past_or_now now entry.integrated_time ≡ b
@@ -129,7 +130,7 @@ module _ (accepts : Judge) (logs : Ring) (now : Timestamp) (entry : Transparency
         refused_at (promise_of accepts logs now entry promise) _ e h of_no_log (λ u p k.
         refused_at (time_judged now entry) _ e k (untimely (tells_time entry.kind_version) (is_past_or_now now entry.integrated_time) refl refl) (λ v q l. cc))
 
-  unpromised : (o : Option (List ℕ)) → entry.inclusion_promise ≡ o → promise_judged accepts logs now entry o ≡ Err e → Cause e
+  pub unpromised : (o : Option (List ℕ)) → entry.inclusion_promise ≡ o → promise_judged accepts logs now entry o ≡ Err e → Cause e
   unpromised None is h = cc
   unpromised (Some promise) is h = unpromised_by promise is h
 

@@ -3,7 +3,6 @@ pub mod CauseLaw
 pub mod Including
 pub mod LoggedLaw
 pub mod Looking
-pub mod Moments
 pub mod OnePlaceLaw
 pub mod Promising
 pub mod Signing

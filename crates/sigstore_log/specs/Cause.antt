@@ -1,6 +1,7 @@
 -- What each refusal of an entry tells of it (RFC 6962, sections 2.1.1 and 3.2; C2SP tlog-checkpoint).
 use Rattle.std.specs.Prelude.{◌≡◌, ◌≢◌, ℕ, ℤ, List, length, true, false, Some, None, Ok, Err, int_lt}
 use Rattle.jiff_core.specs.declared.timestamp.Timestamp.{Timestamp}
+use Rattle.sigstore_types_parts.specs.Instant.{at_second}
 use Rattle.sigstore_crypto_parts.specs.declared.key.VerificationKey.{VerificationKey}
 use Rattle.sigstore_crypto_parts.specs.Good.{Judge}
 use Rattle.sigstore_crypto_parts.specs.Keyring.{Ring, key_at, key_by}
@@ -15,7 +16,7 @@ use Rattle.sigstore_log.specs.declared.error.LogError.TheVariants as refusal
 use Rattle.sigstore_log.specs.Entry.{logged_of}
 use Rattle.sigstore_log.specs.Inclusion.{Place, place_of}
 use Rattle.sigstore_log.specs.Signed.{is_signed_by}
-use Rattle.sigstore_log.specs.Promise.{moment_of, key_of, is_promised, tells_time}
+use Rattle.sigstore_log.specs.Promise.{key_of, is_promised, tells_time}
 
 -- there is no proof, or the body's leaf and the proof's hashes don't give the root at the place that counts
 pub data LacksPlace (entry : TransparencyLogEntry) : Type 0 where
@@ -55,7 +56,7 @@ pub record IsOfUnknown (logs : Ring) (now : Timestamp) (entry : TransparencyLogE
 -- a promise is there; and it tells a time at which the log has no key, or it isn't good under the log's key over the entry's payload
 pub data IsUnpromised (accepts : Judge) (logs : Ring) (now : Timestamp) (entry : TransparencyLogEntry) : Type 0 where
   no_key : (promise : List ℕ) (time : ℤ) → entry.inclusion_promise ≡ Some promise → entry.integrated_time ≡ Some time
-      → key_at entry.log_id.key_id (moment_of time) logs ≡ None → IsUnpromised accepts logs now entry
+      → key_at entry.log_id.key_id (at_second time) logs ≡ None → IsUnpromised accepts logs now entry
   not_good : (promise : List ℕ) (key : VerificationKey) → entry.inclusion_promise ≡ Some promise
       → key_of logs now entry.log_id.key_id entry.integrated_time ≡ Ok key
       → is_promised accepts key (payload_of entry) promise ≡ false → IsUnpromised accepts logs now entry
@@ -67,7 +68,7 @@ pub record IsAhead (now : Timestamp) (entry : TransparencyLogEntry) : Type 0 whe
   pub tells : tells_time entry.kind_version ≡ true
   pub time : ℤ
   pub time_is : entry.integrated_time ≡ Some time
-  pub ahead : int_lt now.nanosecond (moment_of time).nanosecond ≡ true
+  pub ahead : int_lt now.nanosecond (at_second time).nanosecond ≡ true
 
 -- each refusal of an entry, by its name
 abbrev pub LogCause : Judge → Ring → Timestamp → TransparencyLogEntry → LogError → Type 0

@@ -1,11 +1,11 @@
 -- What a log promised of an entry: the signed entry timestamp (Sigstore protobuf specs, sigstore_rekor.proto, InclusionPromise), which is
 -- to a log of signatures what a signed certificate timestamp is to one of certificates (RFC 6962, section 3.2).
-use Rattle.std.specs.Prelude.{ℕ, ℤ, pos, ◌*ℤ◌, List, length, nat_eq, Bool, true, false, ◌&&◌, not, if◌then◌else◌, int_lt}
+use Rattle.std.specs.Prelude.{ℕ, ℤ, List, length, nat_eq, Bool, true, false, ◌&&◌, not, if◌then◌else◌, int_lt}
 use Rattle.std.specs.Prelude.{Option, Some, None, Result, Ok, Err, ok_or, ⊤}
 use Rattle.std.specs.Option.{option_map}
 use Rattle.foundation.specs.Steps.{◌>>=◌}
 use Rattle.jiff_core.specs.declared.timestamp.Timestamp.{Timestamp}
-use Rattle.sigstore_types_parts.specs.Instant.{at_nanosecond}
+use Rattle.sigstore_types_parts.specs.Instant.{at_second}
 use Rattle.sigstore_crypto_parts.specs.declared.key.VerificationKey.{VerificationKey}
 use Rattle.sigstore_crypto_parts.specs.Good.{Judge, is_good}
 use Rattle.sigstore_crypto_parts.specs.Keyring.{Ring, key_at, key_by}
@@ -17,10 +17,6 @@ use Rattle.sigstore_entries.specs.Promise.{payload_of}
 use Rattle.sigstore_log.specs.declared.error.LogError.{LogError}
 use Rattle.sigstore_log.specs.declared.error.LogError.TheVariants as refusal
 
--- that many seconds after the start of 1970, or the nearest instant
-abbrev pub moment_of : ℤ → Timestamp
-moment_of second = at_nanosecond (second *ℤ pos 1_000_000_000)
-
 -- the id of a log is a SHA-256 value (RFC 6962, section 3.2)
 abbrev pub id_of : List ℕ → Result (List ℕ) LogError
 id_of id = if nat_eq (length id) 32 then Ok id else Err refusal.MalformedEntry
@@ -29,7 +25,7 @@ id_of id = if nat_eq (length id) 32 then Ok id else Err refusal.MalformedEntry
 -- trusted could still promise); where it tells none, the one whose window has started by now. A window that has ended still counts then:
 -- nothing tells when the promise was made, and one that was made while the key was used stays the log's.
 abbrev pub key_of : Ring → Timestamp → List ℕ → Option ℤ → Result VerificationKey LogError
-key_of logs now id (Some time) = ok_or (key_at id (moment_of time) logs) refusal.InclusionPromise
+key_of logs now id (Some time) = ok_or (key_at id (at_second time) logs) refusal.InclusionPromise
 key_of logs now id None = ok_or (key_by id now logs) (refusal.UnknownLog id)
 
 -- the signature is good over the entry's payload; one that can't be written is nobody's
@@ -56,7 +52,7 @@ tells_time IntotoV002 = true
 -- a promised time isn't after now: a log that dates ahead would make an expired key look used in its time
 abbrev pub is_past_or_now : Timestamp → Option ℤ → Bool
 is_past_or_now now None = true
-is_past_or_now now (Some time) = not (int_lt now.nanosecond (moment_of time).nanosecond)
+is_past_or_now now (Some time) = not (int_lt now.nanosecond (at_second time).nanosecond)
 
 abbrev pub time_judged : Timestamp → TransparencyLogEntry → Result ⊤ LogError
 time_judged now entry =
@@ -67,7 +63,7 @@ time_judged now entry =
 -- the time that a promise of the entry tells, where its kind's promises tell one
 abbrev pub told_by : TransparencyLogEntry → Option (List ℕ) → Option Timestamp
 told_by entry None = None
-told_by entry (Some promise) = if tells_time entry.kind_version then option_map moment_of entry.integrated_time else None
+told_by entry (Some promise) = if tells_time entry.kind_version then option_map at_second entry.integrated_time else None
 
 -- the time that the entry's own promise tells
 abbrev pub told_time : TransparencyLogEntry → Option Timestamp

@@ -13,4 +13,4 @@ pub use checkpoint::{CheckpointVerifyExt, is_signed_by};
 pub use entry::judge_entry;
 pub use error::LogError;
 pub use laws::{logged_exactly, one_place_one_body, refusals_have_causes};
-pub use promise::{judge_promise, moment_of_seconds, tells_time, told_time};
+pub use promise::{judge_promise, tells_time, told_time};

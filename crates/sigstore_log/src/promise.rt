@@ -1,50 +1,14 @@
 // What a log promised of an entry.
-ghost use Rattle.std.specs.Prelude.{◌≡◌, ◌*ℤ◌, pos, ◌≢◌, Ok, Err, Option, IfOk, IfErr, MatchResult, IfSome, option_copied};
-ghost use Rattle.sigstore_types_parts.specs.Instant.{nearest, at_nanosecond};
+ghost use Rattle.std.specs.Prelude.{◌≡◌, ◌≢◌, Ok, Err, Option, IfOk, IfErr, MatchResult, IfSome, option_copied};
 ghost use Rattle.sigstore_entries.specs.Promise.{payload_of};
-ghost use Rattle.sigstore_log.specs.Promise.{moment_of, id_of, key_of, is_promised, promise_of, tells_time, is_past_or_now, time_judged, told_time, promise_judged};
+ghost use Rattle.sigstore_log.specs.Promise.{id_of, key_of, is_promised, promise_of, tells_time, is_past_or_now, time_judged, told_time, promise_judged};
 
 use crate::error::LogError;
 use jiff::Timestamp;
 use sigstore_crypto_parts::{CryptoProvider, Keyring, VerificationKey};
 use sigstore_entries::{KindVersion, TransparencyLogEntry, promise_payload};
-use sigstore_types_parts::{LogKeyId, Sha256Hash, SignatureBytes, SignedTimestamp};
+use sigstore_types_parts::{LogKeyId, Sha256Hash, SignatureBytes, SignedTimestamp, at_second};
 use std::alloc::Global;
-
-// The instant nearest to that many nanoseconds after the start of 1970.
-fn nearest_instant(nanosecond: i128) -> Timestamp
-    ensures { result.nanosecond ≡ nearest nanosecond }
-{
-    match Timestamp::from_nanosecond(nanosecond) {
-        Ok(moment) => moment,
-        Err(_) => {
-            if nanosecond < 0 {
-                Timestamp::MIN
-            } else {
-                Timestamp::MAX
-            }
-        }
-    }
-}
-
-fn at_nanosecond(nanosecond: i128) -> Timestamp
-    ensures { result ≡ at_nanosecond nanosecond }
-{
-    nearest_instant(nanosecond)
-}
-
-fn nanoseconds(second: i64) -> i128
-    ensures { result ≡ second *ℤ pos 1_000_000_000 }
-{
-    second as i128 * 1_000_000_000
-}
-
-/// The instant that many seconds after the start of 1970, or the nearest that there is.
-pub fn moment_of_seconds(second: i64) -> Timestamp
-    ensures { result ≡ moment_of second }
-{
-    at_nanosecond(nanoseconds(second))
-}
 
 fn log_id(id: &LogKeyId) -> Result<Sha256Hash, LogError>
     ensures { result ≡ id_of id.now }
@@ -65,7 +29,7 @@ fn promise_key<'k>(
     ensures { MatchResult result (λ key. key_of logs.now now id.now time ≡ Ok key.now) (λ e. key_of logs.now now id.now time ≡ Err e) }
 {
     match time {
-        Some(second) => match logs.key_at(id, moment_of_seconds(second)) {
+        Some(second) => match logs.key_at(id, at_second(second)) {
             Some(key) => Ok(key),
             None => Err(LogError::InclusionPromise),
         },
@@ -136,7 +100,7 @@ fn is_past_or_now(now: Timestamp, time: Option<i64>) -> bool
     ensures { result ≡ is_past_or_now now time }
 {
     match time {
-        Some(second) => moment_of_seconds(second) <= now,
+        Some(second) => at_second(second) <= now,
         None => true,
     }
 }
@@ -161,7 +125,7 @@ pub fn told_time(entry: &TransparencyLogEntry) -> Option<Timestamp>
         return None;
     }
     match entry.integrated_time {
-        Some(second) => Some(moment_of_seconds(second)),
+        Some(second) => Some(at_second(second)),
         None => None,
     }
 }

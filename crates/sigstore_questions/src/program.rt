@@ -1,6 +1,10 @@
 // A run that notes what a verification asks.
 ghost use Rattle.std.specs.Prelude.{◌≡◌, IfOk, string_bytes};
-ghost use Rattle.sigstore_questions.specs.Means.{IsQuestions, Proceeds, Decides, RunsTo, WritesRows};
+ghost use Rattle.sigstore_verify.specs.Given.{Outside};
+ghost use Rattle.sigstore_verify.specs.FromRoot.{Runs};
+ghost use Rattle.sigstore_questions_parts.specs.Believing.{believing};
+ghost use Rattle.sigstore_questions.specs.Means.{IsQuestions, Asks, Proceeds, Decides, RunsTo, WritesRows};
+ghost use Rattle.sigstore_run.specs.Run.{given_with, request_of, Environment};
 ghost use Rattle.sigstore_run.specs.declared.answer.Status.TheVariants.{Accepted};
 
 use crate::reading_store::ReadingStore;
@@ -14,10 +18,10 @@ use sigstore_questions_parts::{Noted, Notes, NotingArmor, NotingProvider};
 use sigstore_run::{Answer, Request, Status, stopped, verify_request};
 use sigstore_tuf::{MetadataStore, Repository};
 use sigstore_types_parts::Text;
-use sigstore_verify::RootFault;
+use sigstore_verify::{RootFault, Rooted};
 use std::alloc::Global;
 
-// Runs the verification, refuses what the tables hold, notes what else it asks, and throws its verdict away.
+// Runs the verification, refuses what the tables hold, and notes what else it asks.
 fn verify_noting<R: Repository, S: MetadataStore, A: ArtifactSource>(
     alloc: Global,
     notes: &Notes,
@@ -26,7 +30,11 @@ fn verify_noting<R: Repository, S: MetadataStore, A: ArtifactSource>(
     repo: &mut R,
     store: &mut S,
     artifact: &mut A,
-) -> Result<(), NoMemory> {
+) -> Result<Rooted, RootFault>
+    ensures { let before : Outside = record { repo = R.seen repo.old; store = S.seen store.old; source = A.seen artifact.old } in
+        let after : Outside = record { repo = R.seen repo.new; store = S.seen store.new; source = A.seen artifact.new } in
+        Runs (given_with (believing gathered.tables.provider.rows) (request_of gathered) now) before after result }
+{
     let Gathered {
         policy,
         tables,
@@ -38,23 +46,22 @@ fn verify_noting<R: Repository, S: MetadataStore, A: ArtifactSource>(
         root,
         bundle,
     };
+    let provider = NotingProvider::new(notes, &tables.provider);
     let judged = verify_request(
         alloc,
         request,
-        &NotingProvider::new(notes, &tables.provider),
+        &provider,
         &NotingArmor::new(notes),
         now,
         repo,
         store,
         artifact,
     );
-    let wants_memory = matches!(&judged, Err(RootFault::NoMemory));
-    drop(judged);
     drop(tables);
-    if wants_memory { Err(NoMemory) } else { Ok(()) }
+    judged
 }
 
-// What a verification asks.
+// What a verification asks; its verdict is thrown away.
 fn asked<R: Repository, S: MetadataStore, A: ArtifactSource>(
     alloc: Global,
     gathered: Gathered,
@@ -62,9 +69,18 @@ fn asked<R: Repository, S: MetadataStore, A: ArtifactSource>(
     repo: &mut R,
     store: &mut S,
     artifact: &mut A,
-) -> Result<Noted, NoMemory> {
+) -> Result<Noted, NoMemory>
+    ensures { let before : Outside = record { repo = R.seen repo.old; store = S.seen store.old; source = A.seen artifact.old } in
+        let after : Outside = record { repo = R.seen repo.new; store = S.seen store.new; source = A.seen artifact.new } in
+        IfOk result (λ noted. Asks gathered now before after) }
+{
     let notes = Notes::new(alloc);
-    verify_noting(alloc, &notes, gathered, now, repo, store, artifact)?;
+    let judged = verify_noting(alloc, &notes, gathered, now, repo, store, artifact);
+    let wants_memory = matches!(&judged, Err(RootFault::NoMemory));
+    drop(judged);
+    if wants_memory {
+        return Err(NoMemory);
+    }
     match notes.into_noted() {
         Some(noted) => Ok(noted),
         None => Err(NoMemory),
@@ -94,7 +110,11 @@ fn proceed<I: Inputs, R: Repository, S: MetadataStore, A: ArtifactSource>(
     store: &mut S,
     artifact: &mut A,
 ) -> Result<Answer, NoMemory>
-    ensures { IfOk result (Proceeds (I.seen inputs.old) (I.seen inputs.new)) }
+    ensures { let outside : Outside = record { repo = R.seen repo.old; store = S.seen store.old; source = A.seen artifact.old } in
+        let outside' : Outside = record { repo = R.seen repo.new; store = S.seen store.new; source = A.seen artifact.new } in
+        let before : Environment = record { inputs = I.seen inputs.old; outside = outside } in
+        let after : Environment = record { inputs = I.seen inputs.new; outside = outside' } in
+        IfOk result (Proceeds now before after) }
 {
     match gather_inputs(alloc, inputs) {
         Ok(gathered) => match asked(alloc, gathered, now, repo, store, artifact) {
@@ -118,7 +138,11 @@ fn decide<I: Inputs, R: Repository, S: MetadataStore, A: ArtifactSource>(
     store: &mut S,
     artifact: &mut A,
 ) -> Result<Answer, NoMemory>
-    ensures { IfOk result (Decides words.now (I.seen inputs.old) (I.seen inputs.new)) }
+    ensures { let outside : Outside = record { repo = R.seen repo.old; store = S.seen store.old; source = A.seen artifact.old } in
+        let outside' : Outside = record { repo = R.seen repo.new; store = S.seen store.new; source = A.seen artifact.new } in
+        let before : Environment = record { inputs = I.seen inputs.old; outside = outside } in
+        let after : Environment = record { inputs = I.seen inputs.new; outside = outside' } in
+        IfOk result (Decides (record { words = words.now; clock = clock }) before after) }
 {
     let found = match read_asked_layout(alloc, words) {
         Ok(found) => found,
@@ -155,8 +179,16 @@ pub fn run_questions<I: Inputs, R: Repository, S: MetadataStore, A: ArtifactSour
     artifact: &mut A,
     out: &mut K,
 ) -> Status
-    ensures runs { RunsTo words.now (I.seen inputs.old) (I.seen inputs.new) (K.seen out.old) (K.seen out.new) result }
-    ensures rows { result ≡ Accepted → WritesRows words.now (I.seen inputs.old) (I.seen inputs.new) (K.seen out.old) (K.seen out.new) }
+    ensures runs { let outside : Outside = record { repo = R.seen repo.old; store = ⟦<ReadingStore<S> as MetadataStore>⟧.seen store.old; source = A.seen artifact.old } in
+        let outside' : Outside = record { repo = R.seen repo.new; store = ⟦<ReadingStore<S> as MetadataStore>⟧.seen store.new; source = A.seen artifact.new } in
+        let before : Environment = record { inputs = I.seen inputs.old; outside = outside } in
+        let after : Environment = record { inputs = I.seen inputs.new; outside = outside' } in
+        RunsTo (record { words = words.now; clock = clock }) before after (K.seen out.old) (K.seen out.new) result }
+    ensures rows { let outside : Outside = record { repo = R.seen repo.old; store = ⟦<ReadingStore<S> as MetadataStore>⟧.seen store.old; source = A.seen artifact.old } in
+        let outside' : Outside = record { repo = R.seen repo.new; store = ⟦<ReadingStore<S> as MetadataStore>⟧.seen store.new; source = A.seen artifact.new } in
+        let before : Environment = record { inputs = I.seen inputs.old; outside = outside } in
+        let after : Environment = record { inputs = I.seen inputs.new; outside = outside' } in
+        result ≡ Accepted → WritesRows (record { words = words.now; clock = clock }) before after (K.seen out.old) (K.seen out.new) }
 {
     let said = match decide(alloc, words, clock, inputs, repo, store, artifact) {
         Ok(said) => said,

@@ -3,3 +3,4 @@ pub mod Reads
 pub mod Notes
 pub mod Seen
 pub mod Holds
+pub mod Believing

@@ -6,8 +6,7 @@ use Rattle.foundation.specs.declared.no_memory.NoMemory.{NoMemory}
 use Rattle.sigstore_crypto_parts.specs.Crypto.{Crypto}
 use Rattle.sigstore_tuf_rules.specs.Config.{default_config}
 use Rattle.sigstore_tuf_rules.specs.declared.config.UpdaterConfig.{UpdaterConfig}
-use Rattle.sigstore_judgement.specs.declared.policy.PublicKeyVerificationPolicy.{PublicKeyVerificationPolicy}
-use Rattle.sigstore_judgement.specs.Policy.{PublicKey}
+use Rattle.sigstore_judgement.specs.Policy.{Meaning}
 use Rattle.sigstore_verify.specs.declared.from_root.Rooted.{Rooted}
 use Rattle.sigstore_verify.specs.declared.from_root.RootFault.{RootFault}
 use Rattle.sigstore_verify.specs.Given.{Outside}
@@ -23,18 +22,19 @@ use Rattle.sigstore_app_parts.specs.declared.usage_fault.UsageFault.{UsageFault}
 use Rattle.sigstore_run.specs.declared.answer.Answer.{Answer}
 use Rattle.sigstore_run.specs.declared.meant.Request.{Request}
 use Rattle.sigstore_run.proofs.ReportThere.{report_there}
+use Rattle.sigstore_run.specs.Meant.{policy_meant}
 use Rattle.sigstore_run.specs.Run as r
-use Rattle.sigstore_run.specs.Run.{answer, stop_answer, tuf_answer, verify_answer, refusal_answer, policy_meant, max_artifact, crypto_in, given_with, given_by, now_of, Command, Environment, said_of, Reports, Answers, SaysReport, Judges, Proceeds, Decides}
+use Rattle.sigstore_run.specs.Run.{answer, stop_answer, tuf_answer, verify_answer, refusal_answer, max_artifact, crypto_in, given_with, given_by, now_of, Command, Environment, said_of, Reports, Answers, SaysReport, Judges, Proceeds, Decides}
 
 -- the verification was called on what is asked for
-pub on_request : (crypto : Crypto) (q : Request) (now : jiff.Timestamp) (before after : Outside) (result : Result Rooted RootFault) (p : PublicKeyVerificationPolicy) (root bundle : List ℕ) (config : UpdaterConfig)
+pub on_request : (crypto : Crypto) (q : Request) (now : jiff.Timestamp) (before after : Outside) (result : Result Rooted RootFault) (p : Meaning) (root bundle : List ℕ) (config : UpdaterConfig)
     → p ≡ policy_meant q.policy → root ≡ q.root → bundle ≡ q.bundle → config ≡ default_config
-    → Promises (record { anchor = record { crypto = crypto; root = root; config = config; now = now }; policy = PublicKey p; bundle = bundle; max = max_artifact }) before after result
+    → Promises (record { anchor = record { crypto = crypto; root = root; config = config; now = now }; policy = p; bundle = bundle; max = max_artifact }) before after result
     → Promises (given_with crypto q now) before after result
 on_request crypto q now before after result p root bundle config a b c d h =
-    let at : PublicKeyVerificationPolicy → List ℕ → List ℕ → UpdaterConfig → Type 0
-    = λ (p : PublicKeyVerificationPolicy) (root bundle : List ℕ) (config : UpdaterConfig). Promises (record { anchor = record { crypto = crypto; root = root; config = config; now = now }; policy = PublicKey p; bundle = bundle; max = max_artifact }) before after result in
-    let h1 = subst (λ (x : PublicKeyVerificationPolicy). at x root bundle config) a h in
+    let at : Meaning → List ℕ → List ℕ → UpdaterConfig → Type 0
+    = λ (p : Meaning) (root bundle : List ℕ) (config : UpdaterConfig). Promises (record { anchor = record { crypto = crypto; root = root; config = config; now = now }; policy = p; bundle = bundle; max = max_artifact }) before after result in
+    let h1 = subst (λ (x : Meaning). at x root bundle config) a h in
     let h2 = subst (λ (x : List ℕ). at (policy_meant q.policy) x bundle config) b h1 in
     let h3 = subst (λ (x : List ℕ). at (policy_meant q.policy) q.root x config) c h2 in
     subst (λ (x : UpdaterConfig). at (policy_meant q.policy) q.root q.bundle x) d h3

@@ -6,6 +6,9 @@ use Rattle.jiff_core.specs.declared.timestamp.Timestamp as jiff
 use Rattle.foundation.specs.Steps.{◌>>=◌}
 use Rattle.sigstore_types_parts.specs.declared.hash_algorithm.HashAlgorithm.{HashAlgorithm}
 use Rattle.sigstore_types_parts.specs.HashAlgorithm.{rekor_name_of}
+use Rattle.sigstore_crypto.specs.declared.certificate_info.SubjectAltName.{SubjectAltName}
+use Rattle.sigstore_crypto.specs.declared.certificate_info.SubjectAltName.TheVariants as name
+use Rattle.sigstore_judgement.specs.Report.{identity_said, issuer_said}
 use Rattle.sigstore_tuf_text.specs.declared.error.Error.{Error}
 use Rattle.sigstore_tuf_text.specs.declared.error.Error.TheVariants.{NotRefreshed}
 use Rattle.sigstore_tuf_parts.specs.declared.root.Root.{Root}
@@ -87,9 +90,14 @@ abbrev pub integrated_text : Option jiff.Timestamp → List ℕ
 integrated_text None = pair_line (codes "integrated") (codes "none")
 integrated_text (Some time) = pair_line (codes "integrated") (seconds_of time)
 
--- no identity is compared yet
-abbrev pub identity_text : VerificationResult → List ℕ
-identity_text result = pair_line (codes "identity") (codes "none") ++ issuer_text result.issuer
+-- whom the certificate names, by the sort of the name
+abbrev pub identity_text : Option SubjectAltName → List ℕ
+identity_text None = pair_line (codes "identity") (codes "none")
+identity_text (Some (name.Email text)) = text_line (codes "identity email") text
+identity_text (Some (name.Uri text)) = text_line (codes "identity uri") text
+
+abbrev pub names_text : VerificationResult → List ℕ
+names_text result = identity_text (identity_said result.certificate) ++ issuer_text (issuer_said result.certificate)
 
 abbrev pub answers_text : VerificationResult → List ℕ
 answers_text result =
@@ -103,7 +111,7 @@ times_text text result =
 
 -- what stands behind the roles
 abbrev pub result_added : List ℕ → VerificationResult → List ℕ
-result_added text result = times_text (text ++ identity_text result ++ answers_text result) result
+result_added text result = times_text (text ++ names_text result ++ answers_text result) result
 
 abbrev pub tail_added : List ℕ → TrustChain → List (HashAlgorithm × List ℕ) → VerificationResult → List ℕ
 tail_added text chain digests result =

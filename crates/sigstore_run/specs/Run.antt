@@ -1,5 +1,5 @@
 -- A run of the program: what it reads, what it says, and what it writes.
-use Rattle.std.specs.Prelude.{◌≡◌, ◌⊎◌, ℕ, ◌^◌, List, codes, not, unwrap_or, Option, Some, None, Result, Ok, Err}
+use Rattle.std.specs.Prelude.{◌≡◌, ◌⊎◌, ℕ, ◌^◌, List, codes, unwrap_or, Option, Some, None, Result, Ok, Err}
 use Rattle.std.specs.Result.{result_ok}
 use Rattle.jiff_core.specs.declared.timestamp.Timestamp as jiff
 use Rattle.foundation.specs.Watched.{Watched, Rose}
@@ -11,8 +11,6 @@ use Rattle.sigstore_tuf_text.specs.Error as tuf
 use Rattle.sigstore_tuf_rules.specs.Config.{default_config}
 use Rattle.sigstore_judgement.specs.declared.error.Error.{Error as VerifyError}
 use Rattle.sigstore_judgement.specs.Error as verify
-use Rattle.sigstore_judgement.specs.declared.policy.PublicKeyVerificationPolicy.{PublicKeyVerificationPolicy}
-use Rattle.sigstore_judgement.specs.Policy.{PublicKey}
 use Rattle.sigstore_verify.specs.declared.from_root.Rooted.{Rooted}
 use Rattle.sigstore_verify.specs.declared.from_root.RootFault.{RootFault}
 use Rattle.sigstore_verify.specs.declared.from_root.RootFault.TheVariants as root
@@ -31,8 +29,8 @@ use Rattle.sigstore_app_parts.specs.declared.layout.Layout.{Layout}
 use Rattle.sigstore_app_parts.specs.declared.gather.Gathered.{Gathered}
 use Rattle.sigstore_app_parts.specs.declared.gather.Stop.{Stop}
 use Rattle.sigstore_app_parts.specs.declared.gather.Stop.TheVariants.{Words, Malformed, Input, Memory}
-use Rattle.sigstore_app_parts.specs.declared.policy.PolicyFile.{PolicyFile}
 use Rattle.sigstore_app_parts.specs.declared.sink.SinkFault.{SinkFault}
+use Rattle.sigstore_run.specs.Meant.{policy_meant}
 use Rattle.sigstore_run.specs.declared.answer.Status.{Status}
 use Rattle.sigstore_run.specs.declared.answer.Status.TheVariants as status
 use Rattle.sigstore_run.specs.declared.answer.Answer.{Answer}
@@ -69,10 +67,6 @@ refusal_answer (root.Tuf e) = Some (tuf_answer e)
 refusal_answer (root.Verify fault chain) = Some (verify_answer fault)
 refusal_answer root.NoMemory = None
 
--- the policy of a file
-abbrev pub policy_meant : PolicyFile → PublicKeyVerificationPolicy
-policy_meant file = record { key = file.key; verify_tlog = not file.skip_tlog }
-
 abbrev pub max_artifact : ℕ
 max_artifact = 2 ^ 40
 
@@ -97,7 +91,7 @@ now_of layout clock = unwrap_or layout.now clock
 abbrev pub given_with : Crypto → Request → jiff.Timestamp → Given
 given_with crypto request now = record {
   anchor = record { crypto = crypto; root = request.root; config = default_config; now = now };
-  policy = PublicKey (policy_meant request.policy);
+  policy = policy_meant request.policy;
   bundle = request.bundle;
   max = max_artifact;
 }

@@ -3,14 +3,18 @@ ghost use Rattle.std.specs.Prelude.{◌≡◌};
 ghost use Rattle.sigstore_crypto_parts.specs.Crypto.{crypto_by};
 ghost use Rattle.sigstore_verify.specs.Given.{Outside};
 ghost use Rattle.sigstore_verify.specs.Promises.{Promises};
-ghost use Rattle.sigstore_run.specs.Run.{policy_meant, given_with};
+ghost use Rattle.sigstore_run.specs.Meant.{matcher_of, matcher_in, certificate_asked, keyless_meant, policy_meant, meaning_asked};
+ghost use Rattle.sigstore_run.specs.Run.{given_with};
 
 use jiff::Timestamp;
-use sigstore_app_parts::PolicyFile;
+use sigstore_app_parts::{IdentityLine, KeylessFile, PolicyFile};
 use sigstore_crypto_parts::{ArtifactSource, CryptoProvider};
 use sigstore_tuf::{MetadataStore, Repository, UpdaterConfig};
 use sigstore_types_parts::{Armor, Bytes};
-use sigstore_verify::{PublicKeyVerificationPolicy, RootFault, Rooted, verify_from_root};
+use sigstore_verify::{
+    CertificatePolicy, IdentityMatcher, Policy, PolicyKind, PublicKeyVerificationPolicy, RootFault,
+    Rooted, VerificationPolicy, verify_from_root,
+};
 use std::alloc::Global;
 
 // The greatest length of the artifact in bytes.
@@ -24,13 +28,84 @@ pub struct Request {
     pub bundle: Bytes,
 }
 
-fn policy_meant(file: PolicyFile) -> PublicKeyVerificationPolicy
-    ensures { result ≡ policy_meant file }
+/// A policy of either kind, as a file means it.
+#[derive(Drop)]
+pub(crate) enum AskedPolicy {
+    Key(PublicKeyVerificationPolicy),
+    Keyless(VerificationPolicy),
+}
+
+impl Policy for AskedPolicy {
+    ghost use Rattle.sigstore_run.specs.Meant.{meaning_asked};
+
+    ghost meant = { meaning_asked };
+
+    fn kind(&self) -> PolicyKind<'_> {
+        match self {
+            AskedPolicy::Key(policy) => PolicyKind::PublicKey(policy),
+            AskedPolicy::Keyless(policy) => PolicyKind::Certificate(policy),
+        }
+    }
+}
+
+fn matcher_of(line: IdentityLine) -> IdentityMatcher
+    ensures { result ≡ matcher_of line }
 {
-    let PolicyFile { key, skip_tlog } = file;
-    PublicKeyVerificationPolicy {
-        key,
+    match line {
+        IdentityLine::Exact(text) => IdentityMatcher::Exact(text),
+        IdentityLine::Email(text) => IdentityMatcher::Email(text),
+        IdentityLine::Uri(text) => IdentityMatcher::Uri(text),
+    }
+}
+
+fn matcher_in(line: Option<IdentityLine>) -> Option<IdentityMatcher>
+    ensures { result ≡ matcher_in line }
+{
+    match line {
+        Some(line) => Some(matcher_of(line)),
+        None => None,
+    }
+}
+
+fn certificate_asked(skip_chain: bool, skip_sct: bool) -> CertificatePolicy
+    ensures { result ≡ certificate_asked skip_chain skip_sct }
+{
+    if skip_chain {
+        CertificatePolicy::Skip
+    } else {
+        CertificatePolicy::Verify {
+            verify_sct: !skip_sct,
+        }
+    }
+}
+
+fn keyless_meant(file: KeylessFile) -> VerificationPolicy
+    ensures { result ≡ keyless_meant file }
+{
+    let KeylessFile {
+        identity,
+        issuer,
+        skip_tlog,
+        skip_chain,
+        skip_sct,
+    } = file;
+    VerificationPolicy {
+        identity: matcher_in(identity),
+        issuer,
         verify_tlog: !skip_tlog,
+        certificate: certificate_asked(skip_chain, skip_sct),
+    }
+}
+
+fn policy_meant(file: PolicyFile) -> AskedPolicy
+    ensures { meaning_asked result ≡ policy_meant file }
+{
+    match file {
+        PolicyFile::Key { key, skip_tlog } => AskedPolicy::Key(PublicKeyVerificationPolicy {
+            key,
+            verify_tlog: !skip_tlog,
+        }),
+        PolicyFile::Keyless(file) => AskedPolicy::Keyless(keyless_meant(file)),
     }
 }
 

@@ -1,7 +1,7 @@
 // The report of an accepted bundle.
-ghost use Rattle.std.specs.Prelude.{◌≡◌, ◌≢◌, ◌++◌, [], length, codes, Ok, Err, IfOk, IfErr, OnOk, string_bytes};
+ghost use Rattle.std.specs.Prelude.{◌≡◌, ◌≢◌, ◌++◌, [], length, codes, Ok, Err, IfOk, IfErr, OnOk, string_bytes, option_copied};
 ghost use Rattle.sigstore_app_parts.specs.Printed.{line_of, pair_line, number_line};
-ghost use Rattle.sigstore_run.specs.Report.{version_of, root_version, timestamp_version, snapshot_version, targets_version, versions_of, versions_text, role_added, roles_added, digests_added, seconds_of, times_added, issuer_text, integrated_text, identity_text, answers_text, times_text, result_added, tail_added, report_of};
+ghost use Rattle.sigstore_run.specs.Report.{version_of, root_version, timestamp_version, snapshot_version, targets_version, versions_of, versions_text, role_added, roles_added, digests_added, seconds_of, times_added, issuer_text, integrated_text, identity_text, names_text, answers_text, times_text, result_added, tail_added, report_of};
 
 use foundation::NoMemory;
 use jiff::Timestamp;
@@ -9,9 +9,10 @@ use sigstore_app_parts::{
     push_answer_line, push_hex_line, push_line, push_named_line, push_number_line, push_pair_line,
     push_text_line,
 };
+use sigstore_crypto::SubjectAltName;
 use sigstore_tuf::{RoleDoc, TrustChain};
 use sigstore_tuf_parts::{Error, Metadata, Role, Root, Snapshot, Targets};
-use sigstore_types_parts::{ArtifactDigest, Text};
+use sigstore_types_parts::ArtifactDigest;
 use sigstore_verify::VerificationResult;
 use std::alloc::Global;
 
@@ -165,12 +166,26 @@ fn push_times(text: &mut String, times: &[Timestamp]) -> Result<(), NoMemory>
     Ok(())
 }
 
-fn push_issuer(text: &mut String, issuer: &Option<Text>) -> Result<(), NoMemory>
-    ensures { OnOk result (string_bytes text.new ≡ string_bytes text.old ++ issuer_text issuer.now) }
+fn push_issuer(text: &mut String, issuer: Option<&str>) -> Result<(), NoMemory>
+    ensures { OnOk result (string_bytes text.new ≡ string_bytes text.old ++ issuer_text (option_copied issuer.entry)) }
 {
     match issuer {
         None => push_pair_line(text, "issuer", "none"),
-        Some(issuer) => push_text_line(text, "issuer", issuer.as_str().as_bytes()),
+        Some(issuer) => push_text_line(text, "issuer", issuer.as_bytes()),
+    }
+}
+
+fn push_identity(text: &mut String, identity: Option<&SubjectAltName>) -> Result<(), NoMemory>
+    ensures { OnOk result (string_bytes text.new ≡ string_bytes text.old ++ identity_text (option_copied identity.entry)) }
+{
+    match identity {
+        None => push_pair_line(text, "identity", "none"),
+        Some(SubjectAltName::Email(name)) => {
+            push_text_line(text, "identity email", name.as_str().as_bytes())
+        }
+        Some(SubjectAltName::Uri(name)) => {
+            push_text_line(text, "identity uri", name.as_str().as_bytes())
+        }
     }
 }
 
@@ -183,11 +198,11 @@ fn push_integrated(text: &mut String, time: Option<Timestamp>) -> Result<(), NoM
     }
 }
 
-fn push_identity(text: &mut String, shown: &VerificationResult) -> Result<(), NoMemory>
-    ensures { OnOk result (string_bytes text.new ≡ string_bytes text.old ++ identity_text shown.now) }
+fn push_names(text: &mut String, shown: &VerificationResult) -> Result<(), NoMemory>
+    ensures { OnOk result (string_bytes text.new ≡ string_bytes text.old ++ names_text shown.now) }
 {
-    push_pair_line(text, "identity", "none")?;
-    push_issuer(text, &shown.issuer)
+    push_identity(text, shown.identity())?;
+    push_issuer(text, shown.issuer())
 }
 
 fn push_answers(text: &mut String, shown: &VerificationResult) -> Result<(), NoMemory>
@@ -210,7 +225,7 @@ fn push_all_times(text: &mut String, shown: &VerificationResult) -> Result<(), N
 fn push_result(text: &mut String, shown: &VerificationResult) -> Result<(), NoMemory>
     ensures { OnOk result (string_bytes text.new ≡ result_added (string_bytes text.old) shown.now) }
 {
-    push_identity(text, shown)?;
+    push_names(text, shown)?;
     push_answers(text, shown)?;
     push_all_times(text, shown)
 }

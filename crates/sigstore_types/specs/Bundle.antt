@@ -1,4 +1,4 @@
--- A Sigstore bundle as JSON (Sigstore protobuf specs, sigstore_bundle.proto), as far as it is built.
+-- A Sigstore bundle as JSON (Sigstore protobuf specs, sigstore_bundle.proto).
 use Rattle.std.specs.Prelude.{ℕ, List, [], ◌∷◌, Bool, true, false, ◌||◌, bytes_eq, codes, Option, Some, None, Result, Ok, Err, ⊤}
 use Rattle.std.specs.Prelude.{ok_or, is_some, if◌then◌else◌}
 use Rattle.std.specs.List.{list_all}
@@ -6,7 +6,6 @@ use Rattle.serde_json.specs.Data.{Data}
 use Rattle.foundation.specs.Steps.{◌>>=◌}
 use Rattle.sigstore_types_parts.specs.HashAlgorithm.{algorithm_named}
 use Rattle.sigstore_types_parts.specs.declared.hash_algorithm.HashAlgorithm.{HashAlgorithm}
-use Rattle.sigstore_types_parts.specs.declared.form.Form.TheVariants as form
 use Rattle.sigstore_types_parts.specs.declared.member.TypesMember.TheVariants as m
 use Rattle.sigstore_types_parts.specs.declared.error.TypesError.{TypesError}
 use Rattle.sigstore_types_parts.specs.declared.error.TypesError.TheVariants as e
@@ -19,13 +18,16 @@ use Rattle.sigstore_types.specs.declared.material.VerificationMaterial.{Verifica
 use Rattle.sigstore_types.specs.declared.material.VerificationMaterialContent.{VerificationMaterialContent}
 use Rattle.sigstore_types.specs.declared.material.VerificationMaterialContent.TheVariants as material
 use Rattle.sigstore_types.specs.declared.material.Hint.{Hint}
+use Rattle.sigstore_types.specs.declared.material.SigningCertificate.{SigningCertificate}
+use Rattle.sigstore_types.specs.declared.material.SigningChain.{SigningChain}
 use Rattle.sigstore_types.specs.declared.material.TokenList.{TokenList}
 use Rattle.sigstore_types.specs.declared.material.Tokens.{Tokens}
 use Rattle.sigstore_entries.specs.declared.entry.TransparencyLogEntry.{TransparencyLogEntry}
 use Rattle.sigstore_entries.specs.Entry.{json, required, optional, text, bytes, list, entry_of}
 use Rattle.sigstore_envelopes.specs.Envelope.{envelope_of}
 use Rattle.sigstore_envelopes.specs.declared.envelope.DsseEnvelope.{DsseEnvelope}
-use Rattle.sigstore_types.specs.Members.{absent, each_held}
+use Rattle.sigstore_types.specs.Members.{each_held}
+use Rattle.sigstore_types.specs.TrustedRoot.{chain_of}
 
 abbrev pub is_media_type : List ℕ → Bool
 is_media_type name =
@@ -45,17 +47,40 @@ hint_of d = do
   hint ← optional text m.Hint d
   Ok (record { hint = hint })
 
--- exactly one of a certificate, a chain and a public key; none is a misreading of the whole material
-abbrev pub key_content_of : Option Hint → Result VerificationMaterialContent TypesError
-key_content_of (Some key) = Ok (material.PublicKey key.hint)
-key_content_of None = Err e.Json
+-- X509Certificate; what its octets say isn't read here
+unfoldable pub certificate_of : Data → Result SigningCertificate TypesError
+certificate_of d = do
+  certificate ← required bytes m.RawBytes d
+  Ok (record { certificate = certificate })
+
+-- a chain without certificates has none that could have signed
+abbrev pub some_of : List (List ℕ) → Result (List (List ℕ)) TypesError
+some_of [] = Err (e.Field m.Certificates)
+some_of (certificate ∷ behind) = Ok (certificate ∷ behind)
+
+-- X509CertificateChain, of at least one
+unfoldable pub signing_chain_of : Data → Result SigningChain TypesError
+signing_chain_of d = do
+  chain ← chain_of d
+  certificates ← some_of chain.certificates
+  Ok (record { certificates = certificates })
+
+-- exactly one of the three; none or several are a misreading of the whole material
+abbrev pub one_material_of : Option SigningCertificate → Option SigningChain → Option Hint → Result VerificationMaterialContent TypesError
+one_material_of (Some single) None None = Ok (material.Certificate single.certificate)
+one_material_of None (Some chain) None = Ok (material.X509CertificateChain chain.certificates)
+one_material_of None None (Some key) = Ok (material.PublicKey key.hint)
+one_material_of None None None = Err e.Json
+one_material_of (Some single) (Some chain) key = Err e.Json
+one_material_of (Some single) None (Some key) = Err e.Json
+one_material_of None (Some chain) (Some key) = Err e.Json
 
 unfoldable pub material_content_of : Data → Result VerificationMaterialContent TypesError
 material_content_of d = do
-  _ ← absent form.Certificate m.Certificate d
-  _ ← absent form.Certificate m.X509CertificateChain d
+  single ← optional certificate_of m.Certificate d
+  chain ← optional signing_chain_of m.X509CertificateChain d
   key ← optional hint_of m.PublicKey d
-  key_content_of key
+  one_material_of single chain key
 
 -- RFC3161SignedTimestamp, each with a token in base64
 unfoldable pub token_list_of : Data → Result TokenList TypesError
@@ -123,6 +148,23 @@ bundle_of d = do
 
 unfoldable pub bundle_of_bytes : List ℕ → Result Bundle TypesError
 bundle_of_bytes bytes = json bytes >>= bundle_of
+
+-- ---- the certificates
+
+-- the certificate whose key signed: the only one, or the first of a chain. Those behind it only vouch for it, so who
+-- could choose among them would show one certificate and sign with another's key
+abbrev pub signing_certificate_of : VerificationMaterialContent → Option (List ℕ)
+signing_certificate_of (material.Certificate certificate) = Some certificate
+signing_certificate_of (material.X509CertificateChain []) = None
+signing_certificate_of (material.X509CertificateChain (certificate ∷ behind)) = Some certificate
+signing_certificate_of (material.PublicKey hint) = None
+
+-- those behind it
+abbrev pub intermediates_of : VerificationMaterialContent → List (List ℕ)
+intermediates_of (material.Certificate certificate) = []
+intermediates_of (material.X509CertificateChain []) = []
+intermediates_of (material.X509CertificateChain (certificate ∷ behind)) = behind
+intermediates_of (material.PublicKey hint) = []
 
 -- ---- what a policy needs of the log
 

@@ -49,8 +49,8 @@ impl FromValue<TypesError> for Certificates {
 
 // A chain of certificates.
 #[derive(Drop)]
-struct Chain {
-    certificates: Sequence<DerCertificate>,
+pub(crate) struct Chain {
+    pub(crate) certificates: Sequence<DerCertificate>,
 }
 
 impl FromValue<TypesError> for Chain {

@@ -1,15 +1,16 @@
 // A bundle.
-ghost use Rattle.std.specs.Prelude.{◌≡◌, ◌≢◌, Ok, Err, IfOk, IfErr};
+ghost use Rattle.std.specs.Prelude.{◌≡◌, ◌≢◌, Ok, Err, IfOk, IfErr, option_copied};
 ghost use Rattle.std.specs.List.{list_all};
 ghost use Rattle.serde_json.specs.View.{view};
-ghost use Rattle.sigstore_types.specs.Bundle.{is_media_type, media_type_of, bundle_of, bundle_of_bytes, has_proof, shown_of, structure_of};
+ghost use Rattle.sigstore_types.specs.Bundle.{is_media_type, media_type_of, bundle_of, bundle_of_bytes, signing_certificate_of, intermediates_of, has_proof, shown_of, structure_of};
+ghost use Rattle.sigstore_types.specs.declared.material.VerificationMaterialContent.TheVariants.{X509CertificateChain};
 
 use crate::content::{SignatureContent, read_content};
-use crate::material::VerificationMaterial;
+use crate::material::{VerificationMaterial, VerificationMaterialContent};
 use foundation::{Duplicate, NoMemory};
 use serde_json::Value;
 use sigstore_entries::{TransparencyLogEntry, json};
-use sigstore_types_parts::{FromValue, Text, TypesError, TypesMember, required};
+use sigstore_types_parts::{DerCertificate, FromValue, Text, TypesError, TypesMember, required};
 use std::alloc::Global;
 
 /// A signature over an artifact with what it is verified with.
@@ -68,9 +69,19 @@ impl FromValue<TypesError> for Bundle {
     }
 }
 
+// The certificates behind the first.
+fn behind(chain: &[DerCertificate]) -> &[DerCertificate]
+    ensures { result.now ≡ intermediates_of (X509CertificateChain chain.now) }
+{
+    match chain {
+        [] => &[],
+        [_, others @ ..] => others,
+    }
+}
+
 impl Bundle {
     /// The bundle that a JSON text is. Errors: `Json`, `Float`, then the first wrong member's in the
-    /// order of the members; `Unbuilt` at a member whose form isn't built.
+    /// order of the members.
     #[tactic(auto, unfolding(crate::specs::Bundle::bundle_of_bytes))]
     pub fn from_json(alloc: Global, bytes: &[u8]) -> Result<Bundle, TypesError>
         ensures ok { IfOk result (λ v. bundle_of_bytes bytes.now ≡ Ok v) }
@@ -78,6 +89,28 @@ impl Bundle {
     {
         let value = json(alloc, bytes)?;
         Ok(Bundle::from_value(alloc, &value)?)
+    }
+
+    /// The certificate whose key signed: the only one, or the first of a chain; none where the bundle has a key.
+    /// The others of a chain never count as it, else one certificate could be shown for another's signature.
+    pub fn signing_certificate(&self) -> Option<&DerCertificate>
+        ensures { option_copied result ≡ signing_certificate_of self.now.verification_material.content }
+    {
+        match &self.verification_material.content {
+            VerificationMaterialContent::Certificate(certificate) => Some(certificate),
+            VerificationMaterialContent::X509CertificateChain(chain) => chain.as_slice().first(),
+            VerificationMaterialContent::PublicKey { .. } => None,
+        }
+    }
+
+    /// The certificates behind the signing one in a chain, in their order; none without a chain.
+    pub fn intermediates(&self) -> &[DerCertificate]
+        ensures { result.now ≡ intermediates_of self.now.verification_material.content }
+    {
+        match &self.verification_material.content {
+            VerificationMaterialContent::X509CertificateChain(chain) => behind(chain.as_slice()),
+            _ => &[],
+        }
     }
 }
 

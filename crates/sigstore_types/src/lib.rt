@@ -7,7 +7,6 @@ mod bundle;
 mod content;
 mod held;
 mod material;
-mod members;
 mod trusted_root;
 mod valid_for;
 
@@ -25,10 +24,10 @@ pub use sigstore_envelopes::{
 pub use sigstore_types_parts::{
     Armor, Artifact, ArtifactDigest, ByteString, Bytes, Calls, CanonicalBody, CanonicalizedBody,
     Certificate, CheckpointRule, DerCertificate, DerPublicKey, Digest, DigestBytes, EntryPromise,
-    FailList, Form, FromValue, Hash, HashAlgorithm, Json, JsonFault, KeyHint, LogKey, LogKeyId,
-    Member, Misread, Payload, PayloadBytes, Pem, PemContent, PublicKey, Refusal, Sha256Hash,
-    Sha384Hash, Sha512Hash, Signature, SignatureBytes, SignedTimestamp, Text, TextMap, TimeRange,
-    TimestampToken, Token, TypesError, TypesMember, contains_float, defaulted, instant, optional,
-    parse_json, required,
+    FailList, FromValue, Hash, HashAlgorithm, Json, JsonFault, KeyHint, LogKey, LogKeyId, Member,
+    Misread, Payload, PayloadBytes, Pem, PemContent, PublicKey, Refusal, Sha256Hash, Sha384Hash,
+    Sha512Hash, Signature, SignatureBytes, SignedTimestamp, Text, TextMap, TimeRange,
+    TimestampToken, Token, TypesError, TypesMember, at_millisecond, at_second, contains_float,
+    defaulted, instant, optional, parse_json, required,
 };
 pub use trusted_root::{TrustedLog, TrustedRoot};

@@ -1,5 +1,5 @@
 -- An instant is the one at its nanosecond.
-use Rattle.std.proofs.Common.{◌≡◌, ℤ, pos, arith, subst, ap}
+use Rattle.std.proofs.Common.{◌≡◌, ℤ, pos, arith, subst, sym, ap, ◌∙◌}
 use Rattle.std.specs.Int.{int_min}
 use Rattle.std.specs.Prelude.{neg_ℤ}
 use Rattle.std.proofs.lemmas.Int.{int_max_is, int_min_is}
@@ -24,3 +24,8 @@ unfolding made at_nanosecond
 at_nanosecond-nanosecond t =
     subst (λ m. (q : IsTimestampNanos m) → made (nearest t.nanosecond) (nearest_within t.nanosecond) ≡ made m q) (nearest_of t.nanosecond t.in_range)
     (λ q. ap (made (nearest t.nanosecond)) (one_way (nearest t.nanosecond) (nearest_within t.nanosecond) q)) t.in_range
+
+-- an instant whose number is the one nearest to a number of nanoseconds
+pub at_once : (m : Timestamp) (n : ℤ) → m.nanosecond ≡ nearest n → m ≡ at_nanosecond n
+unfolding at_nanosecond
+at_once m n h = sym (at_nanosecond-nanosecond m) ∙ (ap at_nanosecond h ∙ at_nanosecond-nanosecond (at_nanosecond n))

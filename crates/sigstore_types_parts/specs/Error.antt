@@ -9,7 +9,7 @@ use Rattle.sigstore_types_parts.specs.declared.member.TypesMember.TheVariants as
 use Rattle.sigstore_types_parts.specs.declared.error.TypesError.{TypesError}
 use Rattle.sigstore_types_parts.specs.declared.error.TypesError.TheVariants.{Json, Float, Field, Base64, Hex, Length}
 use Rattle.sigstore_types_parts.specs.declared.error.TypesError.TheVariants.{MediaType, Kind, Checkpoint, NoEntry}
-use Rattle.sigstore_types_parts.specs.declared.error.TypesError.TheVariants.{NoProof, NoMemory, Unbuilt}
+use Rattle.sigstore_types_parts.specs.declared.error.TypesError.TheVariants.{NoProof, NoMemory}
 
 -- the member's name in the text
 abbrev pub name_of : TypesMember → List ℕ
@@ -95,7 +95,6 @@ placed_at member (Checkpoint rule) = Checkpoint rule
 placed_at member NoEntry = NoEntry
 placed_at member NoProof = NoProof
 placed_at member NoMemory = NoMemory
-placed_at member (Unbuilt form) = Unbuilt form
 
 abbrev pub number_of : TypesError → ℕ
 number_of Json = 1
@@ -110,4 +109,3 @@ number_of (Checkpoint rule) = 9
 number_of NoEntry = 10
 number_of NoProof = 11
 number_of NoMemory = 12
-number_of (Unbuilt form) = 90

@@ -3,7 +3,6 @@ ghost use Rattle.std.specs.Prelude.{◌≡◌};
 ghost use Rattle.sigstore_types_parts.specs.Error.{types_of, types_of_fault, number_of};
 ghost use Rattle.sigstore_types_parts.specs.declared.error.TypesError.TheVariants.{NoMemory};
 
-use crate::form::Form;
 use crate::member::TypesMember;
 use crate::misread::{Misread, Refusal};
 use crate::parse::JsonFault;
@@ -52,8 +51,6 @@ pub enum TypesError {
     NoProof,
     /// An allocation was refused.
     NoMemory,
-    /// The value is of a form that is known and isn't built yet.
-    Unbuilt(Form),
 }
 
 impl TypesError {
@@ -74,7 +71,6 @@ impl TypesError {
             TypesError::NoEntry => 10,
             TypesError::NoProof => 11,
             TypesError::NoMemory => 12,
-            TypesError::Unbuilt(_) => 90,
         }
     }
 }
@@ -128,7 +124,6 @@ impl fmt::Display for TypesError {
             TypesError::NoEntry => "NoEntry",
             TypesError::NoProof => "NoProof",
             TypesError::NoMemory => "NoMemory",
-            TypesError::Unbuilt(_) => "Unbuilt",
         })
     }
 }

@@ -1,5 +1,5 @@
-//! Texts, byte strings, hashes and maps, readers of JSON values, and the words that the crates
-//! above share: what an armoured text holds, which calls fail, which forms aren't built.
+//! Texts, byte strings, hashes, maps and instants, readers of JSON values, and the words that the crates
+//! above share: what an armoured text holds, which calls fail.
 #![tactic(auto)]
 
 mod armor;
@@ -9,7 +9,6 @@ mod calls;
 mod error;
 mod file;
 mod float;
-mod form;
 mod hash;
 mod hash_algorithm;
 mod json_equal;
@@ -17,6 +16,7 @@ mod json_value;
 mod leaves;
 mod member;
 mod misread;
+mod moment;
 mod parse;
 mod read;
 mod text;
@@ -34,13 +34,13 @@ pub use calls::{Calls, FailList};
 pub use error::{CheckpointRule, TypesError};
 pub use file::{FileFault, PieceFault, read_file, read_piece};
 pub use float::contains_float;
-pub use form::Form;
 pub use hash::{Hash, KeyHint, Sha256Hash, Sha384Hash, Sha512Hash};
 pub use hash_algorithm::{Artifact, ArtifactDigest, HashAlgorithm};
 pub use json_value::Json;
 pub use leaves::instant;
 pub use member::TypesMember;
 pub use misread::{Misread, Refusal};
+pub use moment::{at_millisecond, at_second};
 pub use parse::{JsonFault, parse_json};
 pub use read::{FromValue, Member, defaulted, optional, required};
 pub use text::Text;

@@ -104,7 +104,6 @@ module _ (given : Given) (before after : Outside) where
   by_verify verify.TrustedCertificate chain t h = (t, h)
   by_verify (verify.ArtifactRead a) chain t h = (t, h)
   by_verify verify.NoMemory chain t h = tt
-  by_verify (verify.Unbuilt a) chain t h = (t, h)
 
   pub runs_cause : (fault : RootFault) → Runs given before after (Err fault) → Cause fault
   runs_cause fault (top.chain_refused e c s r) = subst Cause (err_same (root_of_tuf e) fault (sym r)) (by_tuf e (chain_cause given.anchor before after e c) s)

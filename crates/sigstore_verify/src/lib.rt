@@ -6,8 +6,8 @@ mod from_root;
 
 pub use from_root::{RootFault, Rooted, verify_from_root};
 pub use sigstore_judgement::{
-    CertificateError, Error, Evidence, Kept, Material, Policy, PolicyKind,
-    PublicKeyVerificationPolicy, TimestampError, TransparencyLogError, VerificationResult,
-    Verifier, accepts_exactly, blob_and_reader_agree, log_refusals_have_causes, usable_exactly,
-    verify,
+    CertificateError, CertificatePolicy, DigitallySigned, Error, Evidence, IdentityMatcher, Kept,
+    Material, Policy, PolicyKind, PublicKeyVerificationPolicy, SctRule, TimestampError,
+    TransparencyLogError, VerificationPolicy, VerificationResult, Verifier, accepts_exactly,
+    blob_and_reader_agree, log_refusals_have_causes, usable_exactly, verify,
 };

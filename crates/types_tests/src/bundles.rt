@@ -47,9 +47,7 @@ const MATERIALS: &str = r#"null => Field { member: VerificationMaterial }
 [] => Field { member: VerificationMaterial }
 {} => Field { member: VerificationMaterial }
 {"publicKey":null,"tlogEntries":0} => Field { member: VerificationMaterial }
-{"certificate":{"rawBytes":"AA=="},"publicKey":0} => Unbuilt(Certificate)
-{"certificate":0} => Unbuilt(Certificate)
-{"x509CertificateChain":{}} => Unbuilt(Certificate)
+{"certificate":null,"x509CertificateChain":null,"publicKey":null} => Field { member: VerificationMaterial }
 {"publicKey":{},"certificate":null,"x509CertificateChain":null} => Ok
 {"publicKey":"k"} => Field { member: PublicKey }
 {"publicKey":{"hint":0},"tlogEntries":0} => Field { member: Hint }
@@ -72,6 +70,52 @@ const MATERIALS: &str = r#"null => Field { member: VerificationMaterial }
 {"publicKey":{},"timestampVerificationData":{"rfc3161Timestamps":[{"signedTimestamp":"A"}]}} => Base64
 {"publicKey":{},"timestampVerificationData":{"rfc3161Timestamps":[{"signedTimestamp":"AQ=="},{}]}} => Field { member: SignedTimestamp }
 {"publicKey":{},"timestampVerificationData":{"rfc3161Timestamps":[{"signedTimestamp":"AQ=="},{"signedTimestamp":""}]}} => Ok"#;
+
+// A certificate alone, a chain, and several of the three contents.
+const CERTIFICATES: &str = r#"{"certificate":0} => Field { member: Certificate }
+{"certificate":"AQ=="} => Field { member: Certificate }
+{"certificate":[]} => Field { member: Certificate }
+{"certificate":{}} => Field { member: RawBytes }
+{"certificate":{"rawBytes":null}} => Field { member: RawBytes }
+{"certificate":{"rawBytes":[1]}} => Field { member: RawBytes }
+{"certificate":{"rawBytes":"AQ="}} => Base64
+{"certificate":{"rawBytes":"AQ=="}} => Ok
+{"certificate":{"rawBytes":""}} => Ok
+{"certificate":{"rawBytes":"AQ=="},"x509CertificateChain":null,"publicKey":null} => Ok
+{"certificate":{"rawBytes":"AQ=="},"tlogEntries":0} => Field { member: TlogEntries }
+{"x509CertificateChain":0} => Field { member: X509CertificateChain }
+{"x509CertificateChain":[{"rawBytes":"AQ=="}]} => Field { member: X509CertificateChain }
+{"x509CertificateChain":{}} => Field { member: Certificates }
+{"x509CertificateChain":{"rawBytes":"AQ=="}} => Field { member: Certificates }
+{"x509CertificateChain":{"certificates":null}} => Field { member: Certificates }
+{"x509CertificateChain":{"certificates":{}}} => Field { member: Certificates }
+{"x509CertificateChain":{"certificates":[]}} => Field { member: Certificates }
+{"x509CertificateChain":{"certificates":["AQ=="]}} => Field { member: Certificates }
+{"x509CertificateChain":{"certificates":[null]}} => Field { member: Certificates }
+{"x509CertificateChain":{"certificates":[{}]}} => Field { member: RawBytes }
+{"x509CertificateChain":{"certificates":[{"rawBytes":1}]}} => Field { member: RawBytes }
+{"x509CertificateChain":{"certificates":[{"rawBytes":"A==="}]}} => Base64
+{"x509CertificateChain":{"certificates":[{"rawBytes":"AQ=="},{}]}} => Field { member: RawBytes }
+{"x509CertificateChain":{"certificates":[{"rawBytes":"AQ=="},{"rawBytes":"?"}]}} => Base64
+{"x509CertificateChain":{"certificates":[{"rawBytes":"AQ=="}]}} => Ok
+{"certificate":null,"x509CertificateChain":{"certificates":[{"rawBytes":"AQ=="}]},"publicKey":null} => Ok
+{"certificate":{"rawBytes":"AQ=="},"publicKey":{}} => Field { member: VerificationMaterial }
+{"certificate":{"rawBytes":"AQ=="},"publicKey":{},"tlogEntries":0} => Field { member: VerificationMaterial }
+{"certificate":{"rawBytes":"AQ=="},"x509CertificateChain":{"certificates":[{"rawBytes":"AQ=="}]}} => Field { member: VerificationMaterial }
+{"x509CertificateChain":{"certificates":[{"rawBytes":"AQ=="}]},"publicKey":{"hint":"k"}} => Field { member: VerificationMaterial }
+{"certificate":{"rawBytes":"AQ=="},"x509CertificateChain":{"certificates":[{"rawBytes":"AQ=="}]},"publicKey":{}} => Field { member: VerificationMaterial }
+{"certificate":{"rawBytes":"AQ=="},"publicKey":0} => Field { member: PublicKey }
+{"certificate":{"rawBytes":"?"},"publicKey":0} => Base64
+{"certificate":{"rawBytes":"AQ=="},"x509CertificateChain":{"certificates":[]}} => Field { member: Certificates }
+{"certificate":{},"x509CertificateChain":0} => Field { member: RawBytes }"#;
+
+// What is told, the certificate whose key signed, and those behind it.
+const SIGNERS: &str = r#"{"publicKey":{}} => key None, None, []
+{"publicKey":{"hint":"k"}} => key Some("k"), None, []
+{"certificate":{"rawBytes":"AQI="}} => certificate [1, 2], Some([1, 2]), []
+{"x509CertificateChain":{"certificates":[{"rawBytes":"AQI="}]}} => chain of 1, Some([1, 2]), []
+{"x509CertificateChain":{"certificates":[{"rawBytes":"AQI="},{"rawBytes":"Aw=="},{"rawBytes":"BA=="}]}} => chain of 3, Some([1, 2]), [[3], [4]]
+{"x509CertificateChain":{"certificates":[{"rawBytes":"Aw=="},{"rawBytes":"AQI="},{"rawBytes":"Aw=="}]}} => chain of 3, Some([3]), [[1, 2], [3]]"#;
 
 // Message signatures, their digests, and envelopes.
 const CONTENT: &str =
@@ -125,11 +169,49 @@ fn read<X: AllocGlobal + Abort>(rt: &X, text: &str) -> Bundle {
 // The parts of a bundle.
 fn shown<X: AllocGlobal + Abort>(rt: &X, bundle: Bundle) -> String {
     let entries = bundle.verification_material.tlog_entries.len();
+    let signer = told(rt, &bundle.verification_material.content);
     let text = format!(in rt.alloc();
-        "{:?} {:?} {:?} {entries}",
-        bundle.media_type, bundle.content, bundle.verification_material.content
+        "{:?} {:?} {signer} {entries}",
+        bundle.media_type, bundle.content
     );
+    drop(signer);
     drop(bundle);
+    good(rt, text)
+}
+
+fn told<X: AllocGlobal + Abort>(rt: &X, content: &VerificationMaterialContent) -> String {
+    match content {
+        VerificationMaterialContent::Certificate(certificate) => {
+            good(rt, format!(in rt.alloc(); "certificate {certificate:?}"))
+        }
+        VerificationMaterialContent::X509CertificateChain(chain) => {
+            let length = chain.len();
+            good(rt, format!(in rt.alloc(); "chain of {length}"))
+        }
+        VerificationMaterialContent::PublicKey { hint } => {
+            good(rt, format!(in rt.alloc(); "key {hint:?}"))
+        }
+    }
+}
+
+/// Whose signature a copy of the bundle with this material has.
+pub fn signer<X: AllocGlobal + Abort>(rt: &X, given: &str) -> String {
+    let text = replaced(rt, MATERIAL, &[("*", given)]);
+    let bundle = copied(rt, read(rt, text.as_str()));
+    drop(text);
+    let answer = certificates(rt, &bundle);
+    drop(bundle);
+    answer
+}
+
+fn certificates<X: AllocGlobal + Abort>(rt: &X, bundle: &Bundle) -> String {
+    let told = told(rt, &bundle.verification_material.content);
+    let text = format!(in rt.alloc();
+        "{told}, {:?}, {:?}",
+        bundle.signing_certificate(),
+        bundle.intermediates()
+    );
+    drop(told);
     good(rt, text)
 }
 
@@ -166,18 +248,20 @@ const STRUCTURES: &str = r#" => Err(NoEntry)
 
 // The digest's bytes are those of the base64 text.
 const OVER_HELLO: &str =
-    r#"copy => "application/vnd.dev.sigstore.bundle.v0.3+json" MessageSignature(MessageSignature { message_digest: Some(MessageDigest { algorithm: Sha2256, digest: [44, 242, 77, 186, 95, 176, 163, 14, 38, 232, 59, 42, 197, 185, 226, 158, 27, 22, 30, 92, 31, 167, 66, 94, 115, 4, 51, 98, 147, 139, 152, 36] }), signature: [1] }) PublicKey { hint: Some("k") } 0
+    r#"copy => "application/vnd.dev.sigstore.bundle.v0.3+json" MessageSignature(MessageSignature { message_digest: Some(MessageDigest { algorithm: Sha2256, digest: [44, 242, 77, 186, 95, 176, 163, 14, 38, 232, 59, 42, 197, 185, 226, 158, 27, 22, 30, 92, 31, 167, 66, 94, 115, 4, 51, 98, 147, 139, 152, 36] }), signature: [1] }) key Some("k") 0
 no log => Ok(())
 log => Err(NoEntry)"#;
 
 const OVER_ENVELOPE: &str =
-    r#"copy => "application/vnd.dev.sigstore.bundle.v0.3+json" DsseEnvelope(DsseEnvelope { payload_type: "t", payload: [104, 105], signature: DsseSignature { sig: [1], keyid: KeyId { text: "k" } } }) PublicKey { hint: None } 0"#;
+    r#"copy => "application/vnd.dev.sigstore.bundle.v0.3+json" DsseEnvelope(DsseEnvelope { payload_type: "t", payload: [104, 105], signature: DsseSignature { sig: [1], keyid: KeyId { text: "k" } } }) key None 0"#;
 
 #[test]
 fn bundles(rt: HostRuntime) {
     hold(&rt, "bundle", MEDIA_TYPES);
     hold(&rt, "byte_ff", " => Json");
     hold(&rt, "material", MATERIALS);
+    hold(&rt, "material", CERTIFICATES);
+    hold(&rt, "signer", SIGNERS);
     hold(&rt, "content", CONTENTS);
     hold(&rt, "structure", STRUCTURES);
     hold(&rt, "over_hello", OVER_HELLO);

@@ -25,7 +25,7 @@ fn check<X: Abort>(rt: &X, row: &str, wanted: &str, found: String) {
 
 const CALLS: &str = "\
 refusal algorithm encoding parse_json member fail_list hint same range bundle material content structure \
-byte_ff over_hello pem checkpoint entry inclusion envelope over_envelope";
+byte_ff over_hello pem checkpoint entry inclusion envelope over_envelope signer moment";
 
 /// The answer of a call that is given a text.
 fn answer<X: AllocGlobal + Abort>(rt: &X, call: &str, given: &str) -> String {
@@ -51,6 +51,8 @@ fn answer<X: AllocGlobal + Abort>(rt: &X, call: &str, given: &str) -> String {
         18 => inclusions::answer(rt, given),
         19 => envelopes::answer(rt, given),
         20 => bundles::over_envelope(rt),
+        21 => bundles::signer(rt, given),
+        22 => texts::moment(rt, given),
         _ => string(rt, "no call"),
     }
 }

@@ -47,6 +47,35 @@ const RANGES: &str = "2025-01-02T00:00:00Z 2025-01-03T00:00:00Z 2025-01-02T00:00
 2025-01-02T00:00:00Z 2025-01-03T00:00:00Z 2025-01-03T00:00:00.000000001Z => (true, false)
 2025-01-02T00:00:00Z none 9999-01-01T00:00:00Z => (true, true)";
 
+/// Whether the instant by a count of a unit since the start of 1970 is the one that a text names.
+pub fn moment<X: AllocGlobal + Abort>(rt: &X, row: &str) -> String {
+    let (unit, others) = halves(rt, row, " ");
+    let (count, text) = halves(rt, others, " ");
+    let moment = if unit == "seconds" {
+        at_second(good(rt, count.parse::<i64>()))
+    } else {
+        at_millisecond(number(rt, count))
+    };
+    printed(rt, moment == there(rt, instant(text)))
+}
+
+// The earliest instant is 377,705,023,201 seconds before 1970, the latest 253,402,207,200.999999999 behind its start.
+const MOMENTS: &str = "seconds 0 1970-01-01T00:00:00Z => true
+seconds -1 1969-12-31T23:59:59Z => true
+seconds 1735776000 2025-01-02T00:00:00Z => true
+seconds -377705023201 -009999-01-02T01:59:59Z => true
+seconds -377705023202 -009999-01-02T01:59:59Z => true
+seconds -9223372036854775808 -009999-01-02T01:59:59Z => true
+seconds 253402207200 9999-12-30T22:00:00Z => true
+seconds 253402207201 9999-12-30T22:00:00.999999999Z => true
+seconds 9223372036854775807 9999-12-30T22:00:00.999999999Z => true
+milliseconds 1 1970-01-01T00:00:00.001Z => true
+milliseconds 1735776000999 2025-01-02T00:00:00.999Z => true
+milliseconds 1735776000 2025-01-02T00:00:00Z => false
+milliseconds 253402207200999 9999-12-30T22:00:00.999Z => true
+milliseconds 253402207201000 9999-12-30T22:00:00.999999999Z => true
+milliseconds 18446744073709551615 9999-12-30T22:00:00.999999999Z => true";
+
 /// The number and the display text of a refusal.
 pub fn refusal<X: AllocGlobal + Abort>(rt: &X, name: &str) -> String {
     let error = error(name);
@@ -74,8 +103,7 @@ fn error(name: &str) -> TypesError {
         8 => TypesError::Checkpoint(CheckpointRule::Size),
         9 => TypesError::NoEntry,
         10 => TypesError::NoProof,
-        11 => TypesError::NoMemory,
-        _ => TypesError::Unbuilt(Form::Certificate),
+        _ => TypesError::NoMemory,
     }
 }
 
@@ -90,8 +118,7 @@ Kind => 8 Kind
 Checkpoint => 9 Checkpoint
 NoEntry => 10 NoEntry
 NoProof => 11 NoProof
-NoMemory => 12 NoMemory
-Unbuilt => 90 Unbuilt";
+NoMemory => 12 NoMemory";
 
 /// The fault of a text that is no JSON that is read here.
 pub fn fault<X: AllocGlobal + Abort>(rt: &X, text: &str) -> String {
@@ -261,6 +288,7 @@ fn texts(rt: HostRuntime) {
     hold(&rt, "parse_json", FAULTS);
     hold(&rt, "same", SAME);
     hold(&rt, "range", RANGES);
+    hold(&rt, "moment", MOMENTS);
     hold(&rt, "member", MEMBERS);
     hold(&rt, "fail_list", LISTED);
 }

@@ -2,7 +2,7 @@
 use crate::tables::{
     Change, bytes, change_in, display, failures, good, source, string, text_of, there, words,
 };
-use crate::{delegated, enveloped, logged, stamped};
+use crate::{delegated, enveloped, keyless, keyless_data, logged, stamped};
 use jiff::Timestamp;
 use sigstore_app_parts::{MemoryInputs, MemorySink, Which};
 use sigstore_crypto::{MemorySource, sha256};
@@ -82,12 +82,18 @@ log id
 timeless log id
 stamped
 stamped before
+keyless
+two timestamps
+authority before
+issuing window
+unpromised
 listed
 delegations
 delegated
 file
 key
 skip
+policy
 bundle
 bundle of blanks
 material
@@ -126,15 +132,19 @@ fn second_version(change: Change) -> &str {
     change.of("second root", change.of("kept root", ""))
 }
 
-fn trust(change: Change) -> &str {
-    if logged::is_logged(change) {
-        return logged::trust(change);
+fn trust<X: AllocGlobal + Abort>(rt: &X, change: Change) -> String {
+    if keyless::is_keyless(change) {
+        return keyless::trust(rt, change, SPKI);
     }
-    match change.part {
+    if logged::is_logged(change) {
+        return string(rt, logged::trust(change));
+    }
+    let text = match change.part {
         "stamped" => stamped::TRUST,
         "stamped before" => stamped::LATER,
         _ => change.of("trust", "{}"),
-    }
+    };
+    string(rt, text)
 }
 
 // Whether the bundle has a time-stamp token.
@@ -157,7 +167,9 @@ fn targets<X: AllocGlobal + Abort>(rt: &X, change: Change) -> String {
     if change.part == "delegated" {
         return delegated::delegating(rt, change.text, SPKI);
     }
-    let entry = listed(rt, trust(change));
+    let trust = trust(rt, change);
+    let entry = listed(rt, trust.as_str());
+    drop(trust);
     let listed = change.of("listed", entry.as_str());
     let delegations = change.of("delegations", "");
     let text = format!(in rt.alloc();
@@ -198,6 +210,14 @@ fn put_delegated<X: AllocGlobal + Abort>(rt: &X, repo: &mut MemoryRepository, ch
     }
 }
 
+fn put_trust<X: AllocGlobal + Abort>(rt: &X, repo: &mut MemoryRepository, change: Change) {
+    let trust = trust(rt, change);
+    let text = change.of("file", trust.as_str());
+    let file = name_of(change, DIGEST_NAME, "trusted_root.json");
+    good(rt, repo.put_target(rt.alloc(), file, text.as_bytes()));
+    drop(trust);
+}
+
 fn repository<X: AllocGlobal + Abort>(rt: &X, change: Change, targets: &str) -> MemoryRepository {
     let failures = failures(rt, change.of("repository fails", ""));
     let mut repo = MemoryRepository::new(rt.alloc(), failures);
@@ -222,9 +242,7 @@ fn repository<X: AllocGlobal + Abort>(rt: &X, change: Change, targets: &str) -> 
         targets,
     );
     put_delegated(rt, &mut repo, change);
-    let trust = change.of("file", trust(change));
-    let file = name_of(change, DIGEST_NAME, "trusted_root.json");
-    good(rt, repo.put_target(rt.alloc(), file, trust.as_bytes()));
+    put_trust(rt, &mut repo, change);
     repo
 }
 
@@ -297,6 +315,17 @@ fn sign_envelope<X: AllocGlobal + Abort>(rt: &X, change: Change, rows: &mut Stri
     }
 }
 
+// The rows of the certificates and of the token.
+fn stamps(change: Change) -> &'static str {
+    if keyless::is_keyless(change) {
+        keyless_data::ROWS
+    } else if is_stamped(change) {
+        stamped::ROWS
+    } else {
+        ""
+    }
+}
+
 fn provider<X: AllocGlobal + Abort>(rt: &X, change: Change, root: &str, targets: &str) -> Bytes {
     let mut rows = String::new(rt.alloc());
     sign(rt, change, &mut rows, "root", root);
@@ -308,9 +337,7 @@ fn provider<X: AllocGlobal + Abort>(rt: &X, change: Change, root: &str, targets:
     sign_delegated(rt, change, &mut rows);
     sign_entry(rt, change, &mut rows);
     sign_envelope(rt, change, &mut rows);
-    if is_stamped(change) {
-        good(rt, rows.push_str(stamped::ROWS));
-    }
+    good(rt, rows.push_str(stamps(change)));
     sign(
         rt,
         change,
@@ -330,6 +357,12 @@ fn skip(change: Change) -> &str {
 }
 
 fn policy<X: AllocGlobal + Abort>(rt: &X, change: Change) -> Bytes {
+    if keyless::is_keyless(change) {
+        return Bytes::from_vec(keyless::lines(rt, keyless::policy(change)).into_bytes());
+    }
+    if change.part == "policy" {
+        return Bytes::from_vec(keyless::lines(rt, change.text).into_bytes());
+    }
     let (key, skip) = (change.of("key", SPKI), skip(change));
     let text = good(rt, format!(in rt.alloc(); "key {key}\n{skip}"));
     Bytes::from_vec(text.into_bytes())
@@ -350,6 +383,9 @@ fn content<X: AllocGlobal + Abort>(rt: &X, change: Change) -> String {
 }
 
 fn material<X: AllocGlobal + Abort>(rt: &X, change: Change) -> String {
+    if keyless::is_keyless(change) {
+        return keyless::material(rt, change);
+    }
     if logged::is_logged(change) {
         return logged::material(rt, change);
     }
@@ -404,6 +440,15 @@ fn artifact<X: AllocGlobal + Abort>(rt: &X, change: Change) -> MemorySource {
     source(rt, artifact, 2, change.of("artifact fails", ""))
 }
 
+// The words that the run is told.
+fn told(change: Change) -> &str {
+    if keyless::is_keyless(change) {
+        keyless::WORDS
+    } else {
+        change.of("words", WORDS)
+    }
+}
+
 // How a run over these inputs, this repository and this store ends.
 fn ended<X: AllocGlobal + Abort>(
     rt: &X,
@@ -413,7 +458,7 @@ fn ended<X: AllocGlobal + Abort>(
     store: &mut MemoryStore,
     sink: &mut MemorySink,
 ) -> Status {
-    let words = words(rt, change.of("words", WORDS));
+    let words = words(rt, told(change));
     let mut artifact = artifact(rt, change);
     let clock = Timestamp::UNIX_EPOCH;
     let status = run(

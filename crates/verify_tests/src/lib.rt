@@ -8,6 +8,12 @@ mod enveloped;
 #[cfg(test)]
 mod fixture;
 #[cfg(test)]
+mod keyless;
+#[cfg(test)]
+mod keyless_data;
+#[cfg(test)]
+mod keyless_runs;
+#[cfg(test)]
 mod logged;
 #[cfg(test)]
 mod runs;

@@ -1,7 +1,8 @@
 // The parts of the fixture where its bundle has an entry. The trust file has a log of the id of 32 bytes 01, under
 // the fixture's key; its tree has one entry. Its body is a hashedrekord 0.0.1 of the artifact, of the signature 01 and
 // of the fixture's key as armoured text; or the same with the signature 02; or `{}`. A root is the SHA-256 value of a
-// zero byte and the body, by a script.
+// zero byte and the body, by a script. Where the signer has a certificate, body and root are those of `keyless`.
+use crate::keyless;
 use crate::tables::{Change, good, string};
 use std::process::Abort;
 
@@ -27,6 +28,9 @@ const EMPTY_ROOT: &str = "KKOhj2zWQGsIbp/9ofm4oT289EsPPzLLkDGhH9BTrPk=";
 
 // The body of the entry in base64.
 fn body(change: Change) -> &'static str {
+    if keyless::is_keyless(change) {
+        return keyless::body(change);
+    }
     match change.of("logged", "") {
         "another signature" => OTHER,
         "empty" => "e30=",
@@ -36,6 +40,9 @@ fn body(change: Change) -> &'static str {
 
 // The root of a tree of that body.
 fn root(change: Change) -> &'static str {
+    if keyless::is_keyless(change) {
+        return keyless::root(change);
+    }
     match change.of("logged", "") {
         "another signature" => OTHER_ROOT,
         "empty" => EMPTY_ROOT,
@@ -61,7 +68,7 @@ fn checkpoint<X: AllocGlobal + Abort>(rt: &X, change: Change) -> String {
 
 // Whether the bundle has the entry.
 pub(crate) fn is_logged(change: Change) -> bool {
-    matches!(
+    let named = matches!(
         change.part,
         "logged"
             | "unasked"
@@ -73,7 +80,8 @@ pub(crate) fn is_logged(change: Change) -> bool {
             | "promised body"
             | "log id"
             | "timeless log id"
-    )
+    );
+    named || keyless::is_keyless(change)
 }
 
 pub(crate) fn trust(change: Change) -> &'static str {
@@ -114,8 +122,25 @@ pub(crate) fn payload<X: AllocGlobal + Abort>(rt: &X, change: Change) -> String 
     good(rt, text)
 }
 
-// The material with the entry.
+// The material with the entry, under a managed key.
 pub(crate) fn material<X: AllocGlobal + Abort>(rt: &X, change: Change) -> String {
+    let entries = entries(rt, change);
+    let text = format!(in rt.alloc(); r#""publicKey":{{"hint":"k"}},{entries}"#);
+    drop(entries);
+    good(rt, text)
+}
+
+// The promise, unless the change leaves it out.
+fn promise(change: Change) -> &'static str {
+    if change.part == "unpromised" {
+        ""
+    } else {
+        r#""inclusionPromise":{"signedEntryTimestamp":"AQ=="},"#
+    }
+}
+
+// The entries of the bundle.
+pub(crate) fn entries<X: AllocGlobal + Abort>(rt: &X, change: Change) -> String {
     let id = change.of(
         "log id",
         change.of(
@@ -124,8 +149,9 @@ pub(crate) fn material<X: AllocGlobal + Abort>(rt: &X, change: Change) -> String
         ),
     );
     let (proof, time, body) = (proof(rt, change), time(change), body(change));
+    let promise = promise(change);
     let text = format!(in rt.alloc();
-        r#""publicKey":{{"hint":"k"}},"tlogEntries":[{{"logIndex":"0","logId":{{"keyId":"{id}"}},"kindVersion":{{"kind":"hashedrekord","version":"0.0.1"}},"integratedTime":"{time}","inclusionPromise":{{"signedEntryTimestamp":"AQ=="}},"inclusionProof":{proof},"canonicalizedBody":"{body}"}}]"#
+        r#""tlogEntries":[{{"logIndex":"0","logId":{{"keyId":"{id}"}},"kindVersion":{{"kind":"hashedrekord","version":"0.0.1"}},"integratedTime":"{time}",{promise}"inclusionProof":{proof},"canonicalizedBody":"{body}"}}]"#
     );
     drop(proof);
     good(rt, text)

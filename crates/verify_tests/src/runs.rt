@@ -93,7 +93,8 @@ content | "dsseEnvelope":{"payload":"eyJfdHlwZSI6InQiLCJzdWJqZWN0IjpbeyJkaWdlc3Q
 material | "publicKey":{},"timestampVerificationData":{"rfc3161Timestamps":[{"signedTimestamp":"AQ=="}]} | Refused "refused verify 19 TimestampInvalid\n"
 stamped before |  | Refused "refused verify 20 OutsideAuthorityValidity\n"
 material | "publicKey":{},"tlogEntries":[{}] | Refused "refused verify 22 InvalidBundle\n"
-material | "certificate":{"rawBytes":"AQ=="} | Refused "refused verify 90 Unbuilt\n"
+material | "certificate":{"rawBytes":"AQ=="} | Refused "refused verify 23 UnsupportedBundle\n"
+material | "certificate":{"rawBytes":"AQ=="},"publicKey":{} | Refused "refused verify 22 InvalidBundle\n"
 # An entry of another signature, and one whose body is none. It has to have a proof that leads to the root, a
 # checkpoint that a log signed which has started, and a promise by that log over its own payload.
 logged | another signature | Refused "refused verify 16 EntryMismatch\n"

@@ -1,10 +1,11 @@
 use Rattle.std.proofs.Common.{◌≡◌, drop}
 use Rattle.sigstore_judgement.specs.Entries.{behind, entries_judged_of}
 use Rattle.sigstore_judgement.specs.Grounds.{grounds_by}
+use Rattle.sigstore_judgement.specs.Signer.{signer_as}
 use Rattle.sigstore_judgement.proofs.entries.check_entries.Given as goal
 
 -- judging all is judging those that are left, behind the times that were found
 abbrev pub invariant-entries : goal.invariant-entries
 invariant-entries g l =
-    behind l.initial.times (entries_judged_of (grounds_by g.C.CryptoProvider g.M.Armor l.grounds) l.entries)
-    ≡ behind l.times (entries_judged_of (grounds_by g.C.CryptoProvider g.M.Armor l.grounds) (drop l.entry-index l.entries))
+    behind l.initial.times (entries_judged_of (grounds_by g.C.CryptoProvider g.M.Armor l.grounds) (signer_as l.signer) l.entries)
+    ≡ behind l.times (entries_judged_of (grounds_by g.C.CryptoProvider g.M.Armor l.grounds) (signer_as l.signer) (drop l.entry-index l.entries))

@@ -29,13 +29,13 @@ returns-in-Ok-digests_in g c =
     )
     c.judge.ensures.ok c.judge.ensures.err
 
-pub returns-in-Ok : goal.returns-in-Ok
-returns-in-Ok g c =
+pub returns-in-Err-digests_in : goal.returns-in-Err-digests_in
+returns-in-Err-digests_in g c =
     let terms = terms_by g.C.CryptoProvider g.M.Armor c.args.self.now (meaning_of c.args.policy) c.args.now in
     let hashed : list_all is_hashed c.as_slice.result.now ≡ true =
     ap (list_all is_hashed) c.as_slice.ensures ∙ prepared_hashed blob_kind terms.policy c.args.bundle.now (ready_as c.in-Ok.ready) refl c.in-Ok.ensures.ok in
     handed_wanting terms c.args.bundle.now (Blob c.args.bytes.now) c.in-Err-digests_in.e (c.in-Err-digests_in.ensures.err hashed)
 
-pub returns : goal.returns
-returns g c =
+pub returns-in-Err : goal.returns-in-Err
+returns-in-Err g c =
     handed_unready (terms_by g.C.CryptoProvider g.M.Armor c.args.self.now (meaning_of c.args.policy) c.args.now) c.args.bundle.now (Blob c.args.bytes.now) c.in-Err.e c.in-Err.ensures.err

@@ -30,8 +30,8 @@ returns-in-Ok-judge g c =
     ∙ c.in-Ok-judge.ensures.ok
     )
 
-pub returns-in-Ok-read_digests : goal.returns-in-Ok-read_digests
-returns-in-Ok-read_digests g c =
+pub returns-in-Err-judge : goal.returns-in-Err-judge
+returns-in-Err-judge g c =
     let before = g.A.ArtifactSource.seen c.args.source.now in
     let after = g.A.ArtifactSource.seen c.read_digests.new.source in
     let terms = terms_by g.C.CryptoProvider g.M.Armor c.args.self.now (meaning_of c.args.policy) c.args.now in
@@ -48,8 +48,8 @@ returns-in-Ok-read_digests g c =
     ∙ c.in-Err-judge.ensures.err other
     )
 
-pub returns-in-Ok : goal.returns-in-Ok
-returns-in-Ok g c =
+pub returns-in-Err-read_digests : goal.returns-in-Err-read_digests
+returns-in-Err-read_digests g c =
     let before = g.A.ArtifactSource.seen c.args.source.now in
     let after = g.A.ArtifactSource.seen c.read_digests.new.source in
     let terms = terms_by g.C.CryptoProvider g.M.Armor c.args.self.now (meaning_of c.args.policy) c.args.now in

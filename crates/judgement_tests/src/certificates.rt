@@ -1,0 +1,141 @@
+// A real certificate by itself: what is judged of it, and what its log signed.
+use crate::keyless::{Texts, named, texts};
+use crate::keyless_data::SIGNATURES;
+use crate::tables::{check, debug, good, string, there};
+use jiff::Timestamp;
+use path_core::Anchor;
+use sigstore_app_parts::{TableProvider, read_provider};
+use sigstore_certificate::{DigitallySigned, VerificationPolicy, judge_certificate};
+use sigstore_crypto::{
+    Keyring, SigningScheme, VerificationKey, parse_certificate_info, sha256, verify_signature,
+};
+use sigstore_types::{DerCertificate, DerPublicKey, SignatureBytes};
+use std::process::Abort;
+use std::slice;
+use x509_core_parts::{CertView, sct_list};
+
+fn certificate<X: AllocGlobal + Abort>(rt: &X, texts: &Texts, name: &str) -> DerCertificate {
+    good(
+        rt,
+        DerCertificate::from_base64(rt.alloc(), named(rt, texts, name)),
+    )
+}
+
+fn key<X: AllocGlobal + Abort>(rt: &X, texts: &Texts, name: &str) -> DerPublicKey {
+    good(
+        rt,
+        DerPublicKey::from_base64(rt.alloc(), named(rt, texts, name)),
+    )
+}
+
+// The one log of certificates.
+fn logs<X: AllocGlobal + Abort>(rt: &X, texts: &Texts) -> Keyring {
+    let der = key(rt, texts, "ct_key");
+    let mut logs = Keyring::new(rt.alloc());
+    let read = good(rt, VerificationKey::from_spki(rt.alloc(), &der));
+    good(rt, logs.add_key(sha256(der.as_bytes()), read));
+    drop(der);
+    logs
+}
+
+// The answer for the certificate under a root, with the intermediate beside it, for a signature at a moment.
+fn judged<X: AllocGlobal + Abort>(
+    rt: &X,
+    texts: &Texts,
+    provider: &TableProvider,
+    root: &str,
+    now: &str,
+) -> String {
+    let (leaf, between, root) = (
+        certificate(rt, texts, "leaf"),
+        certificate(rt, texts, "intermediate"),
+        certificate(rt, texts, root),
+    );
+    let info = good(rt, parse_certificate_info(rt.alloc(), &leaf));
+    let anchor = good(rt, Anchor::from_certificate(rt.alloc(), &root, None));
+    let (logs, policy) = (logs(rt, texts), VerificationPolicy::any_identity());
+    let time = good(rt, now.parse::<Timestamp>());
+    let answer = judge_certificate(
+        rt.alloc(),
+        provider,
+        slice::from_ref(&anchor),
+        &logs,
+        &policy,
+        &info,
+        &leaf,
+        slice::from_ref(&between),
+        slice::from_ref(&time),
+    );
+    drop(info);
+    drop(anchor);
+    drop(logs);
+    drop(policy);
+    drop(leaf);
+    drop(between);
+    drop(root);
+    debug(rt, answer)
+}
+
+// Whether OpenSSL found the timestamp's signature good over what is said that the log signed; the issuer is the owner of
+// a certificate.
+fn is_signed<X: AllocGlobal + Abort>(
+    rt: &X,
+    texts: &Texts,
+    provider: &TableProvider,
+    issuer: &str,
+) -> bool {
+    let (leaf, above, list, log) = (
+        certificate(rt, texts, "leaf"),
+        certificate(rt, texts, issuer),
+        certificate(rt, texts, "scts"),
+        key(rt, texts, "ct_key"),
+    );
+    let scts = good(rt, sct_list(rt.alloc(), list.as_bytes()));
+    let sct = there(rt, scts.first());
+    let view = good(rt, CertView::parse(leaf.as_bytes()));
+    let issuer = good(rt, CertView::parse(above.as_bytes()));
+    let signed = good(
+        rt,
+        DigitallySigned::from_embedded_sct(rt.alloc(), &view, sct, *sha256(issuer.spki).as_array()),
+    );
+    assert!(rt; signed.log_id() == sha256(log.as_bytes()));
+    let signature = SignatureBytes::new(good(
+        rt,
+        sigstore_types::Bytes::new(rt.alloc(), sct.signature()),
+    ));
+    let answer = verify_signature(
+        rt.alloc(),
+        provider,
+        &log,
+        signed.signed_data(),
+        &signature,
+        SigningScheme::EcdsaP256Sha256,
+    );
+    let is_good = answer.is_ok();
+    drop(answer);
+    is_good
+}
+
+const JUDGED: &str = "root 2024-06-01T00:10:00Z | Ok(())
+root 2024-06-01T00:10:01Z | Err(Expired { time: 2024-06-01T00:10:01Z, not_after: 2024-06-01T00:10:00Z })
+other_root 2024-06-01T00:10:00Z | Err(ChainInvalid)";
+
+#[test]
+fn certificates_are_judged(rt: HostRuntime) {
+    let texts = texts(&rt);
+    let tables = good(&rt, read_provider(rt.alloc(), SIGNATURES.as_bytes()));
+    for row in JUDGED.lines() {
+        let (given, wanted) = there(&rt, row.split_once(" | "));
+        let (root, now) = there(&rt, given.split_once(" "));
+        check(
+            &rt,
+            row,
+            wanted,
+            judged(&rt, &texts, &tables.provider, root, now),
+        );
+    }
+    assert!(rt; is_signed(&rt, &texts, &tables.provider, "intermediate"));
+    assert!(rt; !is_signed(&rt, &texts, &tables.provider, "other_intermediate"));
+    drop(tables);
+    drop(texts);
+}

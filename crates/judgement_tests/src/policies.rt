@@ -1,0 +1,130 @@
+// Policies for certificates, and the names that they ask for.
+use crate::tables::{answered, check, debug, display, good, halves, text};
+use foundation::Duplicate;
+use sigstore_crypto::SubjectAltName;
+use sigstore_judgement::{IdentityMatcher, VerificationPolicy};
+use std::process::Abort;
+
+// A policy with a step taken.
+fn stepped<X: AllocGlobal + Abort>(
+    rt: &X,
+    policy: VerificationPolicy,
+    step: &str,
+) -> VerificationPolicy {
+    match step {
+        "identity" => policy.require_identity(IdentityMatcher::from(text(rt, "c"))),
+        "issuer" => policy.require_issuer(text(rt, "d")),
+        "skip_tlog_unsafe" => policy.skip_tlog_unsafe(),
+        "skip_certificate_chain" => policy.skip_certificate_chain(),
+        "skip_sct" => policy.skip_sct(),
+        _ => panic!(rt; "no step {step}"),
+    }
+}
+
+// The policy of these words: the first makes it, and the others are steps.
+fn policy<X: AllocGlobal + Abort>(rt: &X, first: &str, steps: &str) -> VerificationPolicy {
+    let mut policy = match first {
+        "new" => VerificationPolicy::new(IdentityMatcher::Email(text(rt, "a")), text(rt, "b")),
+        _ => VerificationPolicy::any_identity(),
+    };
+    for step in steps.split_whitespace() {
+        policy = stepped(rt, policy, step);
+    }
+    policy
+}
+
+// What it asks for, whether the log is verified, what of the certificate is, and whether a copy equals it.
+fn asked<X: AllocGlobal + Abort>(rt: &X, first: &str, steps: &str) -> String {
+    let policy = policy(rt, first, steps);
+    let copy = good(rt, policy.duplicate(rt.alloc()));
+    let is_copied = copy == policy;
+    drop(copy);
+    let (identity, issuer) = (policy.identity(), policy.issuer());
+    let (log, certificate) = (policy.verifies_tlog(), policy.certificate());
+    let (chain, sct) = (certificate.verifies_chain(), certificate.verifies_sct());
+    let shown = format!(in rt.alloc(); "{identity:?} {issuer:?} {log} {chain} {sct} {is_copied}");
+    drop(policy);
+    good(rt, shown)
+}
+
+// A row: how a policy is made, its steps, and the identity and the issuer that it asks for, whether log, chain and
+// timestamp are verified, and whether a copy equals it.
+const POLICIES: &str = "new: | Some(Email(\"a\")) Some(\"b\") true true true true
+any: | None None true true true true
+any: identity | Some(Exact(\"c\")) None true true true true
+any: issuer | None Some(\"d\") true true true true
+new: issuer identity | Some(Exact(\"c\")) Some(\"d\") true true true true
+new: skip_tlog_unsafe | Some(Email(\"a\")) Some(\"b\") false true true true
+new: skip_sct | Some(Email(\"a\")) Some(\"b\") true true false true
+new: skip_certificate_chain | Some(Email(\"a\")) Some(\"b\") true false false true
+new: skip_certificate_chain skip_sct | Some(Email(\"a\")) Some(\"b\") true false false true
+new: skip_sct skip_certificate_chain | Some(Email(\"a\")) Some(\"b\") true false false true
+any: skip_tlog_unsafe skip_sct issuer | None Some(\"d\") false true false true";
+
+#[test]
+fn policies_ask_for_what_is_named(rt: HostRuntime) {
+    for row in POLICIES.lines() {
+        let (given, wanted) = answered(&rt, row);
+        let (first, steps) = halves(&rt, given, ":");
+        check(&rt, row, wanted, asked(&rt, first, steps));
+    }
+}
+
+fn name<X: AllocGlobal + Abort>(rt: &X, sort: &str, told: &str) -> SubjectAltName {
+    match sort {
+        "email" => SubjectAltName::Email(text(rt, told)),
+        _ => SubjectAltName::Uri(text(rt, told)),
+    }
+}
+
+fn matcher<X: AllocGlobal + Abort>(rt: &X, sort: &str, told: &str) -> IdentityMatcher {
+    match sort {
+        "exact" => IdentityMatcher::from(text(rt, told)),
+        _ => IdentityMatcher::from(name(rt, sort, told)),
+    }
+}
+
+// Whether the first name asks for the second.
+fn matches<X: AllocGlobal + Abort>(rt: &X, asked: &str, actual: &str) -> String {
+    let (sort, told) = halves(rt, asked, " ");
+    let matcher = matcher(rt, sort, told);
+    let (sort, told) = halves(rt, actual, " ");
+    let name = name(rt, sort, told);
+    let is_it = matcher.matches(&name);
+    drop(name);
+    drop(matcher);
+    debug(rt, is_it)
+}
+
+// A row: what is asked for, the name in the certificate, and whether it is the one.
+const NAMES: &str = "exact a@b, email a@b | true
+exact a@b, uri a@b | true
+email a@b, email a@b | true
+email a@b, uri a@b | false
+uri a@b, uri a@b | true
+uri a@b, email a@b | false
+exact a@b, email A@b | false
+email a@b, email a@b. | false
+uri a:b, uri a: | false";
+
+#[test]
+fn names_are_compared_octet_by_octet(rt: HostRuntime) {
+    for row in NAMES.lines() {
+        let (given, wanted) = answered(&rt, row);
+        let (asked, actual) = halves(&rt, given, ", ");
+        check(&rt, row, wanted, matches(&rt, asked, actual));
+    }
+    check(
+        &rt,
+        "exact",
+        "a b",
+        display(&rt, matcher(&rt, "exact", "a b")),
+    );
+    check(
+        &rt,
+        "email",
+        "email a",
+        display(&rt, matcher(&rt, "email", "a")),
+    );
+    check(&rt, "uri", "URI a", display(&rt, matcher(&rt, "uri", "a")));
+}

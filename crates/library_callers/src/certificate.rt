@@ -1,0 +1,39 @@
+//! A caller of `sigstore_certificate`.
+use jiff::Timestamp;
+use path_core::Anchor;
+use sigstore_certificate::{IdentityMatcher, Refusal, VerificationPolicy, judge_certificate};
+use sigstore_crypto::{CryptoProvider, Error, Keyring, parse_certificate_info};
+use sigstore_types_parts::{DerCertificate, Text};
+use std::alloc::Global;
+
+/// Whether the owner of a mail address signed at a moment that is known, by a certificate that one of the authorities gave
+/// on that issuer's word, and that one of the logs promised to show.
+pub fn check_signer<C: CryptoProvider>(
+    alloc: Global,
+    provider: &C,
+    authorities: &[Anchor],
+    ct_logs: &Keyring,
+    address: Text,
+    issuer: Text,
+    certificate: &DerCertificate,
+    intermediates: &[DerCertificate],
+    signed_at: Timestamp,
+) -> Result<(), Refusal> {
+    let info = match parse_certificate_info(alloc, certificate) {
+        Ok(info) => info,
+        Err(Error::NoMemory) => return Err(Refusal::NoMemory),
+        Err(_) => return Err(Refusal::Malformed),
+    };
+    let policy = VerificationPolicy::new(IdentityMatcher::Email(address), issuer);
+    judge_certificate(
+        alloc,
+        provider,
+        authorities,
+        ct_logs,
+        &policy,
+        &info,
+        certificate,
+        intermediates,
+        &[signed_at],
+    )
+}

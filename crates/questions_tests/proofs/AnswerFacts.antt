@@ -1,0 +1,38 @@
+-- Answers that are a judge's own decide as that judge.
+use Rattle.std.proofs.Common.{◌≡◌, ℕ, List, Bool, true, false, if◌then◌else◌, refl, sym, subst, Option, Result}
+use Rattle.std.proofs.Math.Path.{fun_ext}
+use Rattle.jiff_core.specs.declared.timestamp.Timestamp as jiff
+use Rattle.sigstore_crypto_parts.specs.Good.{Judge}
+use Rattle.sigstore_app_parts.specs.Rows.{AcceptRows, accepts_of}
+use Rattle.sigstore_crypto_parts.specs.Crypto.{Crypto}
+use Rattle.sigstore_verify.specs.declared.from_root.Rooted.{Rooted}
+use Rattle.sigstore_verify.specs.declared.from_root.RootFault.{RootFault}
+use Rattle.sigstore_verify.specs.Given.{Outside}
+use Rattle.sigstore_verify.specs.Promises.{Promises}
+use Rattle.sigstore_run.specs.Run.{given_with}
+use Rattle.sigstore_run.specs.declared.meant.Request.{Request}
+use Rattle.questions_tests.specs.Answered.{AreAnswers, by_answers}
+
+by_cases : (good refused judged : Bool) → (good ≡ true → judged ≡ true) → (refused ≡ true → judged ≡ false)
+    → (if good then true else if refused then false else judged) ≡ judged
+by_cases true refused judged held denied = sym (held refl)
+by_cases false true judged held denied = sym (denied refl)
+by_cases false false judged held denied = refl
+
+pub answers_decide : (judge : Judge) (good refused : AcceptRows) → AreAnswers judge good refused → by_answers good refused judge ≡ judge
+answers_decide judge good refused are =
+    fun_ext λ scheme. fun_ext λ key. fun_ext λ subject. fun_ext λ signature.
+    by_cases (accepts_of good scheme key subject signature) (accepts_of refused scheme key subject signature) (judge scheme key subject signature)
+    (are.held scheme key subject signature) (are.denied scheme key subject signature)
+
+module _ (armored : List ℕ → Bool) (key_in certificate_in : List ℕ → Option (List ℕ)) where
+  abbrev crypto_with : Judge → Crypto
+  crypto_with judge = record { accepts = judge; armored = armored; key_in = key_in; certificate_in = certificate_in }
+
+  -- what is promised by answers alone is promised under each judge who agrees with them
+  pub promised : (judge : Judge) (good refused : AcceptRows) (request : Request) (now : jiff.Timestamp) (before after : Outside)
+      (result : Result Rooted RootFault)
+      → Promises (given_with (crypto_with (by_answers good refused judge)) request now) before after result
+      → AreAnswers judge good refused → Promises (given_with (crypto_with judge) request now) before after result
+  promised judge good refused request now before after result promises are =
+      subst (λ j. Promises (given_with (crypto_with j) request now) before after result) (answers_decide judge good refused are) promises

@@ -1,0 +1,158 @@
+-- A certificate is accepted exactly where it is to be.
+use Rattle.std.proofs.Common.{◌≡◌, ℕ, List, [], ◌∷◌, Bool, true, false, if◌then◌else◌, Result, Ok, Err, refl, ap, ◌∙◌}
+use Rattle.std.specs.Prelude.{⊤, Contains, IsTrue}
+use Rattle.foundation.specs.Steps.{◌>>=◌}
+use Rattle.foundation.specs.Results.{step_ok, ok_same}
+use Rattle.jiff_core.specs.declared.timestamp.Timestamp.{Timestamp}
+use Rattle.sigstore_types_parts.specs.TimeRange.{is_by}
+use Rattle.sigstore_crypto_parts.specs.Keyring.{is_used_at}
+use Rattle.sigstore_crypto.specs.declared.certificate_info.CertificateInfo.{CertificateInfo}
+use Rattle.path_core.specs.declared.error.PathError.{PathError}
+use Rattle.path_core.specs.declared.purpose.Purpose.TheVariants.{CodeSigning}
+use Rattle.path_core.specs.declared.route.FoundPath.{FoundPath}
+use Rattle.path_core.specs.Anchors.{TrustAnchor}
+use Rattle.path_core.specs.Path.{path_of}
+use Rattle.path_core.specs.Paths.{Setting, setting}
+use Rattle.path_core.proofs.FirstPath.{found_is, found_means}
+use Rattle.sigstore_certificate.specs.declared.policy.CertificatePolicy.{CertificatePolicy}
+use Rattle.sigstore_certificate.specs.declared.policy.CertificatePolicy.TheVariants.{Skip, Verify}
+use Rattle.sigstore_certificate.specs.declared.policy.VerificationPolicy.{VerificationPolicy}
+use Rattle.sigstore_certificate.specs.declared.error.Refusal.{Refusal}
+use Rattle.sigstore_certificate.specs.declared.error.Refusal.TheVariants.{NoValidAuthority, NotYetValid, Expired}
+use Rattle.sigstore_certificate.specs.Certified.{Trust, has_authority, authority_judged, window_judged, issued_at, at_each, issued_at_each, sct_asked, chain_verified, chain_judged, certified_of}
+use Rattle.sigstore_certificate.specs.Error.{by_path}
+use Rattle.sigstore_certificate.specs.IsCertified.{IsValidAt, IsValidAtEach, HasSctIf, IsChainedIf, IsCertified, CertifiedExactly}
+use Rattle.sigstore_certificate.specs.Names.{names_judged}
+use Rattle.sigstore_certificate.proofs.Among.{among_from_any, any_from_among}
+use Rattle.sigstore_certificate.proofs.NamesLaw.{passes, names_mean, names_pass}
+use Rattle.sigstore_certificate.proofs.SctLaw.{sct_means, sct_passes}
+
+-- ---- at one time
+
+abbrev Opens : List TrustAnchor → Timestamp → Type 0
+Opens anchors time = (anchor : TrustAnchor) × Contains anchors anchor × IsTrue (is_used_at time anchor.valid_for)
+
+authority_means : (anchors : List TrustAnchor) (time : Timestamp) (x : ⊤) → authority_judged anchors time ≡ Ok x → Opens anchors time
+authority_means anchors time x h =
+    among_from_any (λ (anchor : TrustAnchor). is_used_at time anchor.valid_for) anchors (passes (has_authority anchors time) (NoValidAuthority time) x h)
+
+authority_passes : (anchors : List TrustAnchor) (time : Timestamp) → Opens anchors time → authority_judged anchors time ≡ Ok tt
+authority_passes anchors time o =
+    ap (λ (b : Bool). if b then Ok tt else Err (NoValidAuthority time))
+    (any_from_among (λ (anchor : TrustAnchor). is_used_at time anchor.valid_for) anchors o.0 o.1 o.2)
+
+window_means : (info : CertificateInfo) (time : Timestamp) (x : ⊤) → window_judged info time ≡ Ok x → IsTrue (is_by info.not_before time) × IsTrue (is_by time info.not_after)
+window_means info time x h = by (is_by info.not_before time) (is_by time info.not_after) h
+  where
+    by : (a b : Bool) → ◌≡◌ {A = Result ⊤ Refusal} (if a then (if b then Ok tt else Err (Expired time info.not_after)) else Err (NotYetValid time info.not_before)) (Ok x)
+        → (a ≡ true) × (b ≡ true)
+    by true true k = (refl, refl)
+    by true false k = cc
+    by false b k = cc
+
+window_passes : (info : CertificateInfo) (time : Timestamp) → IsTrue (is_by info.not_before time) → IsTrue (is_by time info.not_after) → window_judged info time ≡ Ok tt
+window_passes info time a b =
+    ap (λ (t : Bool). if t then (if is_by time info.not_after then Ok tt else Err (Expired time info.not_after)) else Err (NotYetValid time info.not_before)) a
+    ∙ ap (λ (t : Bool). if t then Ok tt else Err (Expired time info.not_after)) b
+
+ok_path : (r : Result FoundPath PathError) (p : FoundPath) → by_path r ≡ Ok p → r ≡ Ok p
+ok_path (Ok q) p h = ap Ok (ok_same q p h)
+ok_path (Err e) p h = cc
+
+module _ (t : Trust) (info : CertificateInfo) (leaf : List ℕ) (intermediates : List (List ℕ)) where
+  abbrev at : Timestamp → Setting
+  at time = setting t.accepts leaf intermediates t.anchors CodeSigning time
+
+  abbrev after_path : Timestamp → FoundPath → Result (List ℕ) Refusal
+  after_path time path = window_judged info time >>= λ _. Ok path.issuer_spki
+
+  abbrev after_authority : Timestamp → ⊤ → Result (List ℕ) Refusal
+  after_authority time u = by_path (path_of (at time)) >>= after_path time
+
+  valid_means : (time : Timestamp) (issuer : List ℕ) → issued_at t info leaf intermediates time ≡ Ok issuer → IsValidAt t info leaf intermediates time issuer
+  unfolding issued_at
+  valid_means time issuer h =
+      let a = step_ok (authority_judged t.anchors time) (after_authority time) issuer h in
+      let b = step_ok (by_path (path_of (at time))) (after_path time) issuer a.2 in
+      let c = step_ok (window_judged info time) (λ _. Ok (b.0).issuer_spki) issuer b.2 in
+      let o = authority_means t.anchors time a.0 a.1 in
+      let w = window_means info time c.0 c.1 in
+      record {
+        anchor = o.0;
+        among = o.1;
+        used = o.2;
+        path = b.0;
+        first = found_means (at time) b.0 (ok_path (path_of (at time)) b.0 b.1);
+        started = w.0;
+        unended = w.1;
+        issuer_is = ok_same (b.0).issuer_spki issuer c.2;
+      }
+
+  valid_passes : (time : Timestamp) (issuer : List ℕ) → IsValidAt t info leaf intermediates time issuer → issued_at t info leaf intermediates time ≡ Ok issuer
+  unfolding issued_at
+  valid_passes time issuer v =
+      ap (λ r. r >>= after_authority time) (authority_passes t.anchors time (v.anchor, v.among, v.used))
+      ∙ ap (λ r. by_path r >>= after_path time) (found_is (at time) v.path v.first)
+      ∙ ap (λ r. r >>= λ _. Ok v.path.issuer_spki) (window_passes info time v.started v.unended)
+      ∙ ap Ok v.issuer_is
+
+  -- ---- at each
+
+  abbrev each : List Timestamp → List ℕ → Result (List ℕ) Refusal
+  each times before = at_each (issued_at t info leaf intermediates) times before
+
+  each_means : (times : List Timestamp) (before issuer : List ℕ) → each times before ≡ Ok issuer → IsValidAtEach t info leaf intermediates times before issuer
+  each_means [] before issuer h = ok_same before issuer h
+  each_means (time ∷ times) before issuer h =
+      let s = step_ok (issued_at t info leaf intermediates time) (each times) issuer h in
+      (s.0, valid_means time s.0 s.1, each_means times s.0 issuer s.2)
+
+  each_passes : (times : List Timestamp) (before issuer : List ℕ) → IsValidAtEach t info leaf intermediates times before issuer → each times before ≡ Ok issuer
+  each_passes [] before issuer v = ap Ok v
+  each_passes (time ∷ times) before issuer v =
+      ap (λ r. r >>= each times) (valid_passes time v.0 v.1) ∙ each_passes times v.0 issuer v.2
+
+  -- ---- with its timestamp
+
+  asked_means : (verify_sct : Bool) (issuer : List ℕ) (x : ⊤) → sct_asked t verify_sct leaf issuer ≡ Ok x → HasSctIf verify_sct t leaf issuer
+  asked_means true issuer x h = sct_means t leaf issuer x h
+  asked_means false issuer x h = tt
+
+  asked_passes : (verify_sct : Bool) (issuer : List ℕ) → HasSctIf verify_sct t leaf issuer → sct_asked t verify_sct leaf issuer ≡ Ok tt
+  asked_passes true issuer s = sct_passes t leaf issuer s
+  asked_passes false issuer s = refl
+
+  chain_means : (asked : CertificatePolicy) (times : List Timestamp) (x : ⊤) → chain_judged t asked info leaf intermediates times ≡ Ok x
+      → IsChainedIf t asked info leaf intermediates times
+  unfolding chain_verified
+  chain_means Skip times x h = tt
+  chain_means (Verify verify_sct) times x h =
+      let s = step_ok (issued_at_each t info leaf intermediates times) (sct_asked t verify_sct leaf) x h in
+      record { issuer = s.0; valid = each_means times [] s.0 s.1; sct = asked_means verify_sct s.0 x s.2 }
+
+  chain_passes : (asked : CertificatePolicy) (times : List Timestamp) → IsChainedIf t asked info leaf intermediates times
+      → chain_judged t asked info leaf intermediates times ≡ Ok tt
+  unfolding chain_verified
+  chain_passes Skip times c = refl
+  chain_passes (Verify verify_sct) times c =
+      ap (λ r. r >>= sct_asked t verify_sct leaf) (each_passes times [] c.issuer c.valid) ∙ asked_passes verify_sct c.issuer c.sct
+
+  -- ---- with the names
+
+  pub accepted_means : (policy : VerificationPolicy) (times : List Timestamp) → certified_of t policy info leaf intermediates times ≡ Ok tt
+      → IsCertified t policy info leaf intermediates times
+  unfolding certified_of
+  accepted_means policy times h =
+      let s = step_ok (chain_judged t policy.certificate info leaf intermediates times) (λ _. names_judged policy info) tt h in
+      let n = names_mean policy info tt s.2 in
+      record { chain = chain_means policy.certificate times s.0 s.1; identity = n.0; issuer = n.1 }
+
+  pub accepted_passes : (policy : VerificationPolicy) (times : List Timestamp) → IsCertified t policy info leaf intermediates times
+      → certified_of t policy info leaf intermediates times ≡ Ok tt
+  unfolding certified_of
+  accepted_passes policy times c =
+      ap (λ r. r >>= λ _. names_judged policy info) (chain_passes policy.certificate times c.chain) ∙ names_pass policy info c.identity c.issuer
+
+pub certified_exactly : CertifiedExactly
+certified_exactly t policy info leaf intermediates times =
+    (accepted_means t info leaf intermediates policy times, accepted_passes t info leaf intermediates policy times)

@@ -1,0 +1,54 @@
+-- A certificate's names are accepted exactly where they are those that are asked for.
+use Rattle.std.proofs.Common.{◌≡◌, ℕ, List, Bool, true, false, if◌then◌else◌, Option, Some, None, Result, Ok, Err, refl, sym, ap, ◌∙◌}
+use Rattle.std.specs.Prelude.{⊤}
+use Rattle.std.proofs.lemmas.Slice.Eq.{bytes_eq-Decides}
+use Rattle.foundation.specs.Steps.{◌>>=◌}
+use Rattle.foundation.specs.Results.{step_ok}
+use Rattle.sigstore_crypto.specs.declared.certificate_info.CertificateInfo.{CertificateInfo}
+use Rattle.sigstore_crypto.specs.declared.certificate_info.SubjectAltName.{SubjectAltName}
+use Rattle.sigstore_certificate.specs.declared.policy.IdentityMatcher.{IdentityMatcher}
+use Rattle.sigstore_certificate.specs.declared.policy.VerificationPolicy.{VerificationPolicy}
+use Rattle.sigstore_certificate.specs.declared.error.Refusal.{Refusal}
+use Rattle.sigstore_certificate.specs.declared.error.Refusal.TheVariants.{IdentityMismatch, IssuerMismatch}
+use Rattle.sigstore_certificate.specs.IsCertified.{HasIdentity, HasIssuer}
+use Rattle.sigstore_certificate.specs.Names.{matches, identity_judged, is_text, issuer_judged, names_judged}
+
+-- a test that is passed
+pub passes : (b : Bool) (e : Refusal) (x : ⊤) → ◌≡◌ {A = Result ⊤ Refusal} (if b then Ok tt else Err e) (Ok x) → b ≡ true
+passes true e x h = refl
+passes false e x h = cc
+
+identity_means : (asked : Option IdentityMatcher) (actual : Option SubjectAltName) (x : ⊤) → identity_judged asked actual ≡ Ok x → HasIdentity asked actual
+identity_means None actual x h = tt
+identity_means (Some matcher) None x h = cc
+identity_means (Some matcher) (Some identity) x h = (identity, refl, passes (matches matcher identity) (IdentityMismatch matcher (Some identity)) x h)
+
+identity_passes : (asked : Option IdentityMatcher) (actual : Option SubjectAltName) → HasIdentity asked actual → identity_judged asked actual ≡ Ok tt
+identity_passes None actual i = refl
+identity_passes (Some matcher) actual i =
+    ap (λ a. identity_judged (Some matcher) a) i.1
+    ∙ ap (λ (b : Bool). if b then Ok tt else Err (IdentityMismatch matcher (Some i.0))) i.2
+
+issuer_means : (asked actual : Option (List ℕ)) (x : ⊤) → issuer_judged asked actual ≡ Ok x → HasIssuer asked actual
+issuer_means None actual x h = tt
+issuer_means (Some text) None x h = cc
+issuer_means (Some text) (Some actual) x h =
+    ap Some (sym ((bytes_eq-Decides text actual).0 (passes (is_text text (Some actual)) (IssuerMismatch text (Some actual)) x h)))
+
+issuer_passes : (asked actual : Option (List ℕ)) → HasIssuer asked actual → issuer_judged asked actual ≡ Ok tt
+issuer_passes None actual i = refl
+issuer_passes (Some text) actual i =
+    ap (λ a. issuer_judged (Some text) a) i
+    ∙ ap (λ (b : Bool). if b then Ok tt else Err (IssuerMismatch text (Some text))) ((bytes_eq-Decides text text).1 refl)
+
+pub names_mean : (policy : VerificationPolicy) (info : CertificateInfo) (x : ⊤) → names_judged policy info ≡ Ok x
+    → HasIdentity policy.identity info.identity × HasIssuer policy.issuer info.issuer
+names_mean policy info x h =
+    let s = step_ok (identity_judged policy.identity info.identity) (λ _. issuer_judged policy.issuer info.issuer) x h in
+    (identity_means policy.identity info.identity s.0 s.1, issuer_means policy.issuer info.issuer x s.2)
+
+pub names_pass : (policy : VerificationPolicy) (info : CertificateInfo) → HasIdentity policy.identity info.identity → HasIssuer policy.issuer info.issuer
+    → names_judged policy info ≡ Ok tt
+names_pass policy info identity issuer =
+    ap (λ r. r >>= λ _. issuer_judged policy.issuer info.issuer) (identity_passes policy.identity info.identity identity)
+    ∙ issuer_passes policy.issuer info.issuer issuer

@@ -1,0 +1,127 @@
+-- What each refusal tells of the certificate.
+use Rattle.std.specs.Prelude.{◌≡◌, ◌≤◌, ℕ, List, ◌∷◌, [], Contains, false, length, Option, Some, Ok, Err, IsTrue}
+use Rattle.jiff_core.specs.declared.timestamp.Timestamp.{Timestamp}
+use Rattle.x509_core_parts.specs.Certificates.{Certificate, certificate_of}
+use Rattle.x509_core_parts.specs.Precertificates.{precert_of}
+use Rattle.x509_core_parts.specs.Scts.{Parts as OneSct}
+use Rattle.der_core_parts.specs.Tlv.{IsBytes}
+use Rattle.sigstore_types_parts.specs.TimeRange.{is_by}
+use Rattle.sigstore_crypto_parts.specs.declared.scheme.SigningScheme.{SigningScheme}
+use Rattle.sigstore_crypto_parts.specs.Keyring.{has_key_of}
+use Rattle.sigstore_crypto.specs.declared.certificate_info.CertificateInfo.{CertificateInfo}
+use Rattle.sigstore_crypto.specs.declared.certificate_info.SubjectAltName.{SubjectAltName}
+use Rattle.path_core.specs.declared.error.LeafFault.{LeafFault}
+use Rattle.path_core.specs.declared.error.PathError.TheVariants.{Leaf}
+use Rattle.path_core.specs.declared.purpose.Purpose.TheVariants.{CodeSigning}
+use Rattle.path_core.specs.declared.route.Route.{Route}
+use Rattle.path_core.specs.Paths.{setting, IsPath}
+use Rattle.path_core.specs.Traits.{leaf_of}
+use Rattle.sigstore_certificate.specs.declared.policy.IdentityMatcher.{IdentityMatcher}
+use Rattle.sigstore_certificate.specs.declared.policy.VerificationPolicy.{VerificationPolicy}
+use Rattle.sigstore_certificate.specs.declared.error.Refusal.{Refusal}
+use Rattle.sigstore_certificate.specs.declared.error.Refusal.TheVariants as refusal
+use Rattle.sigstore_certificate.specs.declared.error.SctRule.TheVariants as rule
+use Rattle.sigstore_certificate.specs.Certified.{Trust, has_authority, issued_at_each, certified_of}
+use Rattle.sigstore_certificate.specs.Error.{refusal_of_path}
+use Rattle.sigstore_certificate.specs.IsCertified.{HasSct}
+use Rattle.sigstore_certificate.specs.Names.{is_matched, is_text}
+use Rattle.sigstore_certificate.specs.Policy.{verifies_chain, verifies_sct}
+use Rattle.sigstore_certificate.specs.Scts.{scts_of, scheme_of, signed_data_of}
+
+-- ---- the path
+
+-- it is no leaf by its reading, its version or its critical extensions
+pub record IsNoLeaf (leaf : List ℕ) : Type 0 where
+  pub fault : LeafFault
+  pub lacks : leaf_of CodeSigning leaf ≡ Err fault
+  pub malformed : refusal_of_path (Leaf fault) ≡ refusal.Malformed
+
+-- no authority's window has a verified time
+pub record LacksAuthority (t : Trust) (times : List Timestamp) (time : Timestamp) : Type 0 where
+  pub among : Contains times time
+  pub none : has_authority t.anchors time ≡ false
+
+-- there is no path at a verified time; also where the certificate may issue others or is for another purpose
+pub record LacksPath (t : Trust) (leaf : List ℕ) (intermediates : List (List ℕ)) (times : List Timestamp) : Type 0 where
+  pub time : Timestamp
+  pub among : Contains times time
+  pub none : (p : Route) → ¬ IsPath (setting t.accepts leaf intermediates t.anchors CodeSigning time) p
+
+-- the certificate's window begins after a verified time
+pub record IsEarly (info : CertificateInfo) (times : List Timestamp) (time not_before : Timestamp) : Type 0 where
+  pub among : Contains times time
+  pub start : not_before ≡ info.not_before
+  pub early : is_by info.not_before time ≡ false
+
+-- it ended before a verified time
+pub record IsLate (info : CertificateInfo) (times : List Timestamp) (time not_after : Timestamp) : Type 0 where
+  pub among : Contains times time
+  pub ended : not_after ≡ info.not_after
+  pub late : is_by time info.not_after ≡ false
+
+-- ---- the timestamp, for the issuer at the last verified time
+
+pub record LacksSct (t : Trust) (info : CertificateInfo) (leaf : List ℕ) (intermediates : List (List ℕ)) (times : List Timestamp) : Type 0 where
+  pub issuer : List ℕ
+  pub valid : issued_at_each t info leaf intermediates times ≡ Ok issuer
+  pub lacks : HasSct t leaf issuer → ⊥
+
+-- there is exactly one, its algorithm has a scheme, and no trusted log's key is of that sort
+pub record LacksLog (t : Trust) (leaf : List ℕ) : Type 0 where
+  pub parts : Certificate
+  pub read : certificate_of leaf ≡ Ok parts
+  pub sct : OneSct
+  pub sole : scts_of parts ≡ Ok (sct ∷ [])
+  pub scheme : SigningScheme
+  pub scheme_is : scheme_of sct.algorithm ≡ Some scheme
+  pub none : has_key_of scheme t.ct_logs ≡ false
+
+-- ---- the names
+
+pub record IsOfOther (policy : VerificationPolicy) (info : CertificateInfo) (matcher : IdentityMatcher) (actual : Option SubjectAltName) : Type 0 where
+  pub asked : policy.identity ≡ Some matcher
+  pub said : info.identity ≡ actual
+  pub other : is_matched matcher actual ≡ false
+
+pub record IsByOther (policy : VerificationPolicy) (info : CertificateInfo) (text : List ℕ) (actual : Option (List ℕ)) : Type 0 where
+  pub asked : policy.issuer ≡ Some text
+  pub said : info.issuer ≡ actual
+  pub other : is_text text actual ≡ false
+
+-- ---- by name
+
+abbrev pub Cause : Trust → VerificationPolicy → CertificateInfo → List ℕ → List (List ℕ) → List Timestamp → Refusal → Type 0
+Cause t policy info leaf intermediates times refusal.Malformed = IsTrue (verifies_chain policy.certificate) × IsNoLeaf leaf
+Cause t policy info leaf intermediates times refusal.ChainInvalid =
+    IsTrue (verifies_chain policy.certificate) × LacksPath t leaf intermediates times
+Cause t policy info leaf intermediates times (refusal.NoValidAuthority time) =
+    IsTrue (verifies_chain policy.certificate) × LacksAuthority t times time
+Cause t policy info leaf intermediates times (refusal.NotYetValid time not_before) =
+    IsTrue (verifies_chain policy.certificate) × IsEarly info times time not_before
+Cause t policy info leaf intermediates times (refusal.Expired time not_after) =
+    IsTrue (verifies_chain policy.certificate) × IsLate info times time not_after
+Cause t policy info leaf intermediates times (refusal.Sct broken) =
+    IsTrue (verifies_sct policy.certificate) × LacksSct t info leaf intermediates times
+Cause t policy info leaf intermediates times refusal.InvalidTrustRoot = IsTrue (verifies_sct policy.certificate) × LacksLog t leaf
+Cause t policy info leaf intermediates times (refusal.IdentityMismatch matcher actual) = IsOfOther policy info matcher actual
+Cause t policy info leaf intermediates times (refusal.IssuerMismatch text actual) = IsByOther policy info text actual
+Cause t policy info leaf intermediates times refusal.NoMemory = ⊥
+
+-- each refusal comes only where its cause holds
+abbrev pub Refusals : Type 0
+Refusals = (t : Trust) (policy : VerificationPolicy) (info : CertificateInfo) (leaf : List ℕ) (intermediates : List (List ℕ))
+    (times : List Timestamp) (e : Refusal) → certified_of t policy info leaf intermediates times ≡ Err e
+    → Cause t policy info leaf intermediates times e
+
+-- ---- what a log signed
+
+-- the certificate's signed part without its timestamps is there, and has 2^24 octets or more, which three octets can't count
+pub record IsTooLong (c : Certificate) : Type 0 where
+  pub tbs : List ℕ
+  pub tbs_is : precert_of c.tbs c.signed.tail.front c.signed.tail.extensions ≡ Ok tbs
+  pub long : 16777216 ≤ length tbs
+
+-- for a certificate that was read it can't be written only where it is too long
+abbrev pub WrittenUnlessLong : Type 0
+WrittenUnlessLong = (bytes : List ℕ) (c : Certificate) (sct : OneSct) (key_hash : List ℕ) (e : Refusal) → IsBytes bytes → certificate_of bytes ≡ Ok c
+    → signed_data_of c sct key_hash ≡ Err e → (e ≡ refusal.Sct rule.Precertificate) × IsTooLong c

@@ -1,0 +1,9 @@
+pub mod Policy
+pub mod Error
+pub mod Names
+pub mod Scts
+pub mod Certified
+pub mod IsCertified
+pub mod Cause
+pub mod Given
+pub mod Times

@@ -1,0 +1,41 @@
+-- Whether a certificate names the identity and the issuer that are asked for.
+use Rattle.std.specs.Prelude.{ℕ, List, Bool, false, bytes_eq, if◌then◌else◌, Option, Some, None, Result, Ok, Err, ⊤}
+use Rattle.foundation.specs.Steps.{◌>>=◌}
+use Rattle.sigstore_crypto.specs.declared.certificate_info.CertificateInfo.{CertificateInfo}
+use Rattle.sigstore_crypto.specs.declared.certificate_info.SubjectAltName.{SubjectAltName}
+use Rattle.sigstore_crypto.specs.declared.certificate_info.SubjectAltName.TheVariants as name
+use Rattle.sigstore_certificate.specs.declared.policy.IdentityMatcher.{IdentityMatcher}
+use Rattle.sigstore_certificate.specs.declared.policy.IdentityMatcher.TheVariants as asked
+use Rattle.sigstore_certificate.specs.declared.policy.VerificationPolicy.{VerificationPolicy}
+use Rattle.sigstore_certificate.specs.declared.error.Refusal.{Refusal}
+use Rattle.sigstore_certificate.specs.declared.error.Refusal.TheVariants.{IdentityMismatch, IssuerMismatch}
+
+-- the texts are equal, and the identity is of the sort that is asked for, where one is
+abbrev pub matches : IdentityMatcher → SubjectAltName → Bool
+matches (asked.Exact text) (name.Email actual) = bytes_eq text actual
+matches (asked.Exact text) (name.Uri actual) = bytes_eq text actual
+matches (asked.Email text) (name.Email actual) = bytes_eq text actual
+matches (asked.Email text) (name.Uri actual) = false
+matches (asked.Uri text) (name.Email actual) = false
+matches (asked.Uri text) (name.Uri actual) = bytes_eq text actual
+
+abbrev pub is_matched : IdentityMatcher → Option SubjectAltName → Bool
+is_matched matcher None = false
+is_matched matcher (Some identity) = matches matcher identity
+
+-- else anyone to whom the authority gives certificates could have signed
+abbrev pub identity_judged : Option IdentityMatcher → Option SubjectAltName → Result ⊤ Refusal
+identity_judged None actual = Ok tt
+identity_judged (Some matcher) actual = if is_matched matcher actual then Ok tt else Err (IdentityMismatch matcher actual)
+
+abbrev pub is_text : List ℕ → Option (List ℕ) → Bool
+is_text text None = false
+is_text text (Some actual) = bytes_eq text actual
+
+-- else another issuer of identities could give that identity to another
+abbrev pub issuer_judged : Option (List ℕ) → Option (List ℕ) → Result ⊤ Refusal
+issuer_judged None actual = Ok tt
+issuer_judged (Some text) actual = if is_text text actual then Ok tt else Err (IssuerMismatch text actual)
+
+abbrev pub names_judged : VerificationPolicy → CertificateInfo → Result ⊤ Refusal
+names_judged policy info = identity_judged policy.identity info.identity >>= λ _. issuer_judged policy.issuer info.issuer

@@ -1,0 +1,122 @@
+// Why a signing certificate isn't accepted.
+ghost use Rattle.std.specs.Prelude.{◌≡◌};
+ghost use Rattle.sigstore_certificate.specs.Error.{refusal_of_path};
+ghost use Rattle.sigstore_certificate.specs.declared.error.Refusal.TheVariants.{NoMemory};
+
+use crate::policy::IdentityMatcher;
+use foundation::NoMemory;
+use jiff::Timestamp;
+use path_core::{LeafFault, PathError};
+use sigstore_crypto::SubjectAltName;
+use sigstore_types_parts::Text;
+use std::{error, fmt};
+
+/// Which rule a certificate's timestamp of a log of certificates breaks (RFC 6962, sections 3.2 and 3.3). Without a
+/// good one a certificate that an authority gave to the wrong person may never have been seen by its owner.
+#[derive(Clone, Copy, Debug, PartialEq, Eq, Drop)]
+pub enum SctRule {
+    /// The certificate has no list of them, or one that isn't read: no log promised to show it.
+    List,
+    /// There is none, or more than one: one that is good would let others stand beside it that nobody made.
+    NotOne,
+    /// Its algorithm has no scheme: nothing could decide whether the log signed.
+    Scheme,
+    /// What the log signed can't be written, as it is too long: another certificate could be passed off for it.
+    Precertificate,
+    /// Fewer trusted logs than asked for have a good one, by a key that was used at its time: whoever has an
+    /// authority's key, or an old key of a log, could hide what was issued.
+    TooFew { asked: u64, found: u64 },
+}
+
+/// Why a signing certificate isn't accepted.
+#[derive(Debug, PartialEq, Drop)]
+pub enum Refusal {
+    /// It isn't read as a certificate of the third version, or has a critical extension that isn't known.
+    Malformed,
+    /// No path leads from it to a trusted authority at a verified time; or it may issue certificates, or isn't for
+    /// the signing of code.
+    ChainInvalid,
+    /// No trusted authority was to be used at a verified time.
+    NoValidAuthority {
+        time: Timestamp,
+    },
+    /// Its window begins after a verified time.
+    NotYetValid {
+        time: Timestamp,
+        not_before: Timestamp,
+    },
+    /// Its window ended before a verified time.
+    Expired {
+        time: Timestamp,
+        not_after: Timestamp,
+    },
+    /// Its timestamp of a log of certificates isn't good.
+    Sct(SctRule),
+    /// No trusted log's key is of the sort that its timestamp's scheme asks for.
+    InvalidTrustRoot,
+    /// It doesn't name the identity that is asked for.
+    IdentityMismatch {
+        expected: IdentityMatcher,
+        actual: Option<SubjectAltName>,
+    },
+    /// It doesn't name the issuer that is asked for.
+    IssuerMismatch {
+        expected: Text,
+        actual: Option<Text>,
+    },
+    /// An allocation was refused.
+    NoMemory,
+}
+
+impl From<NoMemory> for Refusal {
+    ghost from_gives = { λ _ e. e ≡ NoMemory };
+
+    fn from(_: NoMemory) -> Refusal {
+        Refusal::NoMemory
+    }
+}
+
+impl From<PathError> for Refusal {
+    ghost from_gives = { λ fault e. e ≡ refusal_of_path fault };
+
+    fn from(fault: PathError) -> Refusal {
+        match fault {
+            PathError::Leaf(LeafFault::Unreadable) => Refusal::Malformed,
+            PathError::Leaf(LeafFault::Version) => Refusal::Malformed,
+            PathError::Leaf(LeafFault::CriticalExtension) => Refusal::Malformed,
+            PathError::NoMemory => Refusal::NoMemory,
+            _ => Refusal::ChainInvalid,
+        }
+    }
+}
+
+impl fmt::Display for SctRule {
+    fn fmt<W: fmt::Write>(&self, f: &mut fmt::Formatter<W>) -> fmt::Result {
+        f.write_str(match self {
+            SctRule::List => "List",
+            SctRule::NotOne => "NotOne",
+            SctRule::Scheme => "Scheme",
+            SctRule::Precertificate => "Precertificate",
+            SctRule::TooFew { .. } => "TooFew",
+        })
+    }
+}
+
+impl fmt::Display for Refusal {
+    fn fmt<W: fmt::Write>(&self, f: &mut fmt::Formatter<W>) -> fmt::Result {
+        f.write_str(match self {
+            Refusal::Malformed => "Malformed",
+            Refusal::ChainInvalid => "ChainInvalid",
+            Refusal::NoValidAuthority { .. } => "NoValidAuthority",
+            Refusal::NotYetValid { .. } => "NotYetValid",
+            Refusal::Expired { .. } => "Expired",
+            Refusal::Sct(_) => "Sct",
+            Refusal::InvalidTrustRoot => "InvalidTrustRoot",
+            Refusal::IdentityMismatch { .. } => "IdentityMismatch",
+            Refusal::IssuerMismatch { .. } => "IssuerMismatch",
+            Refusal::NoMemory => "NoMemory",
+        })
+    }
+}
+
+impl error::Error for Refusal {}

@@ -1,0 +1,15 @@
+// What a judgement is given.
+use path_core::Anchor;
+use sigstore_crypto::{CertificateInfo, Keyring};
+use sigstore_types_parts::DerCertificate;
+
+/// What is trusted, and the certificate with those beside it, by reference.
+#[derive(Drop)]
+pub(crate) struct Given<'a, C> {
+    pub(crate) provider: &'a C,
+    pub(crate) anchors: &'a [Anchor],
+    pub(crate) ct_logs: &'a Keyring,
+    pub(crate) info: &'a CertificateInfo,
+    pub(crate) leaf: &'a DerCertificate,
+    pub(crate) intermediates: &'a [DerCertificate],
+}

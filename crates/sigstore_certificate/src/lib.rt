@@ -1,0 +1,20 @@
+//! Whether a signing certificate was valid when it signed (RFC 5280, section 6), was promised by a log of
+//! certificates (RFC 6962), and names whom a policy asks for.
+#![tactic(auto)]
+
+mod certificate;
+mod digitally_signed;
+mod error;
+mod given;
+mod laws;
+mod names;
+mod path;
+mod policy;
+mod scts;
+mod times;
+
+pub use certificate::judge_certificate;
+pub use digitally_signed::DigitallySigned;
+pub use error::{Refusal, SctRule};
+pub use laws::{certified_exactly, refusals_have_causes, sct_is_written};
+pub use policy::{CertificatePolicy, IdentityMatcher, VerificationPolicy};

@@ -1,0 +1,97 @@
+// Whether a certificate names the identity and the issuer that are asked for.
+ghost use Rattle.std.specs.Prelude.{◌≡◌, ◌≢◌, Ok, Err, IfOk, IfErr};
+ghost use Rattle.sigstore_certificate.specs.Names.{is_matched, identity_judged, is_text, issuer_judged, names_judged};
+
+use crate::error::Refusal;
+use crate::policy::{IdentityMatcher, VerificationPolicy};
+use foundation::{Duplicate, NoMemory};
+use sigstore_crypto::{CertificateInfo, SubjectAltName};
+use sigstore_types_parts::Text;
+use std::alloc::Global;
+
+fn is_matched(matcher: &IdentityMatcher, identity: &Option<SubjectAltName>) -> bool
+    ensures { result ≡ is_matched matcher.now identity.now }
+{
+    match identity {
+        Some(identity) => matcher.matches(identity),
+        None => false,
+    }
+}
+
+// The refusal, with both values.
+fn other_identity(
+    alloc: Global,
+    matcher: &IdentityMatcher,
+    identity: &Option<SubjectAltName>,
+) -> Result<Refusal, NoMemory>
+    ensures { IfOk result (λ e. e ≡ Refusal.IdentityMismatch matcher.now identity.now) }
+{
+    Ok(Refusal::IdentityMismatch {
+        expected: matcher.duplicate(alloc)?,
+        actual: identity.duplicate(alloc)?,
+    })
+}
+
+// Else anyone to whom a trusted authority gives certificates could have signed.
+fn check_identity(
+    alloc: Global,
+    asked: &Option<IdentityMatcher>,
+    identity: &Option<SubjectAltName>,
+) -> Result<(), Refusal>
+    ensures ok { IfOk result (λ x. identity_judged asked.now identity.now ≡ Ok x) }
+    ensures err { IfErr result (λ e. e ≢ Refusal.NoMemory → identity_judged asked.now identity.now ≡ Err e) }
+{
+    let Some(matcher) = asked else {
+        return Ok(());
+    };
+    if is_matched(matcher, identity) {
+        return Ok(());
+    }
+    Err(other_identity(alloc, matcher, identity)?)
+}
+
+fn is_text(text: &Text, actual: &Option<Text>) -> bool
+    ensures { result ≡ is_text text.now actual.now }
+{
+    match actual {
+        Some(actual) => text == actual,
+        None => false,
+    }
+}
+
+fn other_issuer(alloc: Global, text: &Text, actual: &Option<Text>) -> Result<Refusal, NoMemory>
+    ensures { IfOk result (λ e. e ≡ Refusal.IssuerMismatch text.now actual.now) }
+{
+    Ok(Refusal::IssuerMismatch {
+        expected: text.duplicate(alloc)?,
+        actual: actual.duplicate(alloc)?,
+    })
+}
+
+// Else another issuer of identities could give that identity to another.
+fn check_issuer(alloc: Global, asked: &Option<Text>, actual: &Option<Text>) -> Result<(), Refusal>
+    ensures ok { IfOk result (λ x. issuer_judged asked.now actual.now ≡ Ok x) }
+    ensures err { IfErr result (λ e. e ≢ Refusal.NoMemory → issuer_judged asked.now actual.now ≡ Err e) }
+{
+    let Some(text) = asked else {
+        return Ok(());
+    };
+    if is_text(text, actual) {
+        return Ok(());
+    }
+    Err(other_issuer(alloc, text, actual)?)
+}
+
+/// Whether a certificate names what is asked for. Errors, in order: `IdentityMismatch`, `IssuerMismatch`.
+pub(crate) fn check_names(
+    alloc: Global,
+    policy: &VerificationPolicy,
+    info: &CertificateInfo,
+) -> Result<(), Refusal>
+    ensures ok { IfOk result (λ x. names_judged policy.now info.now ≡ Ok x) }
+    ensures err { IfErr result (λ e. e ≢ Refusal.NoMemory → names_judged policy.now info.now ≡ Err e) }
+{
+    check_identity(alloc, &policy.identity, &info.identity)?;
+    check_issuer(alloc, &policy.issuer, &info.issuer)?;
+    Ok(())
+}

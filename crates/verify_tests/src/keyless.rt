@@ -1,0 +1,94 @@
+// The parts of the fixture where its signer has a certificate, which is valid for ten minutes from 1700000000. Its bundle
+// has a token at 1700000060 and the entry of `logged` over the certificate, with a promise at 1700000100; each window of
+// the trust file begins at 1600000000. The run is at 1700001000.
+use crate::keyless_data::{
+    AUTHORITY, BODY, CERTIFICATE, CERTIFICATE_LOG, OTHER_AUTHORITY, ROOT, STAMPER, TOKEN,
+    TWICE_BODY, TWICE_CERTIFICATE, TWICE_ROOT,
+};
+use crate::logged;
+use crate::tables::{Change, good, string};
+use std::process::Abort;
+
+pub(crate) const WORDS: &str =
+    "verify --root=a --repository=b --store=c --bundle=d --artifact=e --policy=f --provider=g --now=2023-11-14T22:30:00Z";
+
+const POLICY: &str = "keyless;identity email a@example.com;issuer https://accounts.example.com";
+
+const WINDOW: &str = r#""start":"2020-09-13T12:26:40Z""#;
+
+// Whether the signer has a certificate.
+pub(crate) fn is_keyless(change: Change) -> bool {
+    matches!(
+        change.part,
+        "keyless" | "two timestamps" | "authority before" | "issuing window" | "unpromised"
+    )
+}
+
+// Whether the certificate has two timestamps of its log.
+fn is_twice(change: Change) -> bool {
+    change.part == "two timestamps"
+}
+
+fn certificate(change: Change) -> &'static str {
+    if is_twice(change) {
+        TWICE_CERTIFICATE
+    } else {
+        CERTIFICATE
+    }
+}
+
+// The body of the entry in base64.
+pub(crate) fn body(change: Change) -> &'static str {
+    if is_twice(change) { TWICE_BODY } else { BODY }
+}
+
+// The root of a tree of that body.
+pub(crate) fn root(change: Change) -> &'static str {
+    if is_twice(change) { TWICE_ROOT } else { ROOT }
+}
+
+// The authority that stands before the right one.
+fn before(change: Change) -> &'static str {
+    if change.part == "authority before" {
+        OTHER_AUTHORITY
+    } else {
+        ""
+    }
+}
+
+// The trust file, whose log has this key.
+pub(crate) fn trust<X: AllocGlobal + Abort>(rt: &X, change: Change, key: &str) -> String {
+    let (issuing, logging) = (
+        change.of("issuing window", WINDOW),
+        change.of("unpromised", WINDOW),
+    );
+    let before = before(change);
+    let text = format!(in rt.alloc();
+        r#"{{"tlogs":[{{"logId":{{"keyId":"AQEBAQEBAQEBAQEBAQEBAQEBAQEBAQEBAQEBAQEBAQE="}},"publicKey":{{"rawBytes":"{key}","validFor":{{{logging}}}}}}}],"ctlogs":[{CERTIFICATE_LOG}],"certificateAuthorities":[{before}{{"certChain":{{"certificates":[{{"rawBytes":"{AUTHORITY}"}}]}},"validFor":{{{issuing}}}}}],"timestampAuthorities":[{STAMPER}]}}"#
+    );
+    good(rt, text)
+}
+
+// The lines of the policy, each followed by a `;` here but the last one.
+pub(crate) fn policy(change: Change) -> &str {
+    change.of("keyless", change.of("two timestamps", POLICY))
+}
+
+// The text in which each `;` ends a line, and so does the end.
+pub(crate) fn lines<X: AllocGlobal + Abort>(rt: &X, words: &str) -> String {
+    let mut lines = string(rt, "");
+    for line in words.split(';') {
+        good(rt, lines.push_str(line));
+        good(rt, lines.push('\n'));
+    }
+    lines
+}
+
+pub(crate) fn material<X: AllocGlobal + Abort>(rt: &X, change: Change) -> String {
+    let (certificate, entries) = (certificate(change), logged::entries(rt, change));
+    let text = format!(in rt.alloc();
+        r#""certificate":{{"rawBytes":"{certificate}"}},"timestampVerificationData":{{"rfc3161Timestamps":[{{"signedTimestamp":"{TOKEN}"}}]}},{entries}"#
+    );
+    drop(entries);
+    good(rt, text)
+}
