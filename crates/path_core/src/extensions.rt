@@ -1,24 +1,11 @@
 // A certificate's extensions; no memory is taken.
-ghost use Rattle.std.specs.Prelude.{◌≡◌, option_copied};
+ghost use Rattle.std.specs.Prelude.{◌≡◌};
 ghost use Rattle.std.specs.List.{list_any};
 ghost use Rattle.der_core_parts.specs.Types.{is_in};
 ghost use Rattle.x509_core_parts.specs.Walk.{coming};
-ghost use Rattle.sigstore_crypto.specs.Claims.{value_of};
 ghost use Rattle.path_core.specs.Extensions.{known_numbers, is_known, is_unknown, has_unknown_critical};
 
 use x509_core_parts::{Extensions, NamedExtension};
-
-/// The value of the extension with this identifier, of which a certificate has at most one.
-pub(crate) fn value_of<'a>(extensions: Extensions<'a>, oid: &[u8]) -> Option<&'a [u8]>
-    ensures { option_copied result ≡ value_of oid.now (coming extensions.entry) }
-{
-    'extensions: for extension in extensions {
-        if extension.oid == oid {
-            return Some(extension.value);
-        }
-    }
-    None
-}
 
 fn is_known_number(last: u8) -> bool
     ensures { result ≡ is_in last known_numbers }

@@ -6,12 +6,13 @@ ghost use Rattle.path_core.specs.Traits.{window_of, constrains_names, traits_of,
 
 use crate::authority::{Authority, read_authority};
 use crate::error::LeafFault;
-use crate::extensions::{has_unknown_critical, value_of};
+use crate::extensions::has_unknown_critical;
 use crate::purpose::Purpose;
 use crate::usage::{Usage, read_usage};
 use der_core::Civil;
 use foundation::NoMemory;
 use jiff::Timestamp;
+use sigstore_crypto::extension_value;
 use sigstore_types_parts::TimeRange;
 use std::alloc::Global;
 use x509_core_parts::CertView;
@@ -50,7 +51,7 @@ pub(crate) fn has_name_constraints(certificate: &CertView) -> bool
     ensures { result ≡ constrains_names (certificate_parts certificate.now) }
 {
     // id-ce-nameConstraints, 2.5.29.30.
-    value_of(certificate.each_extension(), &[0x55, 0x1d, 0x1e]).is_some()
+    extension_value(certificate.each_extension(), &[0x55, 0x1d, 0x1e]).is_some()
 }
 
 /// What a certificate says of its use.
@@ -60,8 +61,8 @@ pub(crate) fn read_traits(alloc: Global, certificate: &CertView) -> Result<Trait
 {
     let extensions = certificate.each_extension();
     // id-ce-basicConstraints, 2.5.29.19, and id-ce-extKeyUsage, 2.5.29.37.
-    let authority = read_authority(alloc, value_of(extensions, &[0x55, 0x1d, 0x13]))?;
-    let usage = read_usage(alloc, value_of(extensions, &[0x55, 0x1d, 0x25]))?;
+    let authority = read_authority(alloc, extension_value(extensions, &[0x55, 0x1d, 0x13]))?;
+    let usage = read_usage(alloc, extension_value(extensions, &[0x55, 0x1d, 0x25]))?;
     Ok(Traits {
         version: certificate.version,
         window: window(certificate),

@@ -26,7 +26,8 @@ use Rattle.sigstore_rekor_parts.specs.declared.dsse_v001.DsseV001Signature.{Dsse
 use Rattle.sigstore_rekor_parts.specs.declared.intoto_v002.IntotoV002Body.{IntotoV002Body}
 use Rattle.sigstore_rekor_parts.specs.declared.intoto_v002.IntotoSignature.{IntotoSignature}
 use Rattle.sigstore_binding.specs.declared.error.BindingError.{BindingError}
-use Rattle.sigstore_binding.specs.declared.error.BindingError.TheVariants.{Unsupported, MalformedEntry, ArtifactMismatch, EntryMismatch, IntegratedTime}
+use Rattle.sigstore_binding.specs.declared.error.BindingError.TheVariants.{Unsupported, MalformedEntry, ArtifactMismatch}
+use Rattle.sigstore_binding.specs.declared.error.BindingError.TheVariants.{EntryMismatch, IntegratedTime}
 use Rattle.sigstore_binding.specs.declared.signed.Signed.{Signed as Given}
 use Rattle.sigstore_binding.specs.declared.signed.Signed.TheVariants as given
 use Rattle.sigstore_binding.specs.Checks.{Check, Same, Holds}

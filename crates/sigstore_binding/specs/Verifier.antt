@@ -24,8 +24,8 @@ pub record Readings : Type 0 where
 abbrev pub readings_by : {M : Type 0} → armor.Ghosts M → M → Readings
 readings_by ghosts a = record { key_in = ghosts.key_in a; certificate_in = ghosts.certificate_in a }
 
--- the holder of a key, which is told in DER (SubjectPublicKeyInfo); or the subject of a certificate, which is told in DER, behind it its key
--- (SubjectPublicKeyInfo) and its validity
+-- the holder of a key, which is told in DER (SubjectPublicKeyInfo); or the subject of a certificate, which is told in DER, behind it its
+-- key (SubjectPublicKeyInfo) and its validity
 pub data Signatory : Type 0 where
   Key : List ℕ → Signatory
   Certificate : List ℕ → List ℕ → TimeRange → Signatory
@@ -94,7 +94,8 @@ armored_check readings (Certificate certificate key validity) text = certificate
 -- hashedrekord 0.0.2: the key in DER is, or the certificate in DER, whole
 abbrev pub raw_check : Signatory → HashedRekordV002Verifier → Check
 raw_check (Key key) verifier = Same (raw_key_in verifier.public_key) (Some key) EntryMismatch
-raw_check (Certificate certificate key validity) verifier = Same (raw_certificate_in verifier.x509_certificate) (Some certificate) EntryMismatch
+raw_check (Certificate certificate key validity) verifier =
+    Same (raw_certificate_in verifier.x509_certificate) (Some certificate) EntryMismatch
 
 -- dsse: the key, or that of a certificate in its place, is; under a certificate the armoured certificate is, whole
 abbrev pub enveloped_check : Readings → Signatory → List ℕ → Check

@@ -33,13 +33,14 @@ use Rattle.sigstore_certificate.specs.declared.error.SctRule.{SctRule}
 use Rattle.sigstore_certificate.specs.declared.error.SctRule.TheVariants as rule
 use Rattle.sigstore_certificate.specs.declared.error.Refusal.{Refusal}
 use Rattle.sigstore_certificate.specs.declared.error.Refusal.TheVariants as refusal
-use Rattle.sigstore_certificate.specs.Cause.{IsNoLeaf, LacksAuthority, LacksPath, IsEarly, IsLate, LacksLog, Cause, Refusals}
+use Rattle.sigstore_certificate.specs.Cause.{IsNoLeaf, LacksAuthority, LacksPath, IsEarly, IsLate, no_extension, unread, HasOne, no_part, no_octets, IsUnsigned, SctCause, LacksLog, Cause, Refusals}
 use Rattle.sigstore_certificate.specs.Certified.{Trust, has_authority, authority_judged, window_judged, issued_at, at_each, issued_at_each, parts_read, leaf_sct_judged, sct_asked, chain_verified, chain_judged, certified_of}
 use Rattle.sigstore_certificate.specs.Error.{refusal_of_path, by_path}
 use Rattle.sigstore_certificate.specs.Names.{is_matched, identity_judged, is_text, issuer_judged, names_judged}
 use Rattle.sigstore_certificate.specs.Policy.{verifies_chain, verifies_sct}
 use Rattle.sigstore_certificate.specs.Scts.{scts_in, listed, scts_of, sole, scheme_of, schemed, some_log, written, signed_data_of, key_under, log_key, good_by, counted, sct_judged}
-use Rattle.sigstore_certificate.proofs.SctLaw.{sole_means, schemed_means, sct_passes}
+use Rattle.sigstore_certificate.proofs.NamesLaw.{passes}
+use Rattle.sigstore_certificate.proofs.SctLaw.{sole_means, schemed_means, written_means, ungood_means, data_means}
 
 first : {A : Type 0} (x : A) (xs : List A) → Contains (x ∷ xs) x
 first x xs = (0, omega arith, refl)
@@ -118,73 +119,98 @@ module _ (t : Trust) (info : CertificateInfo) (leaf_der : List ℕ) (intermediat
 
   -- ---- its timestamp
 
-  abbrev SctCause : Refusal → Type 0
-  SctCause e = ((broken : SctRule) × (refusal.Sct broken ≡ e)) ⊎ (LacksLog t leaf_der × (refusal.InvalidTrustRoot ≡ e)) ⊎ (IsNoLeaf leaf_der × (refusal.Malformed ≡ e))
+  abbrev OfTimestamp : Certificate → List ℕ → Refusal → Type 0
+  OfTimestamp c issuer e = ((broken : SctRule) × SctCause t c issuer broken × (refusal.Sct broken ≡ e)) ⊎ (LacksLog t leaf_der × (refusal.InvalidTrustRoot ≡ e))
 
-  is_sct : (broken : SctRule) (e : Refusal) → ◌≡◌ {A = Result ⊤ Refusal} (Err (refusal.Sct broken)) (Err e) → SctCause e
-  is_sct broken e h = inl (broken, err_same (refusal.Sct broken) e h)
-
-  list_caused : (c : Certificate) (e : Refusal) → scts_of c ≡ Err e → SctCause e
-  list_caused c e h = by (value_of sct_oid (extensions_of c)) h
+  list_caused : (c : Certificate) (issuer : List ℕ) (e : Refusal) → scts_of c ≡ Err e → OfTimestamp c issuer e
+  list_caused c issuer e h = by (value_of sct_oid (extensions_of c)) refl h
     where
-      read : (r : Reading (List OneSct)) → scts_in r ≡ Err e → SctCause e
-      read (Ok scts) k = cc
-      read (Err x) k = inl (rule.List, err_same (refusal.Sct rule.List) e k)
+      in_list : (value : List ℕ) → value_of sct_oid (extensions_of c) ≡ Some value → (r : Reading (List OneSct)) → sct_list_of value ≡ r → scts_in r ≡ Err e → OfTimestamp c issuer e
+      in_list value there (Ok scts) is k = cc
+      in_list value there (Err fault) is k = inl (rule.List, unread value fault there is, err_same (refusal.Sct rule.List) e k)
 
-      by : (o : Option (List ℕ)) → listed o ≡ Err e → SctCause e
-      by None k = inl (rule.List, err_same (refusal.Sct rule.List) e k)
-      by (Some value) k = read (sct_list_of value) k
+      by : (o : Option (List ℕ)) → value_of sct_oid (extensions_of c) ≡ o → listed o ≡ Err e → OfTimestamp c issuer e
+      by None is k = inl (rule.List, no_extension is, err_same (refusal.Sct rule.List) e k)
+      by (Some value) is k = in_list value is (sct_list_of value) refl k
 
-  sole_caused : (scts : List OneSct) (e : Refusal) → sole scts ≡ Err e → SctCause e
-  sole_caused [] e h = inl (rule.NotOne, err_same (refusal.Sct rule.NotOne) e h)
-  sole_caused (one ∷ []) e h = cc
-  sole_caused (one ∷ other ∷ scts) e h = inl (rule.NotOne, err_same (refusal.Sct rule.NotOne) e h)
+  module _ (c : Certificate) (issuer : List ℕ) (e : Refusal) where
+    sole_caused : (scts : List OneSct) → scts_of c ≡ Ok scts → sole scts ≡ Err e → OfTimestamp c issuer e
+    sole_caused [] is h = inl (rule.NotOne, record { scts = []; listed = is; other = λ n. omega arith }, err_same (refusal.Sct rule.NotOne) e h)
+    sole_caused (one ∷ []) is h = cc
+    sole_caused (one ∷ other ∷ scts) is h =
+        inl (rule.NotOne, record { scts = one ∷ other ∷ scts; listed = is; other = λ n. omega arith }, err_same (refusal.Sct rule.NotOne) e h)
 
-  scheme_caused : (o : Option SigningScheme) (e : Refusal) → schemed o ≡ Err e → SctCause e
-  scheme_caused None e h = inl (rule.Scheme, err_same (refusal.Sct rule.Scheme) e h)
-  scheme_caused (Some scheme) e h = cc
+    scheme_caused : (sct : OneSct) → scts_of c ≡ Ok (sct ∷ []) → (o : Option SigningScheme) → scheme_of sct.algorithm ≡ o → schemed o ≡ Err e → OfTimestamp c issuer e
+    scheme_caused sct is None none h = inl (rule.Scheme, record { sct = sct; sole = is; none = none }, err_same (refusal.Sct rule.Scheme) e h)
+    scheme_caused sct is (Some scheme) none h = cc
 
-  log_caused : (c : Certificate) (sct : OneSct) (scheme : SigningScheme) (e : Refusal) → certificate_of leaf_der ≡ Ok c → scts_of c ≡ Ok (sct ∷ []) → scheme_of sct.algorithm ≡ Some scheme
-      → some_log t.ct_logs scheme ≡ Err e → SctCause e
-  log_caused c sct scheme e read is schemed_is h = by (has_key_of scheme t.ct_logs) refl h
-    where
-      by : (b : Bool) → has_key_of scheme t.ct_logs ≡ b → ◌≡◌ {A = Result ⊤ Refusal} (if b then Ok tt else Err refusal.InvalidTrustRoot) (Err e) → SctCause e
-      by true p k = cc
-      by false p k = inr (inl (record { parts = c; read = read; sct = sct; sole = is; scheme = scheme; scheme_is = schemed_is; none = p }, err_same refusal.InvalidTrustRoot e k))
+    log_caused : (sct : OneSct) (scheme : SigningScheme) → certificate_of leaf_der ≡ Ok c → scts_of c ≡ Ok (sct ∷ []) → scheme_of sct.algorithm ≡ Some scheme → some_log t.ct_logs scheme ≡ Err e
+        → OfTimestamp c issuer e
+    log_caused sct scheme read is schemed_is h = by (has_key_of scheme t.ct_logs) refl h
+      where
+        by : (b : Bool) → has_key_of scheme t.ct_logs ≡ b → ◌≡◌ {A = Result ⊤ Refusal} (if b then Ok tt else Err refusal.InvalidTrustRoot) (Err e) → OfTimestamp c issuer e
+        by true p k = cc
+        by false p k = inr (record { parts = c; read = read; sct = sct; sole = is; scheme = scheme; scheme_is = schemed_is; none = p }, err_same refusal.InvalidTrustRoot e k)
 
-  written_caused : (r : Reading (List ℕ)) (e : Refusal) → written r ≡ Err e → SctCause e
-  written_caused (Ok octets) e h = cc
-  written_caused (Err x) e h = inl (rule.Precertificate, err_same (refusal.Sct rule.Precertificate) e h)
+    module _ (sct : OneSct) (scheme : SigningScheme) (one : HasOne t c sct scheme) where
+      octets_caused : (tbs : List ℕ) → precert_of c.tbs c.signed.tail.front c.signed.tail.extensions ≡ Ok tbs → (r : Reading (List ℕ)) → signed_of sct (sha256 issuer) tbs ≡ r → written r ≡ Err e
+          → OfTimestamp c issuer e
+      octets_caused tbs tbs_is (Ok octets) is h = cc
+      octets_caused tbs tbs_is (Err fault) is h =
+          inl (rule.Precertificate, no_octets sct scheme tbs fault one tbs_is is, err_same (refusal.Sct rule.Precertificate) e h)
 
-  data_caused : (c : Certificate) (sct : OneSct) (key_hash : List ℕ) (e : Refusal) → signed_data_of c sct key_hash ≡ Err e → SctCause e
-  unfolding signed_data_of
-  data_caused c sct key_hash e h =
-      refused_at (written (precert_of c.tbs c.signed.tail.front c.signed.tail.extensions)) (λ tbs. written (signed_of sct key_hash tbs)) e h
-      (written_caused (precert_of c.tbs c.signed.tail.front c.signed.tail.extensions) e) (λ tbs p k. written_caused (signed_of sct key_hash tbs) e k)
+      part_caused : (r : Reading (List ℕ)) → precert_of c.tbs c.signed.tail.front c.signed.tail.extensions ≡ r → written r ≡ Err e → OfTimestamp c issuer e
+      part_caused (Ok tbs) is h = cc
+      part_caused (Err fault) is h = inl (rule.Precertificate, no_part sct scheme fault one is, err_same (refusal.Sct rule.Precertificate) e h)
 
-  counted_caused : (b : Bool) (e : Refusal) → counted b ≡ Err e → SctCause e
-  counted_caused true e h = cc
-  counted_caused false e h = is_sct (rule.TooFew 1 0) e h
+      data_caused : signed_data_of c sct (sha256 issuer) ≡ Err e → OfTimestamp c issuer e
+      unfolding signed_data_of
+      data_caused h =
+          refused_at (written (precert_of c.tbs c.signed.tail.front c.signed.tail.extensions)) (λ tbs. written (signed_of sct (sha256 issuer) tbs)) e h
+          (part_caused (precert_of c.tbs c.signed.tail.front c.signed.tail.extensions) refl) (λ tbs p k.
+          octets_caused tbs (written_means (precert_of c.tbs c.signed.tail.front c.signed.tail.extensions) tbs p) (signed_of sct (sha256 issuer) tbs) refl k)
 
-  judged_caused : (c : Certificate) (issuer : List ℕ) (e : Refusal) → certificate_of leaf_der ≡ Ok c → sct_judged t.accepts t.ct_logs c issuer ≡ Err e → SctCause e
-  unfolding sct_judged
-  judged_caused c issuer e read h =
-      refused_at (scts_of c) _ e h (list_caused c e) (λ scts p k.
-      refused_at (sole scts) _ e k (sole_caused scts e) (λ sct q l.
-      refused_at (schemed (scheme_of sct.algorithm)) _ e l (scheme_caused (scheme_of sct.algorithm) e) (λ scheme r m.
-      refused_at (some_log t.ct_logs scheme) _ e m
-      (log_caused c sct scheme e read (p ∙ ap Ok (sole_means scts sct q)) (schemed_means (scheme_of sct.algorithm) scheme r)) (λ u s n.
-      refused_at (signed_data_of c sct (sha256 issuer)) (λ message. counted (good_by t.accepts (key_under scheme (log_key t.ct_logs sct)) message sct.signature)) e n
-      (data_caused c sct (sha256 issuer) e)
-      (λ message v o. counted_caused (good_by t.accepts (key_under scheme (log_key t.ct_logs sct)) message sct.signature) e o)))))
+      counted_caused : (message : List ℕ) → signed_data_of c sct (sha256 issuer) ≡ Ok message → (b : Bool) → good_by t.accepts (key_under scheme (log_key t.ct_logs sct)) message sct.signature ≡ b
+          → counted b ≡ Err e → OfTimestamp c issuer e
+      counted_caused message written_is true is h = cc
+      counted_caused message written_is false is h =
+          let w = data_means c sct (sha256 issuer) message written_is in
+          let cause : IsUnsigned t c issuer = record {
+            sct = sct;
+            scheme = scheme;
+            one = one;
+            tbs = w.tbs;
+            tbs_is = w.tbs_is;
+            message = message;
+            message_is = w.message_is;
+            unsigned = ungood_means t.accepts (log_key t.ct_logs sct) scheme message sct.signature is;
+          } in
+          inl (rule.TooFew 1 0, (refl, refl, cause), err_same (refusal.Sct (rule.TooFew 1 0)) e h)
 
-  sct_caused : (issuer : List ℕ) (e : Refusal) → leaf_sct_judged t leaf_der issuer ≡ Err e → SctCause e
+    judged_caused : certificate_of leaf_der ≡ Ok c → sct_judged t.accepts t.ct_logs c issuer ≡ Err e → OfTimestamp c issuer e
+    unfolding sct_judged
+    judged_caused read h =
+        refused_at (scts_of c) _ e h (list_caused c issuer e) (λ scts p k.
+        refused_at (sole scts) _ e k (sole_caused scts p) (λ sct q l.
+        let sole_is : scts_of c ≡ Ok (sct ∷ []) = p ∙ ap Ok (sole_means scts sct q) in
+        refused_at (schemed (scheme_of sct.algorithm)) _ e l (scheme_caused sct sole_is (scheme_of sct.algorithm) refl) (λ scheme r m.
+        let scheme_is = schemed_means (scheme_of sct.algorithm) scheme r in
+        refused_at (some_log t.ct_logs scheme) _ e m (log_caused sct scheme read sole_is scheme_is) (λ u s n.
+        let one : HasOne t c sct scheme = record { sole = sole_is; scheme_is = scheme_is; some = passes (has_key_of scheme t.ct_logs) refusal.InvalidTrustRoot u s } in
+        refused_at (signed_data_of c sct (sha256 issuer)) (λ message. counted (good_by t.accepts (key_under scheme (log_key t.ct_logs sct)) message sct.signature)) e n
+        (data_caused sct scheme one)
+        (λ message v o. counted_caused sct scheme one message v (good_by t.accepts (key_under scheme (log_key t.ct_logs sct)) message sct.signature) refl o)))))
+
+  abbrev SctRefused : List ℕ → Refusal → Type 0
+  SctRefused issuer e = ((c : Certificate) × (certificate_of leaf_der ≡ Ok c) × OfTimestamp c issuer e) ⊎ (IsNoLeaf leaf_der × (refusal.Malformed ≡ e))
+
+  sct_caused : (issuer : List ℕ) (e : Refusal) → leaf_sct_judged t leaf_der issuer ≡ Err e → SctRefused issuer e
   unfolding leaf_sct_judged leaf_of
   sct_caused issuer e h = by (certificate_of leaf_der) refl h
     where
-      by : (r : Reading Certificate) → certificate_of leaf_der ≡ r → (parts_read r >>= λ c. sct_judged t.accepts t.ct_logs c issuer) ≡ Err e → SctCause e
-      by (Ok c) is k = judged_caused c issuer e is k
-      by (Err x) is k = inr (inr (record { fault = leaf.Unreadable; lacks = ap (leaf_read CodeSigning) is; malformed = refl }, err_same refusal.Malformed e k))
+      by : (r : Reading Certificate) → certificate_of leaf_der ≡ r → (parts_read r >>= λ c. sct_judged t.accepts t.ct_logs c issuer) ≡ Err e → SctRefused issuer e
+      by (Ok c) is k = inl (c, is, judged_caused c issuer e is k)
+      by (Err x) is k = inr (record { fault = leaf.Unreadable; lacks = ap (leaf_read CodeSigning) is; malformed = refl }, err_same refusal.Malformed e k)
 
   -- ---- both
 
@@ -201,17 +227,17 @@ module _ (t : Trust) (info : CertificateInfo) (leaf_der : List ℕ) (intermediat
     wider (refusal.IssuerMismatch text actual) a c = absurd c
     wider refusal.NoMemory a c = absurd c
 
-    lacking : (issuer : List ℕ) (e : Refusal) → policy.certificate ≡ Verify true → issued_at_each t info leaf_der intermediates times ≡ Ok issuer
-        → leaf_sct_judged t leaf_der issuer ≡ Err e → SctCause e → Cause t policy info leaf_der intermediates times e
-    lacking issuer e asked valid h (inl s) =
-        subst (Cause t policy info leaf_der intermediates times) s.1
-        (ap verifies_sct asked, record { issuer = issuer; valid = valid; lacks = λ has. no_both tt e (sym (sct_passes t leaf_der issuer has) ∙ h) })
-    lacking issuer e asked valid h (inr (inl s)) = subst (Cause t policy info leaf_der intermediates times) s.1 (ap verifies_sct asked, s.0)
-    lacking issuer e asked valid h (inr (inr s)) = subst (Cause t policy info leaf_der intermediates times) s.1 (ap verifies_chain asked, s.0)
+    lacking : (issuer : List ℕ) (e : Refusal) → policy.certificate ≡ Verify true → issued_at_each t info leaf_der intermediates times ≡ Ok issuer → SctRefused issuer e
+        → Cause t policy info leaf_der intermediates times e
+    lacking issuer e asked valid (inl (c, read, inl s)) =
+        subst (Cause t policy info leaf_der intermediates times) s.2
+        (ap verifies_sct asked, record { issuer = issuer; valid = valid; parts = c; read = read; cause = s.1 })
+    lacking issuer e asked valid (inl (c, read, inr s)) = subst (Cause t policy info leaf_der intermediates times) s.1 (ap verifies_sct asked, s.0)
+    lacking issuer e asked valid (inr s) = subst (Cause t policy info leaf_der intermediates times) s.1 (ap verifies_chain asked, s.0)
 
     asked_caused : (verify_sct : Bool) (issuer : List ℕ) (e : Refusal) → policy.certificate ≡ Verify verify_sct → issued_at_each t info leaf_der intermediates times ≡ Ok issuer
         → sct_asked t verify_sct leaf_der issuer ≡ Err e → Cause t policy info leaf_der intermediates times e
-    asked_caused true issuer e asked valid h = lacking issuer e asked valid h (sct_caused issuer e h)
+    asked_caused true issuer e asked valid h = lacking issuer e asked valid (sct_caused issuer e h)
     asked_caused false issuer e asked valid h = cc
 
     chain_caused : (p : CertificatePolicy) (e : Refusal) → policy.certificate ≡ p → chain_judged t p info leaf_der intermediates times ≡ Err e

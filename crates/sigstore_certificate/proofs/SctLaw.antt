@@ -67,14 +67,23 @@ good_passes accepts held scheme message signature i =
     ∙ ap (λ (b : Bool). good_by accepts (if b then Some (key_with scheme i.key.key) else None) message signature) i.sort
     ∙ i.good
 
+-- it is good by no such key
+pub ungood_means : (accepts : Judge) (held : Option VerificationKey) (scheme : SigningScheme) (message signature : List ℕ)
+    → good_by accepts (key_under scheme held) message signature ≡ false → (key : VerificationKey) → held ≡ Some key
+    → IsTrue (same_sort (key_algorithm_of key.scheme) (key_algorithm_of scheme)) → ¬ IsTrue (is_good accepts (key_with scheme key.key) message signature)
+ungood_means accepts held scheme message signature h key key_is sort good =
+    let passes : good_by accepts (key_under scheme held) message signature ≡ true =
+    good_passes accepts held scheme message signature (record { key = key; key_is = key_is; sort = sort; good = good }) in
+    cc
+
 -- ---- what was signed
 
-record IsWritten (c : Certificate) (sct : Sct) (key_hash message : List ℕ) : Type 0 where
-  tbs : List ℕ
-  tbs_is : precert_of c.tbs c.signed.tail.front c.signed.tail.extensions ≡ Ok tbs
-  message_is : signed_of sct key_hash tbs ≡ Ok message
+pub record IsWritten (c : Certificate) (sct : Sct) (key_hash message : List ℕ) : Type 0 where
+  pub tbs : List ℕ
+  pub tbs_is : precert_of c.tbs c.signed.tail.front c.signed.tail.extensions ≡ Ok tbs
+  pub message_is : signed_of sct key_hash tbs ≡ Ok message
 
-data_means : (c : Certificate) (sct : Sct) (key_hash message : List ℕ) → signed_data_of c sct key_hash ≡ Ok message → IsWritten c sct key_hash message
+pub data_means : (c : Certificate) (sct : Sct) (key_hash message : List ℕ) → signed_data_of c sct key_hash ≡ Ok message → IsWritten c sct key_hash message
 unfolding signed_data_of
 data_means c sct key_hash message h =
     let s = step_ok (written (precert_of c.tbs c.signed.tail.front c.signed.tail.extensions)) (λ tbs. written (signed_of sct key_hash tbs)) message h in

@@ -1,15 +1,24 @@
 -- What each refusal tells of the certificate.
-use Rattle.std.specs.Prelude.{◌≡◌, ◌≤◌, ℕ, List, ◌∷◌, [], Contains, false, length, Option, Some, Ok, Err, IsTrue}
+use Rattle.std.specs.Prelude.{◌≡◌, ◌≢◌, ◌≤◌, ℕ, List, ◌∷◌, [], Contains, false, length, Option, Some, None, Ok, Err, IsTrue}
+use Rattle.sha2.specs.Sha256.{sha256}
 use Rattle.jiff_core.specs.declared.timestamp.Timestamp.{Timestamp}
+use Rattle.spki_core.specs.declared.error.X509Error.{X509Error}
 use Rattle.x509_core_parts.specs.Certificates.{Certificate, certificate_of}
-use Rattle.x509_core_parts.specs.Precertificates.{precert_of}
-use Rattle.x509_core_parts.specs.Scts.{Parts as OneSct}
+use Rattle.x509_core_parts.specs.Precertificates.{sct_oid, precert_of}
+use Rattle.x509_core_parts.specs.Scts.{Parts as OneSct, sct_list_of, signed_of}
 use Rattle.der_core_parts.specs.Tlv.{IsBytes}
+use Rattle.sigstore_types_parts.specs.Instant.{at_millisecond}
 use Rattle.sigstore_types_parts.specs.TimeRange.{is_by}
+use Rattle.sigstore_crypto_parts.specs.declared.key.VerificationKey.{VerificationKey}
 use Rattle.sigstore_crypto_parts.specs.declared.scheme.SigningScheme.{SigningScheme}
-use Rattle.sigstore_crypto_parts.specs.Keyring.{has_key_of}
+use Rattle.sigstore_crypto_parts.specs.Good.{is_good}
+use Rattle.sigstore_crypto_parts.specs.Key.{key_with, same_sort}
+use Rattle.sigstore_crypto_parts.specs.Keyring.{key_at, has_key_of}
+use Rattle.sigstore_crypto_parts.specs.Scheme.{key_algorithm_of}
 use Rattle.sigstore_crypto.specs.declared.certificate_info.CertificateInfo.{CertificateInfo}
 use Rattle.sigstore_crypto.specs.declared.certificate_info.SubjectAltName.{SubjectAltName}
+use Rattle.sigstore_crypto.specs.Claims.{value_of}
+use Rattle.sigstore_crypto.specs.Info.{extensions_of}
 use Rattle.path_core.specs.declared.error.LeafFault.{LeafFault}
 use Rattle.path_core.specs.declared.error.PathError.TheVariants.{Leaf}
 use Rattle.path_core.specs.declared.purpose.Purpose.TheVariants.{CodeSigning}
@@ -20,10 +29,10 @@ use Rattle.sigstore_certificate.specs.declared.policy.IdentityMatcher.{IdentityM
 use Rattle.sigstore_certificate.specs.declared.policy.VerificationPolicy.{VerificationPolicy}
 use Rattle.sigstore_certificate.specs.declared.error.Refusal.{Refusal}
 use Rattle.sigstore_certificate.specs.declared.error.Refusal.TheVariants as refusal
+use Rattle.sigstore_certificate.specs.declared.error.SctRule.{SctRule}
 use Rattle.sigstore_certificate.specs.declared.error.SctRule.TheVariants as rule
 use Rattle.sigstore_certificate.specs.Certified.{Trust, has_authority, issued_at_each, certified_of}
 use Rattle.sigstore_certificate.specs.Error.{refusal_of_path}
-use Rattle.sigstore_certificate.specs.IsCertified.{HasSct}
 use Rattle.sigstore_certificate.specs.Names.{is_matched, is_text}
 use Rattle.sigstore_certificate.specs.Policy.{verifies_chain, verifies_sct}
 use Rattle.sigstore_certificate.specs.Scts.{scts_of, scheme_of, signed_data_of}
@@ -61,10 +70,67 @@ pub record IsLate (info : CertificateInfo) (times : List Timestamp) (time not_af
 
 -- ---- the timestamp, for the issuer at the last verified time
 
-pub record LacksSct (t : Trust) (info : CertificateInfo) (leaf : List ℕ) (intermediates : List (List ℕ)) (times : List Timestamp) : Type 0 where
+-- the certificate has no list of timestamps, or one that isn't read
+pub data HasNoList (c : Certificate) : Type 0 where
+  no_extension : value_of sct_oid (extensions_of c) ≡ None → HasNoList c
+  unread : (value : List ℕ) (fault : X509Error) → value_of sct_oid (extensions_of c) ≡ Some value → sct_list_of value ≡ Err fault
+      → HasNoList c
+
+-- its list is read, and has none, or more than one
+pub record HasNotOne (c : Certificate) : Type 0 where
+  pub scts : List OneSct
+  pub listed : scts_of c ≡ Ok scts
+  pub other : length scts ≢ 1
+
+-- it has exactly one, whose algorithm has no scheme
+pub record HasNoScheme (c : Certificate) : Type 0 where
+  pub sct : OneSct
+  pub sole : scts_of c ≡ Ok (sct ∷ [])
+  pub none : scheme_of sct.algorithm ≡ None
+
+-- it has exactly one, this one; its algorithm has this scheme, and some trusted log's key is of that sort
+pub record HasOne (t : Trust) (c : Certificate) (sct : OneSct) (scheme : SigningScheme) : Type 0 where
+  pub sole : scts_of c ≡ Ok (sct ∷ [])
+  pub scheme_is : scheme_of sct.algorithm ≡ Some scheme
+  pub some : IsTrue (has_key_of scheme t.ct_logs)
+
+-- what a log signs with it can't be written: the certificate's signed part without its timestamps can't, or is too long
+pub data IsUnwritten (t : Trust) (c : Certificate) (issuer : List ℕ) : Type 0 where
+  no_part : (sct : OneSct) (scheme : SigningScheme) (fault : X509Error) → HasOne t c sct scheme
+      → precert_of c.tbs c.signed.tail.front c.signed.tail.extensions ≡ Err fault → IsUnwritten t c issuer
+  no_octets : (sct : OneSct) (scheme : SigningScheme) (tbs : List ℕ) (fault : X509Error) → HasOne t c sct scheme
+      → precert_of c.tbs c.signed.tail.front c.signed.tail.extensions ≡ Ok tbs → signed_of sct (sha256 issuer) tbs ≡ Err fault
+      → IsUnwritten t c issuer
+
+-- it is written, and there is no key of the log of its id, used at its time and of the scheme's sort, by which the signature is good
+pub record IsUnsigned (t : Trust) (c : Certificate) (issuer : List ℕ) : Type 0 where
+  pub sct : OneSct
+  pub scheme : SigningScheme
+  pub one : HasOne t c sct scheme
+  pub tbs : List ℕ
+  pub tbs_is : precert_of c.tbs c.signed.tail.front c.signed.tail.extensions ≡ Ok tbs
+  pub message : List ℕ
+  pub message_is : signed_of sct (sha256 issuer) tbs ≡ Ok message
+  pub unsigned : (key : VerificationKey) → key_at sct.log_id (at_millisecond sct.milliseconds) t.ct_logs ≡ Some key
+      → IsTrue (same_sort (key_algorithm_of key.scheme) (key_algorithm_of scheme))
+      → ¬ IsTrue (is_good t.accepts (key_with scheme key.key) message sct.signature)
+
+-- the rule that a refusal names is the broken one, and those that come before it are kept
+abbrev pub SctCause : Trust → Certificate → List ℕ → SctRule → Type 0
+SctCause t c issuer rule.List = HasNoList c
+SctCause t c issuer rule.NotOne = HasNotOne c
+SctCause t c issuer rule.Scheme = HasNoScheme c
+SctCause t c issuer rule.Precertificate = IsUnwritten t c issuer
+SctCause t c issuer (rule.TooFew asked found) = (asked ≡ 1) × (found ≡ 0) × IsUnsigned t c issuer
+
+-- there is a path at each verified time; and for the issuer at the last of them the certificate's timestamp breaks this rule
+pub record LacksSct (t : Trust) (info : CertificateInfo) (leaf : List ℕ) (intermediates : List (List ℕ)) (times : List Timestamp)
+    (broken : SctRule) : Type 0 where
   pub issuer : List ℕ
   pub valid : issued_at_each t info leaf intermediates times ≡ Ok issuer
-  pub lacks : HasSct t leaf issuer → ⊥
+  pub parts : Certificate
+  pub read : certificate_of leaf ≡ Ok parts
+  pub cause : SctCause t parts issuer broken
 
 -- there is exactly one, its algorithm has a scheme, and no trusted log's key is of that sort
 pub record LacksLog (t : Trust) (leaf : List ℕ) : Type 0 where
@@ -78,7 +144,8 @@ pub record LacksLog (t : Trust) (leaf : List ℕ) : Type 0 where
 
 -- ---- the names
 
-pub record IsOfOther (policy : VerificationPolicy) (info : CertificateInfo) (matcher : IdentityMatcher) (actual : Option SubjectAltName) : Type 0 where
+pub record IsOfOther (policy : VerificationPolicy) (info : CertificateInfo) (matcher : IdentityMatcher)
+    (actual : Option SubjectAltName) : Type 0 where
   pub asked : policy.identity ≡ Some matcher
   pub said : info.identity ≡ actual
   pub other : is_matched matcher actual ≡ false
@@ -101,7 +168,7 @@ Cause t policy info leaf intermediates times (refusal.NotYetValid time not_befor
 Cause t policy info leaf intermediates times (refusal.Expired time not_after) =
     IsTrue (verifies_chain policy.certificate) × IsLate info times time not_after
 Cause t policy info leaf intermediates times (refusal.Sct broken) =
-    IsTrue (verifies_sct policy.certificate) × LacksSct t info leaf intermediates times
+    IsTrue (verifies_sct policy.certificate) × LacksSct t info leaf intermediates times broken
 Cause t policy info leaf intermediates times refusal.InvalidTrustRoot = IsTrue (verifies_sct policy.certificate) × LacksLog t leaf
 Cause t policy info leaf intermediates times (refusal.IdentityMismatch matcher actual) = IsOfOther policy info matcher actual
 Cause t policy info leaf intermediates times (refusal.IssuerMismatch text actual) = IsByOther policy info text actual
@@ -123,5 +190,5 @@ pub record IsTooLong (c : Certificate) : Type 0 where
 
 -- for a certificate that was read it can't be written only where it is too long
 abbrev pub WrittenUnlessLong : Type 0
-WrittenUnlessLong = (bytes : List ℕ) (c : Certificate) (sct : OneSct) (key_hash : List ℕ) (e : Refusal) → IsBytes bytes → certificate_of bytes ≡ Ok c
-    → signed_data_of c sct key_hash ≡ Err e → (e ≡ refusal.Sct rule.Precertificate) × IsTooLong c
+WrittenUnlessLong = (bytes : List ℕ) (c : Certificate) (sct : OneSct) (key_hash : List ℕ) (e : Refusal) → IsBytes bytes
+    → certificate_of bytes ≡ Ok c → signed_data_of c sct key_hash ≡ Err e → (e ≡ refusal.Sct rule.Precertificate) × IsTooLong c

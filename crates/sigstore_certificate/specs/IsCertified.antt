@@ -105,4 +105,5 @@ pub record IsCertified (t : Trust) (policy : VerificationPolicy) (info : Certifi
 -- the judgement accepts exactly the certificates that are to be accepted
 abbrev pub CertifiedExactly : Type 0
 CertifiedExactly = (t : Trust) (policy : VerificationPolicy) (info : CertificateInfo) (leaf : List ℕ) (intermediates : List (List ℕ))
-    (times : List Timestamp) → (certified_of t policy info leaf intermediates times ≡ Ok tt) ↔ IsCertified t policy info leaf intermediates times
+    (times : List Timestamp)
+    → (certified_of t policy info leaf intermediates times ≡ Ok tt) ↔ IsCertified t policy info leaf intermediates times

@@ -9,7 +9,8 @@ use Rattle.x509_core_parts.specs.Scts.{Parts as Sct, sct_list_of, signed_of}
 use Rattle.sigstore_types_parts.specs.Instant.{at_millisecond}
 use Rattle.sigstore_crypto_parts.specs.declared.key.VerificationKey.{VerificationKey}
 use Rattle.sigstore_crypto_parts.specs.declared.scheme.SigningScheme.{SigningScheme}
-use Rattle.sigstore_crypto_parts.specs.declared.scheme.SigningScheme.TheVariants.{EcdsaP256Sha256, EcdsaP384Sha384, RsaPkcs1Sha256, RsaPkcs1Sha384, RsaPkcs1Sha512}
+use Rattle.sigstore_crypto_parts.specs.declared.scheme.SigningScheme.TheVariants.{EcdsaP256Sha256, EcdsaP384Sha384}
+use Rattle.sigstore_crypto_parts.specs.declared.scheme.SigningScheme.TheVariants.{RsaPkcs1Sha256, RsaPkcs1Sha384, RsaPkcs1Sha512}
 use Rattle.sigstore_crypto_parts.specs.Good.{Judge, is_good}
 use Rattle.sigstore_crypto_parts.specs.Key.{key_with, same_sort}
 use Rattle.sigstore_crypto_parts.specs.Keyring.{Ring, key_at, has_key_of}

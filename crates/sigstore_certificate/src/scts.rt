@@ -1,10 +1,8 @@
 // The timestamp of a log of certificates in a certificate (RFC 6962, sections 3.2 and 3.3).
-ghost use Rattle.std.specs.Prelude.{◌≡◌, ◌≢◌, bytes_eq, Ok, Err, IfOk, IfErr, option_copied};
+ghost use Rattle.std.specs.Prelude.{◌≡◌, ◌≢◌, Ok, Err, IfOk, IfErr, option_copied};
 ghost use Rattle.sha2.specs.Sha256.{sha256};
 ghost use Rattle.x509_core_parts.specs.Precertificates.{sct_oid};
 ghost use Rattle.x509_core_parts.specs.Views.{certificate_parts};
-ghost use Rattle.x509_core_parts.specs.Walk.{coming};
-ghost use Rattle.sigstore_crypto.specs.Claims.{value_of};
 ghost use Rattle.sigstore_crypto_parts.specs.Good.{is_good};
 ghost use Rattle.sigstore_crypto_parts.specs.Key.{same_sort};
 ghost use Rattle.sigstore_crypto_parts.specs.Keyring.{has_key_of, key_at};
@@ -13,24 +11,15 @@ ghost use Rattle.sigstore_certificate.specs.Scts.{scts_in, listed, scts_of, sole
 use crate::digitally_signed::DigitallySigned;
 use crate::error::{Refusal, SctRule};
 use foundation::{NoMemory, Sequence};
-use sigstore_crypto::{CryptoProvider, Keyring, SigningScheme, VerificationKey, sha256};
+use sigstore_crypto::{
+    CryptoProvider, Keyring, SigningScheme, VerificationKey, extension_value, sha256,
+};
 use sigstore_types_parts::{Bytes, Sha256Hash, SignatureBytes, at_millisecond};
 use std::alloc::Global;
-use x509_core_parts::{CertView, Extensions, Sct, X509Error, sct_list};
+use x509_core_parts::{CertView, Sct, X509Error, sct_list};
 
 // The contents of the identifier 1.3.6.1.4.1.11129.2.4.2 (RFC 6962, 3.3).
 const SCT_OID: [u8; 10] = [43, 6, 1, 4, 1, 214, 121, 2, 4, 2];
-
-fn value_of<'a>(extensions: Extensions<'a>, oid: &[u8]) -> Option<&'a [u8]>
-    ensures { option_copied result ≡ value_of oid.now (coming extensions.entry) }
-{
-    'extensions: for extension in extensions {
-        if extension.oid == oid {
-            return Some(extension.value);
-        }
-    }
-    None
-}
 
 fn listed(alloc: Global, value: Option<&[u8]>) -> Result<Sequence<Sct>, Refusal>
     ensures ok { IfOk result (λ scts. listed (option_copied value.entry) ≡ Ok scts) }
@@ -53,7 +42,7 @@ fn scts_of(alloc: Global, certificate: &CertView) -> Result<Sequence<Sct>, Refus
 {
     match listed(
         alloc,
-        value_of(certificate.each_extension(), SCT_OID.as_slice()),
+        extension_value(certificate.each_extension(), SCT_OID.as_slice()),
     ) {
         Ok(scts) => Ok(scts),
         Err(e) => Err(e),

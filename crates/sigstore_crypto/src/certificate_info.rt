@@ -6,7 +6,7 @@ ghost use Rattle.x509_core_parts.specs.Walk.{coming};
 ghost use Rattle.sigstore_crypto.specs.Info.{text_of, identity_in, identity_of, moment_of, info_of_parts, info_of};
 ghost use Rattle.sigstore_crypto.specs.Names.{said};
 
-use crate::claims::{FulcioCiClaims, read_claims, read_issuer, value_of};
+use crate::claims::{FulcioCiClaims, extension_value, read_claims, read_issuer};
 use crate::names::{FoundName, read_names};
 use der_core::Civil;
 use foundation::{Duplicate, NoMemory};
@@ -113,7 +113,7 @@ fn read_identity(alloc: Global, extensions: Extensions) -> Result<Option<Subject
     ensures err { IfErr result (λ e. e ≢ Error.NoMemory → identity_of (coming extensions.entry) ≡ Err e) }
 {
     // id-ce-subjectAltName, 2.5.29.17.
-    match identity_in(alloc, value_of(extensions, &[0x55, 0x1d, 0x11])) {
+    match identity_in(alloc, extension_value(extensions, &[0x55, 0x1d, 0x11])) {
         Ok(identity) => Ok(identity),
         Err(refusal) => Err(refusal),
     }

@@ -148,8 +148,8 @@ impl DeprecatedGitHubClaims {
     }
 }
 
-/// The value of the extension with this identifier; no memory is taken.
-pub fn value_of<'a>(extensions: Extensions<'a>, oid: &[u8]) -> Option<&'a [u8]>
+/// The value of the extension with this identifier, of which a certificate has at most one; no memory is taken.
+pub fn extension_value<'a>(extensions: Extensions<'a>, oid: &[u8]) -> Option<&'a [u8]>
     ensures { option_copied result ≡ value_of oid.now (coming extensions.entry) }
 {
     'extensions: for extension in extensions {
@@ -165,7 +165,7 @@ fn fulcio_value<'a>(extensions: Extensions<'a>, number: u8) -> Option<&'a [u8]>
     ensures { option_copied result ≡ fulcio_value number (coming extensions.entry) }
 {
     let oid = [0x2b, 0x06, 0x01, 0x04, 0x01, 0x83, 0xbf, 0x30, 0x01, number];
-    value_of(extensions, &oid)
+    extension_value(extensions, &oid)
 }
 
 fn text_in(contents: &[u8]) -> Result<&str, DerError>

@@ -6,7 +6,7 @@ mod claims;
 mod names;
 
 pub use certificate_info::{CertificateInfo, SubjectAltName, parse_certificate_info};
-pub use claims::{DeprecatedGitHubClaims, FulcioCiClaims};
+pub use claims::{DeprecatedGitHubClaims, FulcioCiClaims, extension_value};
 pub use sigstore_crypto_parts::{
     ArtifactHasher, ArtifactSource, CertificateFault, CheckpointFault, CryptoProvider, Error,
     FileSource, HashUpdate, HashedMessage, KeyAlgorithm, KeyPair, KeyRule, Keyring, KeysByHint,

@@ -48,7 +48,7 @@ use Rattle.sigstore_judgement.specs.declared.evidence.Evidence.{Evidence}
 use Rattle.sigstore_judgement.specs.declared.policy.PublicKeyVerificationPolicy.{PublicKeyVerificationPolicy}
 use Rattle.sigstore_judgement.specs.declared.trust.Material.{Material}
 use Rattle.sigstore_judgement.specs.Artifact.{Read, read_kind, digest_of}
-use Rattle.sigstore_judgement.specs.Cause.{IsRefusedAs, IsRead, IsKept, HasSigner, HasScheme, LacksScheme, key_unread, no_scheme, no_hasher, LacksEntry, no_entry, no_proof}
+use Rattle.sigstore_judgement.specs.Cause.{IsRefusedAs, IsRead, IsKept, HasSigner, HasScheme, LacksScheme, key_unread, no_scheme, no_hasher, LacksEntry, no_entry, no_proof, IsOfPromise}
 use Rattle.sigstore_judgement.specs.Cause.{unread, no_statement, no_subject, other_type, no_digest, IsUndescribed, IsUncertified, JudgeCause}
 use Rattle.sigstore_judgement.specs.Claim.{Claim, is_in_toto, typed_of, or_invalid, subjects_of, digested_of, statement_judged_of, stated_of, claim_of, needed_of, is_bound}
 use Rattle.sigstore_judgement.specs.Content.{scheme_of, signs_digest, supported_of, signature_in, signed_in, is_signed, first_refusal, content_judged_of}
@@ -444,11 +444,11 @@ module _ (asked : Asked) (file : List ℕ) (source source' : Watched (List ℕ))
 
       -- a promise that tells a time isn't its log's
       unpromised : (e : Error) → promises_judged_of grounds (entries_in reading) ≡ Err e → Cause e
-      unpromised e h = let u = promises_refused grounds (entries_in reading) e h in subst Cause u.named (by_why u u.why refl u.cause)
+      unpromised e h = let u = promises_refused grounds (entries_in reading) e h in subst Cause u.named (by_why u u.why u.of_promise u.cause)
         where
-          as_is : (u : Unpromised grounds (entries_in reading) e) (why : LogError) → LogCause asked.crypto.accepts material.logs asked.now u.entry why → (fault : TransparencyLogError)
+          as_is : (u : Unpromised grounds (entries_in reading) e) (why : LogError) → IsOfPromise why → LogCause asked.crypto.accepts material.logs asked.now u.entry why → (fault : TransparencyLogError)
               → error_of_log why ≡ verify.TransparencyLog fault → Cause (verify.TransparencyLog fault)
-          as_is u why cause fault named = inr (inl (inr (record {
+          as_is u why may cause fault named = inr (inl (inr (record {
             material = material;
             kept = kept;
             policy = policy;
@@ -462,18 +462,19 @@ module _ (asked : Asked) (file : List ℕ) (source source' : Watched (List ℕ))
             time = u.time;
             tells = u.tells;
             why = why;
+            of_promise = may;
             named = named;
             cause = cause;
           })))
 
-          by_why : (u : Unpromised grounds (entries_in reading) e) (why : LogError) → u.why ≡ why → LogCause asked.crypto.accepts material.logs asked.now u.entry why → Cause (error_of_log why)
-          by_why u entry.InclusionProof is cause = as_is u entry.InclusionProof cause log.InclusionProof refl
-          by_why u entry.Checkpoint is cause = as_is u entry.Checkpoint cause log.Checkpoint refl
-          by_why u entry.MalformedEntry is cause = as_is u entry.MalformedEntry cause log.MalformedEntry refl
-          by_why u (entry.UnknownLog id) is cause = as_is u (entry.UnknownLog id) cause (log.UnknownLog id) refl
-          by_why u entry.InclusionPromise is cause = as_is u entry.InclusionPromise cause log.InclusionPromise refl
-          by_why u entry.IntegratedTime is cause = as_is u entry.IntegratedTime cause log.IntegratedTime refl
-          by_why u entry.NoMemory is cause = absurd cause
+          by_why : (u : Unpromised grounds (entries_in reading) e) (why : LogError) → IsOfPromise why → LogCause asked.crypto.accepts material.logs asked.now u.entry why → Cause (error_of_log why)
+          by_why u entry.InclusionProof may cause = absurd may
+          by_why u entry.Checkpoint may cause = absurd may
+          by_why u entry.MalformedEntry may cause = as_is u entry.MalformedEntry may cause log.MalformedEntry refl
+          by_why u (entry.UnknownLog id) may cause = as_is u (entry.UnknownLog id) may cause (log.UnknownLog id) refl
+          by_why u entry.InclusionPromise may cause = as_is u entry.InclusionPromise may cause log.InclusionPromise refl
+          by_why u entry.IntegratedTime may cause = as_is u entry.IntegratedTime may cause log.IntegratedTime refl
+          by_why u entry.NoMemory may cause = absurd cause
 
       -- there is no time
       timeless : (stamped promised : List Timestamp) → tokens_judged_of grounds (signature_in reading.content) (tokens_in reading) ≡ Ok stamped

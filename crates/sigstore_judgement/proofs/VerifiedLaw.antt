@@ -1,21 +1,28 @@
 -- The verified times are exactly those that tokens and promises tell.
-use Rattle.std.proofs.Common.{◌≡◌, ◌≢◌, ℕ, List, [], ◌∷◌, ◌++◌, Option, Some, None, Result, Ok, Err, refl, sym, ap, ◌∙◌}
-use Rattle.std.specs.Prelude.{filter_map, Contains}
+use Rattle.std.proofs.Common.{◌≡◌, ◌≢◌, ℕ, ℤ, List, [], ◌∷◌, ◌++◌, length, nat_eq, Bool, true, false, ◌&&◌, not, if◌then◌else◌, Option, Some, None, Result, Ok, Err, ok_or, refl, sym, ap, subst, ◌∙◌}
+use Rattle.std.specs.Prelude.{⊤, filter_map, Contains}
 use Rattle.std.specs.List.{cons_option}
 use Rattle.jiff_core.specs.declared.timestamp.Timestamp.{Timestamp}
 use Rattle.foundation.specs.Steps.{◌>>=◌}
 use Rattle.foundation.specs.Results.{step_ok, ok_same, err_same, refused_at}
+use Rattle.sigstore_types_parts.specs.Instant.{at_second}
+use Rattle.sigstore_crypto_parts.specs.declared.key.VerificationKey.{VerificationKey}
+use Rattle.sigstore_crypto_parts.specs.Good.{Judge}
+use Rattle.sigstore_crypto_parts.specs.Keyring.{Ring, key_at, key_by}
 use Rattle.sigstore_types.specs.declared.bundle.Bundle.{Bundle}
 use Rattle.sigstore_types.specs.Bundle.{entries_in, tokens_in}
 use Rattle.sigstore_entries.specs.declared.entry.TransparencyLogEntry.{TransparencyLogEntry}
+use Rattle.sigstore_entries.specs.Promise.{payload_of}
 use Rattle.sigstore_log.specs.declared.error.LogError.{LogError}
+use Rattle.sigstore_log.specs.declared.error.LogError.TheVariants as refusal
 use Rattle.sigstore_log.specs.Cause.{LogCause}
-use Rattle.sigstore_log.specs.Promise.{told_time, promise_judged}
+use Rattle.sigstore_log.specs.Promise.{id_of, key_of, is_promised, promise_of, tells_time, is_past_or_now, time_judged, told_time, promise_judged}
 use Rattle.sigstore_log.proofs.CauseLaw.{unpromised}
 use Rattle.sigstore_log.proofs.Promising.{promise_means, promise_passes}
 use Rattle.sigstore_judgement.specs.declared.error.Error.{Error}
 use Rattle.sigstore_judgement.specs.declared.error.Error.TheVariants as verify
 use Rattle.sigstore_judgement.specs.declared.error.TimestampError.TheVariants.{NoVerifiedTimestamp}
+use Rattle.sigstore_judgement.specs.Cause.{IsOfPromise}
 use Rattle.sigstore_judgement.specs.Content.{signature_in}
 use Rattle.sigstore_judgement.specs.Error.{by_log, error_of_log}
 use Rattle.sigstore_judgement.specs.Grounds.{Grounds}
@@ -23,6 +30,40 @@ use Rattle.sigstore_judgement.specs.Tokens.{tokens_judged_of, AreStamped}
 use Rattle.sigstore_judgement.specs.Verified.{promised_if, promised_of, promises_judged_of, some_time, verified_of, IsTold, AreTold, AreVerified}
 use Rattle.sigstore_judgement.proofs.EntryCauses.{among_first, among_later, passed_log, through_log}
 use Rattle.sigstore_judgement.proofs.TokenLaw.{are_stamped, stamped_pass}
+
+-- ---- what a promise is refused for
+
+unless : {A : Type 0} (b : Bool) (x : A) (d e : LogError) → IsOfPromise d → ◌≡◌ {A = Result A LogError} (if b then Ok x else Err d) (Err e) → IsOfPromise e
+unless true x d e may h = cc
+unless false x d e may h = subst IsOfPromise (err_same d e h) may
+
+where_ahead : (b : Bool) (d e : LogError) → IsOfPromise d → ◌≡◌ {A = Result ⊤ LogError} (if b then Err d else Ok tt) (Err e) → IsOfPromise e
+where_ahead true d e may h = subst IsOfPromise (err_same d e h) may
+where_ahead false d e may h = cc
+
+without : (o : Option VerificationKey) (d e : LogError) → IsOfPromise d → ok_or o d ≡ Err e → IsOfPromise e
+without None d e may h = subst IsOfPromise (err_same d e h) may
+without (Some key) d e may h = cc
+
+module _ (accepts : Judge) (logs : Ring) (now : Timestamp) (entry : TransparencyLogEntry) (e : LogError) where
+  keyless : (id : List ℕ) (time : Option ℤ) → key_of logs now id time ≡ Err e → IsOfPromise e
+  keyless id (Some time) h = without (key_at id (at_second time) logs) refusal.InclusionPromise e tt h
+  keyless id None h = without (key_by id now logs) (refusal.UnknownLog id) e tt h
+
+  of_no_log : (promise : List ℕ) → promise_of accepts logs now entry promise ≡ Err e → IsOfPromise e
+  unfolding promise_of
+  of_no_log promise h =
+      refused_at (id_of entry.log_id.key_id) _ e h (unless (nat_eq (length entry.log_id.key_id) 32) entry.log_id.key_id refusal.MalformedEntry e tt) (λ (id : List ℕ) p k.
+      refused_at (key_of logs now id entry.integrated_time) _ e k (keyless id entry.integrated_time)
+      (λ (key : VerificationKey) q l. unless (is_promised accepts key (payload_of entry) promise) tt refusal.InclusionPromise e tt l))
+
+  -- a promise's judgement answers nothing of a proof or a checkpoint
+  of_promise : (o : Option (List ℕ)) → promise_judged accepts logs now entry o ≡ Err e → IsOfPromise e
+  of_promise None h = cc
+  of_promise (Some promise) h =
+      refused_at (promise_of accepts logs now entry promise) _ e h (of_no_log promise) (λ u p k.
+      refused_at (time_judged now entry) _ e k (where_ahead (tells_time entry.kind_version && not (is_past_or_now now entry.integrated_time)) refusal.IntegratedTime e tt)
+      (λ v q l. cc))
 
 -- ---- promises
 
@@ -64,6 +105,7 @@ module _ (grounds : Grounds) where
     pub time : Timestamp
     pub tells : told_time entry ≡ Some time
     pub why : LogError
+    pub of_promise : IsOfPromise why
     pub named : error_of_log why ≡ e
     pub cause : LogCause grounds.crypto.accepts grounds.material.logs grounds.now entry why
 
@@ -84,6 +126,7 @@ module _ (grounds : Grounds) where
             time = time;
             tells = is;
             why = d.0;
+            of_promise = of_promise grounds.crypto.accepts grounds.material.logs grounds.now x d.0 x.inclusion_promise d.1;
             named = d.2;
             cause = unpromised grounds.crypto.accepts grounds.material.logs grounds.now x d.0 x.inclusion_promise refl d.1;
           }
@@ -95,6 +138,7 @@ module _ (grounds : Grounds) where
         time = u.time;
         tells = u.tells;
         why = u.why;
+        of_promise = u.of_promise;
         named = u.named;
         cause = u.cause;
       }

@@ -21,6 +21,7 @@ use Rattle.sigstore_entries.specs.declared.entry.TransparencyLogEntry.{Transpare
 use Rattle.sigstore_crypto.specs.declared.certificate_info.CertificateInfo.{CertificateInfo}
 use Rattle.sigstore_crypto.specs.Info.{info_of}
 use Rattle.sigstore_log.specs.declared.error.LogError.{LogError}
+use Rattle.sigstore_log.specs.declared.error.LogError.TheVariants.{InclusionProof, Checkpoint}
 use Rattle.sigstore_log.specs.Cause.{LogCause}
 use Rattle.sigstore_log.specs.Promise.{told_time}
 use Rattle.sigstore_certificate.specs.declared.error.Refusal.{Refusal}
@@ -73,8 +74,8 @@ IsUnusable file e = (trust : TrustedRoot) × (trusted_root_of_bytes file ≡ Ok 
 -- the bundle has no reading; or it is read, and the payload of its envelope is no statement, or one without a subject
 pub data IsInvalid (bundle : List ℕ) : Type 0 where
   unread : IsRefusedAs bundle_fault (bundle_of_bytes bundle) verify.InvalidBundle → IsInvalid bundle
-  no_statement : (reading : Bundle) (envelope : DsseEnvelope) (e : TypesError) → IsRead bundle reading → reading.content ≡ OfEnvelope envelope
-      → statement_of_bytes envelope.payload ≡ Err e → IsInvalid bundle
+  no_statement : (reading : Bundle) (envelope : DsseEnvelope) (e : TypesError) → IsRead bundle reading
+      → reading.content ≡ OfEnvelope envelope → statement_of_bytes envelope.payload ≡ Err e → IsInvalid bundle
   no_subject : (reading : Bundle) (envelope : DsseEnvelope) (statement : Statement) → IsRead bundle reading
       → reading.content ≡ OfEnvelope envelope → statement_of_bytes envelope.payload ≡ Ok statement → statement.subjects ≡ []
       → IsInvalid bundle
@@ -125,8 +126,8 @@ pub record LacksCertificate (asked : Asked) : Type 0 where
   pub read : IsRead asked.bundle reading
   pub none : certificate_in reading ≡ None
 
--- the signing certificate of the bundle that was read says nothing of its owner: it isn't read, or its key is of no known sort, or its names
--- aren't read
+-- the signing certificate of the bundle that was read says nothing of its owner: it isn't read, or its key is of no known sort, or its
+-- names aren't read
 pub record SaysNothing (asked : Asked) (fault : CertificateError) : Type 0 where
   pub policy : VerificationPolicy
   pub under : asked.policy ≡ Certificate policy
@@ -256,8 +257,14 @@ pub record LacksTime (asked : Asked) (source source' : Watched (List ℕ)) (faul
   pub promises : filter_map told_time (entries_in reading) ≡ []
   pub named : fault ≡ stamp.NoVerifiedTimestamp
 
--- the policy is for certificates, the artifact was read whole, and the promise of some entry tells a time and isn't its log's, or its time is
--- after now
+-- what a promise alone may be refused for: neither its entry's proof nor a checkpoint
+abbrev pub IsOfPromise : LogError → Type 0
+IsOfPromise InclusionProof = ⊥
+IsOfPromise Checkpoint = ⊥
+IsOfPromise _ = ⊤
+
+-- the policy is for certificates, the artifact was read whole, and the promise of some entry tells a time and isn't its log's, or its time
+-- is after now
 pub record IsUnpromised (asked : Asked) (file : List ℕ) (source source' : Watched (List ℕ)) (fault : TransparencyLogError) : Type 0 where
   pub material : Material
   pub kept : IsKept file material
@@ -272,6 +279,7 @@ pub record IsUnpromised (asked : Asked) (file : List ℕ) (source source' : Watc
   pub time : Timestamp
   pub tells : told_time entry ≡ Some time
   pub why : LogError
+  pub of_promise : IsOfPromise why
   pub named : error_of_log why ≡ verify.TransparencyLog fault
   pub cause : LogCause asked.crypto.accepts material.logs asked.now entry why
 

@@ -119,8 +119,8 @@ abbrev pub IsBound : Claim → Artifact → Type 0
 IsBound (OfDigest told) artifact = IsTold told artifact
 IsBound (OfStatement statement) artifact = (subject : Subject) × Contains statement.subjects subject × IsSubject artifact subject
 
--- it is of another: a digest of a message that isn't the artifact's by the algorithm that is told with it, or a statement of which no subject
--- is the artifact
+-- it is of another: a digest of a message that isn't the artifact's by the algorithm that is told with it, or a statement of which no
+-- subject is the artifact
 abbrev pub IsOfOther : Claim → Artifact → Type 0
 IsOfOther (OfDigest told) artifact = (one : MessageDigest) × (told ≡ Some one) × (digest_of artifact one.algorithm ≢ Some one.digest)
 IsOfOther (OfStatement statement) artifact = (subject : Subject) → Contains statement.subjects subject → IsSubject artifact subject → ⊥

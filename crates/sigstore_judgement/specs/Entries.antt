@@ -1,6 +1,7 @@
 -- The entries of a bundle under the logs that are trusted (RFC 6962, sections 2.1.1 and 3.2; C2SP tlog-checkpoint), and what they say of
 -- the bundle.
-use Rattle.std.specs.Prelude.{◌≡◌, Contains, List, [], ◌∷◌, ◌++◌, filter_map, Bool, true, false, if◌then◌else◌, Option, Some, None, Result, Ok, Err, ⊤, IsTrue}
+use Rattle.std.specs.Prelude.{◌≡◌, Contains, List, [], ◌∷◌, ◌++◌, filter_map, Bool, true, false, if◌then◌else◌, ⊤, IsTrue}
+use Rattle.std.specs.Prelude.{Option, Some, None, Result, Ok, Err}
 use Rattle.std.specs.List.{cons_option}
 use Rattle.foundation.specs.Steps.{◌>>=◌}
 use Rattle.jiff_core.specs.declared.timestamp.Timestamp.{Timestamp}
@@ -45,7 +46,8 @@ timely_of signer time = if is_timely signer time then Ok time else Err (Transpar
 
 -- an entry is logged, or the first check that fails; it shows the time that its log promised
 abbrev pub entry_judged_of : Grounds → Signer → TransparencyLogEntry → Result (Option Timestamp) Error
-entry_judged_of grounds signer entry = by_log (logged_of grounds.crypto.accepts grounds.material.logs grounds.now entry) >>= timely_of signer
+entry_judged_of grounds signer entry =
+    by_log (logged_of grounds.crypto.accepts grounds.material.logs grounds.now entry) >>= timely_of signer
 
 -- the times that logs promised, in the entries' order; each entry is logged (else a good one would cover for one that is made up), and the
 -- first that isn't refuses

@@ -92,7 +92,7 @@ judged_under crypto now policy trust bundle artifact =
     material_of trust >>= λ material. judged_of (terms_with crypto material now policy) bundle artifact
 
 -- the promise of a verification that makes its verifier: that of the trust file comes first
-pub record VerifiesUnder (crypto : Crypto) (now : Timestamp) (policy : Meaning) (trust : TrustedRoot) (bundle : Bundle) (artifact : Artifact)
-    (result : Result VerificationResult Error) : Type 0 where
+pub record VerifiesUnder (crypto : Crypto) (now : Timestamp) (policy : Meaning) (trust : TrustedRoot) (bundle : Bundle)
+    (artifact : Artifact) (result : Result VerificationResult Error) : Type 0 where
   pub accepted : IfOk result (λ report. judged_under crypto now policy trust bundle artifact ≡ Ok report)
   pub refused : IfErr result (λ e. e ≢ NoMemory → judged_under crypto now policy trust bundle artifact ≡ Err e)

@@ -73,8 +73,8 @@ pub data JudgesBundle (asked : Asked) (file : List ℕ) (source source' : Watche
       → bundle_of asked.bundle ≡ Ok read → VerifiesKept (terms_of asked material) read source source' asked.max result
       → JudgesBundle asked file source source' result
 
--- What is made of a trust file and of an artifact's bytes: the trust file is read and can be used, the bundle is read, and it is judged over
--- the bytes; the first that refuses answers.
+-- What is made of a trust file and of an artifact's bytes: the trust file is read and can be used, the bundle is read, and it is judged
+-- over the bytes; the first that refuses answers.
 unfoldable pub verdict_by : Asked → List ℕ → List ℕ → Result Kept Error
 verdict_by asked file bytes = do
   trust ← trust_of file

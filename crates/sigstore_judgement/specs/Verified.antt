@@ -19,8 +19,8 @@ use Rattle.sigstore_judgement.specs.Tokens.{tokens_judged_of, AreStamped}
 
 -- ---- promises
 
--- Where an entry's promise tells a time, the promise is the log's, and its time isn't after now: else whoever wrote the bundle chose when it
--- was signed. An entry without such a time says nothing here.
+-- Where an entry's promise tells a time, the promise is the log's, and its time isn't after now: else whoever wrote the bundle chose when
+-- it was signed. An entry without such a time says nothing here.
 abbrev pub promised_if : Grounds → TransparencyLogEntry → Option jiff.Timestamp → Result (Option jiff.Timestamp) Error
 promised_if grounds entry None = Ok None
 promised_if grounds entry (Some time) =

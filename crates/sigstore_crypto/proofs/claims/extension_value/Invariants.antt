@@ -1,7 +1,7 @@
 use Rattle.std.proofs.Common.{◌≡◌}
 use Rattle.x509_core_parts.specs.Walk.{coming}
 use Rattle.sigstore_crypto.specs.Claims.{value_of}
-use Rattle.path_core.proofs.extensions.value_of.Given as goal
+use Rattle.sigstore_crypto.proofs.claims.extension_value.Given as goal
 
 -- no extension that was passed has the identifier
 abbrev pub invariant-extensions : goal.invariant-extensions
