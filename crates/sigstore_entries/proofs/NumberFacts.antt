@@ -37,7 +37,7 @@ decimal_refused ds (Err f) e h q p =
 
 -- ---- texts as `parse` reads them
 
-both : (a b : Bool) → a ≡ true → b ≡ true → (a && b) ≡ true
+pub both : (a b : Bool) → a ≡ true → b ≡ true → (a && b) ≡ true
 both true b h k = k
 both false b h k = cc h
 
@@ -51,7 +51,7 @@ given_by (Err e) P v false h to from = refl
 numeral_to : (ds : List ℕ) → are_digits ds ≡ true → IsNumeral 10 ds
 numeral_to ds h = let parts = and_true _ _ h in (ltb-true _ _ parts.0, digits.to ds parts.1)
 
-numeral_from : (ds : List ℕ) → IsNumeral 10 ds → are_digits ds ≡ true
+pub numeral_from : (ds : List ℕ) → IsNumeral 10 ds → are_digits ds ≡ true
 numeral_from ds h = both _ _ (lt-ltb _ _ h.0) (digits.from ds h.1)
 
 pub unsigned_read : {E : Type 0} (text : List ℕ) (r : Result ℕ E) → ParsesUnsigned 64 10 text r → result_ok r ≡ unsigned_of text

@@ -11,7 +11,7 @@ use Rattle.std.proofs.Math.Seq.{take-append_seam}
 use Rattle.foundation.specs.Steps.{◌>>=◌}
 use Rattle.foundation.specs.Results.{step_ok, ok_same, no_both}
 use Rattle.sigstore_types_parts.specs.declared.error.CheckpointRule.{CheckpointRule}
-use Rattle.sigstore_types_parts.specs.declared.error.CheckpointRule.TheVariants.{Origin, Size, Root, Extension}
+use Rattle.sigstore_types_parts.specs.declared.error.CheckpointRule.TheVariants.{Origin, Size, Root, Extension, Signature}
 use Rattle.sigstore_types_parts.specs.declared.error.TypesError.{TypesError}
 use Rattle.sigstore_types_parts.specs.declared.error.TypesError.TheVariants.{Checkpoint as broken}
 use Rattle.sigstore_entries.specs.declared.checkpoint.Checkpoint.{Checkpoint}
@@ -170,9 +170,9 @@ signed_before (line ∷ next ∷ lines) others h text e =
 -- ---- the whole
 
 -- the checkpoint of what was read
-abbrev made_of : List ℕ → List ℕ → ℕ → List ℕ → List CheckpointSignature → Checkpoint
-made_of text origin size root signatures = record {
-  text = text;
+abbrev made_of : List ℕ → List ℕ → List ℕ → ℕ → List ℕ → List CheckpointSignature → Checkpoint
+made_of whole text origin size root signatures = record {
+  text = whole;
   signed_length = length (signed_of (lines_of text));
   origin = origin;
   tree_size = size;
@@ -207,6 +207,14 @@ signed_lines text a b c others e f g h =
     let second : (t : List ℕ) → lines_of t ≡ a.1 → Signed t a.1 others = λ t e. signed_more t size.line a.1 b.1 others e size.ended (size_some size.line b.0 size.read) third in
     signed_more text origin.line (lines_of text) a.1 others refl origin.ended (origin_some origin.line a.0 origin.read) second
 
+-- the whole is the text
+whole_same : (text whole : List ℕ) → text_of Signature text ≡ Ok whole → text ≡ whole
+whole_same text whole h =
+    let go = elim (utf8_valid_len text == length text) as (λ v. cond v (Ok text) (Err (broken Signature)) ≡ Ok whole → text ≡ whole) [
+      | true ↦ λ h. ok_same _ _ h
+      | false ↦ λ h. no_both _ _ (sym h)
+    ] in go h
+
 pub parted : CheckpointsAreParted
 unfolding checkpoint_of
 parted text checkpoint h =
@@ -215,9 +223,11 @@ parted text checkpoint h =
     let c = step_ok (line_of Root root_of b.0.1) _ checkpoint b.2 in
     let d = step_ok (behind_extensions c.0.1) _ checkpoint c.2 in
     let e = step_ok (signatures_of d.0) _ checkpoint d.2 in
-    let made = made_of text a.0.0 b.0.0 c.0.0 e.0 in
-    let is : made ≡ checkpoint = ok_same _ _ e.2 in
-    subst (IsParted text) is (parted_by text made d.0 (signed_lines text a.0 b.0 c.0 d.0 a.1 b.1 c.1 d.1) e.1 refl refl)
+    let f = step_ok (text_of Signature text) _ checkpoint e.2 in
+    let made = made_of text text a.0.0 b.0.0 c.0.0 e.0 in
+    let is : made_of f.0 text a.0.0 b.0.0 c.0.0 e.0 ≡ checkpoint = ok_same _ _ f.2 in
+    subst (IsParted text) is (subst (λ whole. IsParted text (made_of whole text a.0.0 b.0.0 c.0.0 e.0)) (whole_same text f.0 f.1)
+    (parted_by text made d.0 (signed_lines text a.0 b.0 c.0 d.0 a.1 b.1 c.1 d.1) e.1 refl refl))
 
 pub kept : EnvelopesAreKept
 kept [] held h = ap envelope_text_of (sym (ok_same _ _ h))

@@ -1,6 +1,6 @@
 -- Checkpoints of transparency logs (C2SP tlog-checkpoint), which are signed notes (C2SP signed-note).
 use Rattle.std.specs.Prelude.{ℕ, ◌^◌, ◌==◌, nat_lt, List, [], ◌∷◌, ◌++◌, length, take, drop, bytes_eq}
-use Rattle.std.specs.Prelude.{Bool, true, false, not, ◌&&◌, ◌||◌, if◌then◌else◌, Result, Ok, Err, ok_or}
+use Rattle.std.specs.Prelude.{Bool, true, false, not, ◌&&◌, ◌||◌, if◌then◌else◌, Option, Result, Ok, Err, ok_or}
 use Rattle.std.specs.List.{list_all, slice_split, position_or_len, before_first, after_first}
 use Rattle.std.specs.Result.{result_ok}
 use Rattle.std.specs.Char.{is_ascii_digit}
@@ -55,6 +55,10 @@ is_shortest_decimal (first ∷ digits) = list_all is_ascii_digit (first ∷ digi
 unfoldable pub decimal_of : List ℕ → Result ℕ TypesError
 decimal_of digits =
     if is_shortest_decimal digits && nat_lt (digits_value 10 digits) (2 ^ 64) then Ok (digits_value 10 digits) else Err (e.Checkpoint rule.Size)
+
+-- the number that a text is the shortest decimal of
+abbrev pub shortest_of : List ℕ → Option ℕ
+shortest_of text = result_ok (decimal_of text)
 
 abbrev pub size_of : List ℕ → Result ℕ TypesError
 size_of line = text_of rule.Size line >>= decimal_of
@@ -130,7 +134,8 @@ signatures_of (line ∷ lines) = do
 
 -- ---- the whole
 
--- a checkpoint's origin, size and root, other lines, an empty line, and its signatures
+-- a checkpoint's origin, size and root, other lines, an empty line, and its signatures; the whole is UTF-8 (signed-note), as its
+-- lines are
 unfoldable pub checkpoint_of : List ℕ → Result Checkpoint TypesError
 checkpoint_of text = do
   origin ← line_of rule.Origin origin_of (lines_of text)
@@ -138,8 +143,9 @@ checkpoint_of text = do
   root ← line_of rule.Root root_of size.1
   behind ← behind_extensions root.1
   signatures ← signatures_of behind
+  whole ← text_of rule.Signature text
   Ok (record {
-    text = text;
+    text = whole;
     signed_length = length (signed_of (lines_of text));
     origin = origin.0;
     tree_size = size.0;

@@ -2,20 +2,20 @@
 ghost use Rattle.std.specs.Prelude.{◌≡◌, ◌≢◌, Ok, Err, length, IfOk, IfErr, MatchResult};
 ghost use Rattle.std.specs.List.{list_all};
 ghost use Rattle.std.specs.Char.{is_ascii_digit};
-ghost use Rattle.sigstore_entries.specs.Checkpoint.{lines_of, line_of, origin_of, is_shortest_decimal, decimal_of, size_of, root_of};
+ghost use Rattle.sigstore_entries.specs.Checkpoint.{lines_of, line_of, origin_of, is_shortest_decimal, decimal_of, shortest_of, size_of, root_of};
 ghost use Rattle.sigstore_entries.specs.Checkpoint.{behind_extensions, signed_of, checkpoint_of, signed_data_of};
 ghost use Rattle.sigstore_types_parts.specs.declared.error.CheckpointRule.TheVariants.{Origin, Size, Root};
 
 use crate::lines::{cut_line, ended_line, line_text};
 use crate::signature_line::{CheckpointSignature, octets, read_signatures};
 use foundation::{Duplicate, NoMemory, Sequence};
-use sigstore_types_parts::{Bytes, CheckpointRule, Sha256Hash, Text, TypesError};
+use sigstore_types_parts::{CheckpointRule, Sha256Hash, Text, TypesError};
 use std::alloc::Global;
 
 /// A checkpoint of a log: a tree's size and root, signed (C2SP tlog-checkpoint over signed-note).
 #[derive(PartialEq, Drop)]
 pub struct Checkpoint {
-    text: Bytes,
+    text: Text,
     signed_length: usize,
     origin: Text,
     tree_size: u64,
@@ -75,6 +75,13 @@ fn decimal(digits: &str) -> Result<u64, TypesError>
         Ok(size) => Ok(size),
         Err(_) => Err(TypesError::Checkpoint(CheckpointRule::Size)),
     }
+}
+
+/// The number below 2^64 that a text is the shortest decimal of: digits, of which the first is 0 only in the number 0.
+pub fn shortest_decimal(text: &str) -> Option<u64>
+    ensures { result ≡ shortest_of text.now }
+{
+    decimal(text).ok()
 }
 
 fn read_size(line: &[u8]) -> Result<u64, TypesError>
@@ -155,21 +162,22 @@ fn signed_length(text: &[u8]) -> usize
     text.len() - rest.len()
 }
 
-// A checkpoint of a text that is kept.
+// A checkpoint of a text, of which it keeps a copy.
 #[tactic(auto, unfolding(crate::specs::Checkpoint::checkpoint_of))]
-pub(crate) fn read_checkpoint(alloc: Global, text: Bytes) -> Result<Checkpoint, TypesError>
-    ensures ok { IfOk result (λ c. checkpoint_of text ≡ Ok c) }
-    ensures err { IfErr result (λ e. e ≢ TypesError.NoMemory → checkpoint_of text ≡ Err e) }
+pub(crate) fn read_checkpoint(alloc: Global, text: &[u8]) -> Result<Checkpoint, TypesError>
+    ensures ok { IfOk result (λ c. checkpoint_of text.now ≡ Ok c) }
+    ensures err { IfErr result (λ e. e ≢ TypesError.NoMemory → checkpoint_of text.now ≡ Err e) }
 {
-    let (origin, behind_origin) = origin_line(text.as_bytes())?;
+    let (origin, behind_origin) = origin_line(text)?;
     let (tree_size, behind_size) = size_line(behind_origin)?;
     let (root_hash, behind_root) = root_line(alloc, behind_size)?;
     let behind = behind_extensions(behind_root)?;
     let signatures = read_signatures(alloc, behind)?;
+    let whole = line_text(CheckpointRule::Signature, text)?;
     let origin = Text::new(alloc, origin)?;
-    let signed_length = signed_length(text.as_bytes());
+    let signed_length = signed_length(text);
     Ok(Checkpoint {
-        text,
+        text: Text::new(alloc, whole)?,
         signed_length,
         origin,
         tree_size,
@@ -184,14 +192,21 @@ impl Checkpoint {
         ensures ok { IfOk result (λ c. checkpoint_of text.now ≡ Ok c) }
         ensures err { IfErr result (λ e. e ≢ TypesError.NoMemory → checkpoint_of text.now ≡ Err e) }
     {
-        Ok(read_checkpoint(alloc, Bytes::new(alloc, text)?)?)
+        Ok(read_checkpoint(alloc, text)?)
     }
 
     /// The text that was read.
     pub fn text(&self) -> &[u8]
         ensures { result.now ≡ self.now.text }
     {
-        self.text.as_bytes()
+        self.text.as_str().as_bytes()
+    }
+
+    // The same.
+    pub(crate) fn whole(&self) -> &Text
+        ensures { result.now ≡ self.now.text }
+    {
+        &self.text
     }
 
     /// The log that made it, as its first line names it.
@@ -226,7 +241,7 @@ impl Checkpoint {
     pub fn signed_data(&self) -> &[u8]
         ensures { result.now ≡ signed_data_of self.now }
     {
-        let text = self.text.as_bytes();
+        let text = self.text();
         let (signed, _) = text.split_at(self.signed_length.min(text.len()));
         signed
     }

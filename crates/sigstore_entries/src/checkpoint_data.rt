@@ -25,7 +25,7 @@ impl CheckpointData {
             return Ok(CheckpointData { checkpoint: None });
         }
         Ok(CheckpointData {
-            checkpoint: Some(read_checkpoint(alloc, text)?),
+            checkpoint: Some(read_checkpoint(alloc, text.as_bytes())?),
         })
     }
 

@@ -8,8 +8,9 @@ mod laws;
 mod spelled;
 mod statement;
 mod subjects;
+mod written;
 
 pub use envelope::{DsseEnvelope, DsseSignature};
 pub use key_id::KeyId;
-pub use laws::encodings_are_distinct;
+pub use laws::{encodings_are_distinct, envelopes_are_read_again};
 pub use statement::{Statement, Subject};

@@ -1,3 +1,5 @@
 pub mod Bundle
 pub mod Members
 pub mod TrustedRoot
+pub mod Written
+pub mod Laws

@@ -1,5 +1,6 @@
 //! Tests of the values that bundles and trust files are made of, of keys and certificates as texts, of entries
-//! of logs and their checkpoints, of inclusion in Merkle trees, of envelopes and statements, and of bundles.
+//! of logs and their checkpoints, of inclusion in Merkle trees, of envelopes and statements, and of bundles, which are
+//! read and written.
 #![tactic(auto)]
 
 #[cfg(test)]
@@ -22,3 +23,5 @@ mod tables;
 mod texts;
 #[cfg(test)]
 mod trees;
+#[cfg(test)]
+mod written;
