@@ -6,3 +6,4 @@ pub mod Inputs
 pub mod Trails
 pub mod Joint
 pub mod OneRoot
+pub mod Trees

@@ -4,3 +4,4 @@ pub mod Climb
 pub mod Differing
 pub mod Collision
 pub mod Error
+pub mod Whole

@@ -1,0 +1,5 @@
+pub mod Drawn
+pub mod Keys
+pub mod Log
+pub mod Numbers
+pub mod Texts
