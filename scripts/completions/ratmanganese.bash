@@ -35,12 +35,13 @@ _ratmanganese() {
     elif [ "$command" = verify-real ]; then
         names="$names --json --help"
     elif [ "$COMP_CWORD" = 1 ]; then
-        mapfile -t COMPREPLY < <(compgen -W "verify questions explain build install version help" -- "$word")
+        mapfile -t COMPREPLY < <(compgen -W "verify questions generate explain build install version help" -- "$word")
         return
     else
         case ${COMP_WORDS[1]} in
         verify) names="$names --provider=" ;;
         questions) names="$names --refused=" ;;
+        generate) names="--number= --count=" ;;
         explain)
             [ "$COMP_CWORD" != 2 ] || mapfile -t COMPREPLY < <(compgen -W "tuf verify status" -- "$word")
             return

@@ -3,6 +3,7 @@ complete -c ratmanganese -f
 complete -c verify-real -f
 complete -c ratmanganese -n __fish_use_subcommand -a verify -d 'Verify over a file of good signatures'
 complete -c ratmanganese -n __fish_use_subcommand -a questions -d 'Write what a verification asks'
+complete -c ratmanganese -n __fish_use_subcommand -a generate -d 'Verify a workload that a number makes'
 complete -c ratmanganese -n __fish_use_subcommand -a explain -d 'What a refusal or a status means'
 complete -c ratmanganese -n __fish_use_subcommand -a build -d 'Prove and build both programs'
 complete -c ratmanganese -n __fish_use_subcommand -a install -d 'Put what is enough without the sources below a folder'
@@ -19,6 +20,8 @@ complete -c ratmanganese -n '__fish_seen_subcommand_from verify questions' -l po
 complete -c ratmanganese -n '__fish_seen_subcommand_from verify questions' -l now -x -d 'The moment, as 2025-01-01T00:00:00Z'
 complete -c ratmanganese -n '__fish_seen_subcommand_from verify' -l provider -r -F -d 'The signatures that are good'
 complete -c ratmanganese -n '__fish_seen_subcommand_from questions' -l refused -r -F -d 'Signatures that are not good'
+complete -c ratmanganese -n '__fish_seen_subcommand_from generate' -l number -x -d 'The number that draws'
+complete -c ratmanganese -n '__fish_seen_subcommand_from generate' -l count -x -d 'How many items'
 complete -c verify-real -l root -r -F -d 'The TUF root document that you trust'
 complete -c verify-real -l repository -x -a '(__fish_complete_directories)' -d 'A folder with the documents and targets'
 complete -c verify-real -l store -x -a '(__fish_complete_directories)' -d 'A folder that keeps documents between runs'

@@ -3,3 +3,5 @@ mod Digests
 mod ReportThere
 mod RunFacts
 mod RunCompleting
+mod Items
+mod Counting

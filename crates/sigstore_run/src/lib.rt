@@ -3,10 +3,18 @@
 #![tactic(auto)]
 
 mod answer;
+mod generated;
+mod judged;
 mod meant;
 mod program;
 mod report;
+mod steady;
+mod summary;
+mod workload;
 
 pub use answer::{Answer, Status, exit_code, stopped};
+pub use generated::Asked;
 pub use meant::{Request, verify_request};
 pub use program::run;
+pub use summary::summarise;
+pub use workload::{Workload, generate};

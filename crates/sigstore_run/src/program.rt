@@ -1,11 +1,13 @@
 // A run of the program.
-ghost use Rattle.std.specs.Prelude.{IfOk};
+ghost use Rattle.std.specs.Prelude.{◌≡◌, true, false, IfOk};
+ghost use Rattle.sigstore_run.specs.Generate.{is_generate, GenerateMeans};
 ghost use Rattle.sigstore_app_parts.specs.Sink.{WritesText};
 ghost use Rattle.sigstore_verify.specs.Given.{Outside};
 ghost use Rattle.sigstore_run.specs.Complete.{Completes};
 ghost use Rattle.sigstore_run.specs.Run.{Environment, Reports, Answers, Judges, Proceeds, Decides, RunsTo, Means};
 
 use crate::answer::{Answer, Status, refused, refused_tuf, stopped};
+use crate::generated::{is_generate, run_generate};
 use crate::meant::{Request, verify_request};
 use crate::report::report;
 use foundation::NoMemory;
@@ -140,10 +142,9 @@ fn decide<I: Inputs, R: Repository, S: MetadataStore, A: ArtifactSource>(
     }
 }
 
-/// Runs the program over its words, its clock and the objects of the outside: reads the words, then the
-/// inputs policy, provider, root and bundle, verifies from the root, and writes one text. Status 4 where
-/// a write failed, 5 where memory was wanting; then nothing was written.
-pub fn run<I: Inputs, R: Repository, S: MetadataStore, A: ArtifactSource, K: Sink>(
+// Runs the command `verify`: reads the words, then the inputs policy, provider, root and bundle, verifies from the
+// root, and writes one text.
+fn run_verify<I: Inputs, R: Repository, S: MetadataStore, A: ArtifactSource, K: Sink>(
     alloc: Global,
     words: &[Text],
     clock: Timestamp,
@@ -177,4 +178,46 @@ pub fn run<I: Inputs, R: Repository, S: MetadataStore, A: ArtifactSource, K: Sin
         Ok(()) => said.status,
         Err(_) => Status::Output,
     }
+}
+
+/// Runs the program over its words, its clock and the objects of the outside. Where the first word is
+/// `generate`, it verifies a workload and writes its summary, and calls nothing but the sink. Else it reads the
+/// words, then the inputs policy, provider, root and bundle, verifies from the root, and writes one text. Status
+/// 4 where a write failed, 5 where memory was wanting; then nothing was written.
+pub fn run<I: Inputs, R: Repository, S: MetadataStore, A: ArtifactSource, K: Sink>(
+    alloc: Global,
+    words: &[Text],
+    clock: Timestamp,
+    inputs: &mut I,
+    repo: &mut R,
+    store: &mut S,
+    artifact: &mut A,
+    out: &mut K,
+) -> Status
+    ensures means { is_generate words.now ≡ false → (let outside : Outside = record { repo = R.seen repo.old; store = S.seen store.old; source = A.seen artifact.old } in
+        let outside' : Outside = record { repo = R.seen repo.new; store = S.seen store.new; source = A.seen artifact.new } in
+        let before : Environment = record { inputs = I.seen inputs.old; outside = outside } in
+        let after : Environment = record { inputs = I.seen inputs.new; outside = outside' } in
+        Means (record { words = words.now; clock = clock }) before after (K.seen out.old) (K.seen out.new) result) }
+    ensures runs { is_generate words.now ≡ false → (let outside : Outside = record { repo = R.seen repo.old; store = S.seen store.old; source = A.seen artifact.old } in
+        let outside' : Outside = record { repo = R.seen repo.new; store = S.seen store.new; source = A.seen artifact.new } in
+        let before : Environment = record { inputs = I.seen inputs.old; outside = outside } in
+        let after : Environment = record { inputs = I.seen inputs.new; outside = outside' } in
+        RunsTo (record { words = words.now; clock = clock }) before after (K.seen out.old) (K.seen out.new) result) }
+    ensures complete { is_generate words.now ≡ false → (let outside : Outside = record { repo = R.seen repo.old; store = S.seen store.old; source = A.seen artifact.old } in
+        let outside' : Outside = record { repo = R.seen repo.new; store = S.seen store.new; source = A.seen artifact.new } in
+        let before : Environment = record { inputs = I.seen inputs.old; outside = outside } in
+        let after : Environment = record { inputs = I.seen inputs.new; outside = outside' } in
+        Completes (record { words = words.now; clock = clock }) before after (K.seen out.old) (K.seen out.new) result) }
+    ensures generates { is_generate words.now ≡ true → GenerateMeans words.now (K.seen out.old) (K.seen out.new) result }
+    ensures alone { is_generate words.now ≡ true → (let outside : Outside = record { repo = R.seen repo.old; store = S.seen store.old; source = A.seen artifact.old } in
+        let outside' : Outside = record { repo = R.seen repo.new; store = S.seen store.new; source = A.seen artifact.new } in
+        let before : Environment = record { inputs = I.seen inputs.old; outside = outside } in
+        let after : Environment = record { inputs = I.seen inputs.new; outside = outside' } in
+        after ≡ before) }
+{
+    if is_generate(words) {
+        return run_generate(alloc, words, out);
+    }
+    run_verify(alloc, words, clock, inputs, repo, store, artifact, out)
 }

@@ -4,7 +4,7 @@ use Rattle.sigstore_app_parts.specs.declared.sink.SinkFault.{SinkFault}
 use Rattle.sigstore_run.specs.Run.{unwritten, cut, written}
 use Rattle.sigstore_run.proofs.Meaning.{run_means}
 use Rattle.sigstore_run.proofs.RunCompleting.{run_completes}
-use Rattle.sigstore_run.proofs.program.run.Goals as goal
+use Rattle.sigstore_run.proofs.program.run_verify.Goals as goal
 
 pub returns-in-Err-clause-runs : goal.returns-in-Err-clause-runs
 returns-in-Err-clause-runs g c = unwritten c.in-Err.field-0 c.in-Err.ensures refl refl
