@@ -1,1 +1,2 @@
 pub mod OverStore
+pub mod Wanting

@@ -8,6 +8,8 @@ ghost use Rattle.sigstore_tuf_rules.specs.Update.{first_root_of};
 ghost use Rattle.sigstore_tuf_runs.specs.State.{state_of, session_of};
 ghost use Rattle.sigstore_tuf_rules.specs.Authorised.{IsAuthorised, crypto_in, SameJudges};
 ghost use Rattle.sigstore_tuf_runs.specs.Promises.{Attached, Refreshed, Informed, Got};
+ghost use Rattle.sigstore_tuf_runs.specs.Run.{said};
+ghost use Rattle.sigstore_tuf_runs.specs.Carried.{CarriesFloor};
 ghost use Rattle.sigstore_tuf_rules.specs.Names.{is_consistent};
 ghost use Rattle.sigstore_tuf_runs.specs.Target.{Recalls, Downloads};
 ghost use Rattle.sigstore_tuf.specs.Updater.{SameOption, option_seen, GivesFile};
@@ -308,6 +310,9 @@ impl<'a, C: CryptoProvider, M: Armor, R: Repository, S: MetadataStore> Updater<'
     ) -> Result<Option<Bytes>, Error>
         ensures same_store { SameOption self.old.store self.new.store }
         ensures recalls { Recalls target.now path.now (option_seen S.seen self.old.store) (option_seen S.seen self.new.store) result }
+        ensures carries { CarriesFloor (crypto_in C.CryptoProvider M.Armor self.old.set)
+            (state_of self.old.set.documents (R.seen self.old.repo.now) (option_seen S.seen self.old.store))
+            (state_of self.new.set.documents (R.seen self.new.repo.now) (option_seen S.seen self.new.store)) (said result) }
         ensures err { IfErr result (λ e. e ≡ Error.NoMemory) }
         ensures same { (self.new.set ≡ self.old.set) × (self.new.repo ≡ self.old.repo)
             × (self.new.config ≡ self.old.config) × (self.new.chain ≡ self.old.chain) }
@@ -329,6 +334,9 @@ impl<'a, C: CryptoProvider, M: Armor, R: Repository, S: MetadataStore> Updater<'
         ensures same_store { SameOption self.old.store self.new.store }
         ensures downloads { Downloads (is_consistent self.old.set.documents) self.old.config target.now path.now (R.seen self.old.repo.now) (R.seen self.new.repo.now)
             (option_seen S.seen self.old.store) (option_seen S.seen self.new.store) result }
+        ensures carries { CarriesFloor (crypto_in C.CryptoProvider M.Armor self.old.set)
+            (state_of self.old.set.documents (R.seen self.old.repo.now) (option_seen S.seen self.old.store))
+            (state_of self.new.set.documents (R.seen self.new.repo.now) (option_seen S.seen self.new.store)) (said result) }
         ensures same { (self.new.set ≡ self.old.set)
             × (self.new.config ≡ self.old.config) × (self.new.chain ≡ self.old.chain) }
     {
@@ -357,6 +365,9 @@ impl<'a, C: CryptoProvider, M: Armor, R: Repository, S: MetadataStore> Updater<'
         ensures gives { GivesFile (session_of (crypto_in C.CryptoProvider M.Armor self.old.set) self.old.config now) path.now
             (state_of self.old.set.documents (R.seen self.old.repo.now) (option_seen S.seen self.old.store))
             (state_of self.new.set.documents (R.seen self.new.repo.now) (option_seen S.seen self.new.store)) self.new.chain result }
+        ensures carries { CarriesFloor (crypto_in C.CryptoProvider M.Armor self.old.set)
+            (state_of self.old.set.documents (R.seen self.old.repo.now) (option_seen S.seen self.old.store))
+            (state_of self.new.set.documents (R.seen self.new.repo.now) (option_seen S.seen self.new.store)) (said result) }
         ensures kept { OnErr result (self.new.chain ≡ self.old.chain) }
         ensures judges { SameJudges self.old.set self.new.set }
         ensures authorised { IsAuthorised (crypto_in C.CryptoProvider M.Armor self.new.set) self.new.set.documents }

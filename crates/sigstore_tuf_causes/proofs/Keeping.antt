@@ -91,15 +91,15 @@ all_later bytes [] old new result (s, r) = subst (λ (w : Watched Files). old.fa
 all_later bytes (name ∷ names) old new result (inl (e, s, r)) = saved_later bytes name old new (Err e) s
 all_later bytes (name ∷ names) old new result (inr (mid, s, more)) = le_trans (saved_later bytes name old mid (Ok tt) s) (all_later bytes names mid new result more)
 
-abbrev files_all : List ℕ → List (List ℕ) → Files → Files
+abbrev pub files_all : List ℕ → List (List ℕ) → Files → Files
 files_all bytes [] files = files
 files_all bytes (name ∷ names) files = files_all bytes names (with_file name bytes files)
 
-abbrev AreGood : List (List ℕ) → Type 0
+abbrev pub AreGood : List (List ℕ) → Type 0
 AreGood [] = ⊤
 AreGood (name ∷ names) = (is_bad_name name ≡ false) × AreGood names
 
-all_put : (Q : Files → Type 0) (bytes : List ℕ) (names : List (List ℕ)) (old new : Watched Files) (result : Result ⊤ Error) → AreGood names → result ≢ Err tuf.NoMemory → Quiet old.faults new.faults → SavesAll bytes names old new result
+pub all_put : (Q : Files → Type 0) (bytes : List ℕ) (names : List (List ℕ)) (old new : Watched Files) (result : Result ⊤ Error) → AreGood names → result ≢ Err tuf.NoMemory → Quiet old.faults new.faults → SavesAll bytes names old new result
     → IfTold old.told (λ files. Q (files_all bytes names files)) → IfTold new.told Q
 all_put Q bytes [] old new result good most quiet (s, r) h = subst (λ (w : Watched Files). IfTold w.told Q) (sym s) h
 all_put Q bytes (name ∷ names) old new result good most quiet (inl (e, s, r)) h = absurd (most (r ∙ ap Err (save_wants bytes name old new (Err e) s)))
@@ -193,7 +193,7 @@ record Moves (k : Kind) (bytes : List ℕ) (files files' : Files) : Type 0 where
   there : files' (kept_name k) ≡ Some bytes
   others : (q : Kind) (x : List ℕ) → kept_name q ≢ kept_name k → files (kept_name q) ≡ Some x → files' (kept_name q) ≡ Some x
 
-apart : (a b : List ℕ) → bytes_eq a b ≡ false → a ≢ b
+pub apart : (a b : List ℕ) → bytes_eq a b ≡ false → a ≢ b
 apart a b n h = let no : true ≡ false = sym ((bytes_eq-Decides a b).1 h) ∙ n in cc
 
 pub with_this : (name bytes : List ℕ) (files : Files) → with_file name bytes files name ≡ Some bytes
@@ -452,7 +452,7 @@ saves_root crypto old new a quiet s h =
     (all_put (λ files. HoldsInForce files old.documents) last.0 (kept_names old.documents (Root (version_in old.documents))) old.store new.store (Ok tt) (good_names old.documents (Root (version_in old.documents))) (λ e. cc) quiet w.saves
     (told_map (λ files. HoldsAdopted files old.documents) (λ files. HoldsInForce (files_all last.0 (kept_names old.documents (Root (version_in old.documents))) files) old.documents) old.store.told (λ files h. again files old.documents last.0 r last.1 h) h))
 
-where_later : (set : InForce) (k : Kind) (bytes : Option (List ℕ)) (old new : Watched Files) (result : Result ⊤ Error) → KeepsWhere (kept_names set k) bytes old new result → old.faults ≤ new.faults
+pub where_later : (set : InForce) (k : Kind) (bytes : Option (List ℕ)) (old new : Watched Files) (result : Result ⊤ Error) → KeepsWhere (kept_names set k) bytes old new result → old.faults ≤ new.faults
 where_later set k None old new result (s, r) = subst (λ (w : Watched Files). old.faults ≤ w.faults) (sym s) (le_refl old.faults)
 where_later set k (Some bytes) old new result w = all_later bytes (kept_names set k) old new result w.saves
 

@@ -1,6 +1,7 @@
 pub mod Carrying
 pub mod Causes
 pub mod Faults
+pub mod FloorCarried
 pub mod Followed
 pub mod Growing
 pub mod Holding
@@ -10,13 +11,16 @@ pub mod Refusals
 pub mod Replay
 pub mod RoleNames
 pub mod RoleRefusals
+pub mod RolesMet
 pub mod RootNames
 pub mod SearchCauses
+pub mod SearchCarried
 pub mod Searching
 pub mod Serving
 pub mod Staying
 pub mod StoreNames
 pub mod StoredLaws
+pub mod Succeeding
 pub mod TargetCauses
 pub mod TargetKept
 pub mod TopCauses

@@ -1,5 +1,5 @@
 -- The documents in force stay authorised in a whole call.
-use Rattle.std.proofs.Common.{Bool, Option, Some, None, Result, Ok}
+use Rattle.std.proofs.Common.{List, Bool, Option, Some, None, Result, Ok}
 use Rattle.std.specs.Prelude.{⊤}
 use Rattle.jiff_core.specs.declared.timestamp.Timestamp as jiff
 use Rattle.sigstore_crypto_parts.specs.Crypto.{Crypto}
@@ -7,9 +7,9 @@ use Rattle.sigstore_tuf_text.specs.declared.error.Error.{Error}
 use Rattle.sigstore_tuf_rules.specs.declared.kind.Kind.{Kind}
 use Rattle.sigstore_tuf_runs.specs.State.{Session, State}
 use Rattle.sigstore_tuf_runs.specs.Adopt.{Adopts, unfetched, absent, refused, kept, adopted, Seeds, unloaded, unkept, unseeded, equal, seeded}
-use Rattle.sigstore_tuf_runs.specs.Run.{said, SavesRoot, Attaches, Does, refresh_steps, RunsSteps}
+use Rattle.sigstore_tuf_runs.specs.Run.{said, SavesRoot, Attaches, Does, Runs, refresh_steps, RunsSteps}
 use Rattle.sigstore_tuf_runs.specs.declared.step.Step.{Step}
-use Rattle.sigstore_tuf_runs.proofs.Lift.{IsAsked, AsksNoRoot, attach_lift, does_lift, runs_lift}
+use Rattle.sigstore_tuf_runs.proofs.Lift.{IsAsked, AsksNoRoot, AskNoRoots, attach_lift, does_lift, runs_lift}
 use Rattle.sigstore_tuf_rules.proofs.Authorised.{Stays, stays_same, stays_joins, judged_stays, same}
 
 module _ (crypto : Crypto) where
@@ -47,7 +47,9 @@ module _ (session : Session) where
   does_stays step old new result asks d =
       does_lift (P session.crypto) (joins session.crypto) (stays session.crypto) session adopts (seeds session.crypto) (λ a e. stays_same session.crypto a.documents) step old new result asks d
 
+  pub runs_stay : (steps : List Step) (old new : State) (result : Result ⊤ Error) → AskNoRoots steps → Runs session steps old new result → Stays session.crypto old.documents new.documents
+  runs_stay steps old new result asks r =
+      runs_lift (P session.crypto) (joins session.crypto) (stays session.crypto) session adopts (seeds session.crypto) (λ a e. stays_same session.crypto a.documents) steps old new result asks r
+
   pub refresh_stays : (old new : State) (result : Result ⊤ Error) → RunsSteps session refresh_steps old new result → Stays session.crypto old.documents new.documents
-  refresh_stays old new result r =
-      runs_lift (P session.crypto) (joins session.crypto) (stays session.crypto) session adopts (seeds session.crypto) (λ a e. stays_same session.crypto a.documents) refresh_steps old new result
-      (tt, (tt, (tt, (tt, (tt, (tt, (tt, (tt, (tt, (tt, tt)))))))))) r.runs
+  refresh_stays old new result r = runs_stay refresh_steps old new result (tt, (tt, (tt, (tt, (tt, (tt, (tt, (tt, (tt, (tt, tt)))))))))) r.runs

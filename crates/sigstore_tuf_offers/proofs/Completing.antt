@@ -1,18 +1,11 @@
 -- One adoption over told files and without a fault, and what a store keeps.
 use Rattle.std.proofs.Common.{◌≡◌, ◌≢◌, ◌⊎◌, inl, inr, ℕ, ◌≤◌, ◌==◌, List, [], ◌∷◌, length, Bool, true, false, if◌then◌else◌, bytes_eq, Option, Some, None, Result, Ok, Err, refl, sym, ap, ◌∙◌, subst, arith}
-use Rattle.std.specs.Prelude.{⊤, IfErr, IfSome, ok_or, option_map}
+use Rattle.std.specs.Prelude.{⊤, IfErr, IfSome, option_map}
 use Rattle.std.proofs.lemmas.Bool.Decides.{nat_tests}
-use Rattle.foundation.specs.Steps.{◌>>=◌}
 use Rattle.foundation.specs.Watched.{Watched, IfTold}
 use Rattle.foundation.specs.Results.{ok_same, err_same, some_same, no_both}
-use Rattle.sigstore_types_parts.specs.Entries.{at_name}
-use Rattle.sigstore_crypto_parts.specs.Crypto.{Crypto}
 use Rattle.sigstore_tuf_text.specs.declared.error.Error.{Error}
 use Rattle.sigstore_tuf_text.specs.declared.error.Error.TheVariants as tuf
-use Rattle.sigstore_tuf_parts.specs.declared.root.Root as declared
-use Rattle.sigstore_tuf_parts.specs.Document.{Document}
-use Rattle.sigstore_tuf_parts.specs.RootRoles.{meets_role_of, MeetsRole}
-use Rattle.sigstore_tuf_parts.proofs.MeetsLaw.{meets_exactly}
 use Rattle.sigstore_tuf_rules.specs.declared.documents.InForce.{InForce}
 use Rattle.sigstore_tuf_rules.specs.declared.kind.Kind.{Kind}
 use Rattle.sigstore_tuf_outside.specs.declared.repository.FetchFault.{FetchFault}
@@ -33,19 +26,11 @@ use Rattle.sigstore_tuf_runs.proofs.Steps.{keeps_want}
 
 -- ---- judgements that are Ok
 
-pub step_to : {A B E : Type 0} (r : Result A E) (f : A → Result B E) (x : A) → r ≡ Ok x → (r >>= f) ≡ f x
-step_to r f x e = subst (λ r. (r >>= f) ≡ f x) (sym e) refl
-
 pub equal : (m n : ℕ) → m ≡ n → (m == n) ≡ true
 equal m n h = grind (arith, nat_tests)
 
 pub if_true : {E : Type 0} (b : Bool) (e : E) → b ≡ true → ◌≡◌ {A = Result ⊤ E} (if b then Ok tt else Err e) (Ok tt)
 if_true b e h = ap (λ b. if b then Ok tt else Err e) h
-
-pub role_ok : {T : Type 0} (crypto : Crypto) (root : declared.Root) (name : List ℕ) (doc : Document T) → MeetsRole crypto root name doc → meets_role_of crypto root name doc ≡ Ok tt
-unfolding meets_role_of
-role_ok crypto root name doc (role, at, met) =
-    step_to (ok_or (at_name name root.roles) (tuf.UnknownRole name)) _ role (ap (λ o. ok_or o (tuf.UnknownRole name)) at) ∙ (meets_exactly crypto root.keys role name doc).1 met
 
 -- ---- one fetch, of told files and without a fault
 

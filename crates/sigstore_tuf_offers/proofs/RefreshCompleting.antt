@@ -45,7 +45,8 @@ use Rattle.sigstore_tuf_runs.proofs.Lift.{NotRoot, AskNoRoots, does_lift, runs_l
 use Rattle.sigstore_tuf_causes.proofs.Serving.{Rest}
 use Rattle.sigstore_tuf_rules.proofs.Updates.{judged_puts, top_inserted}
 use Rattle.sigstore_tuf_causes.proofs.Faults.{quiet_first, quiet_second}
-use Rattle.sigstore_tuf_offers.proofs.Completing.{step_to, equal, if_true, role_ok, Done, wanting, done, Answers, wants, answers, after, Took, adopts_there, TellsSo, AreHarmless, tells_same, took_so, loaded_is, found_wanted}
+use Rattle.sigstore_tuf_causes.proofs.RolesMet.{step_to, role_ok}
+use Rattle.sigstore_tuf_offers.proofs.Completing.{equal, if_true, Done, wanting, done, Answers, wants, answers, after, Took, adopts_there, TellsSo, AreHarmless, tells_same, took_so, loaded_is, found_wanted}
 use Rattle.sigstore_tuf_causes.proofs.RootNames.{versioned_apart}
 use Rattle.sigstore_tuf_offers.proofs.ChainVisits.{held_in}
 use Rattle.sigstore_tuf_outside.proofs.Files.{inserted}

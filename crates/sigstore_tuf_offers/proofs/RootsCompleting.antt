@@ -35,7 +35,8 @@ use Rattle.sigstore_tuf_runs.proofs.Lift.{next_root_is, roots_lift}
 use Rattle.sigstore_tuf_causes.proofs.RootNames.{same_number}
 use Rattle.sigstore_tuf_rules.proofs.Updates.{last_is}
 use Rattle.sigstore_tuf_causes.proofs.Faults.{quiet_first, quiet_second}
-use Rattle.sigstore_tuf_offers.proofs.Completing.{step_to, equal, if_true, role_ok, Done, wanting, done, Answers, wants, answers, Took, Left, adopts_there, adopts_lacking, TellsSo, AreHarmless, tells_same, keeps_so, took_so, loaded_is, none_or_put, found_wanted}
+use Rattle.sigstore_tuf_causes.proofs.RolesMet.{step_to, role_ok}
+use Rattle.sigstore_tuf_offers.proofs.Completing.{equal, if_true, Done, wanting, done, Answers, wants, answers, Took, Left, adopts_there, adopts_lacking, TellsSo, AreHarmless, tells_same, keeps_so, took_so, loaded_is, none_or_put, found_wanted}
 use Rattle.sigstore_tuf_offers.proofs.Offered.{Ahead, Offered}
 
 -- ---- a next root is judged well

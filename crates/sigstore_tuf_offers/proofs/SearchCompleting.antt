@@ -58,7 +58,8 @@ use Rattle.sigstore_tuf_causes.proofs.Replay.{ready_since, searches_since}
 use Rattle.sigstore_tuf_causes.proofs.RoleNames.{in_folder, unlike_timestamp, unlike_snapshot, unlike_targets}
 use Rattle.sigstore_tuf_offers.proofs.ChainVisits.{all_append, all_in, held_in, content_held, Along, Visits, none_more, without, with_document, Goes, goes, begins, all_done, all_visited}
 use Rattle.sigstore_tuf_causes.proofs.Faults.{quiet_first, quiet_second}
-use Rattle.sigstore_tuf_offers.proofs.Completing.{step_to, equal, if_true, Done, wanting, done, Answers, wants, answers, Given, fetch_given, of_given, of_ungiven, TellsSo, saved_so}
+use Rattle.sigstore_tuf_causes.proofs.RolesMet.{step_to}
+use Rattle.sigstore_tuf_offers.proofs.Completing.{equal, if_true, Done, wanting, done, Answers, wants, answers, Given, fetch_given, of_given, of_ungiven, TellsSo, saved_so}
 use Rattle.sigstore_tuf_offers.proofs.Offered.{AreOf, Offered}
 use Rattle.sigstore_tuf_offers.proofs.RootsCompleting.{IsWarm, stays_warm, stays_elsewhere}
 use Rattle.sigstore_tuf_offers.proofs.RefreshCompleting.{Topped, check_done}

@@ -44,7 +44,8 @@ use Rattle.sigstore_tuf_causes.proofs.Causes.{is_want}
 use Rattle.sigstore_tuf_runs.proofs.Steps.{load_wants, save_wants}
 use Rattle.sigstore_tuf_causes.proofs.Faults.{quiet_first, quiet_second}
 use Rattle.sigstore_tuf_causes.proofs.StoredLaws.{recalled_some}
-use Rattle.sigstore_tuf_offers.proofs.Completing.{step_to, role_ok, Done, wanting, done, Given, fetch_given, of_given, of_ungiven, TellsSo, tells_same, saved_so, loaded_is, found_wanted}
+use Rattle.sigstore_tuf_causes.proofs.RolesMet.{step_to, role_ok}
+use Rattle.sigstore_tuf_offers.proofs.Completing.{Done, wanting, done, Given, fetch_given, of_given, of_ungiven, TellsSo, tells_same, saved_so, loaded_is, found_wanted}
 use Rattle.sigstore_tuf_causes.proofs.Followed.{each_map}
 use Rattle.sigstore_tuf_causes.proofs.Replay.{finds_since}
 use Rattle.sigstore_tuf_offers.proofs.ChainVisits.{held_in, content_held, held_some}

@@ -1,4 +1,5 @@
 pub mod Adopt
+pub mod Carried
 pub mod Cause
 pub mod Chain
 pub mod Found

@@ -8,6 +8,8 @@ mod client;
 #[cfg(test)]
 mod documents;
 #[cfg(test)]
+mod floors;
+#[cfg(test)]
 mod names;
 #[cfg(test)]
 mod patterns;

@@ -1,5 +1,6 @@
 use Rattle.std.proofs.Common.{sym}
 use Rattle.sigstore_tuf_rules.proofs.Authorised.{is_stay}
+use Rattle.sigstore_tuf_causes.proofs.SearchCarried.{gets_carry}
 use Rattle.sigstore_tuf_causes.proofs.Searching.{chain_trusted, gets_stays, gets_authorised}
 use Rattle.sigstore_tuf_causes.proofs.TargetCauses.{gets_cause}
 use Rattle.sigstore_tuf_causes.proofs.TargetKept.{gets_stay, gets_kept}
@@ -17,6 +18,7 @@ returns-clause-got g c =
       trusted = chain_trusted _ _ _ _ _ c.set.invariant f;
       cause = gets_cause _ _ _ _ _ c.set.invariant f;
       kept = gets_stay _ _ _ _ _ f;
+      carries = gets_carry _ _ _ _ _ f;
       stored = gets_kept _ _ _ _ _ f;
     })
 

@@ -1,5 +1,6 @@
 use Rattle.std.proofs.Common.{sym}
 use Rattle.sigstore_tuf_rules.proofs.Authorised.{is_stay}
+use Rattle.sigstore_tuf_causes.proofs.FloorCarried.{refresh_carries}
 use Rattle.sigstore_tuf_causes.proofs.Staying.{refresh_stays}
 use Rattle.sigstore_tuf_causes.proofs.Holding.{refresh_authorised}
 use Rattle.sigstore_tuf_causes.proofs.Keeping.{refresh_kept}
@@ -21,6 +22,7 @@ returns-clause-refreshed g c =
       cause = refresh_cause _ _ _ _ c.set.invariant r;
       newest = on_refresh_newest _ _ _ _ r;
       stored = refresh_kept _ _ _ _ c.set.invariant r;
+      carries = refresh_carries _ _ _ _ r;
     })
 
 pub returns-clause-authorised : goal.returns-clause-authorised

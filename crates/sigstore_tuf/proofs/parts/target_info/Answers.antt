@@ -1,5 +1,6 @@
 use Rattle.std.proofs.Common.{sym}
 use Rattle.sigstore_tuf_rules.proofs.Authorised.{is_stay}
+use Rattle.sigstore_tuf_causes.proofs.SearchCarried.{info_carries}
 use Rattle.sigstore_tuf_causes.proofs.Searching.{info_found, info_stays_authorised, info_authorised}
 use Rattle.sigstore_tuf_causes.proofs.TargetCauses.{info_cause}
 use Rattle.sigstore_tuf_causes.proofs.TargetKept.{info_stays}
@@ -17,6 +18,7 @@ returns-clause-informed g c =
       found = info_found _ _ _ _ _ c.set.invariant f;
       cause = info_cause _ _ _ _ _ f;
       kept = info_stays _ _ _ _ _ f;
+      carries = info_carries _ _ _ _ _ f;
     })
 
 pub returns-clause-authorised : goal.returns-clause-authorised
