@@ -4,6 +4,8 @@
 #[cfg(test)]
 mod certificates;
 #[cfg(test)]
+mod counting;
+#[cfg(test)]
 mod paths;
 #[cfg(test)]
 mod signatures;

@@ -126,16 +126,17 @@ code_pss512 : : rrsa : code now => > 0 by rsa
 code_pss_salt : : rrsa : code now => NoPath
 code_256_512 : two one : root : code now => NoPath";
 
-// How many pairs are judged, counted by hand: level by level, each pair once. Of two that sign each other and
-// one anchor at most 9; of twenty of one name and key that sign each other at most 441, whether they are copies
-// or differ in their numbers.
+// How many pairs are judged, and how often the provider is asked, counted by hand: level by level, each pair once, and
+// it is asked of those whose names fit. Of two that sign each other and one anchor at most 9; of twenty of one name and
+// key that sign each other at most 441, whether they are copies or differ in their numbers: the leaf with each and the
+// anchor, the first of them so too, and the others with the anchor alone.
 const COUNTS: &str = "\
-code : two one : root : code now => 6
-code_other : : i_good : code now => 1
-server : two one : root : code now => 0
-code_right : right_by_left left_by_right : root : code now => 9
-code_other : i_self*20 : root : code now => 61
-code_ring : ring1 ring2 ring3 ring4 ring5 ring6 ring7 ring8 ring9 ring10 ring11 ring12 ring13 ring14 ring15 ring16 ring17 ring18 ring19 ring20 : root : code now => 61";
+code : two one : root : code now => 6 3
+code_other : : i_good : code now => 1 1
+server : two one : root : code now => 0 0
+code_right : right_by_left left_by_right : root : code now => 9 3
+code_other : i_self*20 : root : code now => 61 40
+code_ring : ring1 ring2 ring3 ring4 ring5 ring6 ring7 ring8 ring9 ring10 ring11 ring12 ring13 ring14 ring15 ring16 ring17 ring18 ring19 ring20 : root : code now => 61 40";
 
 // Which certificates may be anchors.
 const MAKINGS: &str = "\

@@ -2,6 +2,7 @@
 // call is found by its place in a list of names, since the proof of a match on numbers costs far less than that
 // of one on texts.
 use crate::certificates::{CERTIFICATES, KEYS};
+use crate::counting::CountingProvider;
 use crate::paths;
 use crate::signatures::SIGNATURES;
 use jiff::Timestamp;
@@ -219,7 +220,7 @@ fn path<X: AllocGlobal + Abort>(rt: &X, found: &FoundPath) -> String {
     )
 }
 
-// The answer of a search, or how many pairs it judged. What is asked has four parts between colons: a leaf,
+// The answer of a search, or how many pairs it judged and how often it asked the provider. What is asked has four parts between colons: a leaf,
 // intermediates, anchors, and what for and when.
 fn search<X: AllocGlobal + Abort>(rt: &X, tables: &Tables, given: &str, counts: bool) -> String {
     let (leaf, rest) = halves(rt, given, " :");
@@ -245,10 +246,11 @@ fn found<X: AllocGlobal + Abort>(
     let (purpose_word, at) = halves(rt, last, " ");
     let (leaf, time) = (certificate(rt, leaf), moment(rt, at));
     let (intermediates, anchors) = parts;
+    let provider = CountingProvider::new(&tables.provider);
     let mut steps = Steps::new();
     let found = find_path(
         rt.alloc(),
-        &tables.provider,
+        &provider,
         &leaf,
         intermediates,
         anchors,
@@ -259,7 +261,8 @@ fn found<X: AllocGlobal + Abort>(
     drop(leaf);
     if counts {
         drop(found);
-        return printed(rt, steps.count());
+        let (judged, asked) = (steps.count(), provider.asked());
+        return good(rt, format!(in rt.alloc(); "{judged} {asked}"));
     }
     told(rt, found)
 }

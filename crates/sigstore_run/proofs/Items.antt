@@ -53,17 +53,19 @@ favours : (tables : Tables) (item : Item) (before after : Outside) → Repositor
     → IsItems item before after → Favours (given_with_item tables item) before after chain item.artifact
 unfolding chain
 favours tables item before after law signed o = record {
-  folders = published;
-  repo = record { told = o.folders; quiet = o.repo_quiet };
-  offers = law (crypto_of tables) signed;
-  files = no_files;
-  store = o.files;
-  warm = record {
-    roots = λ number h k. refl;
-    timestamp = inl refl;
-    snapshot = inl refl;
-    targets = inl refl;
-    target = inl refl;
+  offer = record {
+    folders = published;
+    repo = record { told = o.folders; quiet = o.repo_quiet };
+    offers = law (crypto_of tables) signed;
+    files = no_files;
+    store = o.files;
+    warm = record {
+      roots = λ number h k. refl;
+      timestamp = inl refl;
+      snapshot = inl refl;
+      targets = inl refl;
+      target = inl refl;
+    };
   };
   source = record { told = o.bytes; quiet = o.source_quiet };
   short = search rules;

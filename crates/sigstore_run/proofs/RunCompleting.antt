@@ -51,25 +51,25 @@ module _ (before after : Supply) (held : Held) (gathered : Gathered) (told : bef
 
 module _ (given : Given) (before after : Outside) (chain : TrustChain) (bytes : List ℕ) (f : Favours given before after chain bytes) where
   abbrev V : Answer → Type 0
-  V said = Says (rooted_of chain (verdict_of given chain.file bytes)) said × StaysWarm after.store f
+  V said = Says (rooted_of chain (verdict_of given chain.file bytes)) said × StaysWarm after.store f.offer
 
   refused_says : (fault : RootFault) (said : Answer) → Runs given before after (Err fault) → refusal_answer fault ≡ Some said → V said
   refused_says fault said v h = by_complete (runs_complete given before after (Err fault) v chain bytes f)
     where
-      by_complete : (◌≡◌ {A = Result Rooted RootFault} (Err fault) (Err root.NoMemory)) ⊎ ((Err fault ≡ rooted_of chain (verdict_of given chain.file bytes)) × StaysWarm after.store f) → V said
+      by_complete : (◌≡◌ {A = Result Rooted RootFault} (Err fault) (Err root.NoMemory)) ⊎ ((Err fault ≡ rooted_of chain (verdict_of given chain.file bytes)) × StaysWarm after.store f.offer) → V said
       by_complete (inl w) = absurd (no_answer said (ap refusal_answer (sym (err_same fault root.NoMemory w)) ∙ h))
       by_complete (inr (e, w)) = (subst (λ r. Says r said) e h, w)
 
   reported_says : (rooted : Rooted) (said : Answer) → Runs given before after (Ok rooted) → SaysReport rooted said → V said
   reported_says rooted said v h = by_complete (runs_complete given before after (Ok rooted) v chain bytes f)
     where
-      by_complete : (◌≡◌ {A = Result Rooted RootFault} (Ok rooted) (Err root.NoMemory)) ⊎ ((Ok rooted ≡ rooted_of chain (verdict_of given chain.file bytes)) × StaysWarm after.store f) → V said
+      by_complete : (◌≡◌ {A = Result Rooted RootFault} (Ok rooted) (Err root.NoMemory)) ⊎ ((Ok rooted ≡ rooted_of chain (verdict_of given chain.file bytes)) × StaysWarm after.store f.offer) → V said
       by_complete (inl w) = no_both rooted root.NoMemory w
       by_complete (inr (e, w)) = (subst (λ r. Says r said) e h, w)
 
 module _ (command : Command) (before after : Environment) (chain : TrustChain) (bytes : List ℕ) (f : Favoured command before after chain bytes) where
   abbrev T : Answer → Type 0
-  T said = Says (rooted_of chain (verdict_of (given_in f) chain.file bytes)) said × StaysWarm after.outside.store f.outside
+  T said = Says (rooted_of chain (verdict_of (given_in f) chain.file bytes)) said × StaysWarm after.outside.store f.outside.offer
 
   judged_says : (found : Gathered) (said : Answer) → found ≡ f.gathered → Judges found (now_of f.layout command.clock) before.outside after.outside (Ok said) → T said
   judged_says found said same j = by_judges (subst (λ g. Judges g (now_of f.layout command.clock) before.outside after.outside (Ok said)) same j)

@@ -51,4 +51,4 @@ Completes command before after out out' ended =
     (chain : TrustChain) (bytes : List ℕ) (f : Favoured command before after chain bytes)
     → (ended ≡ status.Memory)
     ⊎ (((ended ≡ status.Output) × Rose out.faults out'.faults)
-    ⊎ (SaysVerdict (given_in f) chain bytes out out' ended × StaysWarm after.outside.store f.outside))
+    ⊎ (SaysVerdict (given_in f) chain bytes out out' ended × StaysWarm after.outside.store f.outside.offer))

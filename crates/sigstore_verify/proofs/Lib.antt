@@ -1,4 +1,9 @@
 pub mod RootFacts
 pub mod RootCauses
 pub mod RootCompleting
+pub mod RootPromises
 mod OnlyTop
+mod Digests
+mod Entries
+mod OneContent
+pub mod OnePlaceLaw

@@ -19,7 +19,7 @@ use Rattle.sigstore_verify.specs.declared.from_root.RootFault.{RootFault}
 use Rattle.sigstore_verify.specs.Cause as cause
 use Rattle.sigstore_judgement.specs.Cause.{JudgeCause}
 use Rattle.sigstore_verify.specs.Cause.{RootCause, ChainCause, state_in}
-use Rattle.sigstore_verify.specs.Given.{Anchor, Given, Outside, asked_by}
+use Rattle.sigstore_verify.specs.Given.{Anchor, Given, Places, Outside, places_in, asked_by}
 use Rattle.sigstore_verify.specs.FromRoot as top
 use Rattle.sigstore_verify.specs.FromRoot.{trust_path, session_in, TrustsChain, GivesChain, root_of_tuf, root_of_verify, Runs}
 use Rattle.sigstore_judgement.proofs.JudgeCauses.{judge_refused}
@@ -27,7 +27,7 @@ use Rattle.sigstore_verify.proofs.OnlyTop.{first_root_only, attach_only, refresh
 use Rattle.sigstore_verify.proofs.RootFacts.{refreshed_authorised, searched_authorised, chain_trusts}
 
 -- a chain that isn't given has its cause in the root, the repository and the store
-module _ (anchor : Anchor) (before after : Outside) where
+module _ (anchor : Anchor) (before after : Places) where
   abbrev Chain : TufError → Type 0
   Chain e = ChainCause anchor before after e
 
@@ -42,7 +42,7 @@ module _ (anchor : Anchor) (before after : Outside) where
   begun_carried : (begun : Watched Files) (set : InForce) (b : top.Begins anchor before.repo before.store begun set) → Carried (state_in b.first before) (state_of set before.repo begun)
   begun_carried begun set b = attach_carried anchor.crypto (state_in b.first before) (state_of set before.repo begun) (Ok tt) b.attached.attaches
 
-  chain_cause : (e : TufError) → GivesChain anchor before.repo after.repo before.store after.store (Err e) → Chain e
+  pub chain_cause : (e : TufError) → GivesChain anchor before.repo after.repo before.store after.store (Err e) → Chain e
   chain_cause e (top.root_refused d h s t r) = subst Chain (err_same d e (sym r)) (by_want d (λ other. cause.root_refused (first_refusal anchor.crypto anchor.root d (h other))))
   chain_cause e (top.attach_refused first set d f a s r) = subst Chain (err_same d e (sym r)) (cause.chain_wanting a.refused)
   chain_cause e (top.refresh_refused set last begun d b w r) =
@@ -64,7 +64,7 @@ module _ (given : Given) (before after : Outside) where
   abbrev Cause : RootFault → Type 0
   Cause fault = RootCause given before after fault
 
-  by_tuf : (e : TufError) → ChainCause given.anchor before after e → after.source ≡ before.source → Cause (root_of_tuf e)
+  by_tuf : (e : TufError) → ChainCause given.anchor (places_in before) (places_in after) e → after.source ≡ before.source → Cause (root_of_tuf e)
   by_tuf tuf.Json h s = (h, s)
   by_tuf (tuf.Malformed a) h s = (h, s)
   by_tuf tuf.NonIntegerNumber h s = (h, s)
@@ -106,7 +106,7 @@ module _ (given : Given) (before after : Outside) where
   by_verify verify.NoMemory chain t h = tt
 
   pub runs_cause : (fault : RootFault) → Runs given before after (Err fault) → Cause fault
-  runs_cause fault (top.chain_refused e c s r) = subst Cause (err_same (root_of_tuf e) fault (sym r)) (by_tuf e (chain_cause given.anchor before after e c) s)
+  runs_cause fault (top.chain_refused e c s r) = subst Cause (err_same (root_of_tuf e) fault (sym r)) (by_tuf e (chain_cause given.anchor (places_in before) (places_in after) e c) s)
   runs_cause fault (top.judgement_refused chain e c j r) =
       subst Cause (err_same (root_of_verify e chain) fault (sym r))
       (by_verify e chain (chain_trusts given.anchor before.repo after.repo before.store after.store chain c) (judge_refused (asked_by given) chain.file before.source after.source e j))

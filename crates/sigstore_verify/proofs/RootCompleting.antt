@@ -24,10 +24,10 @@ use Rattle.sigstore_judgement.specs.declared.report.Kept.{Kept}
 use Rattle.sigstore_verify.specs.declared.from_root.Rooted.{Rooted}
 use Rattle.sigstore_verify.specs.declared.from_root.RootFault.{RootFault}
 use Rattle.sigstore_verify.specs.declared.from_root.RootFault.TheVariants as root
-use Rattle.sigstore_verify.specs.Given.{Anchor, Given, Outside, asked_by}
+use Rattle.sigstore_verify.specs.Given.{Anchor, Given, Places, Outside, places_in, asked_by}
 use Rattle.sigstore_judgement.proofs.Completing.{judge_completes}
 use Rattle.sigstore_verify.specs.FromRoot.{trust_path, session_in, Begins, GivesChain, root_refused, attach_refused, refresh_refused, target_refused, chain_given, JudgesGiven, root_of_tuf, root_of_verify, Runs, chain_refused, judgement_refused, accepted}
-use Rattle.sigstore_verify.specs.Complete.{verdict_of, rooted_of, TellsQuietly, Favours, StaysWarm, Completes}
+use Rattle.sigstore_verify.specs.Complete.{verdict_of, rooted_of, TellsQuietly, OffersChain, StaysWarm, CompletesChain, Favours, Completes}
 
 -- ---- the chain
 
@@ -88,6 +88,24 @@ module _ (anchor : Anchor) (folders : Folders) (files : Files) (chain : TrustCha
         by_given (chain_wanting h) = no_both c tuf.NoMemory h
         by_given (is_given h w) = is_given (is ∙ h) w
 
+-- the call that gives it
+module _ (anchor : Anchor) (before after : Places) (chain : TrustChain) (o : OffersChain anchor before after chain) where
+  abbrev AfterChain : Type 0
+  AfterChain = StaysTold anchor.crypto o.folders anchor.root anchor.now anchor.config trust_path chain o.offers after.store
+
+  pub offered_chain : (answer : Result TrustChain TufError) → GivesChain anchor before.repo after.repo before.store after.store answer → GivenChain AfterChain chain answer
+  offered_chain answer g = chain_completes anchor o.folders o.files chain o.offers o.warm before.repo after.repo before.store after.store o.repo.told o.store o.repo.quiet answer g
+
+  pub warm_so : AfterChain → StaysWarm after.store o
+  warm_so t = record { files = t.files; told = t.told; warm = t.so }
+
+  pub chain_answered : (answer : Result TrustChain TufError) → GivenChain AfterChain chain answer → (answer ≡ Err tuf.NoMemory) ⊎ ((answer ≡ Ok chain) × StaysWarm after.store o)
+  chain_answered answer (chain_wanting h) = inl h
+  chain_answered answer (is_given h w) = inr (h, warm_so w)
+
+pub gives_complete : (anchor : Anchor) (before after : Places) (result : Result TrustChain TufError) → GivesChain anchor before.repo after.repo before.store after.store result → CompletesChain anchor before after result
+gives_complete anchor before after result g chain o = chain_answered anchor before after chain o result (offered_chain anchor before after chain o result g)
+
 -- ---- the judgement
 
 -- over bytes that are told within the limit, where the source is quiet, the judgement is the verdict
@@ -100,20 +118,17 @@ judge_so given before after file bytes source short result j =
 
 module _ (given : Given) (before after : Outside) (chain : TrustChain) (bytes : List ℕ) (f : Favours given before after chain bytes) where
   abbrev Answered : Result Rooted RootFault → Type 0
-  Answered result = (result ≡ Err root.NoMemory) ⊎ ((result ≡ rooted_of chain (verdict_of given chain.file bytes)) × StaysWarm after.store f)
+  Answered result = (result ≡ Err root.NoMemory) ⊎ ((result ≡ rooted_of chain (verdict_of given chain.file bytes)) × StaysWarm after.store f.offer)
 
   abbrev AfterWarm : Type 0
-  AfterWarm = StaysTold given.anchor.crypto f.folders given.anchor.root given.anchor.now given.anchor.config trust_path chain f.offers after.store
-
-  warm_so : AfterWarm → StaysWarm after.store f
-  warm_so t = record { files = t.files; told = t.told; warm = t.so }
+  AfterWarm = AfterChain given.anchor (places_in before) (places_in after) chain f.offer
 
   chain_of : (answer : Result TrustChain TufError) → GivesChain given.anchor before.repo after.repo before.store after.store answer → GivenChain AfterWarm chain answer
-  chain_of answer g = chain_completes given.anchor f.folders f.files chain f.offers f.warm before.repo after.repo before.store after.store f.repo.told f.store f.repo.quiet answer g
+  chain_of answer g = offered_chain given.anchor (places_in before) (places_in after) chain f.offer answer g
 
   by_judgement : (result : Result Rooted RootFault) (answer : Result Kept Error) → AfterWarm → result ≡ rooted_of chain answer → (answer ≡ Err verify.NoMemory) ⊎ (answer ≡ verdict_of given chain.file bytes) → Answered result
   by_judgement result answer w is (inl h) = inl (is ∙ ap (rooted_of chain) h)
-  by_judgement result answer w is (inr h) = inr (is ∙ ap (rooted_of chain) h, warm_so w)
+  by_judgement result answer w is (inr h) = inr (is ∙ ap (rooted_of chain) h, warm_so given.anchor (places_in before) (places_in after) chain f.offer w)
 
   pub run_complete : (result : Result Rooted RootFault) → Runs given before after result → Answered result
   run_complete result (chain_refused e g s is) = by_given (chain_of (Err e) g)

@@ -16,13 +16,13 @@ use Rattle.sigstore_judgement.specs.declared.error.Error.TheVariants as verify
 use Rattle.sigstore_verify.specs.declared.from_root.RootFault.{RootFault}
 use Rattle.sigstore_verify.specs.declared.from_root.RootFault.TheVariants as refusal
 use Rattle.sigstore_judgement.specs.Cause.{JudgeCause}
-use Rattle.sigstore_verify.specs.Given.{Anchor, Given, Outside, asked_by}
+use Rattle.sigstore_verify.specs.Given.{Anchor, Given, Places, Outside, places_in, asked_by}
 use Rattle.sigstore_verify.specs.FromRoot.{trust_path, session_in, TrustsChain}
 
 -- ---- why there is no chain
 
-abbrev pub state_in : InForce → Outside → State
-state_in set outside = state_of set outside.repo outside.store
+abbrev pub state_in : InForce → Places → State
+state_in set places = state_of set places.repo places.store
 
 -- of the targets documents only the top-level one is in force
 abbrev pub OnlyTop : InForce → Type 0
@@ -31,7 +31,7 @@ OnlyTop set = (name : List ℕ) (held : Held Targets) → at_name name set.targe
 -- The given root is refused; or a refresh from it, of documents that repository and store had at the beginning; or the search, whose
 -- documents are authorised from the root at its beginning, when none of a delegated role is in force, and at its end, where they serve
 -- at this moment.
-pub data ChainCause (anchor : Anchor) (before after : Outside) (e : TufError) : Type 0 where
+pub data ChainCause (anchor : Anchor) (before after : Places) (e : TufError) : Type 0 where
   root_refused : FirstCause anchor.crypto anchor.root e → ChainCause anchor before after e
   refresh_refused : (first last : InForce) → first_root_of anchor.crypto anchor.root ≡ Ok first
       → AreAuthorised anchor.crypto anchor.root last
@@ -49,7 +49,7 @@ pub data ChainCause (anchor : Anchor) (before after : Outside) (e : TufError) : 
 abbrev pub RootCause : Given → Outside → Outside → RootFault → Type 0
 RootCause given before after (refusal.Tuf tuf.NoMemory) = ⊥
 RootCause given before after (refusal.Tuf e) =
-    ChainCause given.anchor before after e × (after.source ≡ before.source)
+    ChainCause given.anchor (places_in before) (places_in after) e × (after.source ≡ before.source)
 RootCause given before after (refusal.Verify verify.NoMemory chain) = ⊥
 RootCause given before after (refusal.Verify e chain) =
     TrustsChain given.anchor chain × JudgeCause (asked_by given) chain.file before.source after.source e

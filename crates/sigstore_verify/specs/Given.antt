@@ -32,8 +32,16 @@ asked_by given = record {
   max = given.max;
 }
 
+-- where documents come from at one moment
+pub record Places : Type 0 where
+  pub repo : Watched Folders
+  pub store : Watched Files
+
 -- the outside at one moment
 pub record Outside : Type 0 where
   pub repo : Watched Folders
   pub store : Watched Files
   pub source : Watched (List ℕ)
+
+abbrev pub places_in : Outside → Places
+places_in outside = record { repo = outside.repo; store = outside.store }

@@ -1,26 +1,19 @@
 // The top call: from a pinned root down to one artifact.
-ghost use Rattle.std.specs.Prelude.{◌≡◌, ◌≢◌, ℕ, List, Ok, Err, IfOk, IfErr};
+ghost use Rattle.std.specs.Prelude.{◌≡◌};
 ghost use Rattle.sigstore_crypto_parts.specs.Crypto.{crypto_by};
-ghost use Rattle.sigstore_tuf_rules.specs.Update.{first_root_of};
-ghost use Rattle.sigstore_tuf_rules.specs.Authorised.{crypto_in};
-ghost use Rattle.sigstore_verify.specs.FromRoot.{GivesChain, root_of_tuf, root_of_verify};
+ghost use Rattle.sigstore_verify.specs.FromRoot.{root_of_tuf, root_of_verify};
 ghost use Rattle.sigstore_verify.specs.Given.{Anchor, Given, Outside};
 ghost use Rattle.sigstore_verify.specs.Promises.{Promises};
 
+use crate::chain::chain_from_root;
 use foundation::{Duplicate, NoMemory, Sequence};
 use jiff::Timestamp;
 use sigstore_crypto_parts::{ArtifactSource, CryptoProvider};
 use sigstore_judgement::{Error, Kept, Policy, VerificationResult, judge_bundle};
-use sigstore_tuf::{
-    MetadataStore, Repository, TrustChain, TrustedMetadataSet, UpdaterConfig, attach_parts,
-    get_target_parts, refresh_parts,
-};
+use sigstore_tuf::{MetadataStore, Repository, TrustChain, UpdaterConfig};
 use sigstore_types_parts::{Armor, ArtifactDigest};
 use std::alloc::Global;
 use std::fmt;
-
-// The target that is the trust file.
-const TRUST_PATH: &str = "trusted_root.json";
 
 /// An acceptance: the report, the chain of documents that authorises the trust file, and the digests of
 /// the artifact that were taken.
@@ -74,57 +67,6 @@ fn verify_fault(fault: Error, chain: TrustChain) -> RootFault
     }
 }
 
-// The chain of documents that authorises the trust file, by a client that begins with this first root.
-fn chain_by<C: CryptoProvider, M: Armor, R: Repository, S: MetadataStore>(
-    alloc: Global,
-    set: &mut TrustedMetadataSet<'_, C, M>,
-    repo: &mut R,
-    store: &mut S,
-    config: &UpdaterConfig,
-    now: Timestamp,
-) -> Result<TrustChain, sigstore_tuf_parts::Error>
-    ensures { let crypto = crypto_in C.CryptoProvider M.Armor set.old in
-        (root : List ℕ) → first_root_of crypto root ≡ Ok set.old.documents
-        → GivesChain (record { crypto = crypto; root = root; config = config.now; now = now })
-        (R.seen repo.old) (R.seen repo.new) (S.seen store.old) (S.seen store.new) result }
-{
-    if let Err(e) = attach_parts(alloc, set, store) {
-        return Err(e);
-    }
-    if let Err(e) = refresh_parts(alloc, set, repo, store, config, now) {
-        return Err(e);
-    }
-    match get_target_parts(alloc, set, repo, store, config, TRUST_PATH, now) {
-        Ok(chain) => Ok(chain),
-        Err(e) => Err(e),
-    }
-}
-
-// The chain of documents that authorises the trust file.
-fn trust_chain<C: CryptoProvider, M: Armor, R: Repository, S: MetadataStore>(
-    alloc: Global,
-    provider: &C,
-    armor: &M,
-    root_bytes: &[u8],
-    repo: &mut R,
-    store: &mut S,
-    config: &UpdaterConfig,
-    now: Timestamp,
-) -> Result<TrustChain, sigstore_tuf_parts::Error>
-    ensures { let crypto = crypto_by C.CryptoProvider M.Armor provider.now armor.now in
-        GivesChain (record { crypto = crypto; root = root_bytes.now; config = config.now; now = now })
-        (R.seen repo.old) (R.seen repo.new) (S.seen store.old) (S.seen store.new) result }
-{
-    match TrustedMetadataSet::from_root(alloc, provider, armor, root_bytes) {
-        Ok(mut set) => {
-            let given = chain_by(alloc, &mut set, repo, store, config, now);
-            drop(set);
-            given
-        }
-        Err(e) => Err(e),
-    }
-}
-
 /// Verifies a bundle over an artifact from a pinned TUF root: begins a client with that root and the
 /// store's next ones, refreshes it, gets the target `trusted_root.json`, reads it as the trust file, reads
 /// the bundle and verifies the artifact as it is read. Errors are those of the first of these that refuses:
@@ -159,7 +101,7 @@ pub fn verify_from_root<
         let after : Outside = record { repo = R.seen repo.new; store = S.seen store.new; source = A.seen artifact.new } in
         Promises given before after result }
 {
-    let chain = match trust_chain(
+    let chain = match chain_from_root(
         alloc, provider, armor, root_bytes, repo, store, &config, now,
     ) {
         Ok(chain) => chain,

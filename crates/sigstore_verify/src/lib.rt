@@ -2,9 +2,13 @@
 //! authorises the trust file, then the judgement of the bundle under it, whose names it passes on.
 #![tactic(auto)]
 
+mod chain;
 mod from_root;
+mod laws;
 
+pub use chain::chain_from_root;
 pub use from_root::{RootFault, Rooted, verify_from_root};
+pub use laws::one_place_one_content;
 pub use sigstore_judgement::{
     CertificateError, CertificatePolicy, DigitallySigned, Error, Evidence, IdentityMatcher, Kept,
     Material, Policy, PolicyKind, PublicKeyVerificationPolicy, SctRule, TimestampError,

@@ -1,8 +1,8 @@
 // A run of the program over objects in memory: the fixture, with one of its parts changed.
 use crate::tables::{
-    Change, bytes, change_in, display, failures, good, source, string, text_of, there, words,
+    Change, bytes, change_in, display, failures, first, good, source, string, text_of, there, words,
 };
-use crate::{delegated, enveloped, keyless, keyless_data, logged, stamped};
+use crate::{delegated, enveloped, hostile, keyless, keyless_data, logged, stamped};
 use jiff::Timestamp;
 use sigstore_app_parts::{MemoryInputs, MemorySink, Which};
 use sigstore_crypto::{MemorySource, sha256};
@@ -17,6 +17,8 @@ pub(crate) fn answer<X: AllocGlobal + Abort>(rt: &X, call: &str, given: &str) ->
     match call {
         "run" => said(rt, given),
         "kept" => kept(rt, given),
+        "each" => hostile::each(rt, given),
+        "bounded" => hostile::bounded(rt, given),
         "fault" => match given {
             "RootFault::Tuf" => display(rt, RootFault::Tuf(sigstore_tuf::Error::Json)),
             _ => display(rt, RootFault::NoMemory),
@@ -30,7 +32,7 @@ const RAW_KEY: &str =
     "BAAAAAAAAAAAAAAAAAAAAAAAAAAAAAAAAAAAAAAAAAAAAAAAAAAAAAAAAAAAAAAAAAAAAAAAAAAAAAAAAAAAAAA=";
 
 // The same key as a subject public key info.
-const SPKI: &str =
+pub(crate) const SPKI: &str =
     "MFkwEwYHKoZIzj0CAQYIKoZIzj0DAQcDQgAEAAAAAAAAAAAAAAAAAAAAAAAAAAAAAAAAAAAAAAAAAAAAAAAAAAAAAAAAAAAAAAAAAAAAAAAAAAAAAAAAAAAAAA==";
 
 const ROLES: &str =
@@ -57,7 +59,7 @@ const DIGEST_NAME: &str =
     "44136fa355b3678a1146ad16f7e8649e94fb4fc21fe77e8310c060f61caaff8a.trusted_root.json";
 
 // The parts of the fixture that a change names; nothing is unchanged.
-const PARTS: &str = "nothing
+pub(crate) const PARTS: &str = "nothing
 words
 consistent
 consistent names
@@ -87,6 +89,7 @@ two timestamps
 authority before
 issuing window
 unpromised
+crossed
 listed
 delegations
 delegated
@@ -96,12 +99,18 @@ skip
 policy
 bundle
 bundle of blanks
+bundle of lists
+start of root
+start of bundle
+start of token
+doubled
 material
 content
 enveloped
 signed artifact
 artifact
 repository fails
+store fails
 inputs fail
 artifact fails
 byte fails
@@ -117,7 +126,7 @@ fn name_of(change: Change, consistent: &'static str, plain: &'static str) -> &'s
     }
 }
 
-fn root<X: AllocGlobal + Abort>(rt: &X, change: Change, version: &str) -> String {
+pub(crate) fn root<X: AllocGlobal + Abort>(rt: &X, change: Change, version: &str) -> String {
     let consistent = change.of("consistent", name_of(change, "true", "false"));
     let scheme = change.of("scheme", "ecdsa-sha2-nistp256");
     let public = change.of("declared key", SPKI);
@@ -163,7 +172,7 @@ fn listed<X: AllocGlobal + Abort>(rt: &X, trust: &str) -> String {
     good(rt, text)
 }
 
-fn targets<X: AllocGlobal + Abort>(rt: &X, change: Change) -> String {
+pub(crate) fn targets<X: AllocGlobal + Abort>(rt: &X, change: Change) -> String {
     if change.part == "delegated" {
         return delegated::delegating(rt, change.text, SPKI);
     }
@@ -194,10 +203,27 @@ fn document<X: AllocGlobal + Abort>(rt: &X, signed: &str) -> String {
     good(rt, text)
 }
 
+// A document whose one signature stands twice, where the change names its file.
+fn served<X: AllocGlobal + Abort>(rt: &X, change: Change, name: &str, signed: &str) -> String {
+    if change.of("doubled", "") == name {
+        let text = format!(in rt.alloc();
+            r#"{{"signatures":[{{"keyid":"k","sig":"01"}},{{"keyid":"k","sig":"01"}}],"signed":{signed}}}"#
+        );
+        return good(rt, text);
+    }
+    document(rt, signed)
+}
+
 // Puts a document in its place; an empty text is none.
-fn put<X: AllocGlobal + Abort>(rt: &X, repo: &mut MemoryRepository, name: &str, signed: &str) {
+fn put<X: AllocGlobal + Abort>(
+    rt: &X,
+    repo: &mut MemoryRepository,
+    change: Change,
+    name: &str,
+    signed: &str,
+) {
     if !signed.is_empty() {
-        let document = document(rt, signed);
+        let document = served(rt, change, name, signed);
         good(rt, repo.put_metadata(rt.alloc(), name, document.as_bytes()));
         drop(document);
     }
@@ -205,8 +231,8 @@ fn put<X: AllocGlobal + Abort>(rt: &X, repo: &mut MemoryRepository, name: &str, 
 
 fn put_delegated<X: AllocGlobal + Abort>(rt: &X, repo: &mut MemoryRepository, change: Change) {
     if change.part == "delegated" {
-        put(rt, repo, "d.json", delegated::LISTING);
-        put(rt, repo, "e.json", delegated::EMPTY);
+        put(rt, repo, change, "d.json", delegated::LISTING);
+        put(rt, repo, change, "e.json", delegated::EMPTY);
     }
 }
 
@@ -218,29 +244,26 @@ fn put_trust<X: AllocGlobal + Abort>(rt: &X, repo: &mut MemoryRepository, change
     drop(trust);
 }
 
-fn repository<X: AllocGlobal + Abort>(rt: &X, change: Change, targets: &str) -> MemoryRepository {
+pub(crate) fn repository<X: AllocGlobal + Abort>(
+    rt: &X,
+    change: Change,
+    targets: &str,
+) -> MemoryRepository {
     let failures = failures(rt, change.of("repository fails", ""));
     let mut repo = MemoryRepository::new(rt.alloc(), failures);
-    put(rt, &mut repo, "2.root.json", change.of("next root", ""));
+    let next = change.of("next root", "");
+    put(rt, &mut repo, change, "2.root.json", next);
     if change.part == "second root" {
         let second = root(rt, change, change.text);
-        put(rt, &mut repo, "2.root.json", second.as_str());
+        put(rt, &mut repo, change, "2.root.json", second.as_str());
         drop(second);
     }
-    put(
-        rt,
-        &mut repo,
-        "timestamp.json",
-        change.of("timestamp", TIMESTAMP),
-    );
+    let timestamp = change.of("timestamp", TIMESTAMP);
+    put(rt, &mut repo, change, "timestamp.json", timestamp);
     let name = name_of(change, "1.snapshot.json", "snapshot.json");
-    put(rt, &mut repo, name, snapshot(change));
-    put(
-        rt,
-        &mut repo,
-        name_of(change, "1.targets.json", "targets.json"),
-        targets,
-    );
+    put(rt, &mut repo, change, name, snapshot(change));
+    let name = name_of(change, "1.targets.json", "targets.json");
+    put(rt, &mut repo, change, name, targets);
     put_delegated(rt, &mut repo, change);
     put_trust(rt, &mut repo, change);
     repo
@@ -326,7 +349,12 @@ fn stamps(change: Change) -> &'static str {
     }
 }
 
-fn provider<X: AllocGlobal + Abort>(rt: &X, change: Change, root: &str, targets: &str) -> Bytes {
+pub(crate) fn provider<X: AllocGlobal + Abort>(
+    rt: &X,
+    change: Change,
+    root: &str,
+    targets: &str,
+) -> Bytes {
     let mut rows = String::new(rt.alloc());
     sign(rt, change, &mut rows, "root", root);
     sign_second(rt, change, &mut rows);
@@ -368,6 +396,34 @@ fn policy<X: AllocGlobal + Abort>(rt: &X, change: Change) -> Bytes {
     Bytes::from_vec(text.into_bytes())
 }
 
+// The first octets, as many as a number says.
+fn start<X: AllocGlobal + Abort>(rt: &X, whole: &[u8], count: &str) -> Bytes {
+    bytes(rt, first(rt, whole, count))
+}
+
+// The given root, or its first octets.
+pub(crate) fn given_root<X: AllocGlobal + Abort>(rt: &X, change: Change, root: &str) -> Bytes {
+    let document = document(rt, root);
+    let count = change.of("start of root", "");
+    if count.is_empty() {
+        return Bytes::from_vec(document.into_bytes());
+    }
+    let start = start(rt, document.as_bytes(), count);
+    drop(document);
+    start
+}
+
+// So many lists, each within another.
+fn lists<X: AllocGlobal + Abort>(rt: &X, count: &str) -> Bytes {
+    let count = good(rt, count.parse::<usize>());
+    let mut text = good(rt, vec![in rt.alloc(); b'['; count]);
+    good(
+        rt,
+        text.extend_from_slice(good(rt, vec![in rt.alloc(); b']'; count]).as_slice()),
+    );
+    Bytes::from_vec(text)
+}
+
 // That many blanks.
 fn blanks<X: AllocGlobal + Abort>(rt: &X, count: &str) -> Bytes {
     let count = good(rt, count.parse::<usize>());
@@ -406,10 +462,17 @@ fn made_bundle<X: AllocGlobal + Abort>(rt: &X, change: Change) -> Bytes {
     Bytes::from_vec(good(rt, text).into_bytes())
 }
 
-fn bundle<X: AllocGlobal + Abort>(rt: &X, change: Change) -> Bytes {
+pub(crate) fn bundle<X: AllocGlobal + Abort>(rt: &X, change: Change) -> Bytes {
     match change.part {
         "bundle" => bytes(rt, change.text.as_bytes()),
         "bundle of blanks" => blanks(rt, change.text),
+        "bundle of lists" => lists(rt, change.text),
+        "start of bundle" => {
+            let whole = made_bundle(rt, change);
+            let start = start(rt, whole.as_bytes(), change.text);
+            drop(whole);
+            start
+        }
         _ => made_bundle(rt, change),
     }
 }
@@ -421,10 +484,7 @@ fn inputs<X: AllocGlobal + Abort>(
     targets: &str,
 ) -> MemoryInputs {
     let mut inputs = MemoryInputs::new(failures(rt, change.of("inputs fail", "")));
-    inputs.put(
-        Which::Root,
-        Bytes::from_vec(document(rt, root).into_bytes()),
-    );
+    inputs.put(Which::Root, given_root(rt, change, root));
     inputs.put(Which::Policy, policy(rt, change));
     inputs.put(Which::Provider, provider(rt, change, root, targets));
     inputs.put(Which::Bundle, bundle(rt, change));
@@ -497,6 +557,7 @@ fn run_over<X: AllocGlobal + Abort>(
 // A run whose repository has a second root, after which the store has it.
 fn keep_second<X: AllocGlobal + Abort>(rt: &X, version: &str, store: &mut MemoryStore) {
     let change = Change {
+        keyless: false,
         part: "second root",
         text: version,
     };
@@ -518,7 +579,8 @@ fn keep_timestamp<X: AllocGlobal + Abort>(rt: &X, signed: &str, store: &mut Memo
 
 // The store before the run; without a change it is empty.
 fn store<X: AllocGlobal + Abort>(rt: &X, change: Change) -> MemoryStore {
-    let mut store = MemoryStore::new(rt.alloc());
+    let failures = failures(rt, change.of("store fails", ""));
+    let mut store = MemoryStore::with_failures(rt.alloc(), failures);
     match change.part {
         "kept root" => keep_second(rt, change.text, &mut store),
         "kept timestamp" => keep_timestamp(rt, change.text, &mut store),
@@ -537,7 +599,10 @@ fn run_with<X: AllocGlobal + Abort>(rt: &X, change: Change, sink: &mut MemorySin
 
 // The status of a run over the changed fixture, and what the sink took, as Debug prints them.
 fn said<X: AllocGlobal + Abort>(rt: &X, row: &str) -> String {
-    let change = change_in(rt, row, PARTS);
+    said_of(rt, change_in(rt, row, PARTS))
+}
+
+pub(crate) fn said_of<X: AllocGlobal + Abort>(rt: &X, change: Change) -> String {
     let room = change.of("room", "1024");
     let failures = failures(rt, change.of("sink fails", ""));
     let room = good(rt, room.parse::<u32>());

@@ -2,11 +2,12 @@
 // has a token at 1700000060 and the entry of `logged` over the certificate, with a promise at 1700000100; each window of
 // the trust file begins at 1600000000. The run is at 1700001000.
 use crate::keyless_data::{
-    AUTHORITY, BODY, CERTIFICATE, CERTIFICATE_LOG, OTHER_AUTHORITY, ROOT, STAMPER, TOKEN,
+    AUTHORITY, BODY, CERTIFICATE, CERTIFICATE_LOG, CROSSED, OTHER_AUTHORITY, ROOT, STAMPER, TOKEN,
     TWICE_BODY, TWICE_CERTIFICATE, TWICE_ROOT,
 };
 use crate::logged;
-use crate::tables::{Change, good, string};
+use crate::tables::{Change, first, good, string, text};
+use sigstore_types_parts::{DigestBytes, Text};
 use std::process::Abort;
 
 pub(crate) const WORDS: &str =
@@ -18,10 +19,11 @@ const WINDOW: &str = r#""start":"2020-09-13T12:26:40Z""#;
 
 // Whether the signer has a certificate.
 pub(crate) fn is_keyless(change: Change) -> bool {
-    matches!(
+    let named = matches!(
         change.part,
         "keyless" | "two timestamps" | "authority before" | "issuing window" | "unpromised"
-    )
+    );
+    named || change.keyless
 }
 
 // Whether the certificate has two timestamps of its log.
@@ -84,11 +86,46 @@ pub(crate) fn lines<X: AllocGlobal + Abort>(rt: &X, words: &str) -> String {
     lines
 }
 
-pub(crate) fn material<X: AllocGlobal + Abort>(rt: &X, change: Change) -> String {
-    let (certificate, entries) = (certificate(change), logged::entries(rt, change));
-    let text = format!(in rt.alloc();
-        r#""certificate":{{"rawBytes":"{certificate}"}},"timestampVerificationData":{{"rfc3161Timestamps":[{{"signedTimestamp":"{TOKEN}"}}]}},{entries}"#
+// The certificate, or a chain that leads to no authority.
+fn certified<X: AllocGlobal + Abort>(rt: &X, change: Change) -> String {
+    if change.part == "crossed" {
+        let text = format!(in rt.alloc();
+            r#""x509CertificateChain":{{"certificates":[{CROSSED}]}}"#
+        );
+        return good(rt, text);
+    }
+    let certificate = certificate(change);
+    good(
+        rt,
+        format!(in rt.alloc(); r#""certificate":{{"rawBytes":"{certificate}"}}"#),
+    )
+}
+
+// The token in base64, or that of its first octets.
+fn token<X: AllocGlobal + Abort>(rt: &X, change: Change) -> Text {
+    let count = change.of("start of token", "");
+    if count.is_empty() {
+        return text(rt, TOKEN);
+    }
+    let whole = good(rt, DigestBytes::from_base64(rt.alloc(), TOKEN));
+    let start = good(
+        rt,
+        DigestBytes::from_bytes(rt.alloc(), first(rt, whole.as_bytes(), count)),
     );
+    drop(whole);
+    let base64 = start.to_base64(rt.alloc());
+    drop(start);
+    good(rt, base64)
+}
+
+pub(crate) fn material<X: AllocGlobal + Abort>(rt: &X, change: Change) -> String {
+    let (certified, entries) = (certified(rt, change), logged::entries(rt, change));
+    let token = token(rt, change);
+    let text = format!(in rt.alloc();
+        r#"{certified},"timestampVerificationData":{{"rfc3161Timestamps":[{{"signedTimestamp":"{token}"}}]}},{entries}"#
+    );
+    drop(certified);
     drop(entries);
+    drop(token);
     good(rt, text)
 }

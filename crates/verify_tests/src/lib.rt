@@ -8,6 +8,8 @@ mod enveloped;
 #[cfg(test)]
 mod fixture;
 #[cfg(test)]
+mod hostile;
+#[cfg(test)]
 mod keyless;
 #[cfg(test)]
 mod keyless_data;

@@ -43,6 +43,7 @@ pub(crate) fn halves<'a, X: Abort>(rt: &X, text: &'a str, mark: &str) -> (&'a st
     there(rt, text.split_once(mark))
 }
 
+// The number that a text spells.
 pub(crate) fn number<X: Abort>(rt: &X, text: &str) -> u64 {
     good(rt, text.parse::<u64>())
 }
@@ -61,9 +62,10 @@ pub(crate) fn text_of<X: AllocGlobal + Abort>(rt: &X, bytes: &[u8]) -> String {
     string(rt, good(rt, str::from_utf8(bytes)))
 }
 
-// A part of what is given to a call, and the text in its place.
+// A part of what is given to a call, and the text in its place; the fixture's signer may have a certificate.
 #[derive(Clone, Copy)]
 pub(crate) struct Change<'a> {
+    pub(crate) keyless: bool,
     pub(crate) part: &'a str,
     pub(crate) text: &'a str,
 }
@@ -73,13 +75,33 @@ impl<'a> Change<'a> {
     pub(crate) fn of(self, part: &str, text: &'a str) -> &'a str {
         if self.part == part { self.text } else { text }
     }
+
+    // The same part with another text.
+    pub(crate) fn with<'b>(self, text: &'b str) -> Change<'b>
+    where
+        'a: 'b,
+    {
+        Change {
+            keyless: self.keyless,
+            part: self.part,
+            text,
+        }
+    }
 }
 
-// The change that a row names: one of these parts, ` | ` and its text.
+// The change that a row names: `keyless, ` where the signer has a certificate, one of these parts, ` | ` and its text.
 pub(crate) fn change_in<'a, X: Abort>(rt: &X, row: &'a str, parts: &str) -> Change<'a> {
-    let (part, text) = halves(rt, row, " | ");
+    let (named, text) = halves(rt, row, " | ");
+    let (keyless, part) = match named.strip_prefix("keyless, ") {
+        Some(part) => (true, part),
+        None => (false, named),
+    };
     assert!(rt; parts.lines().any(|known| known == part), "{row}");
-    Change { part, text }
+    Change {
+        keyless,
+        part,
+        text,
+    }
 }
 
 // The calls that fail: the one of that number, or none where there is no number.
@@ -116,4 +138,11 @@ pub(crate) fn source<X: AllocGlobal + Abort>(
 ) -> MemorySource {
     let step = there(rt, NonZeroU32::new(step));
     MemorySource::new(bytes(rt, artifact.as_bytes()), step, failures(rt, read))
+}
+
+// The first octets, as many as a number says.
+pub(crate) fn first<'a, X: Abort>(rt: &X, whole: &'a [u8], count: &str) -> &'a [u8] {
+    let count = good(rt, count.parse::<usize>());
+    assert!(rt; count <= whole.len(), "too few octets");
+    whole.split_at(count).0
 }

@@ -1,6 +1,6 @@
 use Rattle.std.proofs.Common.{refl}
 use Rattle.sigstore_verify.specs.FromRoot.{attach_refused, refresh_refused, target_refused, chain_given}
-use Rattle.sigstore_verify.proofs.from_root.chain_by.Goals as goal
+use Rattle.sigstore_verify.proofs.chain.chain_by.Goals as goal
 
 pub returns-in-Err : goal.returns-in-Err
 returns-in-Err g c root h = attach_refused _ _ _ h (c.in-Err.ensures.attached _) refl refl

@@ -1,6 +1,6 @@
 use Rattle.std.proofs.Common.{refl}
 use Rattle.sigstore_verify.specs.FromRoot.{root_refused}
-use Rattle.sigstore_verify.proofs.from_root.trust_chain.Goals as goal
+use Rattle.sigstore_verify.proofs.chain.trust_chain.Goals as goal
 
 pub returns-in-Err : goal.returns-in-Err
 returns-in-Err g c = root_refused _ c.in-Err.ensures.err refl refl refl

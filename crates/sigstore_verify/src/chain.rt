@@ -1,0 +1,94 @@
+// The chain of documents that authorises the trust file, from a pinned root.
+ghost use Rattle.std.specs.Prelude.{◌≡◌, ℕ, List, Ok};
+ghost use Rattle.sigstore_crypto_parts.specs.Crypto.{crypto_by};
+ghost use Rattle.sigstore_tuf_rules.specs.Update.{first_root_of};
+ghost use Rattle.sigstore_tuf_rules.specs.Authorised.{crypto_in};
+ghost use Rattle.sigstore_verify.specs.FromRoot.{GivesChain};
+ghost use Rattle.sigstore_verify.specs.Given.{Anchor, Places};
+ghost use Rattle.sigstore_verify.specs.Promises.{PromisesChain};
+
+use jiff::Timestamp;
+use sigstore_crypto_parts::CryptoProvider;
+use sigstore_tuf::{
+    MetadataStore, Repository, TrustChain, TrustedMetadataSet, UpdaterConfig, attach_parts,
+    get_target_parts, refresh_parts,
+};
+use sigstore_types_parts::Armor;
+use std::alloc::Global;
+
+// The target that is the trust file.
+const TRUST_PATH: &str = "trusted_root.json";
+
+// The chain of documents that authorises the trust file, by a client that begins with this first root.
+fn chain_by<C: CryptoProvider, M: Armor, R: Repository, S: MetadataStore>(
+    alloc: Global,
+    set: &mut TrustedMetadataSet<'_, C, M>,
+    repo: &mut R,
+    store: &mut S,
+    config: &UpdaterConfig,
+    now: Timestamp,
+) -> Result<TrustChain, sigstore_tuf_parts::Error>
+    ensures { let crypto = crypto_in C.CryptoProvider M.Armor set.old in
+        (root : List ℕ) → first_root_of crypto root ≡ Ok set.old.documents
+        → GivesChain (record { crypto = crypto; root = root; config = config.now; now = now })
+        (R.seen repo.old) (R.seen repo.new) (S.seen store.old) (S.seen store.new) result }
+{
+    if let Err(e) = attach_parts(alloc, set, store) {
+        return Err(e);
+    }
+    if let Err(e) = refresh_parts(alloc, set, repo, store, config, now) {
+        return Err(e);
+    }
+    match get_target_parts(alloc, set, repo, store, config, TRUST_PATH, now) {
+        Ok(chain) => Ok(chain),
+        Err(e) => Err(e),
+    }
+}
+
+// The chain of documents that authorises the trust file.
+fn trust_chain<C: CryptoProvider, M: Armor, R: Repository, S: MetadataStore>(
+    alloc: Global,
+    provider: &C,
+    armor: &M,
+    root_bytes: &[u8],
+    repo: &mut R,
+    store: &mut S,
+    config: &UpdaterConfig,
+    now: Timestamp,
+) -> Result<TrustChain, sigstore_tuf_parts::Error>
+    ensures { let crypto = crypto_by C.CryptoProvider M.Armor provider.now armor.now in
+        GivesChain (record { crypto = crypto; root = root_bytes.now; config = config.now; now = now })
+        (R.seen repo.old) (R.seen repo.new) (S.seen store.old) (S.seen store.new) result }
+{
+    match TrustedMetadataSet::from_root(alloc, provider, armor, root_bytes) {
+        Ok(mut set) => {
+            let given = chain_by(alloc, &mut set, repo, store, config, now);
+            drop(set);
+            given
+        }
+        Err(e) => Err(e),
+    }
+}
+
+/// The chain of documents that authorises the trust file `trusted_root.json`, from a pinned TUF root: begins a
+/// client with that root and the store's next ones, refreshes it, and gets that target (TUF specification,
+/// section 5). Errors are those of the first of these that refuses. The store is a cache: nothing that it has is
+/// believed unsigned, and a fault of it is none.
+pub fn chain_from_root<R: Repository, S: MetadataStore, C: CryptoProvider, M: Armor>(
+    alloc: Global,
+    provider: &C,
+    armor: &M,
+    root_bytes: &[u8],
+    repo: &mut R,
+    store: &mut S,
+    config: &UpdaterConfig,
+    now: Timestamp,
+) -> Result<TrustChain, sigstore_tuf_parts::Error>
+    ensures { let crypto = crypto_by C.CryptoProvider M.Armor provider.now armor.now in
+        let anchor : Anchor = record { crypto = crypto; root = root_bytes.now; config = config.now; now = now } in
+        let before : Places = record { repo = R.seen repo.old; store = S.seen store.old } in
+        let after : Places = record { repo = R.seen repo.new; store = S.seen store.new } in
+        PromisesChain anchor before after result }
+{
+    trust_chain(alloc, provider, armor, root_bytes, repo, store, config, now)
+}
