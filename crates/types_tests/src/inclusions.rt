@@ -18,7 +18,7 @@ fn octets<X: AllocGlobal + Abort>(rt: &X, word: &str) -> Bytes {
 }
 
 /// A hash: of 64 digits, or of 32 octets of two.
-fn hash<X: Abort>(rt: &X, word: &str) -> Sha256Hash {
+pub fn hash<X: Abort>(rt: &X, word: &str) -> Sha256Hash {
     if word.len() == 2 {
         return Hash::new([good(rt, u8::from_str_radix(word, 16)); 32]);
     }
@@ -28,7 +28,7 @@ fn hash<X: Abort>(rt: &X, word: &str) -> Sha256Hash {
 }
 
 /// A path.
-fn path<X: AllocGlobal + Abort>(rt: &X, word: &str) -> Sequence<Sha256Hash> {
+pub fn path<X: AllocGlobal + Abort>(rt: &X, word: &str) -> Sequence<Sha256Hash> {
     let mut hashes = Sequence::new(rt.alloc());
     for word in word.split(',') {
         if word != "-" {

@@ -1,5 +1,5 @@
 //! Tests of the values that bundles and trust files are made of, of keys and certificates as texts, of entries
-//! of logs and their checkpoints, of inclusion in Merkle trees, of envelopes and statements, and of bundles, which are
+//! of logs and their checkpoints, of inclusion in Merkle trees and their growth, of envelopes and statements, and of bundles, which are
 //! read and written.
 #![tactic(auto)]
 
@@ -11,6 +11,8 @@ mod checkpoints;
 mod entries;
 #[cfg(test)]
 mod envelopes;
+#[cfg(test)]
+mod grown;
 #[cfg(test)]
 mod inclusion_data;
 #[cfg(test)]

@@ -11,7 +11,7 @@ use std::process::Abort;
 const LEVELS: u8 = 7;
 
 /// The hashes of leaves.
-fn leaves<X: AllocGlobal + Abort>(rt: &X, size: u8) -> Sequence<Sha256Hash> {
+pub fn leaves<X: AllocGlobal + Abort>(rt: &X, size: u8) -> Sequence<Sha256Hash> {
     let mut leaves = Sequence::new(rt.alloc());
     for octet in 0..size {
         good(rt, leaves.push(hash_leaf([octet].as_slice())));

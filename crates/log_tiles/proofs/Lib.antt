@@ -1,0 +1,5 @@
+pub mod Splits
+pub mod Given
+pub mod TreeHashes
+pub mod Nodes
+pub mod Steps

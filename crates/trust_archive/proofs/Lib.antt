@@ -1,0 +1,15 @@
+pub mod Adopting
+pub mod ChainVisits
+pub mod Complete
+pub mod Followed
+pub mod Format
+pub mod Parts
+pub mod RoleDocuments
+pub mod Roots
+pub mod Sound
+pub mod Steps
+pub mod Texts
+pub mod Tops
+pub mod Visiting
+pub mod Walking
+pub mod Whole

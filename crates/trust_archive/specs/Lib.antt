@@ -1,0 +1,7 @@
+pub mod Archive
+pub mod Error
+pub mod Grammar
+pub mod Judgement
+pub mod Laws
+pub mod Searching
+pub mod Spelling
