@@ -12,12 +12,12 @@ _ratmanganese() {
         name=
     fi
     case $name in
-    --repository | --store)
+    --repository | --store | --tiles)
         mapfile -t COMPREPLY < <(compgen -d -- "$word")
         compopt -o filenames
         return
         ;;
-    --root | --bundle | --artifact | --policy | --provider | --refused)
+    --root | --bundle | --artifact | --archive | --first | --second | --policy | --provider | --refused)
         mapfile -t COMPREPLY < <(compgen -f -- "$word")
         compopt -o filenames
         return
@@ -35,15 +35,18 @@ _ratmanganese() {
     elif [ "$command" = verify-real ]; then
         names="$names --json --help"
     elif [ "$COMP_CWORD" = 1 ]; then
-        mapfile -t COMPREPLY < <(compgen -W "verify questions generate explain build install version help" -- "$word")
+        mapfile -t COMPREPLY < <(compgen -W "verify questions archive check audit generate explain build install version help" -- "$word")
         return
     else
         case ${COMP_WORDS[1]} in
         verify) names="$names --provider=" ;;
         questions) names="$names --refused=" ;;
+        archive) names="--root= --repository= --store= --now= --provider=" ;;
+        check) names="--root= --archive= --now= --provider=" ;;
+        audit) names="--key= --first= --second= --tiles= --provider=" ;;
         generate) names="--number= --count=" ;;
         explain)
-            [ "$COMP_CWORD" != 2 ] || mapfile -t COMPREPLY < <(compgen -W "tuf verify status" -- "$word")
+            [ "$COMP_CWORD" != 2 ] || mapfile -t COMPREPLY < <(compgen -W "tuf verify archive audit status" -- "$word")
             return
             ;;
         install)

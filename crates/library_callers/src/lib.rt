@@ -1,9 +1,11 @@
 //! Callers of the libraries, as somebody writes them who takes one library alone. docs/LIBRARIES.md shows them.
 #![tactic(auto)]
 
+pub mod archive;
 pub mod certificate;
 pub mod crypto;
 pub mod der;
+pub mod growth;
 pub mod judgement;
 pub mod log;
 pub mod merkle;

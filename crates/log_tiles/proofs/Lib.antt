@@ -3,3 +3,15 @@ pub mod Given
 pub mod TreeHashes
 pub mod Nodes
 pub mod Steps
+pub mod Runs
+pub mod Places
+pub mod Cuts
+pub mod Fetched
+pub mod Found
+pub mod Halves
+pub mod Paths
+pub mod PartSteps
+pub mod Rooted
+pub mod Served
+pub mod Octets
+pub mod Audited

@@ -9,7 +9,7 @@ use Rattle.log_tiles.specs.Fault.{SizesFault}
 use Rattle.log_tiles.specs.declared.compare.Compared.{Compared}
 use Rattle.log_tiles.specs.declared.compare.Compared.TheVariants.{Unproved, Prefix, Collision}
 use Rattle.log_tiles.specs.declared.error.TileError.{TileError}
-use Rattle.log_tiles.specs.declared.error.TileError.TheVariants.{Sizes, PathLength, RootMismatch, NoMemory}
+use Rattle.log_tiles.specs.declared.error.TileError.TheVariants.{Sizes, NoMemory}
 
 -- the leaves of the older tree are the first ones of the newer one
 abbrev pub IsPrefix : List (List ℕ) → List (List ℕ) → Type 0
@@ -38,6 +38,5 @@ IsCompared first second hashes (Collision c) =
 -- why there is no answer
 abbrev pub ComparedFault : List (List ℕ) → List (List ℕ) → TileError → Type 0
 ComparedFault first second (Sizes a b) = SizesFault (length first) (length second) a b
-ComparedFault first second PathLength = ⊥
-ComparedFault first second (RootMismatch which computed) = ⊥
 ComparedFault first second NoMemory = ⊤
+ComparedFault first second e = ⊥

@@ -2,7 +2,7 @@
 use Rattle.std.specs.Prelude.{◌≡◌, ◌≢◌, ℕ, true, List, Some, None}
 use Rattle.log_tiles.specs.Consistency.{AreSizes, roots_from}
 use Rattle.log_tiles.specs.declared.error.TileError.{TileError}
-use Rattle.log_tiles.specs.declared.error.TileError.TheVariants.{Sizes, PathLength, RootMismatch, NoMemory}
+use Rattle.log_tiles.specs.declared.error.TileError.TheVariants.{Sizes, PathLength, RootMismatch}
 use Rattle.log_tiles.specs.declared.error.Which.{Which}
 use Rattle.log_tiles.specs.declared.error.Which.TheVariants.{First, Second}
 
@@ -26,4 +26,4 @@ ConsistencyFault first first_root second second_root hashes (RootMismatch which 
     AreSizes first second
     × ((given : List ℕ × List ℕ) × (roots_from first second true hashes first_root ≡ Some given)
     × RootFault first_root second_root given which computed)
-ConsistencyFault first first_root second second_root hashes NoMemory = ⊥
+ConsistencyFault first first_root second second_root hashes e = ⊥

@@ -1,5 +1,13 @@
 pub mod Consistency
 pub mod Whole
 pub mod Compared
+pub mod Tiles
+pub mod Proofs
+pub mod Source
+pub mod Cause
+pub mod Reading
+pub mod Proving
+pub mod Auditing
+pub mod Joining
 pub mod Error
 pub mod Fault

@@ -3,9 +3,9 @@ ghost use Rattle.std.specs.Prelude.{◌↔◌, IsTrue, IfOk, OnOk, IfErr, length
 ghost use Rattle.log_tiles.specs.Consistency.{AreSizes};
 ghost use Rattle.log_tiles.specs.Compared.{IsCompared, ComparedFault, AreProved, IsPrefix};
 
-use crate::consistency::{are_sizes, verify_consistency};
 use crate::error::TileError;
 use crate::grown::grown_apart;
+use crate::judge::{are_sizes, verify_consistency};
 use crate::whole::tree_hash;
 use sigstore_merkle::{Collision, Difference};
 use sigstore_types_parts::Sha256Hash;

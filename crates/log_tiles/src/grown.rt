@@ -4,7 +4,7 @@ ghost use Rattle.sigstore_merkle.specs.Tree.{node_hash};
 ghost use Rattle.log_tiles.specs.Whole.{tree_hash};
 ghost use Rattle.log_tiles.specs.Compared.{OrCollision, IsPrefix, GivesBoth};
 
-use crate::consistency::roots_of;
+use crate::judge::roots_of;
 use crate::split::split_len;
 use crate::whole::{copied, tree_hash};
 use sigstore_merkle::{NodePair, Side};

@@ -1,17 +1,68 @@
-//! Verifies a bundle over an artifact from a pinned TUF root: `verify` and eight options. The report or
-//! the refusal goes to standard output; the exit status says which.
+//! Verifies a bundle over an artifact from a pinned TUF root: `verify` and eight options. `archive` writes the chain
+//! of documents to one file, and `check` judges such a file; `audit` judges whether a log grew. The report or the
+//! refusal goes to standard output; the exit status says which.
 #![tactic(auto)]
 
+use archive_commands::{ArchiveLayout, archive_layout, run_archive};
+use audit_commands::{AuditLayout, AuditObjects, audit_layout, audit_objects_at, run_audit};
 use foundation::NoMemory;
 use sigstore_app_parts::read_layout;
 use sigstore_files::{Objects, clock_of, objects_at, words_of};
 use sigstore_run::{Status, exit_code, run};
+use sigstore_types_parts::Text;
 use std::process::ExitCode;
 use std::rt::Runtime;
+
+// Runs `archive` or `check` over the real objects that its words name.
+fn archived<X: Runtime + AllocGlobal>(rt: &X, words: &[Text], layout: ArchiveLayout) -> Status {
+    let Objects {
+        mut inputs,
+        mut repository,
+        mut store,
+        mut artifact,
+        mut out,
+    } = objects_at(rt, Some(layout.into_layout(rt.alloc())));
+    run_archive(
+        rt.alloc(),
+        words,
+        clock_of(rt),
+        &mut inputs,
+        &mut repository,
+        &mut store,
+        &mut artifact,
+        &mut out,
+    )
+}
+
+// Runs `audit` over the real objects that its words name.
+fn audited<X: Runtime + AllocGlobal>(rt: &X, words: &[Text], layout: AuditLayout) -> Status {
+    let AuditObjects {
+        mut inputs,
+        mut first,
+        mut second,
+        mut tiles,
+        mut out,
+    } = audit_objects_at(rt, layout);
+    run_audit(
+        rt.alloc(),
+        words,
+        &mut inputs,
+        &mut first,
+        &mut second,
+        &mut tiles,
+        &mut out,
+    )
+}
 
 // Runs the program over the real objects that its words name.
 fn status_of<X: Runtime + AllocGlobal>(rt: &X) -> Result<Status, NoMemory> {
     let words = words_of(rt)?;
+    if let Some(layout) = archive_layout(rt.alloc(), &words)? {
+        return Ok(archived(rt, &words, layout));
+    }
+    if let Some(layout) = audit_layout(rt.alloc(), &words)? {
+        return Ok(audited(rt, &words, layout));
+    }
     let Objects {
         mut inputs,
         mut repository,

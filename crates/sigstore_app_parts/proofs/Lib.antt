@@ -5,3 +5,5 @@ mod Pieces
 mod Printing
 mod Readings
 pub mod RowFacts
+mod TakenSoFar
+pub mod Wholes

@@ -15,6 +15,7 @@ use Rattle.sigstore_app_parts.specs.declared.inputs.InputFault.TheVariants as in
 use Rattle.sigstore_app_parts.specs.declared.gather.Stop.{Stop}
 use Rattle.sigstore_app_parts.specs.declared.gather.Stop.TheVariants.{Words, Malformed, Input, Memory}
 use Rattle.sigstore_app_parts.specs.declared.gather.Gathered.{Gathered}
+use Rattle.sigstore_app_parts.specs.declared.gather.Anchored.{Anchored}
 use Rattle.sigstore_app_parts.specs.declared.policy.PolicyFile.{PolicyFile}
 use Rattle.sigstore_app_parts.specs.declared.tables.Tables.{Tables}
 
@@ -74,6 +75,13 @@ gathered_of held =
     policy_in held >>= λ policy.
     tables_in held >>= λ tables.
     signed_in policy tables held
+
+-- the tables and the root alone, or the first refusal
+unfoldable pub anchored_of : Held → Result Anchored Stop
+anchored_of held =
+    tables_in held >>= λ tables.
+    input_of Root held >>= λ root.
+    Ok (record { tables = tables; root = root })
 
 -- bytes that told inputs hold within their limit, and that are outside their grammar
 pub record IsMalformed {A : Type 0} (which : Which) (reads : List ℕ → Result A UsageFault) (seen : Supply) : Type 0 where

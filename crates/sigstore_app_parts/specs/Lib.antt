@@ -11,3 +11,4 @@ pub mod Named
 pub mod Layout
 pub mod Printed
 pub mod Gather
+pub mod Whole

@@ -4,7 +4,7 @@ ghost use Rattle.sigstore_app_parts.specs.declared.inputs.Which.TheVariants.{Pol
 ghost use Rattle.sigstore_app_parts.specs.declared.gather.Stop.TheVariants.{Memory};
 ghost use Rattle.sigstore_app_parts.specs.Policy.{policy_of};
 ghost use Rattle.sigstore_app_parts.specs.Tables.{tables_of};
-ghost use Rattle.sigstore_app_parts.specs.Gather.{limit_of, word_of, stop_of, by_form, input_of, policy_in, tables_in, signed_in, gathered_of, ReadsAs};
+ghost use Rattle.sigstore_app_parts.specs.Gather.{limit_of, word_of, stop_of, by_form, input_of, policy_in, tables_in, signed_in, gathered_of, anchored_of, ReadsAs};
 
 use crate::inputs::{InputFault, Inputs, Which};
 use crate::policy::{PolicyFile, read_policy};
@@ -35,6 +35,13 @@ pub struct Gathered {
     pub tables: Tables,
     pub root: Bytes,
     pub bundle: Bytes,
+}
+
+/// The inputs of a run that judges documents alone: who decides signatures, and the pinned root.
+#[derive(Drop)]
+pub struct Anchored {
+    pub tables: Tables,
+    pub root: Bytes,
 }
 
 impl Which {
@@ -117,7 +124,8 @@ fn take_policy<I: Inputs>(alloc: Global, inputs: &mut I) -> Result<PolicyFile, S
     }
 }
 
-fn take_tables<I: Inputs>(alloc: Global, inputs: &mut I) -> Result<Tables, Stop>
+/// The tables of the input provider. Errors: `Malformed` or `Input` of it; `Memory`.
+pub fn take_tables<I: Inputs>(alloc: Global, inputs: &mut I) -> Result<Tables, Stop>
     ensures { ReadsAs tables_in (I.seen inputs.old) (I.seen inputs.new) result }
 {
     match take_input(alloc, inputs, Which::Provider) {
@@ -162,6 +170,19 @@ pub fn gather_inputs<I: Inputs>(alloc: Global, inputs: &mut I) -> Result<Gathere
                 Ok(gathered) => Ok(gathered),
                 Err(e) => Err(e),
             },
+            Err(e) => Err(e),
+        },
+        Err(e) => Err(e),
+    }
+}
+
+/// The inputs of a run that judges documents alone, in their order: provider, root. Errors as `gather_inputs`.
+pub fn gather_anchor<I: Inputs>(alloc: Global, inputs: &mut I) -> Result<Anchored, Stop>
+    ensures { ReadsAs anchored_of (I.seen inputs.old) (I.seen inputs.new) result }
+{
+    match take_tables(alloc, inputs) {
+        Ok(tables) => match take_input(alloc, inputs, Which::Root) {
+            Ok(root) => Ok(Anchored { tables, root }),
             Err(e) => Err(e),
         },
         Err(e) => Err(e),

@@ -1,6 +1,6 @@
 mod Meaning
 mod Digests
-mod ReportThere
+pub mod ReportThere
 mod RunFacts
 mod RunCompleting
 mod Items

@@ -18,9 +18,9 @@ use Rattle.sigstore_tuf_rules.specs.declared.chain.RoleDoc.{RoleDoc}
 use Rattle.sigstore_tuf_rules.specs.declared.visit.Visit.{Visit}
 use Rattle.sigstore_tuf_rules.specs.Trusted.{IsTrustedVisit, visit_in, documents_in, Trusted}
 use Rattle.sigstore_judgement.specs.declared.report.VerificationResult.{VerificationResult}
-use Rattle.sigstore_app_parts.specs.Printed.{line_of, named_line}
+use Rattle.sigstore_app_parts.specs.Printed.{line_of, named_line, number_line}
 use Rattle.sigstore_run.specs.declared.report.Versions.{Versions}
-use Rattle.sigstore_run.specs.Report.{version_of, root_version, timestamp_version, snapshot_version, targets_version, versions_of, versions_text, role_added, roles_added, tail_added, report_of}
+use Rattle.sigstore_run.specs.Report.{version_of, root_version, timestamp_version, snapshot_version, targets_version, versions_of, versions_text, role_added, roles_added, digests_added, chain_text, result_added, report_of}
 
 -- ---- the last root
 
@@ -86,14 +86,21 @@ versions_there crypto given now max path chain t =
     record { root = (content_in {T = Root} t.0.root).version; timestamp = (content_in {T = Timestamp} t.0.timestamp).version; snapshot = (content_in {T = Snapshot} t.0.snapshot).version } in
     (versions, rw (last.1, root_number last.0 t.0.root last.2, timestamp_number chain.timestamp t.0.timestamp is.timestamp_read, snapshot_number chain.snapshot t.0.snapshot is.snapshot_read))
 
+pub chain_text_there : (crypto : Crypto) (given : List ℕ) (now : jiff.Timestamp) (max : ℕ) (path : List ℕ) (chain : TrustChain) (first : List ℕ)
+    → Trusted crypto given now max path chain → (text : List ℕ) × (chain_text first chain ≡ Ok text)
+unfolding chain_text
+chain_text_there crypto given now max path chain first t =
+    let versions = versions_there crypto given now max path chain t in
+    let start : List ℕ = line_of first ++ versions_text versions.0 in
+    let roles = roles_there crypto (content_in t.0.root) (content_in t.0.snapshot) (documents_in chain.roles) now start chain.roles t.1.roles in (
+      roles.0 ++ number_line (codes "target") chain.target.length,
+      ap (λ r. r >>= λ v. roles_added (line_of first ++ versions_text v) chain.roles >>= λ text. Ok (text ++ number_line (codes "target") chain.target.length)) versions.1
+          ∙ ap (λ r. r >>= λ text. Ok (text ++ number_line (codes "target") chain.target.length)) roles.1,
+    )
+
 pub report_there : (crypto : Crypto) (given : List ℕ) (now : jiff.Timestamp) (max : ℕ) (path : List ℕ) (chain : TrustChain) (digests : List (HashAlgorithm × List ℕ)) (result : VerificationResult)
     → Trusted crypto given now max path chain → (text : List ℕ) × (report_of chain digests result ≡ Ok text)
 unfolding report_of
 report_there crypto given now max path chain digests result t =
-    let versions = versions_there crypto given now max path chain t in
-    let start : List ℕ = line_of (codes "accepted") ++ versions_text versions.0 in
-    let roles = roles_there crypto (content_in t.0.root) (content_in t.0.snapshot) (documents_in chain.roles) now start chain.roles t.1.roles in (
-      tail_added roles.0 chain digests result,
-      ap (λ r. r >>= λ v. roles_added (line_of (codes "accepted") ++ versions_text v) chain.roles >>= λ text. Ok (tail_added text chain digests result)) versions.1
-          ∙ ap (λ r. r >>= λ text. Ok (tail_added text chain digests result)) roles.1,
-    )
+    let lines = chain_text_there crypto given now max path chain (codes "accepted") t in
+    (result_added (digests_added lines.0 digests) result, ap (λ r. r >>= λ text. Ok (result_added (digests_added text digests) result)) lines.1)

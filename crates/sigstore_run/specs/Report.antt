@@ -109,17 +109,22 @@ times_text text result =
     times_added (text ++ integrated_text result.integrated_time
     ++ number_line (codes "times") (length result.verified_timestamps)) result.verified_timestamps
 
--- what stands behind the roles
+-- ---- the lines on a chain
+
+-- a first line, then the versions in force, the visits whose documents are there, and the length of the target
+unfoldable pub chain_text : List ℕ → TrustChain → Result (List ℕ) Error
+chain_text first chain = do
+  versions ← versions_of chain
+  text ← roles_added (line_of first ++ versions_text versions) chain.roles
+  Ok (text ++ number_line (codes "target") chain.target.length)
+
+-- ---- the whole
+
 abbrev pub result_added : List ℕ → VerificationResult → List ℕ
 result_added text result = times_text (text ++ names_text result ++ answers_text result) result
-
-abbrev pub tail_added : List ℕ → TrustChain → List (HashAlgorithm × List ℕ) → VerificationResult → List ℕ
-tail_added text chain digests result =
-    result_added (digests_added (text ++ number_line (codes "target") chain.target.length) digests) result
 
 -- the report of a chain, the artifact's digests and a result
 unfoldable pub report_of : TrustChain → List (HashAlgorithm × List ℕ) → VerificationResult → Result (List ℕ) Error
 report_of chain digests result = do
-  versions ← versions_of chain
-  text ← roles_added (line_of (codes "accepted") ++ versions_text versions) chain.roles
-  Ok (tail_added text chain digests result)
+  text ← chain_text (codes "accepted") chain
+  Ok (result_added (digests_added text digests) result)

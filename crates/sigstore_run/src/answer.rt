@@ -75,7 +75,8 @@ fn line(alloc: Global, status: Status, word: &str) -> Result<Answer, NoMemory>
     })
 }
 
-fn pair(alloc: Global, status: Status, word: &str, other: &str) -> Result<Answer, NoMemory>
+/// What is said in a line of two words.
+pub fn pair(alloc: Global, status: Status, word: &str, other: &str) -> Result<Answer, NoMemory>
     ensures { IfOk result (λ said. said ≡ record { status = status; text = pair_line word.now other.now }) }
 {
     let mut text = String::new(alloc);
@@ -86,7 +87,8 @@ fn pair(alloc: Global, status: Status, word: &str, other: &str) -> Result<Answer
     })
 }
 
-fn refusal(alloc: Global, layer: &str, number: u8, name: &str) -> Result<Answer, NoMemory>
+/// What is said of a refusal of this layer, by its number and name.
+pub fn refusal(alloc: Global, layer: &str, number: u8, name: &str) -> Result<Answer, NoMemory>
     ensures { IfOk result (λ said. said ≡ record { status = Refused; text = refused_line layer.now number name.now }) }
 {
     let mut text = String::new(alloc);

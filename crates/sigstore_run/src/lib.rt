@@ -12,9 +12,10 @@ mod steady;
 mod summary;
 mod workload;
 
-pub use answer::{Answer, Status, exit_code, stopped};
+pub use answer::{Answer, Status, exit_code, pair, refusal, refused_tuf, stopped};
 pub use generated::Asked;
 pub use meant::{Request, verify_request};
 pub use program::run;
+pub use report::report_chain;
 pub use summary::summarise;
 pub use workload::{Workload, generate};

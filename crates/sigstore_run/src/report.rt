@@ -1,7 +1,7 @@
 // The report of an accepted bundle.
 ghost use Rattle.std.specs.Prelude.{◌≡◌, ◌≢◌, ◌++◌, [], length, codes, Ok, Err, IfOk, IfErr, OnOk, string_bytes, option_copied};
 ghost use Rattle.sigstore_app_parts.specs.Printed.{line_of, pair_line, number_line};
-ghost use Rattle.sigstore_run.specs.Report.{version_of, root_version, timestamp_version, snapshot_version, targets_version, versions_of, versions_text, role_added, roles_added, digests_added, seconds_of, times_added, issuer_text, integrated_text, identity_text, names_text, answers_text, times_text, result_added, tail_added, report_of};
+ghost use Rattle.sigstore_run.specs.Report.{version_of, root_version, timestamp_version, snapshot_version, targets_version, versions_of, versions_text, role_added, roles_added, digests_added, seconds_of, times_added, issuer_text, integrated_text, identity_text, names_text, answers_text, times_text, chain_text, result_added, report_of};
 
 use foundation::NoMemory;
 use jiff::Timestamp;
@@ -230,19 +230,20 @@ fn push_result(text: &mut String, shown: &VerificationResult) -> Result<(), NoMe
     push_all_times(text, shown)
 }
 
-// Adds what stands behind the roles.
-fn push_tail(
-    alloc: Global,
-    text: &mut String,
-    chain: &TrustChain,
-    digests: &[ArtifactDigest],
-    shown: &VerificationResult,
-) -> Result<(), NoMemory>
-    ensures { OnOk result (string_bytes text.new ≡ tail_added (string_bytes text.old) chain.now digests.now shown.now) }
+/// A first line, and the lines on a chain: the versions in force, a line for each visit whose document is there, and
+/// the target's length. Errors: a document of the chain that isn't read; `NoMemory`.
+#[tactic(auto, unfolding(crate::specs::Report::chain_text))]
+pub fn report_chain(alloc: Global, first: &str, chain: &TrustChain) -> Result<String, Error>
+    ensures ok { IfOk result (λ text. chain_text first.now chain.now ≡ Ok (string_bytes text)) }
+    ensures err { IfErr result (λ e. e ≢ Error.NoMemory → chain_text first.now chain.now ≡ Err e) }
 {
-    push_number_line(text, "target", chain.target.length)?;
-    push_digests(alloc, text, digests)?;
-    push_result(text, shown)
+    let versions = versions_in_force(alloc, chain)?;
+    let mut text = String::new(alloc);
+    push_line(&mut text, first)?;
+    push_versions(&mut text, &versions)?;
+    push_roles(alloc, &mut text, chain.roles.as_slice())?;
+    push_number_line(&mut text, "target", chain.target.length)?;
+    Ok(text)
 }
 
 /// The report of a chain, the artifact's digests and a result. Errors: a document of the chain that
@@ -257,11 +258,8 @@ pub fn report(
     ensures ok { IfOk result (λ text. report_of chain.now digests.now shown.now ≡ Ok (string_bytes text)) }
     ensures err { IfErr result (λ e. e ≢ Error.NoMemory → report_of chain.now digests.now shown.now ≡ Err e) }
 {
-    let versions = versions_in_force(alloc, chain)?;
-    let mut text = String::new(alloc);
-    push_line(&mut text, "accepted")?;
-    push_versions(&mut text, &versions)?;
-    push_roles(alloc, &mut text, chain.roles.as_slice())?;
-    push_tail(alloc, &mut text, chain, digests, shown)?;
+    let mut text = report_chain(alloc, "accepted", chain)?;
+    push_digests(alloc, &mut text, digests)?;
+    push_result(&mut text, shown)?;
     Ok(text)
 }

@@ -28,8 +28,8 @@ use Rattle.sigstore_tuf_rules.specs.Documents.{content_of}
 use Rattle.sigstore_tuf_rules.specs.Order.{Tree, Step, by, is_top_level, is_pinned, visited, still, ended, having_read as walk_read, put_before, pending_after, matching, delegated_in, unread_of, order}
 use Rattle.sigstore_tuf_rules.specs.Trusted.{visit_in, documents_in, last_in, IsTrustedRole, IsTrustedVisit}
 use Rattle.sigstore_tuf_rules.proofs.Stepping.{is_over, StepOf, passed_over, unpinned, listing, followed}
-use Rattle.trust_archive.proofs.Followed.{each_map, matching_named}
-use Rattle.trust_archive.proofs.ChainVisits.{held_in, content_held, held_some, Along, Goes, goes, begins, at_end, Visits, none_more, without, with_document}
+use Rattle.sigstore_tuf_causes.proofs.Followed.{each_map, matching_named}
+use Rattle.sigstore_tuf_offers.proofs.ChainVisits.{held_in, content_held, held_some, Along, Goes, goes, begins, at_end, Visits, none_more, without, with_document}
 use Rattle.trust_archive.specs.declared.error.ArchiveError.TheVariants as archive
 use Rattle.trust_archive.specs.Judgement.{Going, next_of, is_pinned_in, is_there, is_visit, due_of, adopted_of, document_in, listed_in, delegated_by, or_malformed, followed_of, having_read, read_of, made_of, counting, visited_of, entry_of, roles_of, at_role, begun}
 use Rattle.trust_archive.proofs.Parts.{to}

@@ -30,30 +30,30 @@ opening_again : (rest : List ℕ) → opening_at (opening ++ rest) ≡ Ok rest
 unfolding opening_at
 opening_again rest = refl
 
-opening_takes : (bytes rest : List ℕ) → opening_at bytes ≡ Ok rest → bytes ≡ opening ++ rest
+pub opening_takes : (bytes rest : List ℕ) → opening_at bytes ≡ Ok rest → bytes ≡ opening ++ rest
 unfolding opening_at
 opening_takes bytes rest h =
     let p = passed (bytes_eq (take 10 bytes) opening) (drop 10 bytes) rest (Left (length bytes)) h in
     sym (take-append-drop 10 bytes) ∙ ap (λ x. x ++ drop 10 bytes) ((bytes_eq-Decides (take 10 bytes) opening).0 p.0) ∙ ap (λ x. opening ++ x) p.1
 
-opening_rest : (bytes rest : List ℕ) → IsBytes bytes → opening_at bytes ≡ Ok rest → IsBytes rest
+pub opening_rest : (bytes rest : List ℕ) → IsBytes bytes → opening_at bytes ≡ Ok rest → IsBytes rest
 unfolding opening_at
 opening_rest bytes rest o h = let p = passed (bytes_eq (take 10 bytes) opening) (drop 10 bytes) rest (Left (length bytes)) h in subst IsBytes p.1 (IsBytes-drop 10 bytes o)
 
 -- ---- the documents before the roles
 
-abbrev Top : Type 0
+abbrev pub Top : Type 0
 Top = (List (List ℕ) × List ℕ) × List ℕ
 
-abbrev top_octets : Top → List ℕ
+abbrev pub top_octets : Top → List ℕ
 top_octets t = list_spelled counted t.0.0 ++ (counted t.0.1 ++ counted t.1)
 
-record FitsTop (t : Top) : Type 0 where
-  roots : FitsList counted FitsCounted counted_at lawful_counted t.0.0
-  timestamp : FitsCounted t.0.1
-  snapshot : FitsCounted t.1
+pub record FitsTop (t : Top) : Type 0 where
+  pub roots : FitsList counted FitsCounted counted_at lawful_counted t.0.0
+  pub timestamp : FitsCounted t.0.1
+  pub snapshot : FitsCounted t.1
 
-top_parts : (t : Top) (rest : List ℕ) → top_octets t ++ rest ≡ list_spelled counted t.0.0 ++ (counted t.0.1 ++ (counted t.1 ++ rest))
+pub top_parts : (t : Top) (rest : List ℕ) → top_octets t ++ rest ≡ list_spelled counted t.0.0 ++ (counted t.0.1 ++ (counted t.1 ++ rest))
 top_parts t rest = append_assoc (list_spelled counted t.0.0) (counted t.0.1 ++ counted t.1) rest ∙ ap (λ x. list_spelled counted t.0.0 ++ x) (append_assoc (counted t.0.1) (counted t.1) rest)
 
 documents_again : (t : Top) (rest : List ℕ) → FitsTop t → documents_at (list_spelled counted t.0.0 ++ (counted t.0.1 ++ (counted t.1 ++ rest))) ≡ Ok (t, rest)
@@ -63,7 +63,7 @@ documents_again t rest h =
     ∙ to (counted_at (counted t.0.1 ++ (counted t.1 ++ rest))) _ (t.0.1, counted t.1 ++ rest) (counted_again t.0.1 _ h.timestamp)
     ∙ to (counted_at (counted t.1 ++ rest)) _ (t.1, rest) (counted_again t.1 rest h.snapshot)
 
-documents_takes : (bytes : List ℕ) (t : Top) (rest : List ℕ) → IsBytes bytes → documents_at bytes ≡ Ok (t, rest) → Takes top_octets FitsTop bytes t rest
+pub documents_takes : (bytes : List ℕ) (t : Top) (rest : List ℕ) → IsBytes bytes → documents_at bytes ≡ Ok (t, rest) → Takes top_octets FitsTop bytes t rest
 unfolding documents_at
 documents_takes bytes t rest o h =
     let r = step_ok (list_at counted_at bytes) (λ roots. counted_at roots.1 >>= λ timestamp. counted_at timestamp.1 >>= λ snapshot. Ok (((roots.0, timestamp.0), snapshot.0), snapshot.1)) (t, rest) h in
@@ -84,7 +84,7 @@ documents_takes bytes t rest o h =
 abbrev back : Archive → List ℕ
 back a = list_spelled role_spelled a.roles ++ counted a.file
 
-abbrev built : Top → List RoleDoc → List ℕ → Archive
+abbrev pub built : Top → List RoleDoc → List ℕ → Archive
 built t roles file = record { roots = t.0.0; timestamp = t.0.1; snapshot = t.1; roles = roles; file = file }
 
 abbrev top_in : Archive → Top
@@ -183,12 +183,14 @@ spelling_read bytes chain s =
     let n = step_ok (numbers_fit_of (archive_in chain)) (λ _. Ok (octets_of (archive_in chain))) bytes s.is in
     ap parts_of (sym (ok_same (octets_of (archive_in chain)) bytes n.2)) ∙ parts_again (archive_in chain) (fitting (archive_in chain) s.texts n.1)
 
--- and bytes that are read are the spelling of what is read, whatever its target
-pub read_spelling : (bytes : List ℕ) (a : Archive) (target : TargetFile) → IsBytes bytes → parts_of bytes ≡ Ok a → IsSpelling bytes (with_target a target)
+-- the octets of an archive are its spelling, whatever its target
+pub fits_spelling : (a : Archive) (target : TargetFile) → FitsArchive a → IsSpelling (octets_of a) (with_target a target)
 unfolding spelling_of
-read_spelling bytes a target o h =
-    let t = parts_taken bytes a o h in
-    record { texts = texts_of a.roles t.fits.roles.1; is = to (numbers_fit_of a) (λ _. Ok (octets_of a)) tt (all_fit a t.fits) ∙ ap Ok (sym t.is) }
+fits_spelling a target fits = record { texts = texts_of a.roles fits.roles.1; is = to (numbers_fit_of a) (λ _. Ok (octets_of a)) tt (all_fit a fits) }
+
+-- and so are bytes that are read as it
+pub read_spelling : (bytes : List ℕ) (a : Archive) (target : TargetFile) → IsBytes bytes → parts_of bytes ≡ Ok a → IsSpelling bytes (with_target a target)
+read_spelling bytes a target o h = let t = parts_taken bytes a o h in subst (λ b. IsSpelling b (with_target a target)) (sym t.is) (fits_spelling a target t.fits)
 
 -- chains of one spelling differ in their targets alone
 pub one_spelling : (bytes : List ℕ) (a b : TrustChain) → IsSpelling bytes a → IsSpelling bytes b → archive_in a ≡ archive_in b

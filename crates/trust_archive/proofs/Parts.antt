@@ -1,5 +1,5 @@
 -- What is spelled is read again, and what is read is spelled so: each part.
-use Rattle.std.proofs.Common.{◌≡◌, ℕ, zero, suc, ◌+◌, ◌<◌, ◌≤◌, ◌==◌, nat_lt, nat_le, List, [], ◌∷◌, ◌++◌, length, get_or, take, drop, append_assoc, Bool, true, false, if◌then◌else◌, Option, Some, None, Result, Ok, Err, refl, sym, ap, ◌∙◌, subst, arith}
+use Rattle.std.proofs.Common.{◌≡◌, ℕ, zero, suc, ◌<◌, ◌≤◌, ◌==◌, nat_lt, nat_le, List, [], ◌∷◌, ◌++◌, length, get_or, take, drop, append_assoc, Bool, true, false, if◌then◌else◌, Option, Some, None, Result, Ok, Err, refl, sym, ap, ◌∙◌, subst, arith}
 use Rattle.std.specs.Prelude.{⊤}
 use Rattle.std.specs.List.{AllByRecursion}
 use Rattle.std.specs.Int.{w32, from_be_bytes}
@@ -250,7 +250,7 @@ module _ {A : Type 0} (spelled : A → List ℕ) (Fits : A → Type 0) (reads : 
       ∙ to (reads (spelled x ++ (each_spelled spelled xs ++ rest))) (λ first. times_at reads (length xs) first.1 >>= λ later. Ok (first.0 ∷ later.0, later.1)) (x, each_spelled spelled xs ++ rest) (law.again x _ h.0)
       ∙ to (times_at reads (length xs) (each_spelled spelled xs ++ rest)) (λ later. Ok (x ∷ later.0, later.1)) (xs, rest) (times_again xs rest h.1)
 
-  abbrev FitsTimes : ℕ → List A → Type 0
+  abbrev pub FitsTimes : ℕ → List A → Type 0
   FitsTimes n xs = (length xs ≡ n) × AllByRecursion Fits xs
 
   times_takes : (n : ℕ) (bytes : List ℕ) (xs : List A) (rest : List ℕ) → IsBytes bytes → times_at reads n bytes ≡ Ok (xs, rest) → Takes (each_spelled spelled) (FitsTimes n) bytes xs rest

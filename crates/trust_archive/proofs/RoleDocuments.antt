@@ -16,7 +16,7 @@ use Rattle.sigstore_tuf_rules.specs.declared.documents.Held.{Held}
 use Rattle.sigstore_tuf_rules.specs.declared.documents.InForce.{InForce}
 use Rattle.sigstore_tuf_rules.specs.Documents.{targets_document}
 use Rattle.sigstore_tuf_rules.specs.Delegated.{with_role}
-use Rattle.trust_archive.proofs.ChainVisits.{held_in}
+use Rattle.sigstore_tuf_offers.proofs.ChainVisits.{held_in}
 
 abbrev held_by : List ℕ → Option (List ℕ) → Option (List ℕ × Held Targets)
 held_by name bytes = option_and_then (λ b. option_map (λ doc. (name, record { bytes = b; document = doc })) (result_ok (targets_document b))) bytes

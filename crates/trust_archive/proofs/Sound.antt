@@ -28,7 +28,7 @@ use Rattle.sigstore_tuf_rules.specs.Documents.{content_of}
 use Rattle.sigstore_tuf_rules.specs.Order.{Tree, Gap, is_pinned, visited, still, ended, having_read as walk_read, put_before, matching, delegated_in, unread_of}
 use Rattle.sigstore_tuf_rules.specs.Trusted.{visit_in, documents_in, last_in, IsTrustedRole, IsTrustedVisit}
 use Rattle.sigstore_tuf_rules.proofs.Stepping.{among_append, among_last, is_over, unpinned, listing, followed, cases_step}
-use Rattle.trust_archive.proofs.ChainVisits.{held_in, content_held, all_append}
+use Rattle.sigstore_tuf_offers.proofs.ChainVisits.{held_in, content_held, all_append}
 use Rattle.trust_archive.specs.declared.error.ArchiveError.{ArchiveError}
 use Rattle.trust_archive.specs.declared.error.ArchiveError.TheVariants as archive
 use Rattle.trust_archive.specs.Judgement.{Going, next_of, is_pinned_in, is_there, is_visit, is_due, due_of, adopted_of, document_in, listed_in, delegated_by, or_malformed, followed_of, having_read, read_of, made_of, counting, visited_of, entry_of, roles_of, at_role}
@@ -46,15 +46,15 @@ pub role_was_ok : {A : Type 0} (position : ℕ) (r : Result A Error) (x : A) →
 role_was_ok position (Ok y) x h = ap Ok (ok_same y x h)
 role_was_ok position (Err e) x h = cc
 
-matched : (r : Result Next Gap) (next : Next) → or_malformed r ≡ Ok next → r ≡ Ok next
+pub matched : (r : Result Next Gap) (next : Next) → or_malformed r ≡ Ok next → r ≡ Ok next
 matched (Ok m) next h = ap Ok (ok_same m next h)
 matched (Err gap) next h = cc
 
-unless : {A : Type 0} (b : Bool) (o : Option A) (x : A) → (if b then None else o) ≡ Some x → (b ≡ false) × (o ≡ Some x)
+pub unless : {A : Type 0} (b : Bool) (o : Option A) (x : A) → (if b then None else o) ≡ Some x → (b ≡ false) × (o ≡ Some x)
 unless true o x h = cc
 unless false o x h = (refl, h)
 
-when : (b : Bool) (e : ArchiveError) → ◌≡◌ {A = Result ⊤ ArchiveError} (if b then Ok tt else Err e) (Ok tt) → b ≡ true
+pub when : (b : Bool) (e : ArchiveError) → ◌≡◌ {A = Result ⊤ ArchiveError} (if b then Ok tt else Err e) (Ok tt) → b ≡ true
 when true e h = refl
 when false e h = cc
 
@@ -82,30 +82,35 @@ walk_in done g = record { visits = map visit_in done; read = g.read; left = g.le
 pub visits_more : (done : List RoleDoc) (r : RoleDoc) (v : Visit) → visit_in r ≡ v → map visit_in done ++ v ∷ [] ≡ map visit_in (done ++ r ∷ [])
 visits_more done r v is = ap (λ x. map visit_in done ++ x ∷ []) (sym is) ∙ sym (map-append visit_in done (r ∷ []))
 
-module _ (crypto : Crypto) (now : jiff.Timestamp) (path : List ℕ) (max : ℕ) (root : declared.Root) (snap : Held Snapshot) (all : List RoleDoc) where
+-- a chain's documents have those in force
+pub in_chain : (all : List RoleDoc) (q : List ℕ) (h : Held Targets) → held_in all q ≡ Some h → documents_in all q ≡ Some (content_of h)
+in_chain all q h e = content_held q all ∙ ap (option_map content_of) e
+
+module _ (crypto : Crypto) (now : jiff.Timestamp) (path : List ℕ) (max : ℕ) (root : declared.Root) (snap : Held Snapshot) (all : List RoleDoc) (documents : List ℕ → Option Targets)
+    (has : (q : List ℕ) (h : Held Targets) → held_in all q ≡ Some h → documents q ≡ Some (content_of h)) where
   abbrev pub tree : Tree
-  tree = record { documents = documents_in all; snapshot = content_of snap; path = path }
+  tree = record { documents = documents; snapshot = content_of snap; path = path }
 
   abbrev pub Trusts : RoleDoc → Type 0
-  Trusts r = IsTrustedVisit crypto root (content_of snap) (documents_in all) now (visit_in r) r.bytes
+  Trusts r = IsTrustedVisit crypto root (content_of snap) documents now (visit_in r) r.bytes
 
   abbrev pub listed_last : List RoleDoc → Option TargetFile
   listed_last done = option_and_then (λ (doc : Targets). at_name path doc.targets) (last_in done)
 
   -- These roles were judged well, and the others are still to be.
-  record Inv (done rest : List RoleDoc) (g : Going) : Type 0 where
-    all_is : done ++ rest ≡ all
-    root_is : content_in {T = declared.Root} g.set.root ≡ root
-    snap_is : g.set.snapshot ≡ Some snap
-    held : (q : List ℕ) → at_name q g.set.targets ≡ held_in done q
-    were_read : (q : List ℕ) (h : Held Targets) → held_in done q ≡ Some h → is_among g.read q ≡ true
-    trusted : AllByRecursion Trusts done
-    fits : g.left ≤ max
-    listing_ended : (e : TargetFile) → entry_of path g ≡ Some e → (g.left ≡ 0) × (listed_last done ≡ Some e)
+  pub record Inv (done rest : List RoleDoc) (g : Going) : Type 0 where
+    pub all_is : done ++ rest ≡ all
+    pub root_is : content_in {T = declared.Root} g.set.root ≡ root
+    pub snap_is : g.set.snapshot ≡ Some snap
+    pub held : (q : List ℕ) → at_name q g.set.targets ≡ held_in done q
+    pub were_read : (q : List ℕ) (h : Held Targets) → held_in done q ≡ Some h → is_among g.read q ≡ true
+    pub trusted : AllByRecursion Trusts done
+    pub fits : g.left ≤ max
+    pub listing_ended : (e : TargetFile) → entry_of path g ≡ Some e → (g.left ≡ 0) × (listed_last done ≡ Some e)
 
-  record Further (done rest : List RoleDoc) (r : RoleDoc) (g h : Going) : Type 0 where
-    inv : Inv (done ++ r ∷ []) rest h
-    leads : Visited max tree g.pending (walk_in done g) ≡ Visited max tree h.pending (walk_in (done ++ r ∷ []) h)
+  pub record Further (done rest : List RoleDoc) (r : RoleDoc) (g h : Going) : Type 0 where
+    pub inv : Inv (done ++ r ∷ []) rest h
+    pub leads : Visited max tree g.pending (walk_in done g) ≡ Visited max tree h.pending (walk_in (done ++ r ∷ []) h)
 
   module _ (done rest : List RoleDoc) (r : RoleDoc) (g : Going) (i : Inv done (r ∷ rest) g) (v : Visit) (vs : List Visit) (some_left : (g.left == 0) ≡ false) (first : unread_of g.read g.pending ≡ Some (v, vs)) (is : visit_in r ≡ v) where
     name : r.name ≡ v.name
@@ -137,7 +142,7 @@ module _ (crypto : Crypto) (now : jiff.Timestamp) (path : List ℕ) (max : ℕ) 
         held = λ q. i.held q ∙ sym (none_added done r q none);
         were_read = λ q h e. i.were_read q h (sym (none_added done r q none) ∙ e);
         trusted = all_append Trusts done r i.trusted
-            (subst (λ o. IsTrustedVisit crypto root (content_of snap) (documents_in all) now (visit_in r) o) (sym none) (ap (λ (x : Visit). is_pinned (content_of snap) x.name) is ∙ free));
+            (subst (λ o. IsTrustedVisit crypto root (content_of snap) documents now (visit_in r) o) (sym none) (ap (λ (x : Visit). is_pinned (content_of snap) x.name) is ∙ free));
         fits = less;
         listing_ended = λ e h. not_ended (i.listing_ended e h).0;
       };
@@ -147,7 +152,7 @@ module _ (crypto : Crypto) (now : jiff.Timestamp) (path : List ℕ) (max : ℕ) 
     }
 
     -- one with its document
-    module _ (bytes : List ℕ) (there : r.bytes ≡ Some bytes) (pinned : is_pinned (content_of snap) v.name ≡ true) (set : InForce) (a : Adopted crypto now g.set root i.root_is snap i.snap_is (documents_in all) v bytes set) where
+    module _ (bytes : List ℕ) (there : r.bytes ≡ Some bytes) (pinned : is_pinned (content_of snap) v.name ≡ true) (set : InForce) (a : Adopted crypto now g.set root i.root_is snap i.snap_is documents v bytes set) where
       held : Held Targets
       held = record { bytes = bytes; document = a.trusted.doc }
 
@@ -172,16 +177,15 @@ module _ (crypto : Crypto) (now : jiff.Timestamp) (path : List ℕ) (max : ℕ) 
       document_here : document_in set v.name ≡ Some (content_in {T = Targets} a.trusted.doc)
       document_here = ap (option_map content_of) here
 
-      document_all : documents_in all v.name ≡ Some (content_in {T = Targets} a.trusted.doc)
+      document_all : documents v.name ≡ Some (content_in {T = Targets} a.trusted.doc)
       document_all =
-          content_held v.name all
-          ∙ ap (option_map content_of)
+          has v.name (record { bytes = bytes; document = a.trusted.doc })
           (ap (λ rs. held_in rs v.name) (sym more_all) ∙ held_further (done ++ r ∷ []) rest v.name (record { bytes = bytes; document = a.trusted.doc }) (sym (held_now v.name) ∙ here))
 
       trusts : Trusts r
       trusts =
-          subst (λ o. IsTrustedVisit crypto root (content_of snap) (documents_in all) now (visit_in r) o) (sym there)
-          (subst (λ x. IsTrustedRole crypto root (content_of snap) (documents_in all) now x bytes) (sym is) a.trusted)
+          subst (λ o. IsTrustedVisit crypto root (content_of snap) documents now (visit_in r) o) (sym there)
+          (subst (λ x. IsTrustedRole crypto root (content_of snap) documents now x bytes) (sym is) a.trusted)
 
       last_document : last_in (done ++ r ∷ []) ≡ Some (content_in {T = Targets} a.trusted.doc)
       last_document =
@@ -243,13 +247,11 @@ module _ (crypto : Crypto) (now : jiff.Timestamp) (path : List ℕ) (max : ℕ) 
         s : (x : InForce) × (at_role position (adopted_of crypto now g.set v bytes) ≡ Ok x) × (followed_of path position v (having_read x v.name (counting vs g)) (listed_in x path v.name) ≡ Ok h)
         s = step_ok (at_role position (adopted_of crypto now g.set v bytes)) (λ x. followed_of path position v (having_read x v.name (counting vs g)) (listed_in x path v.name)) h e
 
-        agree : (x : Held Targets) → at_name v.delegator g.set.targets ≡ Some x → documents_in all v.delegator ≡ Some (content_of x)
-        agree x k =
-            content_held v.delegator all
-            ∙ ap (option_map content_of) (ap (λ rs. held_in rs v.delegator) (sym i.all_is) ∙ held_further done (r ∷ rest) v.delegator x (sym (i.held v.delegator) ∙ k))
+        agree : (x : Held Targets) → at_name v.delegator g.set.targets ≡ Some x → documents v.delegator ≡ Some (content_of x)
+        agree x k = has v.delegator x (ap (λ rs. held_in rs v.delegator) (sym i.all_is) ∙ held_further done (r ∷ rest) v.delegator x (sym (i.held v.delegator) ∙ k))
 
-        a : Adopted crypto now g.set root i.root_is snap i.snap_is (documents_in all) v bytes s.0
-        a = adopted_sound crypto now g.set root i.root_is snap i.snap_is (documents_in all) v bytes s.0 agree (role_was_ok position (adopted_of crypto now g.set v bytes) s.0 s.1)
+        a : Adopted crypto now g.set root i.root_is snap i.snap_is documents v bytes s.0
+        a = adopted_sound crypto now g.set root i.root_is snap i.snap_is documents v bytes s.0 agree (role_was_ok position (adopted_of crypto now g.set v bytes) s.0 s.1)
 
         doc : document_in s.0 v.name ≡ Some (content_in {T = Targets} a.trusted.doc)
         doc = document_here bytes there pinned s.0 a
@@ -271,7 +273,7 @@ module _ (crypto : Crypto) (now : jiff.Timestamp) (path : List ℕ) (max : ℕ) 
             subst (Further done rest r g) (ok_same (counting vs g) h made) (none_read e (sym (pinned_so g.set snap v.name i.snap_is) ∙ not_true (is_pinned_in g.set v.name) due))
         by_bytes (Some bytes) e due made = read_sound position bytes h e (sym (pinned_so g.set snap v.name i.snap_is) ∙ due) made
 
-  visited_sound : (done rest : List RoleDoc) (r : RoleDoc) (g h : Going) (position : ℕ) → Inv done (r ∷ rest) g → visited_of crypto now path position r g ≡ Ok h → Further done rest r g h
+  pub visited_sound : (done rest : List RoleDoc) (r : RoleDoc) (g h : Going) (position : ℕ) → Inv done (r ∷ rest) g → visited_of crypto now path position r g ≡ Ok h → Further done rest r g h
   unfolding visited_of
   visited_sound done rest r g h position i e =
       let n = step_ok (ok_or (next_of g) (archive.Order position)) (λ next. due_of position g.set next.0 r >>= λ _. made_of crypto now path position next.0 (counting next.1 g) r.bytes) h e in
@@ -302,17 +304,18 @@ module _ (crypto : Crypto) (now : jiff.Timestamp) (path : List ℕ) (max : ℕ) 
       let o = all_sound rest (done ++ r ∷ []) s.0 (position + 1) entry f.inv s.2 in
       record { trusted = o.trusted; leads = f.leads ∙ o.leads; listed = o.listed }
 
+  -- nothing was visited yet
+  pub at_first : (g : Going) → content_in {T = declared.Root} g.set.root ≡ root → g.set.snapshot ≡ Some snap → g.set.targets ≡ [] → g.read ≡ [] → g.left ≡ max → Inv [] all g
+  at_first g root_is snap_is none unread left = record {
+    all_is = refl;
+    root_is = root_is;
+    snap_is = snap_is;
+    held = λ q. ap (at_name q) none;
+    were_read = λ q x e. cc;
+    trusted = tt;
+    fits = omega (arith, left);
+    listing_ended = λ e k. let never : None ≡ Some e = sym (ap (λ x. option_and_then (listed_in g.set path) (last_or None x)) unread) ∙ k in cc;
+  }
+
   pub roles_sound : (g : Going) (entry : TargetFile) → content_in {T = declared.Root} g.set.root ≡ root → g.set.snapshot ≡ Some snap → g.set.targets ≡ [] → g.read ≡ [] → g.left ≡ max → roles_of crypto now path 0 all g ≡ Ok entry → Judged [] g entry
-  roles_sound g entry root_is snap_is none unread left h =
-      all_sound all [] g 0 entry
-      (record {
-        all_is = refl;
-        root_is = root_is;
-        snap_is = snap_is;
-        held = λ q. ap (at_name q) none;
-        were_read = λ q x e. cc;
-        trusted = tt;
-        fits = omega (arith, left);
-        listing_ended = λ e k. let never : None ≡ Some e = sym (ap (λ x. option_and_then (listed_in g.set path) (last_or None x)) unread) ∙ k in cc;
-      })
-      h
+  roles_sound g entry root_is snap_is none unread left h = all_sound all [] g 0 entry (at_first g root_is snap_is none unread left) h

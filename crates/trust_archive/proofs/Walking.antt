@@ -1,14 +1,15 @@
 -- A walk over what is pending: what is passed over, and one step.
-use Rattle.std.proofs.Common.{◌≡◌, ℕ, ◌≤◌, ◌==◌, ◌||◌, if◌then◌else◌, List, [], ◌∷◌, Bool, true, false, Some, None, Result, Ok, refl, ap, ◌∙◌, subst}
+use Rattle.std.proofs.Common.{◌≡◌, ℕ, ◌-◌, ◌≤◌, ◌==◌, ◌||◌, if◌then◌else◌, List, [], ◌∷◌, ◌++◌, append-nil, Bool, true, false, Option, Some, None, Result, Ok, Err, refl, sym, ap, ◌∙◌, subst, arith}
 use Rattle.std.specs.List.{AllByRecursion}
-use Rattle.foundation.specs.Results.{some_same}
+use Rattle.std.proofs.lemmas.List.{append_cancel_left}
+use Rattle.foundation.specs.Results.{some_same, ok_same}
 use Rattle.foundation.specs.Steps.{◌>>=◌}
 use Rattle.sigstore_tuf_parts.specs.Threshold.{is_among}
 use Rattle.sigstore_tuf_rules.specs.declared.visit.Visit.{Visit}
 use Rattle.sigstore_tuf_rules.specs.declared.visit.Walk.{Walk}
 use Rattle.sigstore_tuf_rules.specs.Order.{Tree, Gap, Step, still, visit_of, pending_after, unread_of}
 use Rattle.sigstore_tuf_rules.specs.SearchLaws.{walk_all, visits_of}
-use Rattle.sigstore_tuf_rules.proofs.Stepping.{is_over, passed_over, cases_step}
+use Rattle.sigstore_tuf_rules.proofs.Stepping.{is_over, StepOf, passed_over, unpinned, listing, followed, step_cases, cases_step}
 use Rattle.sigstore_tuf_rules.proofs.Walks.{by_list}
 
 module _ (max : ℕ) (tree : Tree) where
@@ -73,3 +74,38 @@ unread_all P read (u ∷ us) v rest h all = by_test (is_among read u.name) h (λ
     by_test : (b : Bool) → (if b then unread_of read us else Some (u, us)) ≡ Some (v, rest) → (unread_of read us ≡ Some (v, rest) → P v × AllByRecursion P rest) → P v × AllByRecursion P rest
     by_test true h later = later h
     by_test false h later = subst (λ (x : Visit × List Visit). P x.0 × AllByRecursion P x.1) (some_same (u, us) (v, rest) h) all
+
+-- where one more visit is allowed, and is made, it is the first that wasn't read
+module _ (max : ℕ) (tree : Tree) (w : Walk) (v : Visit) (fits : w.left ≤ max) (one : w.left ≡ 1) where
+  no_more : {C : Type 0} → ◌≡◌ {A = Result (List Visit) Gap} (Ok w.visits) (Ok (w.visits ++ v ∷ [])) → C
+  no_more h = let none : [] ≡ v ∷ [] = append_cancel_left w.visits [] (v ∷ []) (append-nil w.visits ∙ ok_same w.visits (w.visits ++ v ∷ []) h) in cc
+
+  module _ (u : Visit) (rest : List Visit) where
+    first_same : u ∷ [] ≡ v ∷ [] → u ≡ v
+    first_same h = cc
+
+    made_last : (step : Step) → step.walk.visits ≡ w.visits ++ u ∷ [] → step.walk.left ≤ w.left - 1 → Visited max tree (pending_after u step rest) step.walk ≡ Ok (w.visits ++ v ∷ []) → u ≡ v
+    made_last step more less h =
+        let none : step.walk.left ≡ 0 = omega (arith, less, one) in
+        let done = drained max tree (pending_after u step rest) step.walk (omega (arith, none)) none in
+        first_same (append_cancel_left w.visits (u ∷ []) (v ∷ []) (sym more ∙ ok_same step.walk.visits (w.visits ++ v ∷ []) (sym done ∙ h)))
+
+    by_step : (step : Step) → StepOf tree.snapshot tree.path (tree.documents u.name) u w step → is_among w.read u.name ≡ false → Visited max tree (pending_after u step rest) step.walk ≡ Ok (w.visits ++ v ∷ []) → u ≡ v
+    by_step step (passed_over over is) unread h =
+        let never : true ≡ false = sym over ∙ ap (λ n. (n == 0) || is_among w.read u.name) one ∙ unread in cc
+    by_step step (unpinned on free is) unread h = let e = ap (λ (s : Step). s.walk.left) is in made_last step (ap (λ (s : Step). s.walk.visits) is) (omega (arith, e)) h
+    by_step step (listing doc on pin at l is) unread h = let e = ap (λ (s : Step). s.walk.left) is in made_last step (ap (λ (s : Step). s.walk.visits) is) (omega (arith, e)) h
+    by_step step (followed doc next on pin at l m is) unread h = let e = ap (λ (s : Step). s.walk.left) is in made_last step (ap (λ (s : Step). s.walk.visits) is) (omega (arith, e)) h
+
+    by_result : (r : Result Step Gap) → visit_of tree u w ≡ r → is_among w.read u.name ≡ false → visits_of (r >>= λ s. walk_all max tree (pending_after u s rest) s.walk) ≡ Ok (w.visits ++ v ∷ []) → u ≡ v
+    by_result (Ok step) is unread h = by_step step (step_cases tree u w step is) unread h
+    by_result (Err gap) is unread h = cc
+
+  pub last_made : (vs : List Visit) → Visited max tree vs w ≡ Ok (w.visits ++ v ∷ []) → (rest : List Visit) × (unread_of w.read vs ≡ Some (v, rest))
+  last_made vs h = by_unread (unread_of w.read vs) refl
+    where
+      by_unread : (o : Option (Visit × List Visit)) → unread_of w.read vs ≡ o → (rest : List Visit) × (unread_of w.read vs ≡ Some (v, rest))
+      by_unread None e = no_more (sym (all_read max tree vs w fits e) ∙ h)
+      by_unread (Some (u, rest)) e =
+          let same = by_result u rest (visit_of tree u w) refl (is_unread w.read vs u rest e) (sym (by_list max tree u rest w fits) ∙ sym (skips max tree vs w u rest fits e) ∙ h) in
+          (rest, e ∙ ap (λ x. Some (x, rest)) same)

@@ -38,7 +38,7 @@ use Rattle.trust_archive.proofs.Parts.{to}
 use Rattle.trust_archive.proofs.Format.{parts_taken, spelling_read, read_spelling, one_spelling}
 use Rattle.trust_archive.proofs.Roots.{RootedFresh, roots_sound, Came, roots_complete}
 use Rattle.trust_archive.proofs.Tops.{Timed, timed_sound, Snapped, snapped_sound, timed_complete, snapped_complete}
-use Rattle.trust_archive.proofs.Sound.{Judged, roles_sound}
+use Rattle.trust_archive.proofs.Sound.{in_chain, Judged, roles_sound}
 use Rattle.trust_archive.proofs.Complete.{roles_complete}
 
 -- ---- the walk from `targets` on is the search
@@ -47,14 +47,14 @@ again : (r : Result Walk Gap) → visits_of (r >>= λ u. Ok u) ≡ (r >>= λ w. 
 again (Ok u) = refl
 again (Err e) = refl
 
-searched : (documents : List ℕ → Option Targets) (snapshot : Snapshot) (path : List ℕ) (max : ℕ) (visits : List Visit)
+pub searched : (documents : List ℕ → Option Targets) (snapshot : Snapshot) (path : List ℕ) (max : ℕ) (visits : List Visit)
     → visits_of (walk_all max (record { documents = documents; snapshot = snapshot; path = path }) (first_visit ∷ []) (first_walk max)) ≡ Ok visits → order documents snapshot path max ≡ Some visits
 unfolding search_of
 searched documents snapshot path max visits h = ap result_ok (sym (again (walk_of max (record { documents = documents; snapshot = snapshot; path = path }) first_visit (first_walk max))) ∙ h)
 
 -- ---- the format
 
-was_read : (total : ℕ) (r : Result Archive Unread) (a : Archive) → in_format total r ≡ Ok a → r ≡ Ok a
+pub was_read : (total : ℕ) (r : Result Archive Unread) (a : Archive) → in_format total r ≡ Ok a → r ≡ Ok a
 was_read total (Ok x) a h = ap Ok (ok_same x a h)
 was_read total (Err e) a h = cc
 
@@ -75,14 +75,14 @@ file_complete entry bytes h = ap or_file ((integrity_exactly (Some entry.length)
 module _ (crypto : Crypto) (given : List ℕ) (now : jiff.Timestamp) where
   -- ---- the documents before the roles
 
-  record Top (a : Archive) (set : InForce) : Type 0 where
-    rooted : InForce
-    root : RootedFresh crypto given now a.roots rooted
-    timed : InForce
-    time : Timed crypto now a.timestamp rooted timed
-    snap : Snapped crypto now a.snapshot timed set
+  pub record Top (a : Archive) (set : InForce) : Type 0 where
+    pub rooted : InForce
+    pub root : RootedFresh crypto given now a.roots rooted
+    pub timed : InForce
+    pub time : Timed crypto now a.timestamp rooted timed
+    pub snap : Snapped crypto now a.snapshot timed set
 
-  top_sound : (a : Archive) (set : InForce) → top_of crypto given now a ≡ Ok set → Top a set
+  pub top_sound : (a : Archive) (set : InForce) → top_of crypto given now a ≡ Ok set → Top a set
   unfolding top_of
   top_sound a set h =
       let r = step_ok (roots_of crypto given now a.roots) (λ rooted. timed_of crypto now a.timestamp rooted >>= λ timed. snapped_of crypto now a.snapshot timed) set h in
@@ -129,9 +129,9 @@ module _ (crypto : Crypto) (given : List ℕ) (now : jiff.Timestamp) where
             is : Reading
             is = record { root = t.rooted.root; timestamp = t.time.doc; snapshot = t.snap.doc; pin = t.snap.pin }
 
-            j : Judged crypto now path max (content_in {T = declared.Root} t.rooted.root) (record { bytes = a.snapshot; document = t.snap.doc }) a.roles [] (begun s.0 max) v.0
+            j : Judged crypto now path max (content_in {T = declared.Root} t.rooted.root) (record { bytes = a.snapshot; document = t.snap.doc }) a.roles (documents_in a.roles) (in_chain a.roles) [] (begun s.0 max) v.0
             j =
-                roles_sound crypto now path max (content_in {T = declared.Root} t.rooted.root) (record { bytes = a.snapshot; document = t.snap.doc }) a.roles (begun s.0 max) v.0
+                roles_sound crypto now path max (content_in {T = declared.Root} t.rooted.root) (record { bytes = a.snapshot; document = t.snap.doc }) a.roles (documents_in a.roles) (in_chain a.roles) (begun s.0 max) v.0
                 (ap (λ (x : Document declared.Root). content_in {T = declared.Root} x) set_root) (ap (λ (x : InForce). x.snapshot) t.snap.new_is) set_targets refl refl v.1
 
             whole : TrustedAs crypto given now max path (with_target a v.0) is

@@ -1,4 +1,5 @@
 pub mod Archive
+pub mod Cause
 pub mod Error
 pub mod Grammar
 pub mod Judgement

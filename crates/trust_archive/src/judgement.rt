@@ -3,6 +3,7 @@ ghost use Rattle.std.specs.Prelude.{◌≡◌, ◌≢◌, Ok, Err, IfOk, IfErr};
 ghost use Rattle.sigstore_crypto_parts.specs.Crypto.{crypto_by};
 ghost use Rattle.trust_archive.specs.Judgement.{roles_of, begun, file_of, with_file_of, judged_of, chain_of};
 ghost use Rattle.trust_archive.specs.Archive.{IsArchive};
+ghost use Rattle.trust_archive.specs.Cause.{ArchiveCause};
 
 use crate::archive::Archive;
 use crate::error::ArchiveError;
@@ -160,6 +161,8 @@ pub fn read_archive<C: CryptoProvider, M: Armor>(
         chain_of (crypto_by C.CryptoProvider M.Armor provider.now armor.now) root.now now max_delegations path.now bytes.now ≡ Ok chain) }
     ensures err { IfErr result (λ e. e ≢ ArchiveError.NoMemory →
         chain_of (crypto_by C.CryptoProvider M.Armor provider.now armor.now) root.now now max_delegations path.now bytes.now ≡ Err e) }
+    ensures cause { IfErr result (λ e. e ≢ ArchiveError.NoMemory →
+        ArchiveCause (crypto_by C.CryptoProvider M.Armor provider.now armor.now) root.now now max_delegations path.now bytes.now e) }
     ensures trusted { IfOk result (IsArchive (crypto_by C.CryptoProvider M.Armor provider.now armor.now) root.now now max_delegations path.now bytes.now) }
     ensures refused { IfErr result (λ e. e ≢ ArchiveError.NoMemory → (chain : TrustChain)
         → IsArchive (crypto_by C.CryptoProvider M.Armor provider.now armor.now) root.now now max_delegations path.now bytes.now chain → ⊥) }

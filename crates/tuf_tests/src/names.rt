@@ -1,18 +1,19 @@
 // Under which names the documents of delegated roles and the files of targets are fetched and kept.
+use crate::archives;
 use crate::calls::answered;
 use crate::trees::{put, put_snapshot, root, with_timestamp};
 use crate::words::{filled, good, halves, hold, there};
 use sigstore_tuf::{MemoryRepository, MemoryStore, MetadataStore, UpdaterConfig};
 use std::process::Abort;
 
-/// The answer of a call by this name.
+/// The answer of a call by this name; for any other name that of a call about archives.
 pub fn answer<X: AllocGlobal + Abort>(rt: &X, call: &str, given: &str) -> String {
     match call {
         "name of a role" => role(rt, "false", given),
         "consistent name of a role" => role(rt, "true", given),
         "name of a target" => target(rt, "false", given),
         "consistent name of a target" => target(rt, "true", given),
-        _ => panic!(rt; "no call {call}"),
+        _ => archives::answer(rt, call, given),
     }
 }
 

@@ -32,7 +32,7 @@ compare 0 7 - => 1 Sizes 0 7
 compare 8 7 - => 1 Sizes 8 7";
 
 /// A refusal's number, text and fields.
-fn refusal<X: AllocGlobal + Abort>(rt: &X, error: TileError) -> String {
+pub fn refusal<X: AllocGlobal + Abort>(rt: &X, error: TileError) -> String {
     let fields = fields(rt, &error);
     let mut told = numbered(rt, error.number(), error);
     good(rt, told.push_str(fields.as_str()));
@@ -43,6 +43,9 @@ fn fields<X: AllocGlobal + Abort>(rt: &X, error: &TileError) -> String {
     match error {
         TileError::Sizes { first, second } => good(rt, format!(in rt.alloc(); " {first} {second}")),
         TileError::RootMismatch { which, computed } => mismatch(rt, *which, computed),
+        TileError::TileAbsent { level, index } => {
+            good(rt, format!(in rt.alloc(); " {level} {index}"))
+        }
         _ => string(rt, ""),
     }
 }

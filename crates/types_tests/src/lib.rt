@@ -24,6 +24,8 @@ mod tables;
 #[cfg(test)]
 mod texts;
 #[cfg(test)]
+mod tiles;
+#[cfg(test)]
 mod trees;
 #[cfg(test)]
 mod written;

@@ -1,7 +1,9 @@
 // How tables of rows are tried, and the words that they compare. A test ends the process where it
 // fails, so no helper hands a failure on. A call is found by its place in a list of names, since the
 // proof of a match on numbers costs far less than that of one on texts.
-use crate::{bundles, checkpoints, entries, envelopes, grown, inclusions, pem, texts, written};
+use crate::{
+    bundles, checkpoints, entries, envelopes, grown, inclusions, pem, texts, tiles, written,
+};
 use foundation::Duplicate;
 use std::fmt::{Debug, Display};
 use std::process::Abort;
@@ -25,7 +27,7 @@ fn check<X: Abort>(rt: &X, row: &str, wanted: &str, found: String) {
 
 const CALLS: &str = "\
 refusal algorithm encoding parse_json member fail_list hint same range bundle material content structure \
-byte_ff over_hello pem checkpoint entry inclusion envelope over_envelope signer moment written grown";
+byte_ff over_hello pem checkpoint entry inclusion envelope over_envelope signer moment written grown tiles";
 
 /// The answer of a call that is given a text.
 fn answer<X: AllocGlobal + Abort>(rt: &X, call: &str, given: &str) -> String {
@@ -55,6 +57,7 @@ fn answer<X: AllocGlobal + Abort>(rt: &X, call: &str, given: &str) -> String {
         22 => texts::moment(rt, given),
         23 => written::answer(rt, given),
         24 => grown::answer(rt, given),
+        25 => tiles::answer(rt, given),
         _ => string(rt, "no call"),
     }
 }

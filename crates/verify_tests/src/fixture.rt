@@ -2,7 +2,9 @@
 use crate::tables::{
     Change, bytes, change_in, display, failures, first, good, source, string, text_of, there, words,
 };
-use crate::{delegated, enveloped, hostile, keyless, keyless_data, logged, stamped};
+use crate::{
+    archives, audits, delegated, enveloped, hostile, keyless, keyless_data, logged, stamped,
+};
 use jiff::Timestamp;
 use sigstore_app_parts::{MemoryInputs, MemorySink, Which};
 use sigstore_crypto::{MemorySource, sha256};
@@ -17,6 +19,9 @@ pub(crate) fn answer<X: AllocGlobal + Abort>(rt: &X, call: &str, given: &str) ->
     match call {
         "run" => said(rt, given),
         "kept" => kept(rt, given),
+        "archive" => archives::written(rt, given),
+        "check" => archives::judged(rt, given),
+        "audit" => audits::said(rt, given),
         "each" => hostile::each(rt, given),
         "bounded" => hostile::bounded(rt, given),
         "fault" => match given {
@@ -477,7 +482,7 @@ pub(crate) fn bundle<X: AllocGlobal + Abort>(rt: &X, change: Change) -> Bytes {
     }
 }
 
-fn inputs<X: AllocGlobal + Abort>(
+pub(crate) fn inputs<X: AllocGlobal + Abort>(
     rt: &X,
     change: Change,
     root: &str,
@@ -578,7 +583,7 @@ fn keep_timestamp<X: AllocGlobal + Abort>(rt: &X, signed: &str, store: &mut Memo
 }
 
 // The store before the run; without a change it is empty.
-fn store<X: AllocGlobal + Abort>(rt: &X, change: Change) -> MemoryStore {
+pub(crate) fn store<X: AllocGlobal + Abort>(rt: &X, change: Change) -> MemoryStore {
     let failures = failures(rt, change.of("store fails", ""));
     let mut store = MemoryStore::with_failures(rt.alloc(), failures);
     match change.part {
@@ -616,7 +621,7 @@ pub(crate) fn said_of<X: AllocGlobal + Abort>(rt: &X, change: Change) -> String 
 }
 
 // The length and the SHA-256 value of a file.
-fn measured<X: AllocGlobal + Abort>(rt: &X, file: &[u8]) -> String {
+pub(crate) fn measured<X: AllocGlobal + Abort>(rt: &X, file: &[u8]) -> String {
     let digest = good(rt, sha256(file).to_hex(rt.alloc()));
     let (length, sha256) = (file.len(), digest.as_str());
     let measured = good(rt, format!(in rt.alloc(); "{length} {sha256}"));

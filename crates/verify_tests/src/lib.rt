@@ -2,6 +2,10 @@
 #![tactic(auto)]
 
 #[cfg(test)]
+mod archives;
+#[cfg(test)]
+mod audits;
+#[cfg(test)]
 mod delegated;
 #[cfg(test)]
 mod enveloped;

@@ -3,8 +3,15 @@ use Rattle.std.proofs.lemmas.Result.{IfOk-weaker, IfErr-weaker}
 use Rattle.foundation.specs.Results.{no_both}
 use Rattle.der_core_parts.specs.TlvLaws.{IsBytes-from_each}
 use Rattle.sigstore_crypto_parts.specs.Crypto.{crypto_by}
+use Rattle.trust_archive.proofs.Causes.{chain_cause}
 use Rattle.trust_archive.proofs.Whole.{chain_sound, chain_complete}
 use Rattle.trust_archive.proofs.judgement.read_archive.Goals as goal
+
+pub returns-clause-cause : goal.returns-clause-cause
+returns-clause-cause g c =
+    IfErr-weaker c.judged_chain.result _ _
+    (λ e h other. chain_cause (crypto_by g.C.CryptoProvider g.M.Armor c.args.provider.now c.args.armor.now) c.args.root.now c.args.now c.args.max_delegations c.args.path.now c.args.bytes.now (IsBytes-from_each _ (λ i. omega (arith, c.type_inv.bytes i))) e (h other) other)
+    c.judged_chain.ensures.err
 
 pub returns-clause-trusted : goal.returns-clause-trusted
 returns-clause-trusted g c =

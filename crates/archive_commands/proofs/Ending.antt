@@ -1,0 +1,34 @@
+-- What was said and taken whole means.
+use Rattle.std.proofs.Common.{◌≡◌, inr, ℕ, List, true, false, sym, ap, ◌∙◌, subst}
+use Rattle.foundation.specs.Watched.{Watched}
+use Rattle.sigstore_run.specs.declared.answer.Status.{Status}
+use Rattle.sigstore_run.specs.declared.answer.Status.TheVariants as status
+use Rattle.sigstore_run.specs.Run.{Command, Environment, TakesAll}
+use Rattle.archive_commands.specs.declared.output.Output.{Output}
+use Rattle.archive_commands.specs.Output.{status_of, octets_of}
+use Rattle.archive_commands.specs.Run.{Says, SaysWhole, Means}
+use Rattle.archive_commands.specs.Complete.{anchor_in, CompletesArchive, CompletesCheck}
+use Rattle.archive_commands.proofs.Completing.{commands_so, check_trusts, archive_writes}
+use Rattle.archive_commands.proofs.Never.{never_output, never_memory}
+
+module _ (command : Command) (before after : Environment) (out out' : Watched (List ℕ)) where
+  whole : (said : Output) (ended : Status) → Says command before after said → TakesAll out out' (octets_of said) → ended ≡ status_of said → SaysWhole command before after out out' ended
+  whole said ended s w e = record { said = said; says = s; written = w; ended_is = e }
+
+  pub said_means : (said : Output) (ended : Status) → Says command before after said → TakesAll out out' (octets_of said) → ended ≡ status_of said → Means command before after out out' ended
+  said_means said status.Accepted s w e = whole said status.Accepted s w e
+  said_means said status.Refused s w e = whole said status.Refused s w e
+  said_means said status.Usage s w e = whole said status.Usage s w e
+  said_means said status.Input s w e = whole said status.Input s w e
+  said_means said status.Output s w e = absurd (never_output command before after said s (sym e))
+  said_means said status.Memory s w e = absurd (never_memory command before after said s (sym e))
+
+  pub said_archives : (said : Output) (ended : Status) → Says command before after said → TakesAll out out' (octets_of said) → ended ≡ status_of said → CompletesArchive command before after out out' ended
+  said_archives said ended s w e chain f offer =
+      let so = archive_writes (anchor_in f) before.outside after.outside chain offer said (commands_so false command before after f said s) in
+      inr (inr (record { written = subst (λ (o : Output). TakesAll out out' (octets_of o)) so.0 w; ended_is = e ∙ ap status_of so.0 }, so.1))
+
+  pub said_checks : (said : Output) (ended : Status) → Says command before after said → TakesAll out out' (octets_of said) → ended ≡ status_of said → CompletesCheck command before after out out' ended
+  said_checks said ended s w e chain bytes f source short holds =
+      let so = check_trusts (anchor_in f) before.outside after.outside chain bytes source short holds said (commands_so true command before after f said s) in
+      inr (inr (record { text = so.text; lines = so.lines; written = subst (λ (o : Output). TakesAll out out' (octets_of o)) so.is w; accepted = e ∙ ap status_of so.is }))

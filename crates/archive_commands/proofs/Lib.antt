@@ -1,0 +1,4 @@
+mod Saying
+mod Completing
+mod Never
+mod Ending

@@ -1,0 +1,4 @@
+pub mod Layout
+pub mod Output
+pub mod Run
+pub mod Complete

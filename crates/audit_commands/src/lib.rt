@@ -1,0 +1,10 @@
+//! The command `audit`: whether two signed checkpoints of a log are of one growing tree, by the log's tiles.
+#![tactic(auto)]
+
+mod layout;
+mod objects;
+mod program;
+
+pub use layout::{AuditLayout, audit_layout};
+pub use objects::{AuditObjects, audit_objects_at};
+pub use program::run_audit;

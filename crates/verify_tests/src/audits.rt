@@ -1,0 +1,133 @@
+// Audits over the tiles of seven leaves, the hashes of which are their numbers 32 times over.
+use crate::tables::{bytes, failures, good, hold, string, text_of, there, words};
+use audit_commands::run_audit;
+use log_tiles::MemoryTiles;
+use sigstore_app_parts::{MemoryInputs, MemorySink, Which};
+use sigstore_crypto::MemorySource;
+use sigstore_run::Status;
+use sigstore_types_parts::{Hash, Sha256Hash};
+use std::num::NonZeroU32;
+use std::process::Abort;
+
+// Checkpoints of the trees of three and of seven leaves, and one with another root, by hashlib.
+const THREE: &str = "example.com/log\n3\nYTheZ7W6dthTGyCtwUvsnvbgVTq8xW2JnmQNTWdAFCk=\n";
+
+const SEVEN: &str = "example.com/log\n7\nmK4IHW7ajeCe1fjF6Mff7saxKOm383Zws8XC7elmISs=\n";
+
+const OTHER: &str = "example.com/log\n7\nma4IHW7ajeCe1fjF6Mff7saxKOm383Zws8XC7elmISs=\n";
+
+// The line of the log's key, and one with another hint.
+const LINE: &str = "\n— example.com/log FhPubQE=\n";
+
+const OTHER_LINE: &str = "\n— example.com/log AAAAAAE=\n";
+
+// That the three are signed.
+const PROVIDER: &str =
+    "accept ECDSA_P256_SHA256 BAAAAAAAAAAAAAAAAAAAAAAAAAAAAAAAAAAAAAAAAAAAAAAAAAAAAAAAAAAAAAAAAAAAAAAAAAAAAAAAAAAAAAA= Xce1X6DHRzIHvC8ha8bOg7y11+cZPWmLbxnlMlPAjbs= AQ==\naccept ECDSA_P256_SHA256 BAAAAAAAAAAAAAAAAAAAAAAAAAAAAAAAAAAAAAAAAAAAAAAAAAAAAAAAAAAAAAAAAAAAAAAAAAAAAAAAAAAAAAA= 9z/5F5S2I046Q+Ga71jtCasj/FeO35rjRJX9/oqj0fE= AQ==\naccept ECDSA_P256_SHA256 BAAAAAAAAAAAAAAAAAAAAAAAAAAAAAAAAAAAAAAAAAAAAAAAAAAAAAAAAAAAAAAAAAAAAAAAAAAAAAAAAAAAAAA= 0kQwjiriECLSWTRVwnPgeFg9OYTnxsUKuZfd4EI8UMo= AQ==\n";
+
+// The checkpoint of that name.
+fn checkpoint<X: AllocGlobal + Abort>(rt: &X, name: &str) -> String {
+    let (body, line) = match name {
+        "three" => (THREE, LINE),
+        "seven" => (SEVEN, LINE),
+        "other" => (OTHER, LINE),
+        "unsigned" => (
+            "example.com/log\n8\nmK4IHW7ajeCe1fjF6Mff7saxKOm383Zws8XC7elmISs=\n",
+            LINE,
+        ),
+        "unhinted" => (SEVEN, OTHER_LINE),
+        _ => (name, ""),
+    };
+    let mut text = string(rt, body);
+    good(rt, text.push_str(line));
+    text
+}
+
+// A source of that checkpoint, of which the first read fails where it is the one that is named.
+fn source<X: AllocGlobal + Abort>(rt: &X, name: &str, fails: bool) -> MemorySource {
+    let text = checkpoint(rt, name);
+    let step = there(rt, NonZeroU32::new(1000));
+    let failures = failures(rt, if fails { "1" } else { "" });
+    let source = MemorySource::new(bytes(rt, text.as_bytes()), step, failures);
+    drop(text);
+    source
+}
+
+fn leaves<X: AllocGlobal + Abort>(rt: &X, count: &str) -> Vec<Sha256Hash> {
+    let mut leaves = Vec::new(rt.alloc());
+    for number in 0..good(rt, count.parse::<u8>()) {
+        there(rt, leaves.push(Hash::new([number; 32])).ok());
+    }
+    leaves
+}
+
+// What a run of `audit` says: a row has the checkpoints, how many leaves the tiles have, which object fails, and the words.
+pub(crate) fn said<X: AllocGlobal + Abort>(rt: &X, row: &str) -> String {
+    let (given, line) = there(rt, row.split_once(" | "));
+    let mut parts = given.split_whitespace();
+    let first = there(rt, parts.next());
+    let second = there(rt, parts.next());
+    let count = there(rt, parts.next());
+    let fails = parts.next().unwrap_or("");
+    let mut first = source(rt, first, fails == "first");
+    let mut second = source(rt, second, fails == "second");
+    let tiles_fail = failures(rt, if fails == "tiles" { "1" } else { "" });
+    let mut tiles = MemoryTiles::new(leaves(rt, count), tiles_fail);
+    let mut inputs = MemoryInputs::new(failures(rt, if fails == "inputs" { "1" } else { "" }));
+    inputs.put(Which::Provider, bytes(rt, PROVIDER.as_bytes()));
+    let sink_fails = failures(rt, if fails == "sink" { "1" } else { "" });
+    let mut sink = good(rt, MemorySink::new(rt.alloc(), 1024, sink_fails));
+    let words = words(rt, line);
+    let status = run_audit(
+        rt.alloc(),
+        &words,
+        &mut inputs,
+        &mut first,
+        &mut second,
+        &mut tiles,
+        &mut sink,
+    );
+    drop(words);
+    drop(first);
+    drop(second);
+    drop(tiles);
+    drop(inputs);
+    ended(rt, status, sink)
+}
+
+// A status, and what the sink took.
+fn ended<X: AllocGlobal + Abort>(rt: &X, status: Status, sink: MemorySink) -> String {
+    let taken = text_of(rt, sink.bytes());
+    drop(sink);
+    let said = format!(in rt.alloc(); "{status:?} {taken:?}");
+    drop(taken);
+    good(rt, said)
+}
+
+// A row: the checkpoints, how many leaves the tiles have and which object fails; the words; and the status with what is written.
+const AUDITS: &str =
+    r#"three seven 7 | audit --key=MFkwEwYHKoZIzj0CAQYIKoZIzj0DAQcDQgAEAAAAAAAAAAAAAAAAAAAAAAAAAAAAAAAAAAAAAAAAAAAAAAAAAAAAAAAAAAAAAAAAAAAAAAAAAAAAAAAAAAAAAA== --provider=b --first=c --second=d --tiles=e | Accepted "consistent 3 7\n"
+seven seven 7 | audit --tiles=e --second=d --first=c --provider=b --key=MFkwEwYHKoZIzj0CAQYIKoZIzj0DAQcDQgAEAAAAAAAAAAAAAAAAAAAAAAAAAAAAAAAAAAAAAAAAAAAAAAAAAAAAAAAAAAAAAAAAAAAAAAAAAAAAAAAAAAAAAA== | Accepted "consistent 7 7\n"
+three seven 9 | audit --key=MFkwEwYHKoZIzj0CAQYIKoZIzj0DAQcDQgAEAAAAAAAAAAAAAAAAAAAAAAAAAAAAAAAAAAAAAAAAAAAAAAAAAAAAAAAAAAAAAAAAAAAAAAAAAAAAAAAAAAAAAA== --provider=b --first=c --second=d --tiles=e | Accepted "consistent 3 7\n"
+three other 7 | audit --key=MFkwEwYHKoZIzj0CAQYIKoZIzj0DAQcDQgAEAAAAAAAAAAAAAAAAAAAAAAAAAAAAAAAAAAAAAAAAAAAAAAAAAAAAAAAAAAAAAAAAAAAAAAAAAAAAAAAAAAAAAA== --provider=b --first=c --second=d --tiles=e | Refused "refused audit 9 RootMismatch\n"
+other seven 7 | audit --key=MFkwEwYHKoZIzj0CAQYIKoZIzj0DAQcDQgAEAAAAAAAAAAAAAAAAAAAAAAAAAAAAAAAAAAAAAAAAAAAAAAAAAAAAAAAAAAAAAAAAAAAAAAAAAAAAAAAAAAAAAA== --provider=b --first=c --second=d --tiles=e | Refused "refused audit 9 RootMismatch\n"
+three seven 6 | audit --key=MFkwEwYHKoZIzj0CAQYIKoZIzj0DAQcDQgAEAAAAAAAAAAAAAAAAAAAAAAAAAAAAAAAAAAAAAAAAAAAAAAAAAAAAAAAAAAAAAAAAAAAAAAAAAAAAAAAAAAAAAA== --provider=b --first=c --second=d --tiles=e | Refused "refused audit 2 TileAbsent\n"
+seven three 7 | audit --key=MFkwEwYHKoZIzj0CAQYIKoZIzj0DAQcDQgAEAAAAAAAAAAAAAAAAAAAAAAAAAAAAAAAAAAAAAAAAAAAAAAAAAAAAAAAAAAAAAAAAAAAAAAAAAAAAAAAAAAAAAA== --provider=b --first=c --second=d --tiles=e | Refused "refused audit 1 Sizes\n"
+text seven 7 | audit --key=MFkwEwYHKoZIzj0CAQYIKoZIzj0DAQcDQgAEAAAAAAAAAAAAAAAAAAAAAAAAAAAAAAAAAAAAAAAAAAAAAAAAAAAAAAAAAAAAAAAAAAAAAAAAAAAAAAAAAAAAAA== --provider=b --first=c --second=d --tiles=e | Refused "refused audit 5 Checkpoint\n"
+three text 7 | audit --key=MFkwEwYHKoZIzj0CAQYIKoZIzj0DAQcDQgAEAAAAAAAAAAAAAAAAAAAAAAAAAAAAAAAAAAAAAAAAAAAAAAAAAAAAAAAAAAAAAAAAAAAAAAAAAAAAAAAAAAAAAA== --provider=b --first=c --second=d --tiles=e | Refused "refused audit 5 Checkpoint\n"
+three unsigned 7 | audit --key=MFkwEwYHKoZIzj0CAQYIKoZIzj0DAQcDQgAEAAAAAAAAAAAAAAAAAAAAAAAAAAAAAAAAAAAAAAAAAAAAAAAAAAAAAAAAAAAAAAAAAAAAAAAAAAAAAAAAAAAAAA== --provider=b --first=c --second=d --tiles=e | Refused "refused audit 6 Signature\n"
+unhinted seven 7 | audit --key=MFkwEwYHKoZIzj0CAQYIKoZIzj0DAQcDQgAEAAAAAAAAAAAAAAAAAAAAAAAAAAAAAAAAAAAAAAAAAAAAAAAAAAAAAAAAAAAAAAAAAAAAAAAAAAAAAAAAAAAAAA== --provider=b --first=c --second=d --tiles=e | Refused "refused audit 6 Signature\n"
+three seven 7 | audit --key=AA== --provider=b --first=c --second=d --tiles=e | Refused "refused audit 7 Key\n"
+three seven 7 inputs | audit --key=MFkwEwYHKoZIzj0CAQYIKoZIzj0DAQcDQgAEAAAAAAAAAAAAAAAAAAAAAAAAAAAAAAAAAAAAAAAAAAAAAAAAAAAAAAAAAAAAAAAAAAAAAAAAAAAAAAAAAAAAAA== --provider=b --first=c --second=d --tiles=e | Input "input provider\n"
+three seven 7 first | audit --key=MFkwEwYHKoZIzj0CAQYIKoZIzj0DAQcDQgAEAAAAAAAAAAAAAAAAAAAAAAAAAAAAAAAAAAAAAAAAAAAAAAAAAAAAAAAAAAAAAAAAAAAAAAAAAAAAAAAAAAAAAA== --provider=b --first=c --second=d --tiles=e | Input "input first\n"
+three seven 7 second | audit --key=MFkwEwYHKoZIzj0CAQYIKoZIzj0DAQcDQgAEAAAAAAAAAAAAAAAAAAAAAAAAAAAAAAAAAAAAAAAAAAAAAAAAAAAAAAAAAAAAAAAAAAAAAAAAAAAAAAAAAAAAAA== --provider=b --first=c --second=d --tiles=e | Input "input second\n"
+three seven 7 tiles | audit --key=MFkwEwYHKoZIzj0CAQYIKoZIzj0DAQcDQgAEAAAAAAAAAAAAAAAAAAAAAAAAAAAAAAAAAAAAAAAAAAAAAAAAAAAAAAAAAAAAAAAAAAAAAAAAAAAAAAAAAAAAAA== --provider=b --first=c --second=d --tiles=e | Input "input tiles\n"
+three seven 7 sink | audit --key=MFkwEwYHKoZIzj0CAQYIKoZIzj0DAQcDQgAEAAAAAAAAAAAAAAAAAAAAAAAAAAAAAAAAAAAAAAAAAAAAAAAAAAAAAAAAAAAAAAAAAAAAAAAAAAAAAAAAAAAAAA== --provider=b --first=c --second=d --tiles=e | Output ""
+three seven 7 | audit --key=%% --provider=b --first=c --second=d --tiles=e | Usage "usage\n"
+three seven 7 | audit --key=MFkwEwYHKoZIzj0CAQYIKoZIzj0DAQcDQgAEAAAAAAAAAAAAAAAAAAAAAAAAAAAAAAAAAAAAAAAAAAAAAAAAAAAAAAAAAAAAAAAAAAAAAAAAAAAAAAAAAAAAAA== --provider=b --first=c --second=d | Usage "usage\n"
+three seven 7 | audit --key=MFkwEwYHKoZIzj0CAQYIKoZIzj0DAQcDQgAEAAAAAAAAAAAAAAAAAAAAAAAAAAAAAAAAAAAAAAAAAAAAAAAAAAAAAAAAAAAAAAAAAAAAAAAAAAAAAAAAAAAAAA== --provider=b --first=c --second=d --tiles=e --now=2025-01-01T00:00:00Z | Usage "usage\n""#;
+
+#[test]
+fn checkpoints_are_audited(rt: HostRuntime) {
+    hold(&rt, "audit", AUDITS);
+}
