@@ -9,7 +9,7 @@ pub use certificate_info::{CertificateInfo, SubjectAltName, parse_certificate_in
 pub use claims::{DeprecatedGitHubClaims, FulcioCiClaims, extension_value};
 pub use sigstore_crypto_parts::{
     ArtifactHasher, ArtifactSource, CertificateFault, CheckpointFault, CryptoProvider, Error,
-    FileSource, HashUpdate, HashedMessage, KeyAlgorithm, KeyPair, KeyRule, Keyring, KeysByHint,
+    FileSource, HashUpdate, HashedMessage, KeyAlgorithm, KeyPair, KeyRule, Keyring, KeysByHint, LogIds, LogThreshold,
     MemorySource, ReadError, ReadFault, Sha256Hasher, SignatureAlgorithm, SigningKeyPair,
     SigningScheme, VerificationFault, VerificationKey, answers_alike, compute_key_hint,
     hash_reader, public_key_is_read, sha256, sha256_reader, sha384, sha512,

@@ -5,3 +5,4 @@ pub mod Feeding
 pub mod Rings
 pub mod Schemes
 pub mod PublicKeys
+pub mod Signers

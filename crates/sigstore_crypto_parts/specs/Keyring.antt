@@ -1,5 +1,6 @@
 -- A ring of keys: a finite map from ids to keys, each with the window in which it is used, where one is given.
 use Rattle.std.specs.Prelude.{◌≡◌, ℕ, List, [], ◌∷◌, Bool, true, ◌&&◌, nat_eq, if◌then◌else◌, ⊤, Option, Some, None, Result, Err}
+use Rattle.std.specs.Ordering.{is_gt}
 use Rattle.std.specs.List.{starts_with, list_any}
 use Rattle.std.specs.BTreeMap.{insert_entry}
 use Rattle.jiff_core.specs.declared.timestamp.Timestamp.{Timestamp}
@@ -12,7 +13,7 @@ use Rattle.sigstore_crypto_parts.specs.declared.error.VerificationFault.TheVaria
 use Rattle.sigstore_crypto_parts.specs.declared.key.VerificationKey.{VerificationKey}
 use Rattle.sigstore_crypto_parts.specs.declared.keyring.HeldKey.{HeldKey}
 use Rattle.sigstore_crypto_parts.specs.declared.scheme.SigningScheme.{SigningScheme}
-use Rattle.sigstore_crypto_parts.specs.Good.{Judge, verified_of, Good}
+use Rattle.sigstore_crypto_parts.specs.Good.{Judge, is_good, verified_of, Good}
 use Rattle.sigstore_crypto_parts.specs.Key.{same_sort}
 use Rattle.sigstore_crypto_parts.specs.Scheme.{key_algorithm_of}
 
@@ -88,3 +89,31 @@ pub record GoodUnder (accepts : Judge) (ring : Ring) (message signature id : Lis
   pub key : VerificationKey
   pub held : key_in id ring ≡ Some key
   pub good : Good accepts key message signature
+
+-- ---- who signed
+
+-- the hint means the key, and by it the signature is good
+abbrev pub is_signer : Judge → List ℕ → Timestamp → List ℕ → List ℕ → List ℕ × HeldKey → Bool
+is_signer accepts hint time message signature entry = is_meant hint time entry && is_good accepts entry.1.key message signature
+
+-- the ids of the keys of which that holds
+abbrev pub signers_of : Judge → List ℕ → Timestamp → List ℕ → List ℕ → Ring → List (List ℕ)
+signers_of accepts hint time message signature [] = []
+signers_of accepts hint time message signature (entry ∷ ring) =
+    if is_signer accepts hint time message signature entry then entry.0 ∷ signers_of accepts hint time message signature ring
+    else signers_of accepts hint time message signature ring
+
+-- the lesser of two ids, by their bytes
+abbrev pub lesser : Option (List ℕ) → Option (List ℕ) → Option (List ℕ)
+lesser None other = other
+lesser (Some id) None = Some id
+lesser (Some id) (Some other) = if is_gt (text_cmp id other) then Some other else Some id
+
+-- the least of ids
+abbrev pub least_of : List (List ℕ) → Option (List ℕ)
+least_of [] = None
+least_of (id ∷ ids) = lesser (Some id) (least_of ids)
+
+-- the least id of those by whose key the signature is good
+abbrev pub least_signer_of : Judge → List ℕ → Timestamp → List ℕ → List ℕ → Ring → Option (List ℕ)
+least_signer_of accepts hint time message signature ring = least_of (signers_of accepts hint time message signature ring)

@@ -9,6 +9,7 @@ pub mod Key
 pub mod KeyAlgorithm
 pub mod KeyPair
 pub mod Keyring
+pub mod LogIds
 pub mod Pairs
 pub mod Reader
 pub mod Scheme

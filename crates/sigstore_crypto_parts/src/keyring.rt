@@ -3,10 +3,11 @@ ghost use Rattle.std.specs.Prelude.{◌≡◌, ◌≢◌, None, ℕ, List, [], l
 ghost use Rattle.std.specs.List.{starts_with};
 ghost use Rattle.sigstore_crypto_parts.specs.declared.error.Error.TheVariants.{NoMemory, Verification};
 ghost use Rattle.sigstore_crypto_parts.specs.declared.error.VerificationFault.TheVariants.{NoKey};
-ghost use Rattle.sigstore_crypto_parts.specs.Keyring.{held_at, with_held, is_used_at, is_used_by, key_in, key_at, key_by, is_meant, keys_meant, is_key_of, has_key_of, verified_with, GoodUnder};
+ghost use Rattle.sigstore_crypto_parts.specs.Keyring.{held_at, with_held, is_used_at, is_used_by, key_in, key_at, key_by, is_meant, keys_meant, is_key_of, has_key_of, is_signer, least_signer_of, verified_with, GoodUnder};
 ghost use Rattle.sigstore_crypto_parts.specs.Coming.{coming};
 
 use crate::error::{Error, VerificationFault};
+use crate::hashed::HashedMessage;
 use crate::key::VerificationKey;
 use crate::provider::CryptoProvider;
 use crate::scheme::SigningScheme;
@@ -227,6 +228,48 @@ impl Keyring {
         Err(Error::Verification(VerificationFault::NoKey))
     }
 
+    /// The least id, by its bytes, of those that begin with a hint, whose window has started by a moment and by whose
+    /// key the signature of a message is good: of several keys that a hint of four bytes means, it is always the same
+    /// one that counts. None where there is no such id.
+    pub fn least_signer<C: CryptoProvider>(
+        &self,
+        provider: &C,
+        hint: &KeyHint,
+        time: Timestamp,
+        message: &[u8],
+        signature: &SignatureBytes,
+    ) -> Option<Sha256Hash>
+        ensures { result ≡ least_signer_of (C.accepts provider.now) hint.now time message.now signature.now self.now }
+    {
+        self.least_signer_hashed(
+            provider,
+            hint,
+            time,
+            &HashedMessage::new(message),
+            signature,
+        )
+    }
+
+    /// `least_signer` for a message whose digests are taken. The keys are in ascending order, so no signature is
+    /// judged after the first that is good.
+    pub fn least_signer_hashed<C: CryptoProvider>(
+        &self,
+        provider: &C,
+        hint: &KeyHint,
+        time: Timestamp,
+        message: &HashedMessage<'_>,
+        signature: &SignatureBytes,
+    ) -> Option<Sha256Hash>
+        ensures { result ≡ least_signer_of (C.accepts provider.now) hint.now time message.now signature.now self.now }
+    {
+        'keys: for (id, held) in self.keys.iter() {
+            if is_signer(provider, hint, time, message, signature, id, held) {
+                return Some(Hash::new(*id.as_array()));
+            }
+        }
+        None
+    }
+
     /// Whether some key, under any id and at any time, is of the sort that signs under a scheme, whichever scheme
     /// it is held with.
     pub fn has_key_of(&self, scheme: SigningScheme) -> bool
@@ -261,6 +304,21 @@ fn is_meant(hint: &KeyHint, time: Timestamp, id: &Sha256Hash, held: &HeldKey) ->
     ensures { result ≡ is_meant hint.now time (id.now, held.now) }
 {
     id.as_bytes().starts_with(hint.as_bytes()) && is_used_by(time, held.validity)
+}
+
+// Whether a hint means a key, and the signature of a message is good by it.
+fn is_signer<C: CryptoProvider>(
+    provider: &C,
+    hint: &KeyHint,
+    time: Timestamp,
+    message: &HashedMessage<'_>,
+    signature: &SignatureBytes,
+    id: &Sha256Hash,
+    held: &HeldKey,
+) -> bool
+    ensures { result ≡ is_signer (C.accepts provider.now) hint.now time message.now signature.now (id.now, held.now) }
+{
+    is_meant(hint, time, id, held) && held.key.verify_hashed(provider, message, signature).is_ok()
 }
 
 impl<'a> Iterator for KeysByHint<'a> {
