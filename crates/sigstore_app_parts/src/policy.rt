@@ -1,13 +1,18 @@
 // The policy file.
-ghost use Rattle.std.specs.Prelude.{◌≡◌, ◌≢◌, Ok, Err, IfOk, IfErr, OnOk, None};
-ghost use Rattle.sigstore_app_parts.specs.Policy.{key_line_of, first_line_of, waived_of, key_waiver_of, rest_of, identity_as, identity_of, once};
-ghost use Rattle.sigstore_app_parts.specs.Policy.{keyless_waiver_of, keyless_line_of, later_line_of, policy_line_of, policy_of};
+ghost use Rattle.std.specs.Prelude.{◌≡◌, ◌≢◌, Ok, Err, IfOk, IfErr, OnOk, Some, None};
+ghost use Rattle.sigstore_app_parts.specs.Lines.{cut_of};
+ghost use Rattle.sigstore_app_parts.specs.declared.policy.PolicyFile.TheVariants.{Key};
+ghost use Rattle.sigstore_app_parts.specs.Policy.{key_line_of, first_line_of, waived_of, once, threshold_in, threshold_of, key_logs_of, key_later_of};
+ghost use Rattle.sigstore_app_parts.specs.Policy.{rest_of, identity_as, identity_of, keyless_waiver_of, keyless_line_of, later_line_of, policy_line_of, policy_of};
 
 use crate::fields::spelled;
 use crate::lines::{ByLine, cut, take_file};
 use crate::usage_fault::UsageFault;
+use sigstore_crypto_parts::LogThreshold;
+use sigstore_entries::shortest_decimal;
 use sigstore_types_parts::{ByteString, DerPublicKey, Text};
 use std::alloc::Global;
+use std::num::NonZeroU8;
 
 /// The name in the certificate of whoever signed.
 #[derive(Debug, PartialEq, Drop)]
@@ -20,8 +25,9 @@ pub enum IdentityLine {
     Uri(Text),
 }
 
-/// A policy for a signer with a certificate: the name in it, who vouched for the name, and what is
-/// passed over: the log, the certificate's chain, its timestamps.
+/// A policy for a signer with a certificate: the name in it, who vouched for the name, what is passed over: the log, the
+/// certificate's chain, its timestamps; and how many logs of certificates and transparency logs have to vouch, where the
+/// file says so.
 #[derive(Debug, PartialEq, Drop)]
 pub struct KeylessFile {
     pub identity: Option<IdentityLine>,
@@ -29,13 +35,19 @@ pub struct KeylessFile {
     pub skip_tlog: bool,
     pub skip_chain: bool,
     pub skip_sct: bool,
+    pub scts: Option<LogThreshold>,
+    pub logs: Option<LogThreshold>,
 }
 
 /// A policy: who signs.
 #[derive(Debug, PartialEq, Drop)]
 pub enum PolicyFile {
-    /// Whoever has the key; and whether the log is passed over.
-    Key { key: DerPublicKey, skip_tlog: bool },
+    /// Whoever has the key; whether the log is passed over, and how many logs have to vouch, where the file says so.
+    Key {
+        key: DerPublicKey,
+        skip_tlog: bool,
+        logs: Option<LogThreshold>,
+    },
     /// Whoever has a certificate of that name.
     Keyless(KeylessFile),
 }
@@ -49,6 +61,7 @@ fn key_line(alloc: Global, line: &str) -> Result<PolicyFile, UsageFault>
             Ok(key) => Ok(PolicyFile::Key {
                 key: ByteString::new(key),
                 skip_tlog: false,
+                logs: None,
             }),
             Err(e) => Err(e),
         },
@@ -67,6 +80,8 @@ fn first_line(alloc: Global, line: &str) -> Result<PolicyFile, UsageFault>
             skip_tlog: false,
             skip_chain: false,
             skip_sct: false,
+            scts: None,
+            logs: None,
         }));
     }
     match key_line(alloc, line) {
@@ -87,17 +102,64 @@ fn waive(waived: &mut bool) -> Result<(), UsageFault>
     Ok(())
 }
 
-// Under a key no certificate is judged: a line about one would look as if something had come of it.
-fn key_waiver(skip_tlog: &mut bool, line: &str) -> Result<(), UsageFault>
-    ensures ok { OnOk result (key_waiver_of skip_tlog.old line.now ≡ Ok skip_tlog.new) }
-    ensures err { IfErr result (λ e. key_waiver_of skip_tlog.old line.now ≡ Err e) }
+fn threshold_in(number: u64) -> Result<LogThreshold, UsageFault>
+    ensures { result ≡ threshold_in (Some number) }
 {
-    if line != "skip tlog" {
+    if number > 255 {
         return Err(UsageFault::Usage);
     }
-    match waive(skip_tlog) {
-        Ok(()) => Ok(()),
-        Err(e) => Err(e),
+    match NonZeroU8::new(number as u8) {
+        Some(count) => Ok(LogThreshold::new(count)),
+        None => Err(UsageFault::Usage),
+    }
+}
+
+// A number of logs. None at all would ask for nothing, which a waiver says in so many words.
+fn threshold(text: &str) -> Result<LogThreshold, UsageFault>
+    ensures { result ≡ threshold_of text.now }
+{
+    match shortest_decimal(text) {
+        Some(number) => threshold_in(number),
+        None => Err(UsageFault::Usage),
+    }
+}
+
+// Of two numbers whoever reads the file may overlook the lower one.
+fn ask_logs(asked: &mut Option<LogThreshold>, text: &str) -> Result<(), UsageFault>
+    ensures ok { OnOk result (once asked.old (threshold_of text.now) ≡ Ok asked.new) }
+    ensures err { IfErr result (λ e. once asked.old (threshold_of text.now) ≡ Err e) }
+{
+    if asked.is_some() {
+        return Err(UsageFault::Usage);
+    }
+    *asked = Some(threshold(text)?);
+    Ok(())
+}
+
+fn key_logs(logs: &mut Option<LogThreshold>, line: &str) -> Result<(), UsageFault>
+    ensures ok { OnOk result (key_logs_of logs.old (cut_of 32 line.now) ≡ Ok logs.new) }
+    ensures err { IfErr result (λ e. key_logs_of logs.old (cut_of 32 line.now) ≡ Err e) }
+{
+    match cut(line, ' ') {
+        Some(("logs", text)) => ask_logs(logs, text),
+        _ => Err(UsageFault::Usage),
+    }
+}
+
+// Under a key no certificate is judged: a line about one would look as if something had come of it.
+fn key_line_after(
+    key: &DerPublicKey,
+    skip_tlog: &mut bool,
+    logs: &mut Option<LogThreshold>,
+    line: &str,
+) -> Result<(), UsageFault>
+    ensures ok { OnOk result (key_later_of key.now skip_tlog.old logs.old line.now ≡ Ok (Key key.now skip_tlog.new logs.new)) }
+    ensures err { IfErr result (λ e. key_later_of key.now skip_tlog.old logs.old line.now ≡ Err e) }
+{
+    if line == "skip tlog" {
+        waive(skip_tlog)
+    } else {
+        key_logs(logs, line)
     }
 }
 
@@ -182,6 +244,8 @@ impl KeylessFile {
             Some(("skip", check)) => self.take_waiver(check),
             Some(("identity", text)) => name_identity(alloc, &mut self.identity, text),
             Some(("issuer", text)) => name_issuer(alloc, &mut self.issuer, text),
+            Some(("scts", text)) => ask_logs(&mut self.scts, text),
+            Some(("logs", text)) => ask_logs(&mut self.logs, text),
             _ => Err(UsageFault::Usage),
         }
     }
@@ -192,7 +256,11 @@ fn later_line(alloc: Global, policy: &mut PolicyFile, line: &str) -> Result<(), 
     ensures err { IfErr result (λ e. e ≢ UsageFault.NoMemory → later_line_of policy.old line.now ≡ Err e) }
 {
     match policy {
-        PolicyFile::Key { skip_tlog, .. } => key_waiver(skip_tlog, line),
+        PolicyFile::Key {
+            key,
+            skip_tlog,
+            logs,
+        } => key_line_after(key, skip_tlog, logs, line),
         PolicyFile::Keyless(file) => file.take_line(alloc, line),
     }
 }
@@ -217,9 +285,10 @@ impl ByLine for Option<PolicyFile> {
     }
 }
 
-/// The policy of a file: `key BASE64` and at most once `skip tlog`; or `keyless`, and in any order, each at
-/// most once, `skip tlog`, `skip chain`, `skip sct`, `issuer TEXT`, and one of `identity exact TEXT`,
-/// `identity email TEXT` and `identity uri TEXT`. Errors: `Usage` for every other file; `NoMemory`.
+/// The policy of a file: `key BASE64`, and in any order, each at most once, `skip tlog` and `logs N`; or `keyless`, and in
+/// any order, each at most once, `skip tlog`, `skip chain`, `skip sct`, `scts N`, `logs N`, `issuer TEXT`, and one of
+/// `identity exact TEXT`, `identity email TEXT` and `identity uri TEXT`. N is the shortest decimal of a number from 1 to
+/// 255. Errors: `Usage` for every other file; `NoMemory`.
 #[tactic(auto, unfolding(crate::specs::Policy::policy_of))]
 pub fn read_policy(alloc: Global, bytes: &[u8]) -> Result<PolicyFile, UsageFault>
     ensures ok { IfOk result (λ p. policy_of bytes.now ≡ Ok p) }

@@ -1,5 +1,7 @@
 -- Each refusal of a certificate has its cause.
-use Rattle.std.proofs.Common.{◌≡◌, ◌≢◌, ◌⊎◌, inl, inr, ℕ, suc, List, [], ◌∷◌, Bool, true, false, if◌then◌else◌, Option, Some, None, Result, Ok, Err, refl, sym, ap, subst, ◌∙◌, arith}
+use Rattle.std.proofs.Common.{◌≡◌, ◌≢◌, ◌≤◌, ◌<◌, ◌⊎◌, inl, inr, ℕ, suc, List, [], ◌∷◌, length, Bool, true, false, nat_lt, if◌then◌else◌, is_some, Option, Some, None, Result, Ok, Err, refl, sym, ap, subst, ◌∙◌, arith}
+use Rattle.std.proofs.lemmas.Bool.{ltb-false, leb-false}
+use Rattle.std.specs.List.{list_any}
 use Rattle.std.specs.Prelude.{⊤, Contains, IsTrue}
 use Rattle.sha2.specs.Sha256.{sha256}
 use Rattle.foundation.specs.Steps.{◌>>=◌}
@@ -8,10 +10,10 @@ use Rattle.jiff_core.specs.declared.timestamp.Timestamp.{Timestamp}
 use Rattle.spki_core.specs.Reading.{Reading}
 use Rattle.x509_core_parts.specs.Certificates.{Certificate, certificate_of}
 use Rattle.x509_core_parts.specs.Precertificates.{sct_oid, precert_of}
-use Rattle.x509_core_parts.specs.Scts.{Parts as OneSct, sct_list_of, signed_of}
+use Rattle.x509_core_parts.specs.Scts.{Parts as OneSct, sct_list_of}
 use Rattle.sigstore_types_parts.specs.TimeRange.{is_by}
-use Rattle.sigstore_crypto_parts.specs.declared.scheme.SigningScheme.{SigningScheme}
-use Rattle.sigstore_crypto_parts.specs.Keyring.{has_key_of}
+use Rattle.sigstore_crypto_parts.specs.declared.log_ids.LogThreshold.{LogThreshold}
+use Rattle.sigstore_crypto_parts.specs.LogIds.{is_enough}
 use Rattle.sigstore_crypto.specs.declared.certificate_info.CertificateInfo.{CertificateInfo}
 use Rattle.sigstore_crypto.specs.Claims.{value_of}
 use Rattle.sigstore_crypto.specs.Info.{extensions_of}
@@ -33,20 +35,37 @@ use Rattle.sigstore_certificate.specs.declared.error.SctRule.{SctRule}
 use Rattle.sigstore_certificate.specs.declared.error.SctRule.TheVariants as rule
 use Rattle.sigstore_certificate.specs.declared.error.Refusal.{Refusal}
 use Rattle.sigstore_certificate.specs.declared.error.Refusal.TheVariants as refusal
-use Rattle.sigstore_certificate.specs.Cause.{IsNoLeaf, LacksAuthority, LacksPath, IsEarly, IsLate, no_extension, unread, HasOne, no_part, no_octets, IsUnsigned, SctCause, LacksLog, Cause, Refusals}
-use Rattle.sigstore_certificate.specs.Certified.{Trust, has_authority, authority_judged, window_judged, issued_at, at_each, issued_at_each, parts_read, leaf_sct_judged, sct_asked, chain_verified, chain_judged, certified_of}
+use Rattle.sigstore_certificate.specs.Cause.{IsNoLeaf, LacksAuthority, LacksPath, IsEarly, IsLate, no_extension, unread, HasKnown, no_part, no_length, HasTooFew, SctCause, LacksLog, Cause, Refusals}
+use Rattle.sigstore_certificate.specs.Certified.{Trust, has_authority, authority_judged, window_judged, issued_at, at_each, issued_at_each, parts_read, leaf_scts_judged, scts_asked, chain_verified, chain_judged, certified_of}
 use Rattle.sigstore_certificate.specs.Error.{refusal_of_path, by_path}
 use Rattle.sigstore_certificate.specs.Names.{is_matched, identity_judged, is_text, issuer_judged, names_judged}
 use Rattle.sigstore_certificate.specs.Policy.{verifies_chain, verifies_sct}
-use Rattle.sigstore_certificate.specs.Scts.{scts_in, listed, scts_of, sole, scheme_of, schemed, some_log, written, signed_data_of, key_under, log_key, good_by, counted, sct_judged}
+use Rattle.sigstore_certificate.specs.Scts.{refused_by, scts_in, listed, scts_of, scheme_of, has_scheme, some_scheme, is_of_logs, some_log, written, signed_part_of, is_good_sct, promising_logs, enough_logs, scts_judged}
 use Rattle.sigstore_certificate.proofs.NamesLaw.{passes}
-use Rattle.sigstore_certificate.proofs.SctLaw.{sole_means, schemed_means, written_means, ungood_means, data_means}
+use Rattle.sigstore_certificate.proofs.Among.{among_from_any, any_from_among}
+use Rattle.sigstore_certificate.proofs.SctLaw.{known_means, shortened, part_means}
 
 first : {A : Type 0} (x : A) (xs : List A) → Contains (x ∷ xs) x
 first x xs = (0, omega arith, refl)
 
 later : {A : Type 0} (x : A) (xs : List A) (y : A) → Contains xs y → Contains (x ∷ xs) y
 later x xs y c = (suc c.0, omega (arith, c.1), c.2)
+
+-- of no member a test holds that holds of none
+none_among : {X : Type 0} (p : X → Bool) (xs : List X) → list_any p xs ≡ false → (x : X) → Contains xs x → p x ≡ false
+none_among p xs none x among = by (p x) refl
+  where
+    by : (b : Bool) → p x ≡ b → b ≡ false
+    by true is = sym (any_from_among p xs x among is) ∙ none
+    by false is = refl
+
+not_some : {X : Type 0} (o : Option X) → is_some o ≡ false → o ≡ None
+not_some None h = refl
+not_some (Some x) h = cc
+
+some_is : {X : Type 0} (o : Option X) → is_some o ≡ true → (x : X) × (o ≡ Some x)
+some_is None h = cc
+some_is (Some x) h = (x, refl)
 
 through_path : (r : Result FoundPath PathError) (e : Refusal) → by_path r ≡ Err e → (why : PathError) × (r ≡ Err why) × (refusal_of_path why ≡ e)
 through_path (Ok x) e h = cc
@@ -117,100 +136,115 @@ module _ (t : Trust) (info : CertificateInfo) (leaf_der : List ℕ) (intermediat
       refused_at (issued_at t info leaf_der intermediates time) (at_each (issued_at t info leaf_der intermediates) times) e h (time_caused time times e)
       (λ issuer p k. onward time times e (each_caused times issuer e k))
 
-  -- ---- its timestamp
+  -- ---- its timestamps
 
-  abbrev OfTimestamp : Certificate → List ℕ → Refusal → Type 0
-  OfTimestamp c issuer e = ((broken : SctRule) × SctCause t c issuer broken × (refusal.Sct broken ≡ e)) ⊎ (LacksLog t leaf_der × (refusal.InvalidTrustRoot ≡ e))
+  module _ (threshold : LogThreshold) where
+    abbrev OfTimestamps : Certificate → List ℕ → Refusal → Type 0
+    OfTimestamps c issuer e =
+        ((broken : SctRule) × SctCause t threshold c issuer broken × (refusal.Sct broken ≡ e)) ⊎ (LacksLog t leaf_der × (refusal.InvalidTrustRoot ≡ e))
 
-  list_caused : (c : Certificate) (issuer : List ℕ) (e : Refusal) → scts_of c ≡ Err e → OfTimestamp c issuer e
-  list_caused c issuer e h = by (value_of sct_oid (extensions_of c)) refl h
-    where
-      in_list : (value : List ℕ) → value_of sct_oid (extensions_of c) ≡ Some value → (r : Reading (List OneSct)) → sct_list_of value ≡ r → scts_in r ≡ Err e → OfTimestamp c issuer e
-      in_list value there (Ok scts) is k = cc
-      in_list value there (Err fault) is k = inl (rule.List, unread value fault there is, err_same (refusal.Sct rule.List) e k)
-
-      by : (o : Option (List ℕ)) → value_of sct_oid (extensions_of c) ≡ o → listed o ≡ Err e → OfTimestamp c issuer e
-      by None is k = inl (rule.List, no_extension is, err_same (refusal.Sct rule.List) e k)
-      by (Some value) is k = in_list value is (sct_list_of value) refl k
-
-  module _ (c : Certificate) (issuer : List ℕ) (e : Refusal) where
-    sole_caused : (scts : List OneSct) → scts_of c ≡ Ok scts → sole scts ≡ Err e → OfTimestamp c issuer e
-    sole_caused [] is h = inl (rule.NotOne, record { scts = []; listed = is; other = λ n. omega arith }, err_same (refusal.Sct rule.NotOne) e h)
-    sole_caused (one ∷ []) is h = cc
-    sole_caused (one ∷ other ∷ scts) is h =
-        inl (rule.NotOne, record { scts = one ∷ other ∷ scts; listed = is; other = λ n. omega arith }, err_same (refusal.Sct rule.NotOne) e h)
-
-    scheme_caused : (sct : OneSct) → scts_of c ≡ Ok (sct ∷ []) → (o : Option SigningScheme) → scheme_of sct.algorithm ≡ o → schemed o ≡ Err e → OfTimestamp c issuer e
-    scheme_caused sct is None none h = inl (rule.Scheme, record { sct = sct; sole = is; none = none }, err_same (refusal.Sct rule.Scheme) e h)
-    scheme_caused sct is (Some scheme) none h = cc
-
-    log_caused : (sct : OneSct) (scheme : SigningScheme) → certificate_of leaf_der ≡ Ok c → scts_of c ≡ Ok (sct ∷ []) → scheme_of sct.algorithm ≡ Some scheme → some_log t.ct_logs scheme ≡ Err e
-        → OfTimestamp c issuer e
-    log_caused sct scheme read is schemed_is h = by (has_key_of scheme t.ct_logs) refl h
+    list_caused : (c : Certificate) (issuer : List ℕ) (e : Refusal) → scts_of c ≡ Err e → OfTimestamps c issuer e
+    list_caused c issuer e h = by (value_of sct_oid (extensions_of c)) refl h
       where
-        by : (b : Bool) → has_key_of scheme t.ct_logs ≡ b → ◌≡◌ {A = Result ⊤ Refusal} (if b then Ok tt else Err refusal.InvalidTrustRoot) (Err e) → OfTimestamp c issuer e
-        by true p k = cc
-        by false p k = inr (record { parts = c; read = read; sct = sct; sole = is; scheme = scheme; scheme_is = schemed_is; none = p }, err_same refusal.InvalidTrustRoot e k)
+        in_list : (value : List ℕ) → value_of sct_oid (extensions_of c) ≡ Some value → (r : Reading (List OneSct)) → sct_list_of value ≡ r → scts_in r ≡ Err e → OfTimestamps c issuer e
+        in_list value there (Ok scts) is k = cc
+        in_list value there (Err fault) is k = inl (rule.List, unread value fault there is, err_same (refusal.Sct rule.List) e k)
 
-    module _ (sct : OneSct) (scheme : SigningScheme) (one : HasOne t c sct scheme) where
-      octets_caused : (tbs : List ℕ) → precert_of c.tbs c.signed.tail.front c.signed.tail.extensions ≡ Ok tbs → (r : Reading (List ℕ)) → signed_of sct (sha256 issuer) tbs ≡ r → written r ≡ Err e
-          → OfTimestamp c issuer e
-      octets_caused tbs tbs_is (Ok octets) is h = cc
-      octets_caused tbs tbs_is (Err fault) is h =
-          inl (rule.Precertificate, no_octets sct scheme tbs fault one tbs_is is, err_same (refusal.Sct rule.Precertificate) e h)
+        by : (o : Option (List ℕ)) → value_of sct_oid (extensions_of c) ≡ o → listed o ≡ Err e → OfTimestamps c issuer e
+        by None is k = inl (rule.List, no_extension is, err_same (refusal.Sct rule.List) e k)
+        by (Some value) is k = in_list value is (sct_list_of value) refl k
 
-      part_caused : (r : Reading (List ℕ)) → precert_of c.tbs c.signed.tail.front c.signed.tail.extensions ≡ r → written r ≡ Err e → OfTimestamp c issuer e
-      part_caused (Ok tbs) is h = cc
-      part_caused (Err fault) is h = inl (rule.Precertificate, no_part sct scheme fault one is, err_same (refusal.Sct rule.Precertificate) e h)
+    module _ (c : Certificate) (issuer : List ℕ) (e : Refusal) (scts : List OneSct) (listed_is : scts_of c ≡ Ok scts) where
+      scheme_caused : some_scheme scts ≡ Err e → OfTimestamps c issuer e
+      scheme_caused h = by (list_any has_scheme scts) refl h
+        where
+          by : (b : Bool) → list_any has_scheme scts ≡ b → ◌≡◌ {A = Result ⊤ Refusal} (if b then Ok tt else Err (refusal.Sct rule.Scheme)) (Err e) → OfTimestamps c issuer e
+          by true is k = cc
+          by false is k =
+              inl (
+                rule.Scheme,
+                record { scts = scts; listed = listed_is; none = λ sct among. not_some (scheme_of sct.algorithm) (none_among has_scheme scts is sct among) },
+                err_same (refusal.Sct rule.Scheme) e k,
+              )
 
-      data_caused : signed_data_of c sct (sha256 issuer) ≡ Err e → OfTimestamp c issuer e
-      unfolding signed_data_of
-      data_caused h =
-          refused_at (written (precert_of c.tbs c.signed.tail.front c.signed.tail.extensions)) (λ tbs. written (signed_of sct (sha256 issuer) tbs)) e h
-          (part_caused (precert_of c.tbs c.signed.tail.front c.signed.tail.extensions) refl) (λ tbs p k.
-          octets_caused tbs (written_means (precert_of c.tbs c.signed.tail.front c.signed.tail.extensions) tbs p) (signed_of sct (sha256 issuer) tbs) refl k)
+      log_caused : certificate_of leaf_der ≡ Ok c → list_any has_scheme scts ≡ true → some_log t.ct_logs scts ≡ Err e → OfTimestamps c issuer e
+      log_caused read schemed h = by (list_any (is_of_logs t.ct_logs) scts) refl h
+        where
+          by : (b : Bool) → list_any (is_of_logs t.ct_logs) scts ≡ b → ◌≡◌ {A = Result ⊤ Refusal} (if b then Ok tt else Err refusal.InvalidTrustRoot) (Err e) → OfTimestamps c issuer e
+          by true is k = cc
+          by false is k =
+              let a = among_from_any has_scheme scts schemed in
+              let some = some_is (scheme_of (a.0).algorithm) a.2 in
+              let lacks : LacksLog t leaf_der = record {
+                parts = c;
+                read = read;
+                scts = scts;
+                listed = listed_is;
+                sct = a.0;
+                among = a.1;
+                scheme = some.0;
+                scheme_is = some.1;
+                none = none_among (is_of_logs t.ct_logs) scts is;
+              } in
+              inr (lacks, err_same refusal.InvalidTrustRoot e k)
 
-      counted_caused : (message : List ℕ) → signed_data_of c sct (sha256 issuer) ≡ Ok message → (b : Bool) → good_by t.accepts (key_under scheme (log_key t.ct_logs sct)) message sct.signature ≡ b
-          → counted b ≡ Err e → OfTimestamp c issuer e
-      counted_caused message written_is true is h = cc
-      counted_caused message written_is false is h =
-          let w = data_means c sct (sha256 issuer) message written_is in
-          let cause : IsUnsigned t c issuer = record {
-            sct = sct;
-            scheme = scheme;
-            one = one;
-            tbs = w.tbs;
-            tbs_is = w.tbs_is;
-            message = message;
-            message_is = w.message_is;
-            unsigned = ungood_means t.accepts (log_key t.ct_logs sct) scheme message sct.signature is;
-          } in
-          inl (rule.TooFew 1 0, (refl, refl, cause), err_same (refusal.Sct (rule.TooFew 1 0)) e h)
+      module _ (has : HasKnown t c scts) where
+        part_caused : (r : Reading (List ℕ)) → precert_of c.tbs c.signed.tail.front c.signed.tail.extensions ≡ r → (written r >>= shortened) ≡ Err e
+            → OfTimestamps c issuer e
+        part_caused (Ok tbs) is h = by (nat_lt (length tbs) 16777216) (ltb-false (length tbs) 16777216) h
+          where
+            by : (b : Bool) → (b ≡ false → 16777216 ≤ length tbs) → (if b then Ok tbs else refused_by rule.Precertificate) ≡ Err e → OfTimestamps c issuer e
+            by true long k = cc
+            by false long k = inl (rule.Precertificate, no_length scts tbs has is (long refl), err_same (refusal.Sct rule.Precertificate) e k)
+        part_caused (Err fault) is h = inl (rule.Precertificate, no_part scts fault has is, err_same (refusal.Sct rule.Precertificate) e h)
 
-    judged_caused : certificate_of leaf_der ≡ Ok c → sct_judged t.accepts t.ct_logs c issuer ≡ Err e → OfTimestamp c issuer e
-    unfolding sct_judged
-    judged_caused read h =
+        count_caused : (tbs : List ℕ) → signed_part_of c ≡ Ok tbs
+            → enough_logs threshold (promising_logs (is_good_sct t.accepts t.ct_logs (sha256 issuer) tbs) scts) ≡ Err e → OfTimestamps c issuer e
+        count_caused tbs part h = by (is_enough threshold found) (leb-false threshold.value found) h
+          where
+            found : ℕ
+            found = promising_logs (is_good_sct t.accepts t.ct_logs (sha256 issuer) tbs) scts
+
+            by : (b : Bool) → (b ≡ false → found < threshold.value) → (if b then Ok found else refused_by (rule.TooFew threshold.value found)) ≡ Err e
+                → OfTimestamps c issuer e
+            by true few k = cc
+            by false few k =
+                let p = part_means c tbs part in
+                let cause : HasTooFew t c issuer threshold.value found = record {
+                  scts = scts;
+                  has = has;
+                  tbs = tbs;
+                  tbs_is = p.tbs_is;
+                  short = p.short;
+                  count = refl;
+                  few = few refl;
+                } in
+                inl (rule.TooFew threshold.value found, (refl, cause), err_same (refusal.Sct (rule.TooFew threshold.value found)) e k)
+
+    judged_caused : (c : Certificate) (issuer : List ℕ) (e : Refusal) → certificate_of leaf_der ≡ Ok c → scts_judged t.accepts t.ct_logs threshold c issuer ≡ Err e
+        → OfTimestamps c issuer e
+    unfolding scts_judged
+    judged_caused c issuer e read h =
         refused_at (scts_of c) _ e h (list_caused c issuer e) (λ scts p k.
-        refused_at (sole scts) _ e k (sole_caused scts p) (λ sct q l.
-        let sole_is : scts_of c ≡ Ok (sct ∷ []) = p ∙ ap Ok (sole_means scts sct q) in
-        refused_at (schemed (scheme_of sct.algorithm)) _ e l (scheme_caused sct sole_is (scheme_of sct.algorithm) refl) (λ scheme r m.
-        let scheme_is = schemed_means (scheme_of sct.algorithm) scheme r in
-        refused_at (some_log t.ct_logs scheme) _ e m (log_caused sct scheme read sole_is scheme_is) (λ u s n.
-        let one : HasOne t c sct scheme = record { sole = sole_is; scheme_is = scheme_is; some = passes (has_key_of scheme t.ct_logs) refusal.InvalidTrustRoot u s } in
-        refused_at (signed_data_of c sct (sha256 issuer)) (λ message. counted (good_by t.accepts (key_under scheme (log_key t.ct_logs sct)) message sct.signature)) e n
-        (data_caused sct scheme one)
-        (λ message v o. counted_caused sct scheme one message v (good_by t.accepts (key_under scheme (log_key t.ct_logs sct)) message sct.signature) refl o)))))
+        refused_at (some_scheme scts) _ e k (scheme_caused c issuer e scts p) (λ u q l.
+        let schemed : list_any has_scheme scts ≡ true = passes (list_any has_scheme scts) (refusal.Sct rule.Scheme) u q in
+        refused_at (some_log t.ct_logs scts) _ e l (log_caused c issuer e scts p read schemed) (λ v r m.
+        let logs : list_any (is_of_logs t.ct_logs) scts ≡ true = passes (list_any (is_of_logs t.ct_logs) scts) refusal.InvalidTrustRoot v r in
+        let has : HasKnown t c scts = record { listed = p; known = known_means t scts logs } in
+        refused_at (signed_part_of c) (λ tbs. enough_logs threshold (promising_logs (is_good_sct t.accepts t.ct_logs (sha256 issuer) tbs) scts)) e m
+        (part_caused c issuer e scts p has (precert_of c.tbs c.signed.tail.front c.signed.tail.extensions) refl)
+        (λ tbs w n. count_caused c issuer e scts p has tbs w n))))
 
-  abbrev SctRefused : List ℕ → Refusal → Type 0
-  SctRefused issuer e = ((c : Certificate) × (certificate_of leaf_der ≡ Ok c) × OfTimestamp c issuer e) ⊎ (IsNoLeaf leaf_der × (refusal.Malformed ≡ e))
+    abbrev SctRefused : List ℕ → Refusal → Type 0
+    SctRefused issuer e = ((c : Certificate) × (certificate_of leaf_der ≡ Ok c) × OfTimestamps c issuer e) ⊎ (IsNoLeaf leaf_der × (refusal.Malformed ≡ e))
 
-  sct_caused : (issuer : List ℕ) (e : Refusal) → leaf_sct_judged t leaf_der issuer ≡ Err e → SctRefused issuer e
-  unfolding leaf_sct_judged leaf_of
-  sct_caused issuer e h = by (certificate_of leaf_der) refl h
-    where
-      by : (r : Reading Certificate) → certificate_of leaf_der ≡ r → (parts_read r >>= λ c. sct_judged t.accepts t.ct_logs c issuer) ≡ Err e → SctRefused issuer e
-      by (Ok c) is k = inl (c, is, judged_caused c issuer e is k)
-      by (Err x) is k = inr (record { fault = leaf.Unreadable; lacks = ap (leaf_read CodeSigning) is; malformed = refl }, err_same refusal.Malformed e k)
+    scts_caused : (issuer : List ℕ) (e : Refusal) → leaf_scts_judged t threshold leaf_der issuer ≡ Err e → SctRefused issuer e
+    unfolding leaf_scts_judged leaf_of
+    scts_caused issuer e h = by (certificate_of leaf_der) refl h
+      where
+        by : (r : Reading Certificate) → certificate_of leaf_der ≡ r → (parts_read r >>= λ c. scts_judged t.accepts t.ct_logs threshold c issuer) ≡ Err e → SctRefused issuer e
+        by (Ok c) is k = inl (c, is, judged_caused c issuer e is k)
+        by (Err x) is k = inr (record { fault = leaf.Unreadable; lacks = ap (leaf_read CodeSigning) is; malformed = refl }, err_same refusal.Malformed e k)
 
   -- ---- both
 
@@ -227,7 +261,8 @@ module _ (t : Trust) (info : CertificateInfo) (leaf_der : List ℕ) (intermediat
     wider (refusal.IssuerMismatch text actual) a c = absurd c
     wider refusal.NoMemory a c = absurd c
 
-    lacking : (issuer : List ℕ) (e : Refusal) → policy.certificate ≡ Verify true → issued_at_each t info leaf_der intermediates times ≡ Ok issuer → SctRefused issuer e
+    lacking : (issuer : List ℕ) (e : Refusal) → policy.certificate ≡ Verify true → issued_at_each t info leaf_der intermediates times ≡ Ok issuer
+        → SctRefused policy.scts issuer e
         → Cause t policy info leaf_der intermediates times e
     lacking issuer e asked valid (inl (c, read, inl s)) =
         subst (Cause t policy info leaf_der intermediates times) s.2
@@ -236,16 +271,16 @@ module _ (t : Trust) (info : CertificateInfo) (leaf_der : List ℕ) (intermediat
     lacking issuer e asked valid (inr s) = subst (Cause t policy info leaf_der intermediates times) s.1 (ap verifies_chain asked, s.0)
 
     asked_caused : (verify_sct : Bool) (issuer : List ℕ) (e : Refusal) → policy.certificate ≡ Verify verify_sct → issued_at_each t info leaf_der intermediates times ≡ Ok issuer
-        → sct_asked t verify_sct leaf_der issuer ≡ Err e → Cause t policy info leaf_der intermediates times e
-    asked_caused true issuer e asked valid h = lacking issuer e asked valid (sct_caused issuer e h)
+        → scts_asked t verify_sct policy.scts leaf_der issuer ≡ Err e → Cause t policy info leaf_der intermediates times e
+    asked_caused true issuer e asked valid h = lacking issuer e asked valid (scts_caused policy.scts issuer e h)
     asked_caused false issuer e asked valid h = cc
 
-    chain_caused : (p : CertificatePolicy) (e : Refusal) → policy.certificate ≡ p → chain_judged t p info leaf_der intermediates times ≡ Err e
+    chain_caused : (p : CertificatePolicy) (e : Refusal) → policy.certificate ≡ p → chain_judged t p policy.scts info leaf_der intermediates times ≡ Err e
         → Cause t policy info leaf_der intermediates times e
     unfolding chain_verified
     chain_caused Skip e asked h = cc
     chain_caused (Verify verify_sct) e asked h =
-        refused_at (issued_at_each t info leaf_der intermediates times) (sct_asked t verify_sct leaf_der) e h
+        refused_at (issued_at_each t info leaf_der intermediates times) (scts_asked t verify_sct policy.scts leaf_der) e h
         (λ r. wider e (ap verifies_chain asked) (each_caused times [] e r)) (λ issuer p k. asked_caused verify_sct issuer e asked p k)
 
     -- ---- the names
@@ -275,9 +310,11 @@ module _ (t : Trust) (info : CertificateInfo) (leaf_der : List ℕ) (intermediat
     pub caused : (e : Refusal) → certified_of t policy info leaf_der intermediates times ≡ Err e → Cause t policy info leaf_der intermediates times e
     unfolding certified_of
     caused e h =
-        refused_at (chain_judged t policy.certificate info leaf_der intermediates times) (λ _. names_judged policy info) e h (chain_caused policy.certificate e refl) (λ u p k.
-        refused_at (identity_judged policy.identity info.identity) (λ _. issuer_judged policy.issuer info.issuer) e k (identity_caused policy.identity e refl)
-        (λ v q l. issuer_caused policy.issuer e refl l))
+        refused_at (chain_judged t policy.certificate policy.scts info leaf_der intermediates times) (λ count. names_judged policy info >>= λ _. Ok count) e h
+        (chain_caused policy.certificate e refl) (λ count p k.
+        refused_at (names_judged policy info) (λ _. Ok count) e k (λ n.
+        refused_at (identity_judged policy.identity info.identity) (λ _. issuer_judged policy.issuer info.issuer) e n (identity_caused policy.identity e refl)
+        (λ v q l. issuer_caused policy.issuer e refl l)) (λ v q l. cc))
 
 pub refusals : Refusals
 refusals t policy info leaf_der intermediates times e h = caused t info leaf_der intermediates policy times e h

@@ -1,10 +1,11 @@
 -- A certificate is accepted exactly where it is to be.
-use Rattle.std.proofs.Common.{◌≡◌, ℕ, List, [], ◌∷◌, Bool, true, false, if◌then◌else◌, Result, Ok, Err, refl, ap, ◌∙◌}
+use Rattle.std.proofs.Common.{◌≡◌, ℕ, List, [], ◌∷◌, Bool, true, false, if◌then◌else◌, Result, Ok, Err, refl, sym, ap, ◌∙◌}
 use Rattle.std.specs.Prelude.{⊤, Contains, IsTrue}
 use Rattle.foundation.specs.Steps.{◌>>=◌}
 use Rattle.foundation.specs.Results.{step_ok, ok_same}
 use Rattle.jiff_core.specs.declared.timestamp.Timestamp.{Timestamp}
 use Rattle.sigstore_types_parts.specs.TimeRange.{is_by}
+use Rattle.sigstore_crypto_parts.specs.declared.log_ids.LogThreshold.{LogThreshold}
 use Rattle.sigstore_crypto_parts.specs.Keyring.{is_used_at}
 use Rattle.sigstore_crypto.specs.declared.certificate_info.CertificateInfo.{CertificateInfo}
 use Rattle.path_core.specs.declared.error.PathError.{PathError}
@@ -19,13 +20,13 @@ use Rattle.sigstore_certificate.specs.declared.policy.CertificatePolicy.TheVaria
 use Rattle.sigstore_certificate.specs.declared.policy.VerificationPolicy.{VerificationPolicy}
 use Rattle.sigstore_certificate.specs.declared.error.Refusal.{Refusal}
 use Rattle.sigstore_certificate.specs.declared.error.Refusal.TheVariants.{NoValidAuthority, NotYetValid, Expired}
-use Rattle.sigstore_certificate.specs.Certified.{Trust, has_authority, authority_judged, window_judged, issued_at, at_each, issued_at_each, sct_asked, chain_verified, chain_judged, certified_of}
+use Rattle.sigstore_certificate.specs.Certified.{Trust, has_authority, authority_judged, window_judged, issued_at, at_each, issued_at_each, scts_asked, chain_verified, chain_judged, certified_of}
 use Rattle.sigstore_certificate.specs.Error.{by_path}
-use Rattle.sigstore_certificate.specs.IsCertified.{IsValidAt, IsValidAtEach, HasSctIf, IsChainedIf, IsCertified, CertifiedExactly}
+use Rattle.sigstore_certificate.specs.IsCertified.{IsValidAt, IsValidAtEach, HasSctsIf, IsChainedIf, IsCertified, CertifiedExactly}
 use Rattle.sigstore_certificate.specs.Names.{names_judged}
 use Rattle.sigstore_certificate.proofs.Among.{among_from_any, any_from_among}
 use Rattle.sigstore_certificate.proofs.NamesLaw.{passes, names_mean, names_pass}
-use Rattle.sigstore_certificate.proofs.SctLaw.{sct_means, sct_passes}
+use Rattle.sigstore_certificate.proofs.SctLaw.{scts_mean, scts_pass}
 
 -- ---- at one time
 
@@ -112,47 +113,62 @@ module _ (t : Trust) (info : CertificateInfo) (leaf : List ℕ) (intermediates :
   each_passes (time ∷ times) before issuer v =
       ap (λ r. r >>= each times) (valid_passes time v.0 v.1) ∙ each_passes times v.0 issuer v.2
 
-  -- ---- with its timestamp
+  -- ---- with its timestamps
 
-  asked_means : (verify_sct : Bool) (issuer : List ℕ) (x : ⊤) → sct_asked t verify_sct leaf issuer ≡ Ok x → HasSctIf verify_sct t leaf issuer
-  asked_means true issuer x h = sct_means t leaf issuer x h
-  asked_means false issuer x h = tt
+  asked_means : (verify_sct : Bool) (asked : LogThreshold) (issuer : List ℕ) (count : ℕ) → scts_asked t verify_sct asked leaf issuer ≡ Ok count
+      → HasSctsIf verify_sct t asked leaf issuer count
+  asked_means true asked issuer count h = scts_mean t asked leaf issuer count h
+  asked_means false asked issuer count h = sym (ok_same 0 count h)
 
-  asked_passes : (verify_sct : Bool) (issuer : List ℕ) → HasSctIf verify_sct t leaf issuer → sct_asked t verify_sct leaf issuer ≡ Ok tt
-  asked_passes true issuer s = sct_passes t leaf issuer s
-  asked_passes false issuer s = refl
+  asked_passes : (verify_sct : Bool) (asked : LogThreshold) (issuer : List ℕ) (count : ℕ) → HasSctsIf verify_sct t asked leaf issuer count
+      → scts_asked t verify_sct asked leaf issuer ≡ Ok count
+  asked_passes true asked issuer count s = scts_pass t asked leaf issuer count s
+  asked_passes false asked issuer count s = ap Ok (sym s)
 
-  chain_means : (asked : CertificatePolicy) (times : List Timestamp) (x : ⊤) → chain_judged t asked info leaf intermediates times ≡ Ok x
-      → IsChainedIf t asked info leaf intermediates times
+  chain_means : (policy : CertificatePolicy) (asked : LogThreshold) (times : List Timestamp) (count : ℕ)
+      → chain_judged t policy asked info leaf intermediates times ≡ Ok count → IsChainedIf t policy asked info leaf intermediates times count
   unfolding chain_verified
-  chain_means Skip times x h = tt
-  chain_means (Verify verify_sct) times x h =
-      let s = step_ok (issued_at_each t info leaf intermediates times) (sct_asked t verify_sct leaf) x h in
-      record { issuer = s.0; valid = each_means times [] s.0 s.1; sct = asked_means verify_sct s.0 x s.2 }
+  chain_means Skip asked times count h = sym (ok_same 0 count h)
+  chain_means (Verify verify_sct) asked times count h =
+      let s = step_ok (issued_at_each t info leaf intermediates times) (scts_asked t verify_sct asked leaf) count h in
+      record { issuer = s.0; valid = each_means times [] s.0 s.1; scts = asked_means verify_sct asked s.0 count s.2 }
 
-  chain_passes : (asked : CertificatePolicy) (times : List Timestamp) → IsChainedIf t asked info leaf intermediates times
-      → chain_judged t asked info leaf intermediates times ≡ Ok tt
+  chain_passes : (policy : CertificatePolicy) (asked : LogThreshold) (times : List Timestamp) (count : ℕ)
+      → IsChainedIf t policy asked info leaf intermediates times count → chain_judged t policy asked info leaf intermediates times ≡ Ok count
   unfolding chain_verified
-  chain_passes Skip times c = refl
-  chain_passes (Verify verify_sct) times c =
-      ap (λ r. r >>= sct_asked t verify_sct leaf) (each_passes times [] c.issuer c.valid) ∙ asked_passes verify_sct c.issuer c.sct
+  chain_passes Skip asked times count c = ap Ok (sym c)
+  chain_passes (Verify verify_sct) asked times count c =
+      ap (λ r. r >>= scts_asked t verify_sct asked leaf) (each_passes times [] c.issuer c.valid) ∙ asked_passes verify_sct asked c.issuer count c.scts
 
   -- ---- with the names
 
-  pub accepted_means : (policy : VerificationPolicy) (times : List Timestamp) → certified_of t policy info leaf intermediates times ≡ Ok tt
-      → IsCertified t policy info leaf intermediates times
-  unfolding certified_of
-  accepted_means policy times h =
-      let s = step_ok (chain_judged t policy.certificate info leaf intermediates times) (λ _. names_judged policy info) tt h in
-      let n = names_mean policy info tt s.2 in
-      record { chain = chain_means policy.certificate times s.0 s.1; identity = n.0; issuer = n.1 }
+  module _ (policy : VerificationPolicy) where
+    abbrev counted : ℕ → ⊤ → Result ℕ Refusal
+    counted count u = Ok count
 
-  pub accepted_passes : (policy : VerificationPolicy) (times : List Timestamp) → IsCertified t policy info leaf intermediates times
-      → certified_of t policy info leaf intermediates times ≡ Ok tt
-  unfolding certified_of
-  accepted_passes policy times c =
-      ap (λ r. r >>= λ _. names_judged policy info) (chain_passes policy.certificate times c.chain) ∙ names_pass policy info c.identity c.issuer
+    abbrev named : ℕ → Result ℕ Refusal
+    named count = names_judged policy info >>= counted count
+
+    pub accepted_means : (times : List Timestamp) (count : ℕ) → certified_of t policy info leaf intermediates times ≡ Ok count
+        → IsCertified t policy info leaf intermediates times count
+    unfolding certified_of
+    accepted_means times count h =
+        let s = step_ok (chain_judged t policy.certificate policy.scts info leaf intermediates times) named count h in
+        let r = step_ok (names_judged policy info) (counted s.0) count s.2 in
+        let n = names_mean policy info r.0 r.1 in
+        record {
+          chain = chain_means policy.certificate policy.scts times count (s.1 ∙ r.2);
+          identity = n.0;
+          issuer = n.1;
+        }
+
+    pub accepted_passes : (times : List Timestamp) (count : ℕ) → IsCertified t policy info leaf intermediates times count
+        → certified_of t policy info leaf intermediates times ≡ Ok count
+    unfolding certified_of
+    accepted_passes times count c =
+        ap (λ r. r >>= named) (chain_passes policy.certificate policy.scts times count c.chain)
+        ∙ ap (λ r. r >>= counted count) (names_pass policy info c.identity c.issuer)
 
 pub certified_exactly : CertifiedExactly
-certified_exactly t policy info leaf intermediates times =
-    (accepted_means t info leaf intermediates policy times, accepted_passes t info leaf intermediates policy times)
+certified_exactly t policy info leaf intermediates times count =
+    (accepted_means t info leaf intermediates policy times count, accepted_passes t info leaf intermediates policy times count)

@@ -5,3 +5,4 @@ pub mod CertifiedLaw
 pub mod CauseLaw
 pub mod WrittenLaw
 pub mod TimesLaw
+pub mod OneSctLaw

@@ -1,20 +1,15 @@
 -- What each refusal tells of the certificate.
-use Rattle.std.specs.Prelude.{◌≡◌, ◌≢◌, ◌≤◌, ℕ, List, ◌∷◌, [], Contains, false, length, Option, Some, None, Ok, Err, IsTrue}
+use Rattle.std.specs.Prelude.{◌≡◌, ◌≤◌, ◌<◌, ℕ, List, Contains, false, length, Option, Some, None, Ok, Err, IsTrue}
 use Rattle.sha2.specs.Sha256.{sha256}
 use Rattle.jiff_core.specs.declared.timestamp.Timestamp.{Timestamp}
 use Rattle.spki_core.specs.declared.error.X509Error.{X509Error}
 use Rattle.x509_core_parts.specs.Certificates.{Certificate, certificate_of}
 use Rattle.x509_core_parts.specs.Precertificates.{sct_oid, precert_of}
-use Rattle.x509_core_parts.specs.Scts.{Parts as OneSct, sct_list_of, signed_of}
+use Rattle.x509_core_parts.specs.Scts.{Parts as OneSct, sct_list_of}
 use Rattle.der_core_parts.specs.Tlv.{IsBytes}
-use Rattle.sigstore_types_parts.specs.Instant.{at_millisecond}
 use Rattle.sigstore_types_parts.specs.TimeRange.{is_by}
-use Rattle.sigstore_crypto_parts.specs.declared.key.VerificationKey.{VerificationKey}
+use Rattle.sigstore_crypto_parts.specs.declared.log_ids.LogThreshold.{LogThreshold}
 use Rattle.sigstore_crypto_parts.specs.declared.scheme.SigningScheme.{SigningScheme}
-use Rattle.sigstore_crypto_parts.specs.Good.{is_good}
-use Rattle.sigstore_crypto_parts.specs.Key.{key_with, same_sort}
-use Rattle.sigstore_crypto_parts.specs.Keyring.{key_at, has_key_of}
-use Rattle.sigstore_crypto_parts.specs.Scheme.{key_algorithm_of}
 use Rattle.sigstore_crypto.specs.declared.certificate_info.CertificateInfo.{CertificateInfo}
 use Rattle.sigstore_crypto.specs.declared.certificate_info.SubjectAltName.{SubjectAltName}
 use Rattle.sigstore_crypto.specs.Claims.{value_of}
@@ -33,9 +28,10 @@ use Rattle.sigstore_certificate.specs.declared.error.SctRule.{SctRule}
 use Rattle.sigstore_certificate.specs.declared.error.SctRule.TheVariants as rule
 use Rattle.sigstore_certificate.specs.Certified.{Trust, has_authority, issued_at_each, certified_of}
 use Rattle.sigstore_certificate.specs.Error.{refusal_of_path}
+use Rattle.sigstore_certificate.specs.IsCertified.{IsKnown}
 use Rattle.sigstore_certificate.specs.Names.{is_matched, is_text}
 use Rattle.sigstore_certificate.specs.Policy.{verifies_chain, verifies_sct}
-use Rattle.sigstore_certificate.specs.Scts.{scts_of, scheme_of, signed_data_of}
+use Rattle.sigstore_certificate.specs.Scts.{scts_of, scheme_of, is_of_logs, is_good_sct, promising_logs, signed_data_of}
 
 -- ---- the path
 
@@ -68,7 +64,7 @@ pub record IsLate (info : CertificateInfo) (times : List Timestamp) (time not_af
   pub ended : not_after ≡ info.not_after
   pub late : is_by time info.not_after ≡ false
 
--- ---- the timestamp, for the issuer at the last verified time
+-- ---- the timestamps, for the issuer at the last verified time
 
 -- the certificate has no list of timestamps, or one that isn't read
 pub data HasNoList (c : Certificate) : Type 0 where
@@ -76,71 +72,61 @@ pub data HasNoList (c : Certificate) : Type 0 where
   unread : (value : List ℕ) (fault : X509Error) → value_of sct_oid (extensions_of c) ≡ Some value → sct_list_of value ≡ Err fault
       → HasNoList c
 
--- its list is read, and has none, or more than one
-pub record HasNotOne (c : Certificate) : Type 0 where
+-- its list is read, and no timestamp in it has a scheme
+pub record HasNoScheme (c : Certificate) : Type 0 where
   pub scts : List OneSct
   pub listed : scts_of c ≡ Ok scts
-  pub other : length scts ≢ 1
+  pub none : (sct : OneSct) → Contains scts sct → scheme_of sct.algorithm ≡ None
 
--- it has exactly one, whose algorithm has no scheme
-pub record HasNoScheme (c : Certificate) : Type 0 where
-  pub sct : OneSct
-  pub sole : scts_of c ≡ Ok (sct ∷ [])
-  pub none : scheme_of sct.algorithm ≡ None
+-- these are its timestamps, and some trusted log's key is of the sort that one of them asks for
+pub record HasKnown (t : Trust) (c : Certificate) (scts : List OneSct) : Type 0 where
+  pub listed : scts_of c ≡ Ok scts
+  pub known : IsKnown t scts
 
--- it has exactly one, this one; its algorithm has this scheme, and some trusted log's key is of that sort
-pub record HasOne (t : Trust) (c : Certificate) (sct : OneSct) (scheme : SigningScheme) : Type 0 where
-  pub sole : scts_of c ≡ Ok (sct ∷ [])
-  pub scheme_is : scheme_of sct.algorithm ≡ Some scheme
-  pub some : IsTrue (has_key_of scheme t.ct_logs)
+-- what a log signs with them can't be written: the certificate's signed part without its timestamps can't, or is too long
+pub data IsUnwritten (t : Trust) (c : Certificate) : Type 0 where
+  no_part : (scts : List OneSct) (fault : X509Error) → HasKnown t c scts
+      → precert_of c.tbs c.signed.tail.front c.signed.tail.extensions ≡ Err fault → IsUnwritten t c
+  no_length : (scts : List OneSct) (tbs : List ℕ) → HasKnown t c scts
+      → precert_of c.tbs c.signed.tail.front c.signed.tail.extensions ≡ Ok tbs → 16777216 ≤ length tbs → IsUnwritten t c
 
--- what a log signs with it can't be written: the certificate's signed part without its timestamps can't, or is too long
-pub data IsUnwritten (t : Trust) (c : Certificate) (issuer : List ℕ) : Type 0 where
-  no_part : (sct : OneSct) (scheme : SigningScheme) (fault : X509Error) → HasOne t c sct scheme
-      → precert_of c.tbs c.signed.tail.front c.signed.tail.extensions ≡ Err fault → IsUnwritten t c issuer
-  no_octets : (sct : OneSct) (scheme : SigningScheme) (tbs : List ℕ) (fault : X509Error) → HasOne t c sct scheme
-      → precert_of c.tbs c.signed.tail.front c.signed.tail.extensions ≡ Ok tbs → signed_of sct (sha256 issuer) tbs ≡ Err fault
-      → IsUnwritten t c issuer
-
--- it is written, and there is no key of the log of its id, used at its time and of the scheme's sort, by which the signature is good
-pub record IsUnsigned (t : Trust) (c : Certificate) (issuer : List ℕ) : Type 0 where
-  pub sct : OneSct
-  pub scheme : SigningScheme
-  pub one : HasOne t c sct scheme
+-- it is written, and so many different logs have a good timestamp for it, fewer than are asked for
+pub record HasTooFew (t : Trust) (c : Certificate) (issuer : List ℕ) (asked found : ℕ) : Type 0 where
+  pub scts : List OneSct
+  pub has : HasKnown t c scts
   pub tbs : List ℕ
   pub tbs_is : precert_of c.tbs c.signed.tail.front c.signed.tail.extensions ≡ Ok tbs
-  pub message : List ℕ
-  pub message_is : signed_of sct (sha256 issuer) tbs ≡ Ok message
-  pub unsigned : (key : VerificationKey) → key_at sct.log_id (at_millisecond sct.milliseconds) t.ct_logs ≡ Some key
-      → IsTrue (same_sort (key_algorithm_of key.scheme) (key_algorithm_of scheme))
-      → ¬ IsTrue (is_good t.accepts (key_with scheme key.key) message sct.signature)
+  pub short : length tbs < 16777216
+  pub count : found ≡ promising_logs (is_good_sct t.accepts t.ct_logs (sha256 issuer) tbs) scts
+  pub few : found < asked
 
 -- the rule that a refusal names is the broken one, and those that come before it are kept
-abbrev pub SctCause : Trust → Certificate → List ℕ → SctRule → Type 0
-SctCause t c issuer rule.List = HasNoList c
-SctCause t c issuer rule.NotOne = HasNotOne c
-SctCause t c issuer rule.Scheme = HasNoScheme c
-SctCause t c issuer rule.Precertificate = IsUnwritten t c issuer
-SctCause t c issuer (rule.TooFew asked found) = (asked ≡ 1) × (found ≡ 0) × IsUnsigned t c issuer
+abbrev pub SctCause : Trust → LogThreshold → Certificate → List ℕ → SctRule → Type 0
+SctCause t threshold c issuer rule.List = HasNoList c
+SctCause t threshold c issuer rule.Scheme = HasNoScheme c
+SctCause t threshold c issuer rule.Precertificate = IsUnwritten t c
+SctCause t threshold c issuer (rule.TooFew asked found) = (asked ≡ threshold.value) × HasTooFew t c issuer asked found
 
--- there is a path at each verified time; and for the issuer at the last of them the certificate's timestamp breaks this rule
-pub record LacksSct (t : Trust) (info : CertificateInfo) (leaf : List ℕ) (intermediates : List (List ℕ)) (times : List Timestamp)
-    (broken : SctRule) : Type 0 where
+-- there is a path at each verified time; and for the issuer at the last of them the certificate's timestamps break this rule
+pub record LacksScts (t : Trust) (threshold : LogThreshold) (info : CertificateInfo) (leaf : List ℕ) (intermediates : List (List ℕ))
+    (times : List Timestamp) (broken : SctRule) : Type 0 where
   pub issuer : List ℕ
   pub valid : issued_at_each t info leaf intermediates times ≡ Ok issuer
   pub parts : Certificate
   pub read : certificate_of leaf ≡ Ok parts
-  pub cause : SctCause t parts issuer broken
+  pub cause : SctCause t threshold parts issuer broken
 
--- there is exactly one, its algorithm has a scheme, and no trusted log's key is of that sort
+-- some timestamp has a scheme, and no trusted log's key is of the sort that any of them asks for
 pub record LacksLog (t : Trust) (leaf : List ℕ) : Type 0 where
   pub parts : Certificate
   pub read : certificate_of leaf ≡ Ok parts
+  pub scts : List OneSct
+  pub listed : scts_of parts ≡ Ok scts
   pub sct : OneSct
-  pub sole : scts_of parts ≡ Ok (sct ∷ [])
+  pub among : Contains scts sct
   pub scheme : SigningScheme
   pub scheme_is : scheme_of sct.algorithm ≡ Some scheme
-  pub none : has_key_of scheme t.ct_logs ≡ false
+  pub none : (other : OneSct) → Contains scts other → is_of_logs t.ct_logs other ≡ false
 
 -- ---- the names
 
@@ -168,7 +154,7 @@ Cause t policy info leaf intermediates times (refusal.NotYetValid time not_befor
 Cause t policy info leaf intermediates times (refusal.Expired time not_after) =
     IsTrue (verifies_chain policy.certificate) × IsLate info times time not_after
 Cause t policy info leaf intermediates times (refusal.Sct broken) =
-    IsTrue (verifies_sct policy.certificate) × LacksSct t info leaf intermediates times broken
+    IsTrue (verifies_sct policy.certificate) × LacksScts t policy.scts info leaf intermediates times broken
 Cause t policy info leaf intermediates times refusal.InvalidTrustRoot = IsTrue (verifies_sct policy.certificate) × LacksLog t leaf
 Cause t policy info leaf intermediates times (refusal.IdentityMismatch matcher actual) = IsOfOther policy info matcher actual
 Cause t policy info leaf intermediates times (refusal.IssuerMismatch text actual) = IsByOther policy info text actual

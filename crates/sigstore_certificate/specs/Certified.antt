@@ -1,4 +1,4 @@
--- Whether a signing certificate was valid when it signed, at each verified time (RFC 5280, section 6), was promised by a log of
+-- Whether a signing certificate was valid when it signed, at each verified time (RFC 5280, section 6), was promised by logs of
 -- certificates (RFC 6962, section 3.2), and names whom a policy asks for.
 use Rattle.std.specs.Prelude.{ℕ, List, [], ◌∷◌, Bool, true, false, if◌then◌else◌, Result, Ok, Err, ⊤}
 use Rattle.std.specs.List.{list_any}
@@ -7,6 +7,7 @@ use Rattle.jiff_core.specs.declared.timestamp.Timestamp.{Timestamp}
 use Rattle.spki_core.specs.Reading.{Reading}
 use Rattle.x509_core_parts.specs.Certificates.{Certificate, certificate_of}
 use Rattle.sigstore_types_parts.specs.TimeRange.{is_by}
+use Rattle.sigstore_crypto_parts.specs.declared.log_ids.LogThreshold.{LogThreshold}
 use Rattle.sigstore_crypto_parts.specs.Good.{Judge}
 use Rattle.sigstore_crypto_parts.specs.Keyring.{Ring, is_used_at}
 use Rattle.sigstore_crypto.specs.declared.certificate_info.CertificateInfo.{CertificateInfo}
@@ -21,7 +22,7 @@ use Rattle.sigstore_certificate.specs.declared.error.Refusal.{Refusal}
 use Rattle.sigstore_certificate.specs.declared.error.Refusal.TheVariants.{Malformed, NoValidAuthority, NotYetValid, Expired}
 use Rattle.sigstore_certificate.specs.Error.{by_path}
 use Rattle.sigstore_certificate.specs.Names.{names_judged}
-use Rattle.sigstore_certificate.specs.Scts.{sct_judged}
+use Rattle.sigstore_certificate.specs.Scts.{scts_judged}
 
 -- who decides signatures; the trusted authorities' certificates, each with its window; and the keys of the trusted logs of certificates
 pub record Trust : Type 0 where
@@ -64,33 +65,38 @@ at_each issuer_at (time ∷ times) key = issuer_at time >>= at_each issuer_at ti
 abbrev pub issued_at_each : Trust → CertificateInfo → List ℕ → List (List ℕ) → List Timestamp → Result (List ℕ) Refusal
 issued_at_each t info leaf intermediates times = at_each (issued_at t info leaf intermediates) times []
 
--- ---- with its timestamp
+-- ---- with its timestamps
 
 abbrev pub parts_read : Reading Certificate → Result Certificate Refusal
 parts_read (Ok c) = Ok c
 parts_read (Err e) = Err Malformed
 
--- a log promised the certificate, by that key of its issuer
-unfoldable pub leaf_sct_judged : Trust → List ℕ → List ℕ → Result ⊤ Refusal
-leaf_sct_judged t leaf issuer_spki = parts_read (certificate_of leaf) >>= λ c. sct_judged t.accepts t.ct_logs c issuer_spki
+-- as many logs as are asked for promised the certificate, by that key of its issuer; so many did
+unfoldable pub leaf_scts_judged : Trust → LogThreshold → List ℕ → List ℕ → Result ℕ Refusal
+leaf_scts_judged t asked leaf issuer_spki =
+    parts_read (certificate_of leaf) >>= λ c. scts_judged t.accepts t.ct_logs asked c issuer_spki
 
-abbrev pub sct_asked : Trust → Bool → List ℕ → List ℕ → Result ⊤ Refusal
-sct_asked t false leaf issuer_spki = Ok tt
-sct_asked t true leaf issuer_spki = leaf_sct_judged t leaf issuer_spki
+abbrev pub scts_asked : Trust → Bool → LogThreshold → List ℕ → List ℕ → Result ℕ Refusal
+scts_asked t false asked leaf issuer_spki = Ok 0
+scts_asked t true asked leaf issuer_spki = leaf_scts_judged t asked leaf issuer_spki
 
-unfoldable pub chain_verified : Trust → Bool → CertificateInfo → List ℕ → List (List ℕ) → List Timestamp → Result ⊤ Refusal
-chain_verified t verify_sct info leaf intermediates times = do
+unfoldable pub chain_verified :
+    Trust → Bool → LogThreshold → CertificateInfo → List ℕ → List (List ℕ) → List Timestamp → Result ℕ Refusal
+chain_verified t verify_sct asked info leaf intermediates times = do
   issuer_spki ← issued_at_each t info leaf intermediates times
-  sct_asked t verify_sct leaf issuer_spki
+  scts_asked t verify_sct asked leaf issuer_spki
 
 -- ---- all that a policy asks
 
-abbrev pub chain_judged : Trust → CertificatePolicy → CertificateInfo → List ℕ → List (List ℕ) → List Timestamp → Result ⊤ Refusal
-chain_judged t Skip info leaf intermediates times = Ok tt
-chain_judged t (Verify verify_sct) info leaf intermediates times = chain_verified t verify_sct info leaf intermediates times
+abbrev pub chain_judged :
+    Trust → CertificatePolicy → LogThreshold → CertificateInfo → List ℕ → List (List ℕ) → List Timestamp → Result ℕ Refusal
+chain_judged t Skip asked info leaf intermediates times = Ok 0
+chain_judged t (Verify verify_sct) asked info leaf intermediates times = chain_verified t verify_sct asked info leaf intermediates times
 
--- the certificate that the information was read of, the intermediates beside it, and the verified times of a signature by it
-unfoldable pub certified_of : Trust → VerificationPolicy → CertificateInfo → List ℕ → List (List ℕ) → List Timestamp → Result ⊤ Refusal
+-- The certificate that the information was read of, the intermediates beside it, and the verified times of a signature by it; so many
+-- different logs promised the certificate, as far as that was asked.
+unfoldable pub certified_of : Trust → VerificationPolicy → CertificateInfo → List ℕ → List (List ℕ) → List Timestamp → Result ℕ Refusal
 certified_of t policy info leaf intermediates times = do
-  _ ← chain_judged t policy.certificate info leaf intermediates times
-  names_judged policy info
+  promised ← chain_judged t policy.certificate policy.scts info leaf intermediates times
+  _ ← names_judged policy info
+  Ok promised

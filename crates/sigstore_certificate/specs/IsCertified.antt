@@ -1,5 +1,5 @@
 -- What it means that a certificate is accepted for a signature, told without any order of checks.
-use Rattle.std.specs.Prelude.{◌≡◌, ◌↔◌, ℕ, List, [], ◌∷◌, Contains, Bool, true, false, ⊤, Option, Some, None, Ok, IsTrue}
+use Rattle.std.specs.Prelude.{◌≡◌, ◌↔◌, ◌≤◌, ◌<◌, ℕ, List, [], ◌∷◌, length, Contains, Bool, true, false, ⊤, Option, Some, None, Ok, IsTrue}
 use Rattle.sha2.specs.Sha256.{sha256}
 use Rattle.jiff_core.specs.declared.timestamp.Timestamp.{Timestamp}
 use Rattle.x509_core_parts.specs.Certificates.{Certificate, certificate_of}
@@ -8,6 +8,7 @@ use Rattle.x509_core_parts.specs.Scts.{Parts as Sct, signed_of}
 use Rattle.sigstore_types_parts.specs.Instant.{at_millisecond}
 use Rattle.sigstore_types_parts.specs.TimeRange.{is_by}
 use Rattle.sigstore_crypto_parts.specs.declared.key.VerificationKey.{VerificationKey}
+use Rattle.sigstore_crypto_parts.specs.declared.log_ids.LogThreshold.{LogThreshold}
 use Rattle.sigstore_crypto_parts.specs.declared.scheme.SigningScheme.{SigningScheme}
 use Rattle.sigstore_crypto_parts.specs.Good.{is_good}
 use Rattle.sigstore_crypto_parts.specs.Key.{key_with, same_sort}
@@ -25,7 +26,7 @@ use Rattle.sigstore_certificate.specs.declared.policy.IdentityMatcher.{IdentityM
 use Rattle.sigstore_certificate.specs.declared.policy.VerificationPolicy.{VerificationPolicy}
 use Rattle.sigstore_certificate.specs.Certified.{Trust, certified_of}
 use Rattle.sigstore_certificate.specs.Names.{matches}
-use Rattle.sigstore_certificate.specs.Scts.{scheme_of, scts_of}
+use Rattle.sigstore_certificate.specs.Scts.{scheme_of, scts_of, is_good_sct, promising_logs}
 
 -- ---- the path
 
@@ -48,41 +49,65 @@ IsValidAtEach t info leaf intermediates [] before issuer = before ≡ issuer
 IsValidAtEach t info leaf intermediates (time ∷ times) before issuer =
     (next : List ℕ) × IsValidAt t info leaf intermediates time next × IsValidAtEach t info leaf intermediates times next issuer
 
--- ---- the promise of a log
+-- ---- the promises of logs
 
--- The certificate has exactly one timestamp. Its algorithm has a scheme, some trusted log has a key of that sort, the log of its id has
--- such a key, which is used at its time, and by that key the signature over the precertificate is good.
-pub record HasSct (t : Trust) (leaf issuer : List ℕ) : Type 0 where
-  pub parts : Certificate
-  pub read : certificate_of leaf ≡ Ok parts
+-- one of the timestamps has a scheme, and some trusted log a key of that sort
+pub record IsKnown (t : Trust) (scts : List Sct) : Type 0 where
   pub sct : Sct
-  pub sole : scts_of parts ≡ Ok (sct ∷ [])
+  pub among : Contains scts sct
   pub scheme : SigningScheme
   pub scheme_is : scheme_of sct.algorithm ≡ Some scheme
   pub some : IsTrue (has_key_of scheme t.ct_logs)
+
+-- The certificate has a list of timestamps, one of a scheme of which some trusted log has a key; its signed part without them can be
+-- written, in less than 2^24 octets; as many different logs as are asked for have a good one for it; and so many do.
+pub record HasScts (t : Trust) (asked : LogThreshold) (leaf issuer : List ℕ) (promised : ℕ) : Type 0 where
+  pub parts : Certificate
+  pub read : certificate_of leaf ≡ Ok parts
+  pub scts : List Sct
+  pub listed : scts_of parts ≡ Ok scts
+  pub known : IsKnown t scts
+  pub tbs : List ℕ
+  pub tbs_is : precert_of parts.tbs parts.signed.tail.front parts.signed.tail.extensions ≡ Ok tbs
+  pub short : length tbs < 16777216
+  pub logs : promised ≡ promising_logs (is_good_sct t.accepts t.ct_logs (sha256 issuer) tbs) scts
+  pub enough : asked.value ≤ promised
+
+abbrev pub HasSctsIf : Bool → Trust → LogThreshold → List ℕ → List ℕ → ℕ → Type 0
+HasSctsIf false t asked leaf issuer promised = promised ≡ 0
+HasSctsIf true t asked leaf issuer promised = HasScts t asked leaf issuer promised
+
+-- valid at each verified time, and where that is asked for promised by logs for the issuer at the last of them
+pub record IsChained (t : Trust) (verify_sct : Bool) (asked : LogThreshold) (info : CertificateInfo) (leaf : List ℕ)
+    (intermediates : List (List ℕ)) (times : List Timestamp) (promised : ℕ) : Type 0 where
+  pub issuer : List ℕ
+  pub valid : IsValidAtEach t info leaf intermediates times [] issuer
+  pub scts : HasSctsIf verify_sct t asked leaf issuer promised
+
+abbrev pub IsChainedIf :
+    Trust → CertificatePolicy → LogThreshold → CertificateInfo → List ℕ → List (List ℕ) → List Timestamp → ℕ → Type 0
+IsChainedIf t Skip asked info leaf intermediates times promised = promised ≡ 0
+IsChainedIf t (Verify verify_sct) asked info leaf intermediates times promised =
+    IsChained t verify_sct asked info leaf intermediates times promised
+
+-- ---- what a good timestamp is
+
+-- Its algorithm has a scheme, the log of its id has a key of that sort, which is used at its time, and by that key the signature is good
+-- over what the log signed: the certificate's signed part, for the issuer of that key.
+pub record IsGoodSct (t : Trust) (issuer tbs : List ℕ) (sct : Sct) : Type 0 where
+  pub scheme : SigningScheme
+  pub scheme_is : scheme_of sct.algorithm ≡ Some scheme
   pub key : VerificationKey
   pub key_is : key_at sct.log_id (at_millisecond sct.milliseconds) t.ct_logs ≡ Some key
   pub sort : IsTrue (same_sort (key_algorithm_of key.scheme) (key_algorithm_of scheme))
-  pub tbs : List ℕ
-  pub tbs_is : precert_of parts.tbs parts.signed.tail.front parts.signed.tail.extensions ≡ Ok tbs
   pub message : List ℕ
   pub message_is : signed_of sct (sha256 issuer) tbs ≡ Ok message
   pub good : IsTrue (is_good t.accepts (key_with scheme key.key) message sct.signature)
 
-abbrev pub HasSctIf : Bool → Trust → List ℕ → List ℕ → Type 0
-HasSctIf false t leaf issuer = ⊤
-HasSctIf true t leaf issuer = HasSct t leaf issuer
-
--- valid at each verified time, and where that is asked for promised by a log for the issuer at the last of them
-pub record IsChained (t : Trust) (verify_sct : Bool) (info : CertificateInfo) (leaf : List ℕ) (intermediates : List (List ℕ))
-    (times : List Timestamp) : Type 0 where
-  pub issuer : List ℕ
-  pub valid : IsValidAtEach t info leaf intermediates times [] issuer
-  pub sct : HasSctIf verify_sct t leaf issuer
-
-abbrev pub IsChainedIf : Trust → CertificatePolicy → CertificateInfo → List ℕ → List (List ℕ) → List Timestamp → Type 0
-IsChainedIf t Skip info leaf intermediates times = ⊤
-IsChainedIf t (Verify verify_sct) info leaf intermediates times = IsChained t verify_sct info leaf intermediates times
+-- a timestamp counts exactly where it is good
+abbrev pub GoodExactly : Type 0
+GoodExactly = (t : Trust) (issuer tbs : List ℕ) (sct : Sct)
+    → (is_good_sct t.accepts t.ct_logs (sha256 issuer) tbs sct ≡ true) ↔ IsGoodSct t issuer tbs sct
 
 -- ---- the names
 
@@ -97,13 +122,13 @@ HasIssuer (Some text) actual = actual ≡ Some text
 -- ---- all of it
 
 pub record IsCertified (t : Trust) (policy : VerificationPolicy) (info : CertificateInfo) (leaf : List ℕ) (intermediates : List (List ℕ))
-    (times : List Timestamp) : Type 0 where
-  pub chain : IsChainedIf t policy.certificate info leaf intermediates times
+    (times : List Timestamp) (promised : ℕ) : Type 0 where
+  pub chain : IsChainedIf t policy.certificate policy.scts info leaf intermediates times promised
   pub identity : HasIdentity policy.identity info.identity
   pub issuer : HasIssuer policy.issuer info.issuer
 
--- the judgement accepts exactly the certificates that are to be accepted
+-- the judgement accepts exactly the certificates that are to be accepted, and tells how many different logs promised each
 abbrev pub CertifiedExactly : Type 0
 CertifiedExactly = (t : Trust) (policy : VerificationPolicy) (info : CertificateInfo) (leaf : List ℕ) (intermediates : List (List ℕ))
-    (times : List Timestamp)
-    → (certified_of t policy info leaf intermediates times ≡ Ok tt) ↔ IsCertified t policy info leaf intermediates times
+    (times : List Timestamp) (promised : ℕ)
+    → (certified_of t policy info leaf intermediates times ≡ Ok promised) ↔ IsCertified t policy info leaf intermediates times promised

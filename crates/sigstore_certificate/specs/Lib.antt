@@ -7,3 +7,4 @@ pub mod IsCertified
 pub mod Cause
 pub mod Given
 pub mod Times
+pub mod OneSct

@@ -1,5 +1,7 @@
--- The timestamp of a log of certificates in a certificate (RFC 6962, sections 3.2 and 3.3).
-use Rattle.std.specs.Prelude.{ℕ, List, [], ◌∷◌, Bool, false, bytes_eq, if◌then◌else◌, Option, Some, None, Result, Ok, Err, ⊤}
+-- The timestamps of logs of certificates in a certificate (RFC 6962, sections 3.2 and 3.3).
+use Rattle.std.specs.Prelude.{ℕ, List, [], ◌∷◌, length, Bool, false, nat_lt, bytes_eq, if◌then◌else◌, is_some, filter_map}
+use Rattle.std.specs.Prelude.{Option, Some, None, Result, Ok, Err, ⊤}
+use Rattle.std.specs.List.{list_any}
 use Rattle.foundation.specs.Steps.{◌>>=◌}
 use Rattle.sha2.specs.Sha256.{sha256}
 use Rattle.spki_core.specs.Reading.{Reading}
@@ -8,12 +10,14 @@ use Rattle.x509_core_parts.specs.Precertificates.{sct_oid, precert_of}
 use Rattle.x509_core_parts.specs.Scts.{Parts as Sct, sct_list_of, signed_of}
 use Rattle.sigstore_types_parts.specs.Instant.{at_millisecond}
 use Rattle.sigstore_crypto_parts.specs.declared.key.VerificationKey.{VerificationKey}
+use Rattle.sigstore_crypto_parts.specs.declared.log_ids.LogThreshold.{LogThreshold}
 use Rattle.sigstore_crypto_parts.specs.declared.scheme.SigningScheme.{SigningScheme}
 use Rattle.sigstore_crypto_parts.specs.declared.scheme.SigningScheme.TheVariants.{EcdsaP256Sha256, EcdsaP384Sha384}
 use Rattle.sigstore_crypto_parts.specs.declared.scheme.SigningScheme.TheVariants.{RsaPkcs1Sha256, RsaPkcs1Sha384, RsaPkcs1Sha512}
 use Rattle.sigstore_crypto_parts.specs.Good.{Judge, is_good}
 use Rattle.sigstore_crypto_parts.specs.Key.{key_with, same_sort}
 use Rattle.sigstore_crypto_parts.specs.Keyring.{Ring, key_at, has_key_of}
+use Rattle.sigstore_crypto_parts.specs.LogIds.{count_distinct, is_enough}
 use Rattle.sigstore_crypto_parts.specs.Scheme.{key_algorithm_of}
 use Rattle.sigstore_crypto.specs.Claims.{value_of}
 use Rattle.sigstore_crypto.specs.Info.{extensions_of}
@@ -25,7 +29,7 @@ use Rattle.sigstore_certificate.specs.declared.error.Refusal.TheVariants as refu
 abbrev pub refused_by : {A : Type 0} → SctRule → Result A Refusal
 refused_by broken = Err (refusal.Sct broken)
 
--- ---- the one that the certificate has
+-- ---- those that the certificate has
 
 abbrev pub scts_in : Reading (List Sct) → Result (List Sct) Refusal
 scts_in (Ok scts) = Ok scts
@@ -39,12 +43,6 @@ listed (Some value) = scts_in (sct_list_of value)
 abbrev pub scts_of : Certificate → Result (List Sct) Refusal
 scts_of c = listed (value_of sct_oid (extensions_of c))
 
--- exactly one stands in the list
-abbrev pub sole : List Sct → Result Sct Refusal
-sole [] = refused_by rule.NotOne
-sole (sct ∷ []) = Ok sct
-sole (sct ∷ other ∷ scts) = refused_by rule.NotOne
-
 -- SignatureAndHashAlgorithm (RFC 5246, 7.4.1.4.1)
 abbrev pub scheme_of : List ℕ → Option SigningScheme
 scheme_of algorithm =
@@ -55,13 +53,24 @@ scheme_of algorithm =
     else (if bytes_eq algorithm (6 ∷ 1 ∷ []) then Some RsaPkcs1Sha512
     else None))))
 
-abbrev pub schemed : Option SigningScheme → Result SigningScheme Refusal
-schemed None = refused_by rule.Scheme
-schemed (Some scheme) = Ok scheme
+abbrev pub has_scheme : Sct → Bool
+has_scheme sct = is_some (scheme_of sct.algorithm)
 
--- some trusted log's key is of the scheme's sort: else the trusted logs aren't those of such certificates
-abbrev pub some_log : Ring → SigningScheme → Result ⊤ Refusal
-some_log ring scheme = if has_key_of scheme ring then Ok tt else Err refusal.InvalidTrustRoot
+-- some timestamp's algorithm has a scheme: else nothing could decide whether a log signed
+abbrev pub some_scheme : List Sct → Result ⊤ Refusal
+some_scheme scts = if list_any has_scheme scts then Ok tt else refused_by rule.Scheme
+
+abbrev pub is_of_ring : Ring → Option SigningScheme → Bool
+is_of_ring ring None = false
+is_of_ring ring (Some scheme) = has_key_of scheme ring
+
+-- some trusted log's key is of the sort that a timestamp's scheme asks for
+abbrev pub is_of_logs : Ring → Sct → Bool
+is_of_logs ring sct = is_of_ring ring (scheme_of sct.algorithm)
+
+-- one of them is such a timestamp: else the trusted logs aren't those of such certificates
+abbrev pub some_log : Ring → List Sct → Result ⊤ Refusal
+some_log ring scts = if list_any (is_of_logs ring) scts then Ok tt else Err refusal.InvalidTrustRoot
 
 -- ---- what the log signed
 
@@ -80,7 +89,13 @@ signed_data_of c sct key_hash = do
   tbs ← written (precert_of c.tbs c.signed.tail.front c.signed.tail.extensions)
   written (signed_of sct key_hash tbs)
 
--- ---- the signature
+-- the certificate's signed part without its timestamps, of which three octets can tell the length: the same for every log
+abbrev pub signed_part_of : Certificate → Result (List ℕ) Refusal
+signed_part_of c = do
+  tbs ← written (precert_of c.tbs c.signed.tail.front c.signed.tail.extensions)
+  if nat_lt (length tbs) 16777216 then Ok tbs else refused_by rule.Precertificate
+
+-- ---- the signatures
 
 -- the key under the scheme, where it is of the scheme's sort: an RSA key is one of three
 abbrev pub key_under : SigningScheme → Option VerificationKey → Option VerificationKey
@@ -92,23 +107,45 @@ key_under scheme (Some key) =
 abbrev pub log_key : Ring → Sct → Option VerificationKey
 log_key ring sct = key_at sct.log_id (at_millisecond sct.milliseconds) ring
 
-abbrev pub good_by : Judge → Option VerificationKey → List ℕ → List ℕ → Bool
-good_by accepts None message signature = false
-good_by accepts (Some key) message signature = is_good accepts key message signature
+abbrev pub good_over : Judge → VerificationKey → Reading (List ℕ) → List ℕ → Bool
+good_over accepts key (Ok message) signature = is_good accepts key message signature
+good_over accepts key (Err e) signature = false
 
--- one good timestamp is asked for
-abbrev pub counted : Bool → Result ⊤ Refusal
-counted good = if good then Ok tt else refused_by (rule.TooFew 1 0)
+abbrev pub good_by : Judge → Option VerificationKey → Reading (List ℕ) → List ℕ → Bool
+good_by accepts None message signature = false
+good_by accepts (Some key) message signature = good_over accepts key message signature
+
+abbrev pub good_under : Judge → Ring → List ℕ → List ℕ → Sct → Option SigningScheme → Bool
+good_under accepts ring key_hash tbs sct None = false
+good_under accepts ring key_hash tbs sct (Some scheme) =
+    good_by accepts (key_under scheme (log_key ring sct)) (signed_of sct key_hash tbs) sct.signature
+
+-- A timestamp is good where its algorithm has a scheme, the log of its id has a key of that sort, which is used at its time, and by that
+-- key the signature is good over the certificate's signed part, for the issuer of that key's SHA-256 value.
+abbrev pub is_good_sct : Judge → Ring → List ℕ → List ℕ → Sct → Bool
+is_good_sct accepts ring key_hash tbs sct = good_under accepts ring key_hash tbs sct (scheme_of sct.algorithm)
+
+-- the log that promised by a timestamp, where it is good
+abbrev pub promising : (Sct → Bool) → Sct → Option (List ℕ)
+promising good sct = if good sct then Some sct.log_id else None
+
+-- how many different logs have a good one
+abbrev pub promising_logs : (Sct → Bool) → List Sct → ℕ
+promising_logs good scts = count_distinct (filter_map (promising good) scts)
+
+-- As many different logs as are asked for have a good one, or more: one log alone could keep the certificate to itself, or show it to
+-- nobody but whoever asked for it.
+abbrev pub enough_logs : LogThreshold → ℕ → Result ℕ Refusal
+enough_logs asked found = if is_enough asked found then Ok found else refused_by (rule.TooFew asked.value found)
 
 -- ---- all of it
 
--- The certificate has one timestamp; its algorithm has a scheme; some trusted log has a key of that sort; and the log of its id has such
--- a key, which is used at its time and by which the signature is good, for the certificate's issuer by that key.
-unfoldable pub sct_judged : Judge → Ring → Certificate → List ℕ → Result ⊤ Refusal
-sct_judged accepts ring c issuer_spki = do
+-- The certificate has a list of timestamps; some of them has a scheme, and some such scheme a trusted log's key; the signed part can be
+-- written; and enough logs have a good timestamp, for the certificate's issuer by that key. So many logs do.
+unfoldable pub scts_judged : Judge → Ring → LogThreshold → Certificate → List ℕ → Result ℕ Refusal
+scts_judged accepts ring asked c issuer_spki = do
   scts ← scts_of c
-  sct ← sole scts
-  scheme ← schemed (scheme_of sct.algorithm)
-  _ ← some_log ring scheme
-  message ← signed_data_of c sct (sha256 issuer_spki)
-  counted (good_by accepts (key_under scheme (log_key ring sct)) message sct.signature)
+  _ ← some_scheme scts
+  _ ← some_log ring scts
+  tbs ← signed_part_of c
+  enough_logs asked (promising_logs (is_good_sct accepts ring (sha256 issuer_spki) tbs) scts)

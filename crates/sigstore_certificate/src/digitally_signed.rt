@@ -29,8 +29,8 @@ impl Model for DigitallySigned {
     ghost view = { λ d. record { log_id = d.log_id; octets = d.octets } };
 }
 
-// The certificate's signed part without its timestamps.
-fn signed_part(alloc: Global, cert: &CertView) -> Result<OctetString, Refusal>
+/// The certificate's signed part without its timestamps. Errors: `Sct` with the rule `Precertificate`.
+pub(crate) fn signed_part(alloc: Global, cert: &CertView) -> Result<OctetString, Refusal>
     ensures ok { IfOk result (λ tbs. written (precert_of cert.now.tbs.now cert.now.front.now (option_copied cert.now.extensions)) ≡ Ok tbs) }
     ensures err { IfErr result (λ e. e ≢ Refusal.NoMemory → written (precert_of cert.now.tbs.now cert.now.front.now (option_copied cert.now.extensions)) ≡ Err e) }
     ensures cause { IfErr result (λ e. e ≢ Refusal.NoMemory → e ≡ Refusal.Sct Precertificate) }

@@ -11,20 +11,18 @@ use sigstore_crypto::SubjectAltName;
 use sigstore_types_parts::Text;
 use std::{error, fmt};
 
-/// Which rule a certificate's timestamp of a log of certificates breaks (RFC 6962, sections 3.2 and 3.3). Without a
+/// Which rule a certificate's timestamps of logs of certificates break (RFC 6962, sections 3.2 and 3.3). Without a
 /// good one a certificate that an authority gave to the wrong person may never have been seen by its owner.
 #[derive(Clone, Copy, Debug, PartialEq, Eq, Drop)]
 pub enum SctRule {
     /// The certificate has no list of them, or one that isn't read: no log promised to show it.
     List,
-    /// There is none, or more than one: one that is good would let others stand beside it that nobody made.
-    NotOne,
-    /// Its algorithm has no scheme: nothing could decide whether the log signed.
+    /// There is none whose algorithm has a scheme: nothing could decide whether a log signed.
     Scheme,
-    /// What the log signed can't be written, as it is too long: another certificate could be passed off for it.
+    /// What a log signed can't be written, as it is too long: another certificate could be passed off for it.
     Precertificate,
-    /// Fewer trusted logs than asked for have a good one, by a key that was used at its time: whoever has an
-    /// authority's key, or an old key of a log, could hide what was issued.
+    /// Fewer different trusted logs than asked for have a good one, by a key that was used at its time: whoever has an
+    /// authority's key, or an old key of a log, could hide what was issued, and so could fewer logs together.
     TooFew { asked: u64, found: u64 },
 }
 
@@ -50,9 +48,9 @@ pub enum Refusal {
         time: Timestamp,
         not_after: Timestamp,
     },
-    /// Its timestamp of a log of certificates isn't good.
+    /// Its timestamps of logs of certificates aren't good, or not of enough logs.
     Sct(SctRule),
-    /// No trusted log's key is of the sort that its timestamp's scheme asks for.
+    /// No trusted log's key is of a sort that its timestamps' schemes ask for.
     InvalidTrustRoot,
     /// It doesn't name the identity that is asked for.
     IdentityMismatch {
@@ -94,7 +92,6 @@ impl fmt::Display for SctRule {
     fn fmt<W: fmt::Write>(&self, f: &mut fmt::Formatter<W>) -> fmt::Result {
         f.write_str(match self {
             SctRule::List => "List",
-            SctRule::NotOne => "NotOne",
             SctRule::Scheme => "Scheme",
             SctRule::Precertificate => "Precertificate",
             SctRule::TooFew { .. } => "TooFew",

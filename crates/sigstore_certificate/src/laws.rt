@@ -1,6 +1,7 @@
 // Laws of the definitions. A call does nothing.
 ghost use Rattle.sigstore_certificate.specs.Cause.{Refusals, WrittenUnlessLong};
-ghost use Rattle.sigstore_certificate.specs.IsCertified.{CertifiedExactly};
+ghost use Rattle.sigstore_certificate.specs.IsCertified.{CertifiedExactly, GoodExactly};
+ghost use Rattle.sigstore_certificate.specs.OneSct.{OneAlone};
 
 use x509_core_parts::precertificate_is_there;
 
@@ -8,6 +9,18 @@ use x509_core_parts::precertificate_is_there;
 /// checks, each check dropped by its waiver.
 pub fn certified_exactly()
     ensures { CertifiedExactly }
+{}
+
+/// The law of timestamps: one of a log of certificates counts exactly where it is good: its scheme, its log's key, the
+/// time at which that is used, and its signature.
+pub fn good_exactly()
+    ensures { GoodExactly }
+{}
+
+/// The law of one timestamp: a certificate with one, of which one log is asked, is judged by that timestamp alone: its
+/// scheme, its log's key and its signature, each with the refusal of a check of its own.
+pub fn one_sct_alone()
+    ensures { OneAlone }
 {}
 
 /// The law of refusals: the judgement refuses only where the cause of its refusal holds, told without any order of

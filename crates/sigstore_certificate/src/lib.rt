@@ -16,5 +16,7 @@ mod times;
 pub use certificate::judge_certificate;
 pub use digitally_signed::DigitallySigned;
 pub use error::{Refusal, SctRule};
-pub use laws::{certified_exactly, refusals_have_causes, sct_is_written};
+pub use laws::{
+    certified_exactly, good_exactly, one_sct_alone, refusals_have_causes, sct_is_written,
+};
 pub use policy::{CertificatePolicy, IdentityMatcher, VerificationPolicy};

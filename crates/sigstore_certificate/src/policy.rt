@@ -1,15 +1,17 @@
 // What is asked of a signing certificate.
-ghost use Rattle.std.specs.Prelude.{◌≡◌, true, false, None, Some, option_copied};
+ghost use Rattle.std.specs.Prelude.{◌≡◌, max, true, false, None, Some, option_copied};
+ghost use Rattle.std.specs.Int.NonZero.{non_zero_u8_get};
 ghost use Rattle.sigstore_certificate.specs.declared.policy.CertificatePolicy.TheVariants.{Skip, Verify};
 ghost use Rattle.sigstore_certificate.specs.declared.policy.IdentityMatcher.TheVariants.{Exact};
 ghost use Rattle.sigstore_certificate.specs.Names.{matches};
 ghost use Rattle.sigstore_certificate.specs.Policy.{matcher_of, shown, verifies_chain, verifies_sct, without_sct};
 
 use foundation::{Duplicate, NoMemory};
-use sigstore_crypto::SubjectAltName;
+use sigstore_crypto::{LogThreshold, SubjectAltName};
 use sigstore_types_parts::Text;
 use std::alloc::Global;
 use std::fmt;
+use std::num::NonZeroU8;
 
 /// An identity that is asked for.
 #[derive(Debug, PartialEq, Eq, Drop)]
@@ -42,6 +44,10 @@ pub struct VerificationPolicy {
     pub verify_tlog: bool,
     /// What of the certificate is verified.
     pub certificate: CertificatePolicy,
+    /// How many different logs of certificates have to have promised it, where that is verified.
+    pub scts: LogThreshold,
+    /// How many different transparency logs the entries have to stand in, where the log is verified.
+    pub logs: LogThreshold,
 }
 
 impl Duplicate for IdentityMatcher {
@@ -140,6 +146,8 @@ impl Duplicate for VerificationPolicy {
             issuer: self.issuer.duplicate(alloc)?,
             verify_tlog: self.verify_tlog,
             certificate: self.certificate,
+            scts: self.scts,
+            logs: self.logs,
         })
     }
 }
@@ -151,12 +159,16 @@ impl VerificationPolicy {
         ensures issuer { result.issuer ≡ Some issuer }
         ensures log { result.verify_tlog ≡ true }
         ensures certificate { result.certificate ≡ Verify true }
+        ensures scts { result.scts.value ≡ 1 }
+        ensures logs { result.logs.value ≡ 1 }
     {
         VerificationPolicy {
             identity: Some(identity),
             issuer: Some(issuer),
             verify_tlog: true,
             certificate: CertificatePolicy::Verify { verify_sct: true },
+            scts: LogThreshold::one(),
+            logs: LogThreshold::one(),
         }
     }
 
@@ -166,12 +178,16 @@ impl VerificationPolicy {
         ensures issuer { result.issuer ≡ None }
         ensures log { result.verify_tlog ≡ true }
         ensures certificate { result.certificate ≡ Verify true }
+        ensures scts { result.scts.value ≡ 1 }
+        ensures logs { result.logs.value ≡ 1 }
     {
         VerificationPolicy {
             identity: None,
             issuer: None,
             verify_tlog: true,
             certificate: CertificatePolicy::Verify { verify_sct: true },
+            scts: LogThreshold::one(),
+            logs: LogThreshold::one(),
         }
     }
 
@@ -181,12 +197,16 @@ impl VerificationPolicy {
         ensures issuer { result.issuer ≡ self.issuer }
         ensures log { result.verify_tlog ≡ self.verify_tlog }
         ensures certificate { result.certificate ≡ self.certificate }
+        ensures scts { result.scts ≡ self.scts }
+        ensures logs { result.logs ≡ self.logs }
     {
         VerificationPolicy {
             identity: Some(identity),
             issuer: self.issuer,
             verify_tlog: self.verify_tlog,
             certificate: self.certificate,
+            scts: self.scts,
+            logs: self.logs,
         }
     }
 
@@ -196,12 +216,16 @@ impl VerificationPolicy {
         ensures issuer { result.issuer ≡ Some issuer }
         ensures log { result.verify_tlog ≡ self.verify_tlog }
         ensures certificate { result.certificate ≡ self.certificate }
+        ensures scts { result.scts ≡ self.scts }
+        ensures logs { result.logs ≡ self.logs }
     {
         VerificationPolicy {
             identity: self.identity,
             issuer: Some(issuer),
             verify_tlog: self.verify_tlog,
             certificate: self.certificate,
+            scts: self.scts,
+            logs: self.logs,
         }
     }
 
@@ -211,12 +235,16 @@ impl VerificationPolicy {
         ensures issuer { result.issuer ≡ self.issuer }
         ensures log { result.verify_tlog ≡ false }
         ensures certificate { result.certificate ≡ self.certificate }
+        ensures scts { result.scts ≡ self.scts }
+        ensures logs { result.logs ≡ self.logs }
     {
         VerificationPolicy {
             identity: self.identity,
             issuer: self.issuer,
             verify_tlog: false,
             certificate: self.certificate,
+            scts: self.scts,
+            logs: self.logs,
         }
     }
 
@@ -226,12 +254,16 @@ impl VerificationPolicy {
         ensures issuer { result.issuer ≡ self.issuer }
         ensures log { result.verify_tlog ≡ self.verify_tlog }
         ensures certificate { result.certificate ≡ Skip }
+        ensures scts { result.scts ≡ self.scts }
+        ensures logs { result.logs ≡ self.logs }
     {
         VerificationPolicy {
             identity: self.identity,
             issuer: self.issuer,
             verify_tlog: self.verify_tlog,
             certificate: CertificatePolicy::Skip,
+            scts: self.scts,
+            logs: self.logs,
         }
     }
 
@@ -241,12 +273,56 @@ impl VerificationPolicy {
         ensures issuer { result.issuer ≡ self.issuer }
         ensures log { result.verify_tlog ≡ self.verify_tlog }
         ensures certificate { result.certificate ≡ without_sct self.certificate }
+        ensures scts { result.scts ≡ self.scts }
+        ensures logs { result.logs ≡ self.logs }
     {
         VerificationPolicy {
             identity: self.identity,
             issuer: self.issuer,
             verify_tlog: self.verify_tlog,
             certificate: self.certificate.without_sct(),
+            scts: self.scts,
+            logs: self.logs,
+        }
+    }
+
+    /// The same policy with a number of different logs of certificates that have to have promised the certificate; where
+    /// that isn't verified, none has to.
+    pub fn require_scts(self, count: NonZeroU8) -> VerificationPolicy
+        ensures identity { result.identity ≡ self.identity }
+        ensures issuer { result.issuer ≡ self.issuer }
+        ensures log { result.verify_tlog ≡ self.verify_tlog }
+        ensures certificate { result.certificate ≡ self.certificate }
+        ensures scts { result.scts.value ≡ non_zero_u8_get count }
+        ensures logs { result.logs ≡ self.logs }
+    {
+        VerificationPolicy {
+            identity: self.identity,
+            issuer: self.issuer,
+            verify_tlog: self.verify_tlog,
+            certificate: self.certificate,
+            scts: LogThreshold::new(count),
+            logs: self.logs,
+        }
+    }
+
+    /// The same policy with a number of different transparency logs in which the entries have to stand; where the log
+    /// isn't verified, none has to.
+    pub fn require_logs(self, count: NonZeroU8) -> VerificationPolicy
+        ensures identity { result.identity ≡ self.identity }
+        ensures issuer { result.issuer ≡ self.issuer }
+        ensures log { result.verify_tlog ≡ self.verify_tlog }
+        ensures certificate { result.certificate ≡ self.certificate }
+        ensures scts { result.scts ≡ self.scts }
+        ensures logs { result.logs.value ≡ non_zero_u8_get count }
+    {
+        VerificationPolicy {
+            identity: self.identity,
+            issuer: self.issuer,
+            verify_tlog: self.verify_tlog,
+            certificate: self.certificate,
+            scts: self.scts,
+            logs: LogThreshold::new(count),
         }
     }
 
@@ -279,5 +355,19 @@ impl VerificationPolicy {
         ensures { result.now ≡ self.now.certificate }
     {
         &self.certificate
+    }
+
+    /// How many different logs of certificates have to have promised the certificate, where that is verified.
+    pub fn scts(&self) -> NonZeroU8
+        ensures { non_zero_u8_get result ≡ max 1 self.now.scts.value }
+    {
+        self.scts.get()
+    }
+
+    /// How many different transparency logs the entries have to stand in, where the log is verified.
+    pub fn logs(&self) -> NonZeroU8
+        ensures { non_zero_u8_get result ≡ max 1 self.now.logs.value }
+    {
+        self.logs.get()
     }
 }

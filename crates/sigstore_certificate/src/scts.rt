@@ -1,22 +1,28 @@
-// The timestamp of a log of certificates in a certificate (RFC 6962, sections 3.2 and 3.3).
-ghost use Rattle.std.specs.Prelude.{◌≡◌, ◌≢◌, Ok, Err, IfOk, IfErr, option_copied};
+// The timestamps of logs of certificates in a certificate (RFC 6962, sections 3.2 and 3.3).
+ghost use Rattle.std.specs.Prelude.{◌≡◌, ◌≢◌, [], Ok, Err, IfOk, IfErr, OnOk, filter_map, option_copied};
+ghost use Rattle.std.specs.List.{cons_option, list_any};
 ghost use Rattle.sha2.specs.Sha256.{sha256};
-ghost use Rattle.x509_core_parts.specs.Precertificates.{sct_oid};
+ghost use Rattle.x509_core_parts.specs.Precertificates.{sct_oid, precert_of};
+ghost use Rattle.x509_core_parts.specs.Scts.{signed_of};
 ghost use Rattle.x509_core_parts.specs.Views.{certificate_parts};
 ghost use Rattle.sigstore_crypto_parts.specs.Good.{is_good};
 ghost use Rattle.sigstore_crypto_parts.specs.Key.{same_sort};
 ghost use Rattle.sigstore_crypto_parts.specs.Keyring.{has_key_of, key_at};
-ghost use Rattle.sigstore_certificate.specs.Scts.{scts_in, listed, scts_of, sole, scheme_of, schemed, some_log, key_under, log_key, good_by, counted, sct_judged};
+ghost use Rattle.sigstore_crypto_parts.specs.LogIds.{with_id, each_once, count_distinct, is_enough};
+ghost use Rattle.sigstore_certificate.specs.Scts.{scts_in, listed, scts_of, scheme_of, has_scheme, some_scheme, is_of_logs, some_log, written, signed_part_of};
+ghost use Rattle.sigstore_certificate.specs.Scts.{key_under, log_key, good_over, good_by, good_under, is_good_sct, promising, promising_logs, enough_logs, scts_judged};
 
-use crate::digitally_signed::DigitallySigned;
+use crate::digitally_signed::signed_part;
 use crate::error::{Refusal, SctRule};
+use der_core::OctetString;
 use foundation::{NoMemory, Sequence};
 use sigstore_crypto::{
-    CryptoProvider, Keyring, SigningScheme, VerificationKey, extension_value, sha256,
+    CryptoProvider, Keyring, LogIds, LogThreshold, SigningScheme, VerificationKey, extension_value,
+    sha256,
 };
 use sigstore_types_parts::{Bytes, Sha256Hash, SignatureBytes, at_millisecond};
 use std::alloc::Global;
-use x509_core_parts::{CertView, Sct, X509Error, sct_list};
+use x509_core_parts::{CertView, Sct, X509Error, sct_list, sct_signed_bytes};
 
 // The contents of the identifier 1.3.6.1.4.1.11129.2.4.2 (RFC 6962, 3.3).
 const SCT_OID: [u8; 10] = [43, 6, 1, 4, 1, 214, 121, 2, 4, 2];
@@ -49,17 +55,6 @@ fn scts_of(alloc: Global, certificate: &CertView) -> Result<Sequence<Sct>, Refus
     }
 }
 
-// Exactly one: beside a good one others could stand that no log made.
-fn sole(scts: &[Sct]) -> Result<&Sct, Refusal>
-    ensures ok { IfOk result (λ sct. sole scts.now ≡ Ok sct.now) }
-    ensures err { IfErr result (λ e. sole scts.now ≡ Err e) }
-{
-    match scts {
-        [sct] => Ok(sct),
-        _ => Err(Refusal::Sct(SctRule::NotOne)),
-    }
-}
-
 // The scheme of a hash and a signature algorithm (RFC 5246, 7.4.1.4.1).
 fn scheme_of(algorithm: [u8; 2]) -> Option<SigningScheme>
     ensures { result ≡ scheme_of algorithm }
@@ -80,25 +75,68 @@ fn scheme_of(algorithm: [u8; 2]) -> Option<SigningScheme>
     }
 }
 
-// Without a scheme nothing could decide whether the log signed.
-fn schemed(algorithm: [u8; 2]) -> Result<SigningScheme, Refusal>
-    ensures { result ≡ schemed (scheme_of algorithm) }
+fn has_scheme(sct: &Sct) -> bool
+    ensures { result ≡ has_scheme sct.now }
 {
-    match scheme_of(algorithm) {
-        Some(scheme) => Ok(scheme),
-        None => Err(Refusal::Sct(SctRule::Scheme)),
+    scheme_of(sct.algorithm()).is_some()
+}
+
+fn has_schemes(scts: &[Sct]) -> bool
+    ensures { result ≡ list_any has_scheme scts.now }
+{
+    scts.iter().any(has_scheme)
+}
+
+// Without a scheme nothing could decide whether a log signed.
+fn check_scheme(scts: &[Sct]) -> Result<(), Refusal>
+    ensures { result ≡ some_scheme scts.now }
+{
+    if has_schemes(scts) {
+        Ok(())
+    } else {
+        Err(Refusal::Sct(SctRule::Scheme))
     }
 }
 
-// Some trusted log has a key of the scheme's sort; else the trusted logs aren't those of such certificates, and that
-// is no fault of the certificate.
-fn check_log(ct_logs: &Keyring, scheme: SigningScheme) -> Result<(), Refusal>
-    ensures { result ≡ some_log ct_logs.now scheme }
+// Whether some trusted log's key is of the sort that a timestamp's scheme asks for.
+fn is_of_logs(ct_logs: &Keyring, sct: &Sct) -> bool
+    ensures { result ≡ is_of_logs ct_logs.now sct.now }
 {
-    if ct_logs.has_key_of(scheme) {
+    match scheme_of(sct.algorithm()) {
+        Some(scheme) => ct_logs.has_key_of(scheme),
+        None => false,
+    }
+}
+
+fn any_is_of_logs(ct_logs: &Keyring, scts: &[Sct]) -> bool
+    ensures { result ≡ list_any (is_of_logs ct_logs.now) scts.now }
+{
+    scts.iter().any(|sct| is_of_logs(ct_logs, sct))
+}
+
+// Some trusted log has a key of a scheme's sort; else the trusted logs aren't those of such certificates, and that
+// is no fault of the certificate.
+fn check_log(ct_logs: &Keyring, scts: &[Sct]) -> Result<(), Refusal>
+    ensures { result ≡ some_log ct_logs.now scts.now }
+{
+    if any_is_of_logs(ct_logs, scts) {
         Ok(())
     } else {
         Err(Refusal::InvalidTrustRoot)
+    }
+}
+
+// The certificate's signed part without its timestamps, which is written once for all of them. A length that three
+// octets can't tell is no log's to sign.
+fn signed_part_of(alloc: Global, certificate: &CertView) -> Result<OctetString, Refusal>
+    ensures ok { IfOk result (λ tbs. signed_part_of (certificate_parts certificate.now) ≡ Ok tbs) }
+    ensures err { IfErr result (λ e. e ≢ Refusal.NoMemory → signed_part_of (certificate_parts certificate.now) ≡ Err e) }
+{
+    let tbs = signed_part(alloc, certificate)?;
+    if tbs.as_bytes().len() < 16777216 {
+        Ok(tbs)
+    } else {
+        Err(Refusal::Sct(SctRule::Precertificate))
     }
 }
 
@@ -139,57 +177,125 @@ fn log_key(
     )
 }
 
+// Whether a log's key makes a timestamp's signature good, over what the log signed.
+fn is_good_by<C: CryptoProvider>(
+    alloc: Global,
+    provider: &C,
+    key: &VerificationKey,
+    key_hash: &[u8; 32],
+    tbs: &[u8],
+    sct: &Sct,
+) -> Result<bool, NoMemory>
+    ensures { IfOk result (λ good. good ≡ good_over (C.accepts provider.now) key.now (signed_of sct.now key_hash.now tbs.now) sct.now.signature) }
+{
+    match sct_signed_bytes(alloc, sct, key_hash, tbs) {
+        Ok(message) => {
+            let signature = SignatureBytes::from_bytes(alloc, sct.signature())?;
+            Ok(key.verify(provider, message.as_bytes(), &signature).is_ok())
+        }
+        Err(X509Error::NoMemory) => Err(NoMemory),
+        Err(_) => Ok(false),
+    }
+}
+
+// Whether a timestamp is good. What was signed is written only where a trusted log's key could have signed it.
 fn is_good<C: CryptoProvider>(
     alloc: Global,
     provider: &C,
-    key: &Option<VerificationKey>,
-    message: &[u8],
+    ct_logs: &Keyring,
+    key_hash: &[u8; 32],
+    tbs: &[u8],
     sct: &Sct,
 ) -> Result<bool, NoMemory>
-    ensures { IfOk result (λ good. good ≡ good_by (C.accepts provider.now) key.now message.now sct.now.signature) }
+    ensures { IfOk result (λ good. good ≡ is_good_sct (C.accepts provider.now) ct_logs.now key_hash.now tbs.now sct.now) }
 {
-    match key {
-        Some(key) => {
-            let signature = SignatureBytes::from_bytes(alloc, sct.signature())?;
-            Ok(key.verify(provider, message, &signature).is_ok())
-        }
+    let Some(scheme) = scheme_of(sct.algorithm()) else {
+        return Ok(false);
+    };
+    match log_key(alloc, ct_logs, scheme, sct)? {
+        Some(key) => Ok(is_good_by(alloc, provider, &key, key_hash, tbs, sct)?),
         None => Ok(false),
     }
 }
 
-// One good timestamp is asked for: else whoever has an authority's key could hide what was issued.
-fn check_count(good: bool) -> Result<(), Refusal>
-    ensures { result ≡ counted good }
-{
-    if good {
-        Ok(())
-    } else {
-        Err(Refusal::Sct(SctRule::TooFew { asked: 1, found: 0 }))
-    }
-}
-
-/// Whether a trusted log promised the certificate, by the key of its issuer. Errors, in order: `Sct` where there is
-/// no list of timestamps that is read, where there isn't exactly one, and where it has no scheme;
-/// `InvalidTrustRoot` where no trusted log has a key of that sort; `Sct` where what was signed is too long, and
-/// where the timestamp's log has no such key that is used at its time or the signature isn't good.
-#[tactic(auto, unfolding(crate::specs::Scts::sct_judged))]
-pub(crate) fn check_sct<C: CryptoProvider>(
+// The logs of those before, and that of a timestamp, where it is good.
+fn add_log<C: CryptoProvider>(
     alloc: Global,
     provider: &C,
     ct_logs: &Keyring,
+    key_hash: &[u8; 32],
+    tbs: &[u8],
+    sct: &Sct,
+    logs: &mut LogIds,
+) -> Result<(), NoMemory>
+    ensures { OnOk result (logs.new.ids ≡ each_once logs.old.ids (cons_option (promising (is_good_sct (C.accepts provider.now) ct_logs.now key_hash.now tbs.now) sct.now) [])) }
+{
+    if is_good(alloc, provider, ct_logs, key_hash, tbs, sct)? {
+        logs.add(&Sha256Hash::new(*sct.log_id()))?;
+    }
+    Ok(())
+}
+
+// How many different logs have a good timestamp: one that stands twice is one promise.
+fn promising_logs<C: CryptoProvider>(
+    alloc: Global,
+    provider: &C,
+    ct_logs: &Keyring,
+    key_hash: &[u8; 32],
+    tbs: &[u8],
+    scts: &[Sct],
+) -> Result<u64, NoMemory>
+    ensures { IfOk result (λ count. count ≡ promising_logs (is_good_sct (C.accepts provider.now) ct_logs.now key_hash.now tbs.now) scts.now) }
+{
+    let mut logs = LogIds::new(alloc);
+    'scts: for sct in scts {
+        add_log(alloc, provider, ct_logs, key_hash, tbs, sct, &mut logs)?;
+    }
+    Ok(logs.count())
+}
+
+// As many logs as are asked for: fewer could hide what was issued.
+fn check_count(asked: LogThreshold, found: u64) -> Result<u64, Refusal>
+    ensures { result ≡ enough_logs asked found }
+{
+    if asked.is_met_by(found) {
+        Ok(found)
+    } else {
+        Err(Refusal::Sct(SctRule::TooFew {
+            asked: asked.number(),
+            found,
+        }))
+    }
+}
+
+/// How many different trusted logs promised the certificate, by the key of its issuer; as many as are asked for, or
+/// more. Errors, in order: `Sct` where there is no list of timestamps that is read, and where none of them has a scheme;
+/// `InvalidTrustRoot` where no trusted log has a key of such a sort; `Sct` where what was signed is too long, and where
+/// fewer logs have a good timestamp, by such a key that is used at its time.
+#[tactic(auto, unfolding(crate::specs::Scts::scts_judged))]
+pub(crate) fn check_scts<C: CryptoProvider>(
+    alloc: Global,
+    provider: &C,
+    ct_logs: &Keyring,
+    asked: LogThreshold,
     certificate: &CertView,
     issuer_spki: &[u8],
-) -> Result<(), Refusal>
-    ensures ok { IfOk result (λ x. sct_judged (C.accepts provider.now) ct_logs.now (certificate_parts certificate.now) issuer_spki.now ≡ Ok x) }
-    ensures err { IfErr result (λ e. e ≢ Refusal.NoMemory → sct_judged (C.accepts provider.now) ct_logs.now (certificate_parts certificate.now) issuer_spki.now ≡ Err e) }
+) -> Result<u64, Refusal>
+    ensures ok { IfOk result (λ count. scts_judged (C.accepts provider.now) ct_logs.now asked (certificate_parts certificate.now) issuer_spki.now ≡ Ok count) }
+    ensures err { IfErr result (λ e. e ≢ Refusal.NoMemory → scts_judged (C.accepts provider.now) ct_logs.now asked (certificate_parts certificate.now) issuer_spki.now ≡ Err e) }
 {
     let scts = scts_of(alloc, certificate)?;
-    let sct = sole(scts.as_slice())?;
-    let scheme = schemed(sct.algorithm())?;
-    check_log(ct_logs, scheme)?;
+    check_scheme(scts.as_slice())?;
+    check_log(ct_logs, scts.as_slice())?;
+    let tbs = signed_part_of(alloc, certificate)?;
     let key_hash = sha256(issuer_spki);
-    let signed = DigitallySigned::from_embedded_sct(alloc, certificate, sct, *key_hash.as_array())?;
-    let key = log_key(alloc, ct_logs, scheme, sct)?;
-    let good = is_good(alloc, provider, &key, signed.signed_data(), sct)?;
-    check_count(good)
+    let found = promising_logs(
+        alloc,
+        provider,
+        ct_logs,
+        key_hash.as_array(),
+        tbs.as_bytes(),
+        scts.as_slice(),
+    )?;
+    Ok(check_count(asked, found)?)
 }

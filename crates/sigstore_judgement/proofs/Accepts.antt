@@ -32,9 +32,9 @@ use Rattle.sigstore_judgement.specs.Accepts.{ManagedVouches, OwnerVouches, Vouch
 use Rattle.sigstore_judgement.specs.Artifact.{Artifact, Kind, kind_of, digest_of, bytes_of}
 use Rattle.sigstore_judgement.specs.Claim.{Claim, claim_of, needed_of, is_bound, IsBound}
 use Rattle.sigstore_judgement.specs.Content.{scheme_of, signs_digest, supported_of, subject_in, signature_in, is_good_of, is_signed, first_refusal, content_judged_of}
-use Rattle.sigstore_judgement.specs.Entries.{log_judged_of, told_if, entries_described_of}
+use Rattle.sigstore_judgement.specs.Entries.{log_judged_of, log_count_of, logs_judged_of, told_if, entries_described_of}
 use Rattle.sigstore_judgement.specs.Error.{by_types, by_crypto, by_info, by_certificate}
-use Rattle.sigstore_judgement.specs.Evidence.{earliest_from, times_of, report_of}
+use Rattle.sigstore_judgement.specs.Evidence.{managed_evidence, owner_evidence, report_of}
 use Rattle.sigstore_judgement.specs.Grounds.{Grounds, trust_in, Terms}
 use Rattle.sigstore_judgement.specs.Judged.{Ready, key_with, ready_with, claimed_of, ready_of, prepared_of, managed_vouched_of, intermediates_in, owner_vouched_of, vouched_of, judged_had, judged_of}
 use Rattle.sigstore_judgement.specs.Policy.{Meaning, PublicKey, Certificate}
@@ -42,7 +42,7 @@ use Rattle.sigstore_judgement.specs.Signer.{Signer, Managed, Certified, key_in, 
 use Rattle.sigstore_judgement.specs.Tokens.{tokens_judged_of}
 use Rattle.sigstore_judgement.specs.Verified.{verified_of}
 use Rattle.sigstore_judgement.proofs.ClaimLaw.{bound_so, so_bound}
-use Rattle.sigstore_judgement.proofs.EntryLaw.{are_logged, log_accepted, are_described, described_pass}
+use Rattle.sigstore_judgement.proofs.EntryLaw.{are_logged, log_accepted, enough_means, enough_passes, are_described, described_pass}
 use Rattle.sigstore_judgement.proofs.TokenLaw.{are_stamped, stamped_pass}
 use Rattle.sigstore_judgement.proofs.VerifiedLaw.{verified_means, verified_passes}
 
@@ -225,23 +225,31 @@ all_hashed kind signs needed is h = by_test (signs || kind.keeps_bytes) (list_al
 -- ---- what vouches for the signer
 
 module _ (grounds : Grounds) (policy : PublicKeyVerificationPolicy) (bundle : Bundle) where
+  abbrev managed_logs : ℕ
+  managed_logs = log_count_of grounds policy.verify_tlog (entries_in bundle)
+
   abbrev after_stamped : List Timestamp → List Timestamp → Result Evidence Error
-  after_stamped promised stamped = Ok (times_of promised stamped)
+  after_stamped promised stamped = Ok (managed_evidence promised stamped managed_logs)
+
+  abbrev after_counted : List Timestamp → ⊤ → Result Evidence Error
+  after_counted promised u = tokens_judged_of grounds (signature_in bundle.content) (tokens_in bundle) >>= after_stamped promised
 
   abbrev after_promised : List Timestamp → Result Evidence Error
-  after_promised promised = tokens_judged_of grounds (signature_in bundle.content) (tokens_in bundle) >>= after_stamped promised
+  after_promised promised = logs_judged_of policy.verify_tlog policy.logs managed_logs >>= after_counted promised
 
   managed_means : (evidence : Evidence) → managed_vouched_of grounds policy bundle ≡ Ok evidence → ManagedVouches grounds policy bundle evidence
   unfolding managed_vouched_of
   managed_means evidence h =
       let a = step_ok (log_judged_of grounds (Managed policy) policy.verify_tlog (entries_in bundle)) after_promised evidence h in
-      let b = step_ok (tokens_judged_of grounds (signature_in bundle.content) (tokens_in bundle)) (after_stamped a.0) evidence a.2 in
+      let c = step_ok (logs_judged_of policy.verify_tlog policy.logs managed_logs) (after_counted a.0) evidence a.2 in
+      let b = step_ok (tokens_judged_of grounds (signature_in bundle.content) (tokens_in bundle)) (after_stamped a.0) evidence c.2 in
       let l = are_logged grounds (Managed policy) policy.verify_tlog (entries_in bundle) a.0 a.1 in
       record {
         logged = l.0;
+        enough = enough_means grounds policy.logs policy.verify_tlog (entries_in bundle) c.0 c.1;
         stamped = b.0;
         are = are_stamped grounds (signature_in bundle.content) (tokens_in bundle) b.0 b.1;
-        times = sym (ok_same (times_of a.0 b.0) evidence b.2) ∙ ap (λ promised. times_of promised b.0) l.1;
+        shows = sym (ok_same (managed_evidence a.0 b.0 managed_logs) evidence b.2) ∙ ap (λ promised. managed_evidence promised b.0 managed_logs) l.1;
       }
 
   managed_passes : (evidence : Evidence) → ManagedVouches grounds policy bundle evidence → managed_vouched_of grounds policy bundle ≡ Ok evidence
@@ -249,19 +257,26 @@ module _ (grounds : Grounds) (policy : PublicKeyVerificationPolicy) (bundle : Bu
   managed_passes evidence v =
       let promised = told_if policy.verify_tlog (entries_in bundle) in
       ap (λ r. r >>= after_promised) (log_accepted grounds (Managed policy) policy.verify_tlog (entries_in bundle) v.logged)
+      ∙ ap (λ r. r >>= after_counted promised) (enough_passes grounds policy.logs policy.verify_tlog (entries_in bundle) v.enough)
       ∙ ap (λ r. r >>= after_stamped promised) (stamped_pass grounds (signature_in bundle.content) (tokens_in bundle) v.stamped v.are)
-      ∙ ap Ok (sym v.times)
+      ∙ ap Ok (sym v.shows)
 
-ok_certificate : (r : Result ⊤ Refusal) (x : ⊤) → by_certificate r ≡ Ok x → r ≡ Ok tt
-ok_certificate (Ok y) x h = refl
+ok_certificate : (r : Result ℕ Refusal) (x : ℕ) → by_certificate r ≡ Ok x → r ≡ Ok x
+ok_certificate (Ok y) x h = ap Ok (ok_same y x h)
 ok_certificate (Err e) x h = cc
 
 module _ (grounds : Grounds) (policy : VerificationPolicy) (info : CertificateInfo) (certificate : List ℕ) (bundle : Bundle) where
-  abbrev after_logged : List Timestamp → List Timestamp → Result Evidence Error
-  after_logged times promised = Ok (record { integrated_time = earliest_from None promised; times = times })
+  abbrev owner_logs : ℕ
+  owner_logs = log_count_of grounds policy.verify_tlog (entries_in bundle)
 
-  abbrev after_certified : List Timestamp → ⊤ → Result Evidence Error
-  after_certified times x = log_judged_of grounds (Certified policy info certificate) policy.verify_tlog (entries_in bundle) >>= after_logged times
+  abbrev after_enough : List Timestamp → ℕ → List Timestamp → ⊤ → Result Evidence Error
+  after_enough times scts promised u = Ok (owner_evidence times scts promised owner_logs)
+
+  abbrev after_logged : List Timestamp → ℕ → List Timestamp → Result Evidence Error
+  after_logged times scts promised = logs_judged_of policy.verify_tlog policy.logs owner_logs >>= after_enough times scts promised
+
+  abbrev after_certified : List Timestamp → ℕ → Result Evidence Error
+  after_certified times scts = log_judged_of grounds (Certified policy info certificate) policy.verify_tlog (entries_in bundle) >>= after_logged times scts
 
   abbrev after_verified : List Timestamp → Result Evidence Error
   after_verified times = by_certificate (certified_of (trust_in grounds) policy info certificate (intermediates_in bundle) times) >>= after_certified times
@@ -271,24 +286,28 @@ module _ (grounds : Grounds) (policy : VerificationPolicy) (info : CertificateIn
   owner_means evidence h =
       let a = step_ok (verified_of grounds bundle) after_verified evidence h in
       let b = step_ok (by_certificate (certified_of (trust_in grounds) policy info certificate (intermediates_in bundle) a.0)) (after_certified a.0) evidence a.2 in
-      let c = step_ok (log_judged_of grounds (Certified policy info certificate) policy.verify_tlog (entries_in bundle)) (after_logged a.0) evidence b.2 in
+      let c = step_ok (log_judged_of grounds (Certified policy info certificate) policy.verify_tlog (entries_in bundle)) (after_logged a.0 b.0) evidence b.2 in
+      let d = step_ok (logs_judged_of policy.verify_tlog policy.logs owner_logs) (after_enough a.0 b.0 c.0) evidence c.2 in
       let l = are_logged grounds (Certified policy info certificate) policy.verify_tlog (entries_in bundle) c.0 c.1 in
-      let shown : List Timestamp → Evidence = λ promised. record { integrated_time = earliest_from None promised; times = a.0 } in
       record {
         times = a.0;
         verified = verified_means grounds bundle a.0 a.1;
-        certified = (certified_exactly (trust_in grounds) policy info certificate (intermediates_in bundle) a.0).0
+        scts = b.0;
+        certified = (certified_exactly (trust_in grounds) policy info certificate (intermediates_in bundle) a.0 b.0).0
             (ok_certificate (certified_of (trust_in grounds) policy info certificate (intermediates_in bundle) a.0) b.0 b.1);
         logged = l.0;
-        shows = sym (ok_same (shown c.0) evidence c.2) ∙ ap shown l.1;
+        enough = enough_means grounds policy.logs policy.verify_tlog (entries_in bundle) d.0 d.1;
+        shows = sym (ok_same (owner_evidence a.0 b.0 c.0 owner_logs) evidence d.2) ∙ ap (λ promised. owner_evidence a.0 b.0 promised owner_logs) l.1;
       }
 
   owner_passes : (evidence : Evidence) → OwnerVouches grounds policy info certificate bundle evidence → owner_vouched_of grounds policy info certificate bundle ≡ Ok evidence
   unfolding owner_vouched_of
   owner_passes evidence v =
       ap (λ r. r >>= after_verified) (verified_passes grounds bundle v.times v.verified)
-      ∙ ap (λ r. by_certificate r >>= after_certified v.times) ((certified_exactly (trust_in grounds) policy info certificate (intermediates_in bundle) v.times).1 v.certified)
-      ∙ ap (λ r. r >>= after_logged v.times) (log_accepted grounds (Certified policy info certificate) policy.verify_tlog (entries_in bundle) v.logged)
+      ∙ ap (λ r. by_certificate r >>= after_certified v.times) ((certified_exactly (trust_in grounds) policy info certificate (intermediates_in bundle) v.times v.scts).1 v.certified)
+      ∙ ap (λ r. r >>= after_logged v.times v.scts) (log_accepted grounds (Certified policy info certificate) policy.verify_tlog (entries_in bundle) v.logged)
+      ∙ ap (λ r. r >>= after_enough v.times v.scts (told_if policy.verify_tlog (entries_in bundle)))
+      (enough_passes grounds policy.logs policy.verify_tlog (entries_in bundle) v.enough)
       ∙ ap Ok (sym v.shows)
 
 vouches_means : (grounds : Grounds) (signer : Signer) (bundle : Bundle) (evidence : Evidence) → vouched_of grounds signer bundle ≡ Ok evidence → Vouches grounds signer bundle evidence

@@ -1,11 +1,14 @@
 -- Every entry is logged exactly where the judgement of all says so, and the times that are found are those that promises tell.
-use Rattle.std.proofs.Common.{◌≡◌, List, [], ◌∷◌, Bool, true, false, if◌then◌else◌, Option, Result, Ok, Err, refl, sym, ap, subst, ◌∙◌}
+use Rattle.std.proofs.Common.{◌≡◌, ◌≤◌, List, [], ◌∷◌, Bool, true, false, if◌then◌else◌, Option, Result, Ok, Err, refl, sym, ap, subst, ◌∙◌}
 use Rattle.std.specs.Prelude.{⊤, filter_map}
+use Rattle.std.proofs.lemmas.Bool.{leb-true, le-leb}
 use Rattle.std.specs.List.{AllByRecursion, cons_option}
 use Rattle.jiff_core.specs.declared.timestamp.Timestamp.{Timestamp}
 use Rattle.foundation.specs.Steps.{◌>>=◌}
 use Rattle.foundation.specs.Results.{step_ok, ok_same}
 use Rattle.sigstore_types.specs.declared.bundle.Bundle.{Bundle}
+use Rattle.sigstore_crypto_parts.specs.declared.log_ids.LogThreshold.{LogThreshold}
+use Rattle.sigstore_crypto_parts.specs.LogIds.{is_enough}
 use Rattle.sigstore_entries.specs.declared.entry.TransparencyLogEntry.{TransparencyLogEntry}
 use Rattle.sigstore_log.specs.declared.error.LogError.{LogError}
 use Rattle.sigstore_log.specs.Entry.{logged_of}
@@ -18,12 +21,12 @@ use Rattle.sigstore_binding.specs.Rows.{Signed}
 use Rattle.sigstore_binding.specs.Verifier.{Readings, Signatory}
 use Rattle.sigstore_binding.proofs.DescribesLaw.{describes_exactly}
 use Rattle.sigstore_judgement.specs.declared.error.Error.{Error}
-use Rattle.sigstore_judgement.specs.declared.error.Error.TheVariants.{TransparencyLog}
+use Rattle.sigstore_judgement.specs.declared.error.Error.TheVariants.{TransparencyLog, TooFewLogs}
 use Rattle.sigstore_judgement.specs.declared.error.TransparencyLogError.TheVariants as log
 use Rattle.sigstore_judgement.specs.Accepts.{AreLogged}
 use Rattle.sigstore_judgement.specs.Artifact.{Artifact, digest_of}
 use Rattle.sigstore_judgement.specs.Content.{signed_in}
-use Rattle.sigstore_judgement.specs.Entries.{is_timely, timely_of, entry_judged_of, entries_judged_of, log_judged_of, IsLogged, told_if, each_described_of, entries_described_of, Describes}
+use Rattle.sigstore_judgement.specs.Entries.{is_timely, timely_of, entry_judged_of, entries_judged_of, log_judged_of, IsLogged, vouching_logs, log_count_of, logs_judged_of, HasLogs, told_if, each_described_of, entries_described_of, Describes}
 use Rattle.sigstore_judgement.specs.Error.{by_log, by_binding}
 use Rattle.sigstore_judgement.specs.Grounds.{Grounds, readings_in}
 use Rattle.sigstore_judgement.specs.Signer.{Signer, signatory_of}
@@ -73,6 +76,27 @@ module _ (grounds : Grounds) (signer : Signer) where
       → log_judged_of grounds signer asked entries ≡ Ok (told_if asked entries)
   log_accepted true entries a = all_judged entries a
   log_accepted false entries a = refl
+
+-- ---- in how many logs
+
+module _ (grounds : Grounds) where
+  pub enough_means : (asked : LogThreshold) (verify : Bool) (entries : List TransparencyLogEntry) (x : ⊤)
+      → logs_judged_of verify asked (log_count_of grounds verify entries) ≡ Ok x → HasLogs grounds asked verify entries
+  enough_means asked true entries x h = by (is_enough asked (vouching_logs grounds entries)) (leb-true asked.value (vouching_logs grounds entries)) h
+    where
+      by : (b : Bool) → (b ≡ true → asked.value ≤ vouching_logs grounds entries)
+          → ◌≡◌ {A = Result ⊤ Error} (if b then Ok tt else Err (TooFewLogs asked.value (vouching_logs grounds entries))) (Ok x)
+          → asked.value ≤ vouching_logs grounds entries
+      by true less k = less refl
+      by false less k = cc
+  enough_means asked false entries x h = tt
+
+  pub enough_passes : (asked : LogThreshold) (verify : Bool) (entries : List TransparencyLogEntry) → HasLogs grounds asked verify entries
+      → logs_judged_of verify asked (log_count_of grounds verify entries) ≡ Ok tt
+  enough_passes asked true entries has =
+      ap (λ (b : Bool). if b then Ok tt else Err (TooFewLogs asked.value (vouching_logs grounds entries)))
+      (le-leb asked.value (vouching_logs grounds entries) has)
+  enough_passes asked false entries has = refl
 
 -- ---- what entries say
 

@@ -1,7 +1,8 @@
 -- Each refusal of the judgement has its cause.
-use Rattle.std.proofs.Common.{◌≡◌, ◌≢◌, ◌⊎◌, inl, inr, ℕ, List, [], ◌∷◌, ◌++◌, Bool, true, false, ◌||◌, if◌then◌else◌, Option, Some, None, Result, Ok, Err, refl, sym, ap, ◌∙◌, subst}
+use Rattle.std.proofs.Common.{◌≡◌, ◌≢◌, ◌<◌, ◌⊎◌, inl, inr, ℕ, List, [], ◌∷◌, ◌++◌, Bool, true, false, ◌||◌, if◌then◌else◌, Option, Some, None, Result, Ok, Err, refl, sym, ap, ◌∙◌, subst}
 use Rattle.std.specs.Prelude.{⊤, ◌&&◌, is_some, Contains}
 use Rattle.std.specs.List.{list_all}
+use Rattle.std.proofs.lemmas.Bool.{leb-false}
 use Rattle.jiff_core.specs.declared.timestamp.Timestamp.{Timestamp}
 use Rattle.foundation.specs.Watched.{Watched}
 use Rattle.foundation.specs.Results.{err_same, refused_at}
@@ -22,7 +23,9 @@ use Rattle.sigstore_crypto_parts.specs.declared.error.Error.{Error as CryptoErro
 use Rattle.sigstore_crypto_parts.specs.declared.error.Error.TheVariants as crypto
 use Rattle.sigstore_crypto_parts.specs.declared.key.VerificationKey.{VerificationKey}
 use Rattle.sigstore_crypto_parts.specs.declared.scheme.SigningScheme.{SigningScheme}
+use Rattle.sigstore_crypto_parts.specs.declared.log_ids.LogThreshold.{LogThreshold}
 use Rattle.sigstore_crypto_parts.specs.Digest.{is_hashed}
+use Rattle.sigstore_crypto_parts.specs.LogIds.{is_enough}
 use Rattle.sigstore_crypto_parts.specs.Key.{spki_key_of}
 use Rattle.sigstore_entries.specs.declared.entry.TransparencyLogEntry.{TransparencyLogEntry}
 use Rattle.sigstore_log.specs.declared.error.LogError.{LogError}
@@ -52,11 +55,11 @@ use Rattle.sigstore_judgement.specs.Cause.{IsRefusedAs, IsRead, IsKept, HasSigne
 use Rattle.sigstore_judgement.specs.Cause.{unread, no_statement, no_subject, other_type, no_digest, IsUndescribed, IsUncertified, JudgeCause}
 use Rattle.sigstore_judgement.specs.Claim.{Claim, is_in_toto, typed_of, or_invalid, subjects_of, digested_of, statement_judged_of, stated_of, claim_of, needed_of, is_bound}
 use Rattle.sigstore_judgement.specs.Content.{scheme_of, signs_digest, supported_of, signature_in, signed_in, is_signed, first_refusal, content_judged_of}
-use Rattle.sigstore_judgement.specs.Entries.{log_judged_of, entries_described_of}
+use Rattle.sigstore_judgement.specs.Entries.{log_judged_of, vouching_logs, log_count_of, logs_judged_of, entries_described_of}
 use Rattle.sigstore_judgement.specs.Error.{error_of_crypto, error_of_info, error_of_certificate, error_of_log, error_of_binding, lowered, by_types, by_crypto, by_info, by_certificate}
 use Rattle.sigstore_judgement.specs.Grounds.{Grounds, trust_in, readings_in}
 use Rattle.sigstore_judgement.specs.Judged.{Ready, claimed_of, ready_of, prepared_of, managed_vouched_of, intermediates_in, owner_vouched_of, vouched_of, judged_had, judged_of}
-use Rattle.sigstore_judgement.specs.Policy.{Meaning, PublicKey, Certificate, asks_log}
+use Rattle.sigstore_judgement.specs.Policy.{Meaning, PublicKey, Certificate, asks_log, logs_asked}
 use Rattle.sigstore_judgement.specs.Promise as promise
 use Rattle.sigstore_judgement.specs.Signer.{Signer, Managed, Certified, key_in, certificate_in, keyed_of, named_of, signatory_of, managed_of, owner_of, signer_of, IsSigner}
 use Rattle.sigstore_judgement.specs.Tokens.{tokens_judged_of}
@@ -219,6 +222,7 @@ module _ (asked : Asked) (file : List ℕ) (source source' : Watched (List ℕ))
   by_usable trust verify.TrustRoot t h f = absurd f
   by_usable trust verify.TrustedCertificate t h f = inl (trust, t, h)
   by_usable trust (verify.ArtifactRead a) t h f = absurd f
+  by_usable trust (verify.TooFewLogs a b) t h f = absurd f
   by_usable trust verify.NoMemory t h f = wanted
 
   -- ---- the signer, their key and its scheme
@@ -419,6 +423,30 @@ module _ (asked : Asked) (file : List ℕ) (source source' : Watched (List ℕ))
         }))))
     unlogged material kept signer is false asks e h = cc
 
+    -- the entries stand in too few logs
+    too_few : (material : Material) → IsKept file material → (b : Bool) → asks_log asked.policy ≡ b → (threshold : LogThreshold) → logs_asked asked.policy ≡ threshold → (e : Error)
+        → logs_judged_of b threshold (log_count_of (terms_of asked material).grounds b (entries_in reading)) ≡ Err e → Cause e
+    too_few material kept true asks threshold same e h = by (is_enough threshold found) (leb-false threshold.value found) h
+      where
+        found : ℕ
+        found = vouching_logs (terms_of asked material).grounds (entries_in reading)
+
+        by : (b : Bool) → (b ≡ false → found < threshold.value) → ◌≡◌ {A = Result ⊤ Error} (if b then Ok tt else Err (verify.TooFewLogs threshold.value found)) (Err e) → Cause e
+        by true few k = cc
+        by false few k = subst Cause (err_same (verify.TooFewLogs threshold.value found) e k) (inr (record {
+          material = material;
+          kept = kept;
+          reading = reading;
+          read = read;
+          bytes = bytes;
+          whole = whole;
+          asks = asks;
+          threshold = ap (λ (t : LogThreshold). t.value) (sym same);
+          count = refl;
+          few = few refl;
+        }))
+    too_few material kept false asks threshold same e h = cc
+
     -- a token isn't a trusted authority's
     unstamped : (material : Material) → IsKept file material → (e : Error)
         → tokens_judged_of (terms_of asked material).grounds (signature_in reading.content) (tokens_in reading) ≡ Err e → Cause e
@@ -548,7 +576,9 @@ module _ (asked : Asked) (file : List ℕ) (source source' : Watched (List ℕ))
           refused_at (by_certificate (certified_of (trust_in grounds) policy info certificate (intermediates_in reading) times)) _ e k
           (uncertified times (verified_means grounds reading times p) e) (λ u q l.
           refused_at (log_judged_of grounds (Certified policy info certificate) policy.verify_tlog (entries_in reading)) _ e l
-          (unlogged material kept (Certified policy info certificate) is policy.verify_tlog (ap asks_log under) e) (λ promised r m. cc)))
+          (unlogged material kept (Certified policy info certificate) is policy.verify_tlog (ap asks_log under) e) (λ promised r m.
+          refused_at (logs_judged_of policy.verify_tlog policy.logs (log_count_of grounds policy.verify_tlog (entries_in reading))) _ e m
+          (too_few material kept policy.verify_tlog (ap asks_log under) policy.logs (ap logs_asked under) e) (λ v s n. cc))))
 
     -- nothing vouches for the signer
     unvouched : (material : Material) → IsKept file material → (policy : Meaning) → asked.policy ≡ policy → (signer : Signer) → IsSigner policy reading signer → (e : Error)
@@ -560,8 +590,10 @@ module _ (asked : Asked) (file : List ℕ) (source source' : Watched (List ℕ))
         refused_at (log_judged_of (terms_of asked material).grounds (Managed policy) policy.verify_tlog (entries_in reading)) _ e
         (subst (λ signer. vouched_of (terms_of asked material).grounds signer reading ≡ Err e) i.is h)
         (unlogged material kept (Managed policy) is policy.verify_tlog (ap asks_log under) e) (λ promised p k.
-        refused_at (tokens_judged_of (terms_of asked material).grounds (signature_in reading.content) (tokens_in reading)) _ e k
-        (unstamped material kept e) (λ stamped q l. cc))
+        refused_at (logs_judged_of policy.verify_tlog policy.logs (log_count_of (terms_of asked material).grounds policy.verify_tlog (entries_in reading))) _ e k
+        (too_few material kept policy.verify_tlog (ap asks_log under) policy.logs (ap logs_asked under) e) (λ u r m.
+        refused_at (tokens_judged_of (terms_of asked material).grounds (signature_in reading.content) (tokens_in reading)) _ e m
+        (unstamped material kept e) (λ stamped q l. cc)))
     unvouched material kept (Certificate policy) under signer i e h =
         let is : IsSigner asked.policy reading (Certified policy i.info i.certificate) =
         subst (λ meaning. IsSigner meaning reading (Certified policy i.info i.certificate)) (sym under)

@@ -18,3 +18,4 @@ pub mod Taken
 pub mod Usable
 pub mod Wanting
 pub mod Within
+pub mod OneLogLaw

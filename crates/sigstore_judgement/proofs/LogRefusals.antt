@@ -17,7 +17,9 @@ use Rattle.sigstore_types.specs.Bundle.{entries_in, tokens_in, structure_of}
 use Rattle.sigstore_crypto_parts.specs.declared.error.Error.{Error as CryptoError}
 use Rattle.sigstore_crypto_parts.specs.declared.key.VerificationKey.{VerificationKey}
 use Rattle.sigstore_crypto_parts.specs.declared.scheme.SigningScheme.{SigningScheme}
+use Rattle.sigstore_crypto_parts.specs.declared.log_ids.LogThreshold.{LogThreshold}
 use Rattle.sigstore_crypto_parts.specs.Key.{spki_key_of}
+use Rattle.sigstore_crypto_parts.specs.LogIds.{is_enough}
 use Rattle.sigstore_crypto.specs.Info.{info_of}
 use Rattle.sigstore_certificate.specs.declared.error.Refusal.{Refusal}
 use Rattle.sigstore_certificate.specs.declared.error.Refusal.TheVariants as refusal
@@ -31,7 +33,7 @@ use Rattle.sigstore_judgement.specs.declared.evidence.Evidence.{Evidence}
 use Rattle.sigstore_judgement.specs.Artifact.{Artifact, Blob, Read, Digest, Kind, kind_of, digest_of, bytes_of}
 use Rattle.sigstore_judgement.specs.Claim.{Claim, is_in_toto, typed_of, or_invalid, subjects_of, digested_of, statement_judged_of, stated_of, claim_of, needed_of, is_bound}
 use Rattle.sigstore_judgement.specs.Content.{scheme_of, signs_digest, supported_of, signature_in, is_signed, first_refusal, content_judged_of}
-use Rattle.sigstore_judgement.specs.Entries.{log_judged_of, entries_described_of, HasUndescribed}
+use Rattle.sigstore_judgement.specs.Entries.{log_judged_of, log_count_of, logs_judged_of, entries_described_of, HasUndescribed}
 use Rattle.sigstore_judgement.specs.Error.{error_of_crypto, error_of_info, error_of_certificate, by_types, by_crypto, by_info, by_certificate}
 use Rattle.sigstore_judgement.specs.Grounds.{trust_in, Terms}
 use Rattle.sigstore_judgement.specs.Judged.{Ready, claimed_of, ready_of, prepared_of, managed_vouched_of, intermediates_in, owner_vouched_of, vouched_of, judged_had, judged_of}
@@ -94,6 +96,14 @@ certificate_no_log r e h =
     by (refusal.IdentityMismatch expected actual) = tt
     by (refusal.IssuerMismatch expected actual) = tt
     by refusal.NoMemory = tt
+
+count_no_log : (verify_tlog : Bool) (asked : LogThreshold) (found : ℕ) (e : Error) → logs_judged_of verify_tlog asked found ≡ Err e → NoLog e
+count_no_log true asked found e h = by (is_enough asked found) h
+  where
+    by : (b : Bool) → ◌≡◌ {A = Result ⊤ Error} (if b then Ok tt else Err (verify.TooFewLogs asked.value found)) (Err e) → NoLog e
+    by true k = cc
+    by false k = subst NoLog (err_same (verify.TooFewLogs asked.value found) e k) tt
+count_no_log false asked found e h = cc
 
 lacking_no_log : (artifact : Artifact) → NoLog (kind_of artifact).lacking
 lacking_no_log (Blob bytes) = tt
@@ -223,13 +233,17 @@ module _ (terms : Terms) (bundle : Bundle) (artifact : Artifact) (fault : Transp
   unfolding managed_vouched_of owner_vouched_of
   signer_unlogged (Managed policy) is h =
       refused_at (log_judged_of terms.grounds (Managed policy) policy.verify_tlog (entries_in bundle)) _ (verify.TransparencyLog fault) h (log_unlogged (Managed policy) is policy.verify_tlog) (λ promised p k.
-      refused_at (tokens_judged_of terms.grounds (signature_in bundle.content) (tokens_in bundle)) _ (verify.TransparencyLog fault) k tokens_no_log (λ stamped q l. cc))
+      refused_at (logs_judged_of policy.verify_tlog policy.logs (log_count_of terms.grounds policy.verify_tlog (entries_in bundle))) _ (verify.TransparencyLog fault) k
+      (λ c. absurd (count_no_log policy.verify_tlog policy.logs (log_count_of terms.grounds policy.verify_tlog (entries_in bundle)) (verify.TransparencyLog fault) c)) (λ u r m.
+      refused_at (tokens_judged_of terms.grounds (signature_in bundle.content) (tokens_in bundle)) _ (verify.TransparencyLog fault) m tokens_no_log (λ stamped q l. cc)))
   signer_unlogged (Certified policy info certificate) is h =
       refused_at (verified_of terms.grounds bundle) _ (verify.TransparencyLog fault) h (λ v. inl (verified_unlogged v)) (λ (times : List Timestamp) p k.
       refused_at (by_certificate (certified_of (trust_in terms.grounds) policy info certificate (intermediates_in bundle) times)) _ (verify.TransparencyLog fault) k
       (λ c. absurd (certificate_no_log (certified_of (trust_in terms.grounds) policy info certificate (intermediates_in bundle) times) (verify.TransparencyLog fault) c)) (λ u q l.
       refused_at (log_judged_of terms.grounds (Certified policy info certificate) policy.verify_tlog (entries_in bundle)) _ (verify.TransparencyLog fault) l
-      (log_unlogged (Certified policy info certificate) is policy.verify_tlog) (λ promised r m. cc)))
+      (log_unlogged (Certified policy info certificate) is policy.verify_tlog) (λ promised r m.
+      refused_at (logs_judged_of policy.verify_tlog policy.logs (log_count_of terms.grounds policy.verify_tlog (entries_in bundle))) _ (verify.TransparencyLog fault) m
+      (λ c. absurd (count_no_log policy.verify_tlog policy.logs (log_count_of terms.grounds policy.verify_tlog (entries_in bundle)) (verify.TransparencyLog fault) c)) (λ v s n. cc))))
 
   sorted : Has ⊎ HasLate → Has ⊎ (HasLate ⊎ HasOther)
   sorted (inl u) = inl u

@@ -1,5 +1,5 @@
 -- What it means that a bundle is accepted, told without any order of checks.
-use Rattle.std.specs.Prelude.{◌≡◌, ◌↔◌, ℕ, List, Bool, true, false, ⊤, Some, None, Ok, IsTrue}
+use Rattle.std.specs.Prelude.{◌≡◌, ◌↔◌, ℕ, List, Bool, true, false, ⊤, Some, Ok, IsTrue}
 use Rattle.std.specs.List.{AllByRecursion}
 use Rattle.jiff_core.specs.declared.timestamp.Timestamp.{Timestamp}
 use Rattle.sigstore_types.specs.declared.bundle.Bundle.{Bundle}
@@ -18,8 +18,8 @@ use Rattle.sigstore_judgement.specs.declared.report.VerificationResult.{Verifica
 use Rattle.sigstore_judgement.specs.Artifact.{Artifact, digest_of, bytes_of, kind_of}
 use Rattle.sigstore_judgement.specs.Claim.{Claim, claim_of, needed_of, IsBound}
 use Rattle.sigstore_judgement.specs.Content.{scheme_of, signs_digest, supported_of, subject_in, signature_in}
-use Rattle.sigstore_judgement.specs.Entries.{IsLogged, told_if, Describes}
-use Rattle.sigstore_judgement.specs.Evidence.{earliest_from, times_of, report_of}
+use Rattle.sigstore_judgement.specs.Entries.{IsLogged, HasLogs, log_count_of, told_if, Describes}
+use Rattle.sigstore_judgement.specs.Evidence.{managed_evidence, owner_evidence, report_of}
 use Rattle.sigstore_judgement.specs.Grounds.{Grounds, trust_in, Terms}
 use Rattle.sigstore_judgement.specs.Judged.{intermediates_in, key_with, judged_of}
 use Rattle.sigstore_judgement.specs.Signer.{Signer, Managed, Certified, key_in, IsSigner}
@@ -31,23 +31,31 @@ abbrev pub AreLogged : Grounds → Signer → Bool → List TransparencyLogEntry
 AreLogged grounds signer true entries = AllByRecursion (IsLogged grounds signer) entries
 AreLogged grounds signer false entries = ⊤
 
--- under a managed key: the log does, each token is a trusted authority's, and what is found are the times of both
+-- under a managed key: the log does, and as many logs as are asked for; each token is a trusted authority's; and what is found are the times
+-- of both, and how many logs those are
 pub record ManagedVouches (grounds : Grounds) (policy : PublicKeyVerificationPolicy) (bundle : Bundle) (evidence : Evidence) : Type 0 where
   pub logged : AreLogged grounds (Managed policy) policy.verify_tlog (entries_in bundle)
+  pub enough : HasLogs grounds policy.logs policy.verify_tlog (entries_in bundle)
   pub stamped : List Timestamp
   pub are : AreStamped grounds (signature_in bundle.content) (tokens_in bundle) stamped
-  pub times : evidence ≡ times_of (told_if policy.verify_tlog (entries_in bundle)) stamped
+  pub shows :
+      evidence
+      ≡ managed_evidence (told_if policy.verify_tlog (entries_in bundle)) stamped (log_count_of grounds policy.verify_tlog (entries_in bundle))
 
--- Under a certificate: these are the verified times, and there is one; at each of them the certificate was valid, a certificate log saw it,
--- and it names whom the policy asks for, as far as the policy asks; and the log does vouch, where the policy verifies it.
+-- Under a certificate: these are the verified times, and there is one; at each of them the certificate was valid, so many certificate logs
+-- saw it, and it names whom the policy asks for, as far as the policy asks; and the log does vouch, and as many logs as are asked for, where
+-- the policy verifies it.
 pub record OwnerVouches (grounds : Grounds) (policy : VerificationPolicy) (info : CertificateInfo) (certificate : List ℕ) (bundle : Bundle)
     (evidence : Evidence) : Type 0 where
   pub times : List Timestamp
   pub verified : AreVerified grounds bundle times
-  pub certified : IsCertified (trust_in grounds) policy info certificate (intermediates_in bundle) times
+  pub scts : ℕ
+  pub certified : IsCertified (trust_in grounds) policy info certificate (intermediates_in bundle) times scts
   pub logged : AreLogged grounds (Certified policy info certificate) policy.verify_tlog (entries_in bundle)
+  pub enough : HasLogs grounds policy.logs policy.verify_tlog (entries_in bundle)
   pub shows :
-      evidence ≡ record { integrated_time = earliest_from None (told_if policy.verify_tlog (entries_in bundle)); times = times }
+      evidence
+      ≡ owner_evidence times scts (told_if policy.verify_tlog (entries_in bundle)) (log_count_of grounds policy.verify_tlog (entries_in bundle))
 
 -- what vouches for the signer, and what is found of it
 abbrev pub Vouches : Grounds → Signer → Bundle → Evidence → Type 0

@@ -1,6 +1,6 @@
 -- What each refusal of the judgement tells: of the trust file, the bundle, the policy and the artifact (Sigstore bundle format; FIPS 180-4,
 -- FIPS 186-5; RFC 6962).
-use Rattle.std.specs.Prelude.{◌≡◌, ◌⊎◌, ℕ, List, [], filter_map, Contains, true, false, Some, None, Result, Ok, Err, ⊤}
+use Rattle.std.specs.Prelude.{◌≡◌, ◌<◌, ◌⊎◌, ℕ, List, [], filter_map, Contains, true, false, Some, None, Result, Ok, Err, ⊤}
 use Rattle.std.specs.List.{list_all}
 use Rattle.foundation.specs.Watched.{Watched}
 use Rattle.jiff_core.specs.declared.timestamp.Timestamp.{Timestamp}
@@ -39,11 +39,11 @@ use Rattle.sigstore_judgement.specs.declared.trust.Material.{Material}
 use Rattle.sigstore_judgement.specs.Artifact.{Read, digest_of}
 use Rattle.sigstore_judgement.specs.Claim.{Claim, is_in_toto, claim_of, needed_of, IsOfOther}
 use Rattle.sigstore_judgement.specs.Content.{scheme_of, signs_digest, signature_in, is_signed}
-use Rattle.sigstore_judgement.specs.Entries.{HasUndescribed}
+use Rattle.sigstore_judgement.specs.Entries.{vouching_logs, HasUndescribed}
 use Rattle.sigstore_judgement.specs.Error.{error_of_crypto, error_of_info, error_of_certificate, error_of_log}
 use Rattle.sigstore_judgement.specs.Grounds.{Grounds, trust_in}
 use Rattle.sigstore_judgement.specs.Judged.{intermediates_in}
-use Rattle.sigstore_judgement.specs.Policy.{PublicKey, Certificate, asks_log}
+use Rattle.sigstore_judgement.specs.Policy.{PublicKey, Certificate, asks_log, logs_asked}
 use Rattle.sigstore_judgement.specs.Promise.{ReadWhole, ReadCause}
 use Rattle.sigstore_judgement.specs.Signer.{Signer, certificate_in, key_in, IsSigner}
 use Rattle.sigstore_judgement.specs.Trust.{material_of}
@@ -194,6 +194,20 @@ pub record IsUnlogged (asked : Asked) (file : List ℕ) (source source' : Watche
   pub asks : asks_log asked.policy ≡ true
   pub unlogged : HasUnlogged (terms_of asked material).grounds (entries_in reading) fault
 
+-- the policy verifies the log, the artifact was read whole, and the entries stand in so many different logs of the trust file, fewer than the
+-- policy asks for
+pub record LacksLogs (asked : Asked) (file : List ℕ) (source source' : Watched (List ℕ)) (wanted found : ℕ) : Type 0 where
+  pub material : Material
+  pub kept : IsKept file material
+  pub reading : Bundle
+  pub read : IsRead asked.bundle reading
+  pub bytes : List ℕ
+  pub whole : ReadWhole source source' asked.max bytes
+  pub asks : asks_log asked.policy ≡ true
+  pub threshold : wanted ≡ (logs_asked asked.policy).value
+  pub count : found ≡ vouching_logs (terms_of asked material).grounds (entries_in reading)
+  pub few : found < wanted
+
 -- the artifact was read whole, and some entry of the bundle isn't of who signed it, of what they signed or of the signature
 pub record IsUndescribed (asked : Asked) (source source' : Watched (List ℕ)) (e : Error) : Type 0 where
   pub reading : Bundle
@@ -309,6 +323,7 @@ SignedCause asked file source source' (verify.TransparencyLog fault) =
     ⊎ (IsUntimely asked source source' fault ⊎ IsUndescribed asked source source' (verify.TransparencyLog fault))
 SignedCause asked file source source' (verify.Timestamp fault) =
     HasNoStamp asked file source source' fault ⊎ LacksTime asked source source' fault
+SignedCause asked file source source' (verify.TooFewLogs wanted found) = LacksLogs asked file source source' wanted found
 SignedCause asked file source source' verify.InvalidBundle = LacksCertificate asked
 SignedCause asked file source source' verify.UnsupportedBundle =
     MeetsCertificate asked ⊎ IsUndescribed asked source source' verify.UnsupportedBundle

@@ -1,6 +1,6 @@
 -- The entries of a bundle under the logs that are trusted (RFC 6962, sections 2.1.1 and 3.2; C2SP tlog-checkpoint), and what they say of
 -- the bundle.
-use Rattle.std.specs.Prelude.{◌≡◌, Contains, List, [], ◌∷◌, ◌++◌, filter_map, Bool, true, false, if◌then◌else◌, ⊤, IsTrue}
+use Rattle.std.specs.Prelude.{◌≡◌, ◌≤◌, ℕ, Contains, List, [], ◌∷◌, ◌++◌, filter_map, Bool, true, false, if◌then◌else◌, ⊤, IsTrue}
 use Rattle.std.specs.Prelude.{Option, Some, None, Result, Ok, Err}
 use Rattle.std.specs.List.{cons_option}
 use Rattle.foundation.specs.Steps.{◌>>=◌}
@@ -8,13 +8,15 @@ use Rattle.jiff_core.specs.declared.timestamp.Timestamp.{Timestamp}
 use Rattle.sigstore_types_parts.specs.TimeRange.{contains}
 use Rattle.sigstore_types.specs.declared.bundle.Bundle.{Bundle}
 use Rattle.sigstore_types.specs.Bundle.{entries_in}
+use Rattle.sigstore_crypto_parts.specs.declared.log_ids.LogThreshold.{LogThreshold}
 use Rattle.sigstore_crypto_parts.specs.Crypto.{Crypto}
+use Rattle.sigstore_crypto_parts.specs.LogIds.{count_distinct, is_enough}
 use Rattle.sigstore_entries.specs.declared.entry.TransparencyLogEntry.{TransparencyLogEntry}
-use Rattle.sigstore_log.specs.Entry.{logged_of}
+use Rattle.sigstore_log.specs.Entry.{logged_of, log_of}
 use Rattle.sigstore_log.specs.Logged.{Logged}
 use Rattle.sigstore_log.specs.Promise.{told_time}
 use Rattle.sigstore_judgement.specs.declared.error.Error.{Error}
-use Rattle.sigstore_judgement.specs.declared.error.Error.TheVariants.{TransparencyLog}
+use Rattle.sigstore_judgement.specs.declared.error.Error.TheVariants.{TransparencyLog, TooFewLogs}
 use Rattle.sigstore_judgement.specs.declared.error.TransparencyLogError.TheVariants as log
 use Rattle.sigstore_binding.specs.declared.error.BindingError.{BindingError}
 use Rattle.sigstore_binding.specs.Cause.{BindingCause}
@@ -62,6 +64,29 @@ entries_judged_of grounds signer (entry ∷ entries) = do
 abbrev pub log_judged_of : Grounds → Signer → Bool → List TransparencyLogEntry → Result (List Timestamp) Error
 log_judged_of grounds signer true entries = entries_judged_of grounds signer entries
 log_judged_of grounds signer false entries = Ok []
+
+-- ---- in how many logs
+
+-- how many different logs signed the checkpoints of entries, each entry's by the log of the least id
+abbrev pub vouching_logs : Grounds → List TransparencyLogEntry → ℕ
+vouching_logs grounds entries =
+    count_distinct (filter_map (log_of grounds.crypto.accepts grounds.material.logs grounds.now) entries)
+
+-- where the policy verifies the log
+abbrev pub log_count_of : Grounds → Bool → List TransparencyLogEntry → ℕ
+log_count_of grounds true entries = vouching_logs grounds entries
+log_count_of grounds false entries = 0
+
+-- As many as are asked for: else whoever runs fewer could show one tree to the owner of a key and another to everyone else.
+abbrev pub logs_judged_of : Bool → LogThreshold → ℕ → Result ⊤ Error
+logs_judged_of true asked found = if is_enough asked found then Ok tt else Err (TooFewLogs asked.value found)
+logs_judged_of false asked found = Ok tt
+
+abbrev pub HasLogs : Grounds → LogThreshold → Bool → List TransparencyLogEntry → Type 0
+HasLogs grounds asked true entries = asked.value ≤ vouching_logs grounds entries
+HasLogs grounds asked false entries = ⊤
+
+-- ---- at which times
 
 -- the times that entries tell, where the policy verifies the log
 abbrev pub told_if : Bool → List TransparencyLogEntry → List Timestamp

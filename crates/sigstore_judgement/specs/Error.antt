@@ -25,7 +25,7 @@ use Rattle.sigstore_judgement.specs.declared.error.Error.TheVariants.{ArtifactMi
 use Rattle.sigstore_judgement.specs.declared.error.Error.TheVariants.{TransparencyLog, Timestamp, InvalidBundle}
 use Rattle.sigstore_judgement.specs.declared.error.Error.TheVariants.{UnsupportedBundle, InvalidTrustRoot, Types, Crypto}
 use Rattle.sigstore_judgement.specs.declared.error.Error.TheVariants.{Bundle, TrustRoot, TrustedCertificate, ArtifactRead}
-use Rattle.sigstore_judgement.specs.declared.error.Error.TheVariants.{NoMemory}
+use Rattle.sigstore_judgement.specs.declared.error.Error.TheVariants.{NoMemory, TooFewLogs}
 
 abbrev pub certificate_number_of : CertificateError → ℕ
 certificate_number_of Malformed = 6
@@ -90,6 +90,7 @@ number_of TrustRoot = 28
 number_of TrustedCertificate = 29
 number_of (ArtifactRead fault) = 30
 number_of NoMemory = 31
+number_of (TooFewLogs asked found) = 32
 
 -- the name as it is printed
 abbrev pub name_of : Error → List ℕ
@@ -111,6 +112,7 @@ name_of TrustRoot = codes "TrustRoot"
 name_of TrustedCertificate = codes "TrustedCertificate"
 name_of (ArtifactRead fault) = codes "ArtifactRead"
 name_of NoMemory = codes "NoMemory"
+name_of (TooFewLogs asked found) = codes "TooFewLogs"
 
 -- an unusable key, or a key and a digest that have no scheme
 abbrev pub error_of_crypto : CryptoError → Error

@@ -1,5 +1,5 @@
 -- What the judgement finds on its way, of which the report is made.
-use Rattle.std.specs.Prelude.{List, [], ◌∷◌, ◌++◌, Bool, false, ◌||◌, is_some, Option, Some, None, if◌then◌else◌}
+use Rattle.std.specs.Prelude.{ℕ, List, [], ◌∷◌, ◌++◌, Bool, false, ◌||◌, is_some, Option, Some, None, if◌then◌else◌}
 use Rattle.jiff_core.specs.declared.timestamp.Timestamp.{Timestamp}
 use Rattle.sigstore_types_parts.specs.TimeRange.{is_by}
 use Rattle.sigstore_certificate.specs.declared.policy.VerificationPolicy.{VerificationPolicy}
@@ -17,10 +17,24 @@ abbrev pub earliest_from : Option Timestamp → List Timestamp → Option Timest
 earliest_from first [] = first
 earliest_from first (time ∷ times) = earliest_from (Some (earlier first time)) times
 
--- What was found that vouches for a signer: the earliest time that a log promised, where the log is verified, and every time at which the
--- signature was there, by a log's promise or by an authority's token. Under a managed key the promises' times come first.
-abbrev pub times_of : List Timestamp → List Timestamp → Evidence
-times_of promised stamped = record { integrated_time = earliest_from None promised; times = promised ++ stamped }
+-- What was found that vouches for the holder of a key: the earliest time that a log promised, where the log is verified; every time at
+-- which the signature was there, by a log's promise, which come first, or by an authority's token; and in how many logs the entries stand.
+abbrev pub managed_evidence : List Timestamp → List Timestamp → ℕ → Evidence
+managed_evidence promised stamped logs = record {
+  integrated_time = earliest_from None promised;
+  times = promised ++ stamped;
+  sct_count = 0;
+  log_count = logs;
+}
+
+-- The same for the owner of a certificate, whose verified times are these; and how many logs of certificates promised it.
+abbrev pub owner_evidence : List Timestamp → ℕ → List Timestamp → ℕ → Evidence
+owner_evidence times scts promised logs = record {
+  integrated_time = earliest_from None promised;
+  times = times;
+  sct_count = scts;
+  log_count = logs;
+}
 
 -- ---- what an acceptance shows: what the certificate says, these times, and which checks the policy asked for
 
@@ -37,6 +51,8 @@ report_of (Managed policy) evidence = record {
   tlog_verified = policy.verify_tlog;
   identity_policy_checked = false;
   verified_timestamps = evidence.times;
+  sct_count = evidence.sct_count;
+  log_count = evidence.log_count;
 }
 report_of (Certified policy info certificate) evidence = record {
   certificate = Some info;
@@ -46,4 +62,6 @@ report_of (Certified policy info certificate) evidence = record {
   tlog_verified = policy.verify_tlog;
   identity_policy_checked = asks_name policy;
   verified_timestamps = evidence.times;
+  sct_count = evidence.sct_count;
+  log_count = evidence.log_count;
 }

@@ -1,5 +1,5 @@
 -- When a bundle is accepted, whoever signed it, by its artifact (Sigstore bundle format; FIPS 180-4, FIPS 186-5).
-use Rattle.std.specs.Prelude.{ℕ, List, [], Option, None, Result, Ok, Err}
+use Rattle.std.specs.Prelude.{ℕ, List, [], Option, Result, Ok, Err}
 use Rattle.foundation.specs.Steps.{◌>>=◌}
 use Rattle.sigstore_types_parts.specs.declared.hash_algorithm.HashAlgorithm.{HashAlgorithm}
 use Rattle.sigstore_types.specs.declared.bundle.Bundle.{Bundle}
@@ -19,9 +19,9 @@ use Rattle.sigstore_judgement.specs.declared.report.VerificationResult.{Verifica
 use Rattle.sigstore_judgement.specs.Artifact.{Artifact, Digests, digest_of, bytes_of, Kind, kind_of, read_kind}
 use Rattle.sigstore_judgement.specs.Claim.{Claim, claim_as, claim_of, needed_of}
 use Rattle.sigstore_judgement.specs.Content.{scheme_of, signs_digest, supported_of, signature_in, content_judged_of}
-use Rattle.sigstore_judgement.specs.Entries.{log_judged_of, entries_described_of}
+use Rattle.sigstore_judgement.specs.Entries.{log_judged_of, log_count_of, logs_judged_of, entries_described_of}
 use Rattle.sigstore_judgement.specs.Error.{by_crypto, by_certificate}
-use Rattle.sigstore_judgement.specs.Evidence.{earliest_from, times_of, report_of}
+use Rattle.sigstore_judgement.specs.Evidence.{managed_evidence, owner_evidence, report_of}
 use Rattle.sigstore_judgement.specs.Grounds.{Grounds, trust_in, Terms}
 use Rattle.sigstore_judgement.specs.Policy.{Meaning}
 use Rattle.sigstore_judgement.specs.Signer.{Signer, Managed, Certified, signer_as, key_in, signer_of}
@@ -69,25 +69,27 @@ prepared_of kind policy bundle = do
 
 -- ---- by the artifact
 
--- under a managed key: the entries, where the policy verifies the log, and the tokens of its signature
+-- under a managed key: the entries with the number of their logs, where the policy verifies the log, and the tokens of its signature
 unfoldable pub managed_vouched_of : Grounds → PublicKeyVerificationPolicy → Bundle → Result Evidence Error
 managed_vouched_of grounds policy bundle = do
   promised ← log_judged_of grounds (Managed policy) policy.verify_tlog (entries_in bundle)
+  _ ← logs_judged_of policy.verify_tlog policy.logs (log_count_of grounds policy.verify_tlog (entries_in bundle))
   stamped ← tokens_judged_of grounds (signature_in bundle.content) (tokens_in bundle)
-  Ok (times_of promised stamped)
+  Ok (managed_evidence promised stamped (log_count_of grounds policy.verify_tlog (entries_in bundle)))
 
 -- The certificates that a bundle brings beside the signing one: they may stand between it and an anchor, and are trusted in nothing.
 abbrev pub intermediates_in : Bundle → List (List ℕ)
 intermediates_in bundle = intermediates_of bundle.verification_material.content
 
--- Under a certificate: the verified times; the certificate at each of them, whether a certificate log saw it, and whom it names; then the
--- entries, where the policy verifies the log.
+-- Under a certificate: the verified times; the certificate at each of them, whether enough certificate logs saw it, and whom it names; then
+-- the entries with the number of their logs, where the policy verifies the log.
 unfoldable pub owner_vouched_of : Grounds → VerificationPolicy → CertificateInfo → List ℕ → Bundle → Result Evidence Error
 owner_vouched_of grounds policy info certificate bundle = do
   times ← verified_of grounds bundle
-  _ ← by_certificate (certified_of (trust_in grounds) policy info certificate (intermediates_in bundle) times)
+  scts ← by_certificate (certified_of (trust_in grounds) policy info certificate (intermediates_in bundle) times)
   promised ← log_judged_of grounds (Certified policy info certificate) policy.verify_tlog (entries_in bundle)
-  Ok (record { integrated_time = earliest_from None promised; times = times })
+  _ ← logs_judged_of policy.verify_tlog policy.logs (log_count_of grounds policy.verify_tlog (entries_in bundle))
+  Ok (owner_evidence times scts promised (log_count_of grounds policy.verify_tlog (entries_in bundle)))
 
 -- what vouches for the signer, and what it shows
 abbrev pub vouched_of : Grounds → Signer → Bundle → Result Evidence Error

@@ -9,6 +9,7 @@ pub mod Error
 pub mod Evidence
 pub mod Grounds
 pub mod Judged
+pub mod OneLog
 pub mod Opened
 pub mod Policy
 pub mod Promise

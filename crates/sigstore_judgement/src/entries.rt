@@ -1,12 +1,13 @@
 // The entries of a bundle under the logs that are trusted, and what they say of the bundle.
-ghost use Rattle.std.specs.Prelude.{◌≡◌, ◌≢◌, Ok, Err, IfOk, IfErr, OnOk};
+ghost use Rattle.std.specs.Prelude.{◌≡◌, ◌≢◌, Some, Ok, Err, IfOk, IfErr, OnOk, filter_map};
 ghost use Rattle.sigstore_types.specs.Bundle.{entries_in};
-ghost use Rattle.sigstore_log.specs.Entry.{logged_of};
+ghost use Rattle.sigstore_crypto_parts.specs.LogIds.{with_id, each_once, is_enough};
+ghost use Rattle.sigstore_log.specs.Entry.{logged_of, log_of};
 ghost use Rattle.sigstore_judgement.specs.Artifact.{digest_had};
 ghost use Rattle.sigstore_binding.specs.Described.{describes_of};
 ghost use Rattle.sigstore_binding.specs.Rows.{signed_as};
 ghost use Rattle.sigstore_binding.specs.Verifier.{readings_by, signatory_as};
-ghost use Rattle.sigstore_judgement.specs.Entries.{is_valid_at, timely_of, entry_judged_of, with_time, behind, entries_judged_of, log_judged_of, each_described_of, entries_described_of};
+ghost use Rattle.sigstore_judgement.specs.Entries.{is_valid_at, timely_of, entry_judged_of, with_time, behind, entries_judged_of, log_judged_of, log_count_of, logs_judged_of, each_described_of, entries_described_of};
 ghost use Rattle.sigstore_judgement.specs.Error.{error_of_log, error_of_binding, by_log, by_binding};
 ghost use Rattle.sigstore_judgement.specs.Opened.{content_as};
 ghost use Rattle.sigstore_judgement.specs.Grounds.{grounds_by};
@@ -20,9 +21,9 @@ use crate::signing::{Signing, validity_of};
 use foundation::{NoMemory, Sequence};
 use jiff::Timestamp;
 use sigstore_binding::{BindingError, Signed, SignedBy, describe_entry};
-use sigstore_crypto_parts::CryptoProvider;
+use sigstore_crypto_parts::{CryptoProvider, LogIds, LogThreshold};
 use sigstore_entries::TransparencyLogEntry;
-use sigstore_log::{LogError, judge_entry};
+use sigstore_log::{EntryEvidence, LogError, judge_entry};
 use sigstore_types::Bundle;
 use sigstore_types_parts::Armor;
 use std::alloc::Global;
@@ -72,13 +73,14 @@ fn check_timely(signer: &Signing<'_>, time: Option<Timestamp>) -> Result<Option<
     }
 }
 
-// The time that an entry's log promised, where the entry is logged.
+// What an entry shows, where it is logged.
 fn check_logged<C: CryptoProvider, M: Armor>(
     alloc: Global,
     grounds: &Grounds<'_, C, M>,
     entry: &TransparencyLogEntry,
-) -> Result<Option<Timestamp>, Error>
-    ensures ok { IfOk result (λ time. by_log (logged_of (C.accepts grounds.now.provider.now) grounds.now.material.now.logs grounds.now.moment entry.now) ≡ Ok time) }
+) -> Result<EntryEvidence, Error>
+    ensures ok { IfOk result (λ shown. by_log (logged_of (C.accepts grounds.now.provider.now) grounds.now.material.now.logs grounds.now.moment entry.now) ≡ Ok shown.time) }
+    ensures log { IfOk result (λ shown. log_of (C.accepts grounds.now.provider.now) grounds.now.material.now.logs grounds.now.moment entry.now ≡ Some shown.log) }
     ensures err { IfErr result (λ e. e ≢ Error.NoMemory →
         by_log (logged_of (C.accepts grounds.now.provider.now) grounds.now.material.now.logs grounds.now.moment entry.now) ≡ Err e) }
 {
@@ -89,24 +91,26 @@ fn check_logged<C: CryptoProvider, M: Armor>(
         grounds.moment,
         entry,
     ) {
-        Ok(time) => Ok(time),
+        Ok(shown) => Ok(shown),
         Err(fault) => Err(refused(fault)),
     }
 }
 
-// And whether it is a time of the signer's.
+// And whether the time that its log promised is one of the signer's.
 fn check_entry<C: CryptoProvider, M: Armor>(
     alloc: Global,
     grounds: &Grounds<'_, C, M>,
     signer: &Signing<'_>,
     entry: &TransparencyLogEntry,
-) -> Result<Option<Timestamp>, Error>
-    ensures ok { IfOk result (λ time. entry_judged_of (grounds_by C.CryptoProvider M.Armor grounds.now) (signer_as signer.now) entry.now ≡ Ok time) }
+) -> Result<EntryEvidence, Error>
+    ensures ok { IfOk result (λ shown. entry_judged_of (grounds_by C.CryptoProvider M.Armor grounds.now) (signer_as signer.now) entry.now ≡ Ok shown.time) }
+    ensures log { IfOk result (λ shown. log_of (C.accepts grounds.now.provider.now) grounds.now.material.now.logs grounds.now.moment entry.now ≡ Some shown.log) }
     ensures err { IfErr result (λ e. e ≢ Error.NoMemory →
         entry_judged_of (grounds_by C.CryptoProvider M.Armor grounds.now) (signer_as signer.now) entry.now ≡ Err e) }
 {
-    let time = check_logged(alloc, grounds, entry)?;
-    check_timely(signer, time)
+    let shown = check_logged(alloc, grounds, entry)?;
+    check_timely(signer, shown.time)?;
+    Ok(shown)
 }
 
 pub(crate) fn add_time(
@@ -122,27 +126,39 @@ pub(crate) fn add_time(
 }
 
 // Each entry has to be logged: a good one doesn't cover for one that is made up.
-#[tactic(auto, using(crate::proofs::Behind::behind_one, crate::proofs::Behind::behind_all))]
+#[tactic(auto, using(crate::proofs::Behind::behind_one, crate::proofs::Behind::behind_all, crate::proofs::Behind::one_more))]
 fn check_entries<C: CryptoProvider, M: Armor>(
     alloc: Global,
     grounds: &Grounds<'_, C, M>,
     signer: &Signing<'_>,
     entries: &[TransparencyLogEntry],
     times: &mut Sequence<Timestamp>,
+    logs: &mut LogIds,
 ) -> Result<(), Error>
+    ensures logs { OnOk result (logs.new.ids ≡ each_once logs.old.ids (filter_map (log_of (C.accepts grounds.now.provider.now) grounds.now.material.now.logs grounds.now.moment) entries.now)) }
     ensures ok { OnOk result (behind times.old (entries_judged_of (grounds_by C.CryptoProvider M.Armor grounds.now) (signer_as signer.now) entries.now) ≡ Ok times.new) }
     ensures err { IfErr result (λ e. e ≢ Error.NoMemory →
         behind times.old (entries_judged_of (grounds_by C.CryptoProvider M.Armor grounds.now) (signer_as signer.now) entries.now) ≡ Err e) }
 {
     'entries: for entry in entries {
-        let time = check_entry(alloc, grounds, signer, entry)?;
-        add_time(time, times)?;
+        let shown = check_entry(alloc, grounds, signer, entry)?;
+        add_time(shown.time, times)?;
+        logs.add(&shown.log)?;
     }
     Ok(())
 }
 
+/// What the entries of a bundle show.
+#[derive(Drop)]
+pub(crate) struct LogEvidence {
+    /// The times that logs promised, in the entries' order.
+    pub(crate) times: Sequence<Timestamp>,
+    /// In how many different logs the entries stand.
+    pub(crate) count: u64,
+}
+
 /// Where the log is to be verified, whether each entry is logged by the trusted logs at this moment, at a time of the
-/// signer's, and the times that they promised. Errors: those of the first entry that isn't.
+/// signer's, and what they show. Errors: those of the first entry that isn't.
 #[tactic(auto, using(crate::proofs::Behind::behind_nothing))]
 pub(crate) fn check_log<C: CryptoProvider, M: Armor>(
     alloc: Global,
@@ -150,16 +166,38 @@ pub(crate) fn check_log<C: CryptoProvider, M: Armor>(
     signer: &Signing<'_>,
     verify_tlog: bool,
     entries: &[TransparencyLogEntry],
-) -> Result<Sequence<Timestamp>, Error>
-    ensures ok { IfOk result (λ times. log_judged_of (grounds_by C.CryptoProvider M.Armor grounds.now) (signer_as signer.now) verify_tlog entries.now ≡ Ok times) }
+) -> Result<LogEvidence, Error>
+    ensures ok { IfOk result (λ shown. log_judged_of (grounds_by C.CryptoProvider M.Armor grounds.now) (signer_as signer.now) verify_tlog entries.now ≡ Ok shown.times) }
+    ensures count { IfOk result (λ shown. shown.count ≡ log_count_of (grounds_by C.CryptoProvider M.Armor grounds.now) verify_tlog entries.now) }
     ensures err { IfErr result (λ e. e ≢ Error.NoMemory →
         log_judged_of (grounds_by C.CryptoProvider M.Armor grounds.now) (signer_as signer.now) verify_tlog entries.now ≡ Err e) }
 {
     let mut times = Sequence::new(alloc);
+    let mut logs = LogIds::new(alloc);
     if verify_tlog {
-        check_entries(alloc, grounds, signer, entries, &mut times)?;
+        check_entries(alloc, grounds, signer, entries, &mut times, &mut logs)?;
     }
-    Ok(times)
+    let count = logs.count();
+    Ok(LogEvidence { times, count })
+}
+
+/// Where the log is to be verified, whether the entries stand in as many different logs as are asked for. Errors:
+/// `TooFewLogs`.
+pub(crate) fn check_log_count(
+    verify_tlog: bool,
+    asked: LogThreshold,
+    found: u64,
+) -> Result<(), Error>
+    ensures { result ≡ logs_judged_of verify_tlog asked found }
+{
+    if verify_tlog && !asked.is_met_by(found) {
+        Err(Error::TooFewLogs {
+            asked: asked.number(),
+            found,
+        })
+    } else {
+        Ok(())
+    }
 }
 
 // What a refusal of what an entry says is of its bundle.

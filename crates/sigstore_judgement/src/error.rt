@@ -33,7 +33,7 @@ pub enum CertificateError {
         time: Timestamp,
         not_after: Timestamp,
     },
-    /// The certificate has not exactly one timestamp of a certificate log, or it isn't good (RFC 6962, section 3.2).
+    /// The certificate has no timestamps of certificate logs, or too few that are good (RFC 6962, section 3.2).
     Sct(SctRule),
 }
 
@@ -102,8 +102,8 @@ pub enum Error {
     /// The policy is for a key and the bundle has a certificate; or the envelope's payload is of another type, or its subjects tell no digest that can be had; or an entry is of a
     /// kind that isn't compared with the content, or of another digest's algorithm.
     UnsupportedBundle,
-    /// The trust file was read, and can't be used; or none of its certificate logs has a key of the scheme of the
-    /// certificate's timestamp.
+    /// The trust file was read, and can't be used; or none of its certificate logs has a key of a scheme of the
+    /// certificate's timestamps.
     InvalidTrustRoot,
     /// A value of the trust file or the bundle is outside its type's grammar.
     Types,
@@ -117,6 +117,12 @@ pub enum Error {
     TrustedCertificate,
     /// A read of the artifact failed, or it is longer than the limit.
     ArtifactRead(ReadError),
+    /// The entries stand in fewer different logs than the policy asks for: whoever runs these few could show one tree to
+    /// the owner of a key and another to everyone else.
+    TooFewLogs {
+        asked: u64,
+        found: u64,
+    },
     /// An allocation was refused.
     NoMemory,
 }
@@ -225,6 +231,7 @@ impl Error {
             Error::TrustedCertificate => 29,
             Error::ArtifactRead(_) => 30,
             Error::NoMemory => 31,
+            Error::TooFewLogs { .. } => 32,
         }
     }
 
@@ -251,6 +258,7 @@ impl Error {
             Error::TrustedCertificate => "TrustedCertificate",
             Error::ArtifactRead(_) => "ArtifactRead",
             Error::NoMemory => "NoMemory",
+            Error::TooFewLogs { .. } => "TooFewLogs",
         }
     }
 }
@@ -377,6 +385,7 @@ impl fmt::Display for Error {
             Error::TrustedCertificate => "TrustedCertificate",
             Error::ArtifactRead(_) => "ArtifactRead",
             Error::NoMemory => "NoMemory",
+            Error::TooFewLogs { .. } => "TooFewLogs",
         })
     }
 }

@@ -17,6 +17,10 @@ pub struct Evidence {
     /// Under a key the times that logs promised, in the entries' order, then those that authorities stamped, in the
     /// tokens' order; under a certificate those of the tokens first.
     pub times: Sequence<Timestamp>,
+    /// How many different certificate logs promised the certificate, where that is verified.
+    pub sct_count: u64,
+    /// In how many different logs the entries stand, where the log is verified.
+    pub log_count: u64,
 }
 
 fn earlier(first: Option<Timestamp>, time: Timestamp) -> Timestamp
@@ -65,6 +69,8 @@ pub(crate) fn report(signer: Signing<'_>, evidence: Evidence) -> VerificationRes
     let Evidence {
         integrated_time,
         times,
+        sct_count,
+        log_count,
     } = evidence;
     match signer {
         Signing::Managed(policy) => VerificationResult {
@@ -75,6 +81,8 @@ pub(crate) fn report(signer: Signing<'_>, evidence: Evidence) -> VerificationRes
             tlog_verified: policy.verify_tlog,
             identity_policy_checked: false,
             verified_timestamps: times,
+            sct_count,
+            log_count,
         },
         Signing::Certified(policy, info, _) => VerificationResult {
             certificate: Some(info),
@@ -84,6 +92,8 @@ pub(crate) fn report(signer: Signing<'_>, evidence: Evidence) -> VerificationRes
             tlog_verified: policy.verify_tlog,
             identity_policy_checked: asks_name(policy),
             verified_timestamps: times,
+            sct_count,
+            log_count,
         },
     }
 }

@@ -6,7 +6,7 @@ ghost use Rattle.sigstore_judgement.specs.Artifact.{kind_in, digest_had, bytes_h
 ghost use Rattle.sigstore_judgement.specs.Claim.{claim_as, needed_of};
 ghost use Rattle.sigstore_judgement.specs.Content.{signs_digest, supported_of};
 ghost use Rattle.sigstore_judgement.specs.Error.{by_crypto, by_certificate};
-ghost use Rattle.sigstore_judgement.specs.Evidence.{report_of};
+ghost use Rattle.sigstore_judgement.specs.Evidence.{managed_evidence, owner_evidence, report_of};
 ghost use Rattle.sigstore_judgement.specs.Grounds.{grounds_by, trust_in};
 ghost use Rattle.sigstore_judgement.specs.Judged.{ready_as, ready_with, claimed_of, ready_of, prepared_of, managed_vouched_of, intermediates_in, owner_vouched_of, vouched_of, judged_had};
 ghost use Rattle.sigstore_judgement.specs.Policy.{meaning_of};
@@ -15,7 +15,7 @@ ghost use Rattle.sigstore_judgement.specs.Signer.{Managed, Certified, signer_as}
 use crate::artifact::{Had, Handed};
 use crate::claim::{Claim, needed, read_claim};
 use crate::content::{check_supported, judge_content, open_content, scheme_of, signature_in};
-use crate::entries::{check_described, check_log};
+use crate::entries::{check_described, check_log, check_log_count};
 use crate::error::{Error, uncertified};
 use crate::evidence::{Evidence, earliest, joined, report};
 use crate::grounds::Grounds;
@@ -160,17 +160,20 @@ fn managed_vouched<C: CryptoProvider, M: Armor>(
     ensures err { IfErr result (λ e. e ≢ Error.NoMemory → managed_vouched_of (grounds_by C.CryptoProvider M.Armor grounds.now) policy.now bundle.now ≡ Err e) }
 {
     let entries = bundle.verification_material.tlog_entries.as_slice();
-    let promised = check_log(alloc, grounds, signer, policy.verify_tlog, entries)?;
-    let integrated_time = earliest(promised.as_slice());
+    let logged = check_log(alloc, grounds, signer, policy.verify_tlog, entries)?;
+    check_log_count(policy.verify_tlog, policy.logs, logged.count)?;
+    let integrated_time = earliest(logged.times.as_slice());
     let tokens = bundle.verification_material.rfc3161_timestamps.as_slice();
     let stamped = check_tokens(alloc, grounds, signature_in(&bundle.content), tokens)?;
     Ok(Evidence {
         integrated_time,
-        times: joined(promised, stamped.as_slice())?,
+        times: joined(logged.times, stamped.as_slice())?,
+        sct_count: 0,
+        log_count: logged.count,
     })
 }
 
-// The certificate at the verified times, whether a certificate log saw it, and whom it names.
+// How many certificate logs saw the certificate, where it is valid at the verified times and names whom it has to.
 fn check_certificate<C: CryptoProvider, M: Armor>(
     alloc: Global,
     grounds: &Grounds<'_, C, M>,
@@ -179,9 +182,9 @@ fn check_certificate<C: CryptoProvider, M: Armor>(
     certificate: &DerCertificate,
     bundle: &Bundle,
     times: &[Timestamp],
-) -> Result<(), Error>
-    ensures ok { IfOk result (λ x.
-        by_certificate (certified_of (trust_in (grounds_by C.CryptoProvider M.Armor grounds.now)) policy.now info.now certificate.now (intermediates_in bundle.now) times.now) ≡ Ok x) }
+) -> Result<u64, Error>
+    ensures ok { IfOk result (λ scts.
+        by_certificate (certified_of (trust_in (grounds_by C.CryptoProvider M.Armor grounds.now)) policy.now info.now certificate.now (intermediates_in bundle.now) times.now) ≡ Ok scts) }
     ensures err { IfErr result (λ e. e ≢ Error.NoMemory →
         by_certificate (certified_of (trust_in (grounds_by C.CryptoProvider M.Armor grounds.now)) policy.now info.now certificate.now (intermediates_in bundle.now) times.now) ≡ Err e) }
 {
@@ -196,7 +199,7 @@ fn check_certificate<C: CryptoProvider, M: Armor>(
         bundle.intermediates(),
         times,
     ) {
-        Ok(()) => Ok(()),
+        Ok(scts) => Ok(scts),
         Err(fault) => Err(uncertified(fault)),
     }
 }
@@ -219,7 +222,7 @@ fn owner_vouched<C: CryptoProvider, M: Armor>(
         owner_vouched_of (grounds_by C.CryptoProvider M.Armor grounds.now) policy.now info.now certificate.now bundle.now ≡ Err e) }
 {
     let times = verified_times(alloc, grounds, bundle)?;
-    check_certificate(
+    let sct_count = check_certificate(
         alloc,
         grounds,
         policy,
@@ -229,11 +232,14 @@ fn owner_vouched<C: CryptoProvider, M: Armor>(
         times.as_slice(),
     )?;
     let entries = bundle.verification_material.tlog_entries.as_slice();
-    let promised = check_log(alloc, grounds, signer, policy.verify_tlog, entries)?;
-    let integrated_time = earliest(promised.as_slice());
+    let logged = check_log(alloc, grounds, signer, policy.verify_tlog, entries)?;
+    check_log_count(policy.verify_tlog, policy.logs, logged.count)?;
+    let integrated_time = earliest(logged.times.as_slice());
     Ok(Evidence {
         integrated_time,
         times,
+        sct_count,
+        log_count: logged.count,
     })
 }
 
@@ -284,10 +290,10 @@ fn accepted<C: CryptoProvider, M: Armor>(
 }
 
 /// The judgement of what was prepared over what is had of the artifact. The log comes first: what was never logged
-/// isn't worth a look at its signature. Errors, in order: `TransparencyLog` for the first entry that isn't logged,
-/// where the policy verifies the log; `Timestamp` for the first token that is no trusted authority's; those of
-/// `judge_content`; those of `check_described` for the first entry that isn't of this bundle. Under a certificate those
-/// of `verified_times`, of `judge_certificate` and of `check_log` come first.
+/// isn't worth a look at its signature. Errors, in order: where the policy verifies the log, `TransparencyLog` for the
+/// first entry that isn't logged, and `TooFewLogs`; `Timestamp` for the first token that is no trusted authority's; those
+/// of `judge_content`; those of `check_described` for the first entry that isn't of this bundle. Under a certificate those
+/// of `verified_times`, of `judge_certificate`, of `check_log` and of `check_log_count` come first.
 pub(crate) fn judge<C: CryptoProvider, M: Armor>(
     alloc: Global,
     grounds: &Grounds<'_, C, M>,

@@ -1,6 +1,7 @@
 // Laws of the definitions. A call does nothing.
 ghost use Rattle.sigstore_judgement.specs.Accepts.{AcceptsExactly};
 ghost use Rattle.sigstore_judgement.specs.Agree.{BlobAgrees};
+ghost use Rattle.sigstore_judgement.specs.OneLog.{OneLogSuffices};
 ghost use Rattle.sigstore_judgement.specs.Unlogged.{LogRefusals};
 ghost use Rattle.sigstore_judgement.specs.Usable.{UsableExactly};
 
@@ -19,6 +20,11 @@ pub fn blob_and_reader_agree()
 /// log's, the promised time isn't the certificate's, or it isn't of the bundle's signature, and names why.
 pub fn log_refusals_have_causes()
     ensures { LogRefusals }
+{}
+
+/// The law of one log: where one log is asked for and each entry is logged, the number of logs refuses nothing.
+pub fn one_log_suffices()
+    ensures { OneLogSuffices }
 {}
 
 /// A verifier is made of exactly the trust files that are usable, told without any order of checks: each

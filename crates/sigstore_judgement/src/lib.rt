@@ -22,7 +22,10 @@ mod verifier;
 
 pub use error::{CertificateError, Error, TimestampError, TransparencyLogError};
 pub use evidence::Evidence;
-pub use laws::{accepts_exactly, blob_and_reader_agree, log_refusals_have_causes, usable_exactly};
+pub use laws::{
+    accepts_exactly, blob_and_reader_agree, log_refusals_have_causes, one_log_suffices,
+    usable_exactly,
+};
 pub use policy::{Policy, PolicyKind, PublicKeyVerificationPolicy};
 pub use report::{Kept, VerificationResult};
 pub use sigstore_certificate::{

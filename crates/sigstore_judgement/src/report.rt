@@ -20,6 +20,8 @@ pub struct VerificationResult {
     pub tlog_verified: bool,
     pub identity_policy_checked: bool,
     pub verified_timestamps: Sequence<Timestamp>,
+    pub sct_count: u64,
+    pub log_count: u64,
 }
 
 impl VerificationResult {
@@ -67,7 +69,7 @@ impl VerificationResult {
         self.certificate_verified
     }
 
-    /// Whether the certificate's SCT was verified.
+    /// Whether the certificate's SCTs were verified.
     pub fn sct_verified(&self) -> bool
         ensures { result ≡ self.now.sct_verified }
     {
@@ -94,6 +96,21 @@ impl VerificationResult {
     {
         self.verified_timestamps.as_slice()
     }
+
+    /// How many different certificate logs promised the certificate; 0 where its SCTs weren't verified.
+    pub fn sct_count(&self) -> u64
+        ensures { result ≡ self.now.sct_count }
+    {
+        self.sct_count
+    }
+
+    /// In how many different logs the entries stand, where an entry counts for the log of the least id of those that
+    /// signed its checkpoint; 0 where the log wasn't verified.
+    pub fn log_count(&self) -> u64
+        ensures { result ≡ self.now.log_count }
+    {
+        self.log_count
+    }
 }
 
 impl Duplicate for VerificationResult {
@@ -106,6 +123,8 @@ impl Duplicate for VerificationResult {
             tlog_verified: self.tlog_verified,
             identity_policy_checked: self.identity_policy_checked,
             verified_timestamps: self.verified_timestamps.copied(alloc)?,
+            sct_count: self.sct_count,
+            log_count: self.log_count,
         })
     }
 }

@@ -5,4 +5,5 @@ pub mod LoggedLaw
 pub mod Looking
 pub mod OnePlaceLaw
 pub mod Promising
+pub mod Signer
 pub mod Signing

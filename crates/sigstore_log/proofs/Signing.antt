@@ -25,7 +25,7 @@ one_meant : (test : VerificationKey → Bool) (key : VerificationKey) (keys : Li
 one_meant test key keys true = refl
 one_meant test key keys false = refl
 
-any_meant : (test : VerificationKey → Bool) (hint : List ℕ) (now : Timestamp) (logs : Ring) → list_any test (keys_meant hint now logs) ≡ list_any (passes test hint now) logs
+pub any_meant : (test : VerificationKey → Bool) (hint : List ℕ) (now : Timestamp) (logs : Ring) → list_any test (keys_meant hint now logs) ≡ list_any (passes test hint now) logs
 any_meant test hint now [] = refl
 any_meant test hint now (log ∷ logs) =
     one_meant test log.1.key (keys_meant hint now logs) (is_meant hint now log) ∙ ap (λ b. passes test hint now log || b) (any_meant test hint now logs)

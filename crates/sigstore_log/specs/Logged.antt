@@ -1,6 +1,8 @@
 -- What it means that an entry is logged, told without any order of checks (RFC 6962, sections 2.1.1 and 3.2; C2SP tlog-checkpoint).
-use Rattle.std.specs.Prelude.{◌≡◌, ◌↔◌, ℕ, List, length, true, ⊤, Option, Some, None, Ok, IsTrue, Contains}
+use Rattle.std.specs.Prelude.{◌≡◌, ◌↔◌, ℕ, List, length, true, false, ⊤, Option, Some, None, Ok, IsTrue, Contains}
+use Rattle.std.specs.Ordering.{is_gt}
 use Rattle.jiff_core.specs.declared.timestamp.Timestamp.{Timestamp}
+use Rattle.sigstore_types_parts.specs.Entries.{text_cmp}
 use Rattle.sigstore_crypto_parts.specs.declared.key.VerificationKey.{VerificationKey}
 use Rattle.sigstore_crypto_parts.specs.declared.keyring.HeldKey.{HeldKey}
 use Rattle.sigstore_crypto_parts.specs.Good.{Judge, is_good}
@@ -17,7 +19,7 @@ use Rattle.sigstore_entries.specs.Checkpoint.{signed_data_of}
 use Rattle.sigstore_entries.specs.Promise.{payload_of}
 use Rattle.sigstore_log.specs.Entry.{logged_of}
 use Rattle.sigstore_log.specs.Inclusion.{Place, place_of}
-use Rattle.sigstore_log.specs.Signed.{looked_at}
+use Rattle.sigstore_log.specs.Signed.{looked_at, signer_of}
 use Rattle.sigstore_log.specs.Promise.{key_of, tells_time, is_past_or_now, told_time}
 
 -- some line that is looked at has the first four bytes of a trusted log's id, the log's window has started by now, and the line's
@@ -30,6 +32,25 @@ pub record SignedBy (accepts : Judge) (logs : Ring) (now : Timestamp) (checkpoin
   pub trusted : Contains logs (id, log)
   pub meant : IsTrue (is_meant line.key_id now (id, log))
   pub good : IsTrue (is_good accepts log.key (signed_data_of checkpoint) line.signature)
+
+-- the same of this log
+pub record IsSigner (accepts : Judge) (logs : Ring) (now : Timestamp) (checkpoint : Checkpoint) (id : List ℕ) : Type 0 where
+  pub line : CheckpointSignature
+  pub among : Contains (looked_at checkpoint.signatures) line
+  pub log : HeldKey
+  pub trusted : Contains logs (id, log)
+  pub meant : IsTrue (is_meant line.key_id now (id, log))
+  pub good : IsTrue (is_good accepts log.key (signed_data_of checkpoint) line.signature)
+
+-- no log of an id that is less, by its bytes, signed it
+abbrev pub IsLeast : Judge → Ring → Timestamp → Checkpoint → List ℕ → Type 0
+IsLeast accepts logs now checkpoint id =
+    (other : List ℕ) → IsSigner accepts logs now checkpoint other → is_gt (text_cmp id other) ≡ false
+
+-- the log of a checkpoint is, of those that signed it, the one of the least id
+abbrev pub SignerExactly : Type 0
+SignerExactly = (accepts : Judge) (logs : Ring) (now : Timestamp) (checkpoint : Checkpoint) (id : List ℕ)
+    → (signer_of accepts logs now checkpoint ≡ Some id) ↔ (IsSigner accepts logs now checkpoint id × IsLeast accepts logs now checkpoint id)
 
 -- the tree in which the entry was found is the checkpoint's: its root is the proof's; for hashedrekord 0.0.2 it was found by the
 -- checkpoint's own

@@ -1,5 +1,5 @@
 -- Whose signatures a checkpoint has (C2SP tlog-checkpoint over signed-note), and which checkpoint an inclusion proof is of.
-use Rattle.std.specs.Prelude.{ℕ, List, Bool, true, ◌&&◌, bytes_eq, if◌then◌else◌, Option, Some, None, Result, Ok, Err}
+use Rattle.std.specs.Prelude.{ℕ, List, [], ◌∷◌, Bool, true, ◌&&◌, bytes_eq, if◌then◌else◌, Option, Some, None, Result, Ok, Err}
 use Rattle.std.specs.Prelude.{⊤, take}
 use Rattle.std.specs.List.{list_any}
 use Rattle.sha2.specs.Sha256.{sha256}
@@ -11,7 +11,7 @@ use Rattle.sigstore_crypto_parts.specs.declared.error.CheckpointFault.TheVariant
 use Rattle.sigstore_crypto_parts.specs.declared.key.VerificationKey.{VerificationKey}
 use Rattle.sigstore_crypto_parts.specs.Good.{Judge, is_good}
 use Rattle.sigstore_crypto_parts.specs.Key.{spki_key_of}
-use Rattle.sigstore_crypto_parts.specs.Keyring.{Ring, keys_meant}
+use Rattle.sigstore_crypto_parts.specs.Keyring.{Ring, keys_meant, lesser, least_signer_of}
 use Rattle.sigstore_entries.specs.declared.checkpoint.Checkpoint.{Checkpoint}
 use Rattle.sigstore_entries.specs.declared.inclusion_proof.InclusionProof.{InclusionProof}
 use Rattle.sigstore_entries.specs.declared.kind_version.KindVersion.{KindVersion}
@@ -43,7 +43,27 @@ is_vouched accepts logs now signed line = is_good_by accepts (keys_meant line.ke
 abbrev pub is_signed_by : Judge → Ring → Timestamp → Checkpoint → Bool
 is_signed_by accepts logs now checkpoint = list_any (is_vouched accepts logs now (signed_data_of checkpoint)) (looked_at checkpoint.signatures)
 
+-- ---- which of the logs it was
+
+-- the log of which a line is: of those that its hint means and under whose key it is good, the one of the least id
+abbrev pub line_signer : Judge → Ring → Timestamp → List ℕ → CheckpointSignature → Option (List ℕ)
+line_signer accepts logs now signed line = least_signer_of accepts line.key_id now signed line.signature logs
+
+-- the least of one that was found, and of those of lines
+abbrev pub least_signer_in : (CheckpointSignature → Option (List ℕ)) → Option (List ℕ) → List CheckpointSignature → Option (List ℕ)
+least_signer_in signer found [] = found
+least_signer_in signer found (line ∷ lines) = least_signer_in signer (lesser found (signer line)) lines
+
+-- A checkpoint is one log's: of those that signed it the one of the least id. Else several logs that sign one tree would count as several.
+abbrev pub signer_of : Judge → Ring → Timestamp → Checkpoint → Option (List ℕ)
+signer_of accepts logs now checkpoint =
+    least_signer_in (line_signer accepts logs now (signed_data_of checkpoint)) None (looked_at checkpoint.signatures)
+
 -- ---- the checkpoint of a proof
+
+abbrev pub proof_signer : Judge → Ring → Timestamp → Option Checkpoint → Option (List ℕ)
+proof_signer accepts logs now None = None
+proof_signer accepts logs now (Some checkpoint) = signer_of accepts logs now checkpoint
 
 -- the proof is of the checkpoint's tree (else the signature would be of another tree than that in which the entry was found); that of
 -- hashedrekord 0.0.2 was found in the checkpoint's own

@@ -1,53 +1,23 @@
 // Whose signatures a checkpoint has.
-ghost use Rattle.std.specs.Prelude.{◌≡◌, ◌≢◌, Ok, Err, IfOk, IfErr, Result, ⊤, List, ℕ};
+ghost use Rattle.std.specs.Prelude.{◌≡◌, ◌≢◌, Some, None, is_some, Ok, Err, IfOk, IfErr, OnOk, Result, ⊤, List, ℕ};
 ghost use Rattle.std.specs.List.{list_any};
-ghost use Rattle.sigstore_crypto_parts.specs.Coming.{coming};
 ghost use Rattle.sigstore_crypto_parts.specs.Good.{Judge, is_good};
+ghost use Rattle.sigstore_crypto_parts.specs.Keyring.{lesser, least_signer_of};
 ghost use Rattle.sigstore_crypto_parts.specs.declared.error.Error.{Error as CryptoError};
 ghost use Rattle.sigstore_crypto_parts.specs.declared.error.Error.TheVariants as crypto;
 ghost use Rattle.sigstore_entries.specs.Checkpoint.{signed_data_of};
-ghost use Rattle.sigstore_log.specs.Signed.{is_good_by, is_vouched, is_signed_by, is_of_tree, checkpoint_judged, has_hint, is_line_good, hinted_of, looked_at, verified_of};
+ghost use Rattle.sigstore_log.specs.Signed.{looked_at, is_signed_by, line_signer, least_signer_in, signer_of, proof_signer, is_of_tree, checkpoint_judged};
+ghost use Rattle.sigstore_log.specs.Signed.{has_hint, is_line_good, hinted_of, verified_of};
 
 use crate::error::LogError;
 use jiff::Timestamp;
 use sigstore_crypto_parts::{
-    CheckpointFault, CryptoProvider, Error, HashedMessage, Keyring, KeysByHint, VerificationKey,
+    CheckpointFault, CryptoProvider, Error, HashedMessage, Keyring, VerificationKey,
     compute_key_hint,
 };
 use sigstore_entries::{Checkpoint, CheckpointSignature, InclusionProof, KindVersion};
-use sigstore_types_parts::{DerPublicKey, KeyHint, SignatureBytes};
+use sigstore_types_parts::{DerPublicKey, KeyHint, Sha256Hash};
 use std::alloc::Global;
-
-// Whether one of the keys makes a signature good.
-fn is_good_by<C: CryptoProvider>(
-    provider: &C,
-    keys: KeysByHint<'_>,
-    message: &HashedMessage<'_>,
-    signature: &SignatureBytes,
-) -> bool
-    ensures { result ≡ is_good_by (C.accepts provider.now) (coming keys.entry) message.now signature.now }
-{
-    'keys: for key in keys {
-        if key.verify_hashed(provider, message, signature).is_ok() {
-            return true;
-        }
-    }
-    false
-}
-
-// Whether a line's signature is that of a log that its hint means, whose window has started by now.
-fn is_vouched<C: CryptoProvider>(
-    provider: &C,
-    logs: &Keyring,
-    now: Timestamp,
-    signed: &HashedMessage<'_>,
-    line: &CheckpointSignature,
-) -> bool
-    ensures { result ≡ is_vouched (C.accepts provider.now) logs.now now signed.now line.now }
-{
-    let keys = logs.keys_by_hint(&line.key_id, now);
-    is_good_by(provider, keys, signed, &line.signature)
-}
 
 // The lines that are looked at.
 #[tactic(auto, using(crate::proofs::Looking::first_hundred))]
@@ -58,21 +28,62 @@ fn looked_at(lines: &[CheckpointSignature]) -> &[CheckpointSignature]
     first
 }
 
-/// Whether one of these logs signed a checkpoint: of its first hundred lines some line has the first four bytes of
-/// a log's id, the log's window has started by now, and the line's signature is good under its key (C2SP
-/// tlog-checkpoint over signed-note). The text's digests are taken once.
-pub fn is_signed_by<C: CryptoProvider>(
+// The lesser of two ids, by their bytes.
+fn lesser(found: Option<Sha256Hash>, other: Option<Sha256Hash>) -> Option<Sha256Hash>
+    ensures { result ≡ lesser found other }
+{
+    let Some(id) = found else {
+        return other;
+    };
+    let Some(another) = other else {
+        return Some(id);
+    };
+    if id > another {
+        Some(another)
+    } else {
+        Some(id)
+    }
+}
+
+// The least id of the logs of lines.
+fn least_signer_in<C: CryptoProvider>(
+    provider: &C,
+    logs: &Keyring,
+    now: Timestamp,
+    signed: &HashedMessage<'_>,
+    lines: &[CheckpointSignature],
+) -> Option<Sha256Hash>
+    ensures { result ≡ least_signer_in (line_signer (C.accepts provider.now) logs.now now signed.now) None lines.now }
+{
+    let mut found = None;
+    'lines: for line in lines {
+        let signer = logs.least_signer_hashed(provider, &line.key_id, now, signed, &line.signature);
+        found = lesser(found, signer);
+    }
+    found
+}
+
+/// The log that signed a checkpoint: the least id, by its bytes, of those of these logs whose signature some line of the
+/// first hundred has; the line has the first four bytes of the log's id, the log's window has started by now, and the
+/// line's signature is good under its key (C2SP tlog-checkpoint over signed-note). None where none of the logs signed.
+/// The text's digests are taken once.
+pub fn checkpoint_signer<C: CryptoProvider>(
     provider: &C,
     logs: &Keyring,
     now: Timestamp,
     checkpoint: &Checkpoint,
-) -> bool
-    ensures { result ≡ is_signed_by (C.accepts provider.now) logs.now now checkpoint.now }
+) -> Option<Sha256Hash>
+    ensures value { result ≡ signer_of (C.accepts provider.now) logs.now now checkpoint.now }
+    ensures signed { is_some result ≡ is_signed_by (C.accepts provider.now) logs.now now checkpoint.now }
 {
     let signed = HashedMessage::new(checkpoint.signed_data());
-    looked_at(checkpoint.signatures())
-        .iter()
-        .any(|line| is_vouched(provider, logs, now, &signed, line))
+    least_signer_in(
+        provider,
+        logs,
+        now,
+        &signed,
+        looked_at(checkpoint.signatures()),
+    )
 }
 
 // Whether a proof is of a checkpoint's tree.
@@ -85,25 +96,26 @@ fn is_of_tree(kind: KindVersion, proof: &InclusionProof, checkpoint: &Checkpoint
     }
 }
 
-/// Whether a proof has a checkpoint of its tree that one of these logs signed. Errors: `Checkpoint`.
+/// The log that signed a proof's checkpoint, which has to be of the proof's tree. Errors: `Checkpoint`.
 pub(crate) fn check_checkpoint<C: CryptoProvider>(
     provider: &C,
     logs: &Keyring,
     now: Timestamp,
     kind: KindVersion,
     proof: &InclusionProof,
-) -> Result<(), LogError>
-    ensures { result ≡ checkpoint_judged (C.accepts provider.now) logs.now now kind proof.now proof.now.checkpoint.checkpoint }
+) -> Result<Sha256Hash, LogError>
+    ensures ok { OnOk result (checkpoint_judged (C.accepts provider.now) logs.now now kind proof.now proof.now.checkpoint.checkpoint ≡ Ok tt) }
+    ensures log { IfOk result (λ id. proof_signer (C.accepts provider.now) logs.now now proof.now.checkpoint.checkpoint ≡ Some id) }
+    ensures err { IfErr result (λ e. checkpoint_judged (C.accepts provider.now) logs.now now kind proof.now proof.now.checkpoint.checkpoint ≡ Err e) }
 {
     match proof.checkpoint.checkpoint() {
-        Some(checkpoint) => if is_of_tree(kind, proof, checkpoint)
-            && is_signed_by(provider, logs, now, checkpoint)
-        {
-            Ok(())
-        } else {
-            Err(LogError::Checkpoint)
-        },
-        None => Err(LogError::Checkpoint),
+        Some(checkpoint) if is_of_tree(kind, proof, checkpoint) => {
+            match checkpoint_signer(provider, logs, now, checkpoint) {
+                Some(id) => Ok(id),
+                None => Err(LogError::Checkpoint),
+            }
+        }
+        _ => Err(LogError::Checkpoint),
     }
 }
 

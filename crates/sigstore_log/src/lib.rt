@@ -9,8 +9,8 @@ mod inclusion;
 mod laws;
 mod promise;
 
-pub use checkpoint::{CheckpointVerifyExt, is_signed_by};
-pub use entry::judge_entry;
+pub use checkpoint::{CheckpointVerifyExt, checkpoint_signer};
+pub use entry::{EntryEvidence, judge_entry};
 pub use error::LogError;
-pub use laws::{logged_exactly, one_place_one_body, refusals_have_causes};
+pub use laws::{logged_exactly, one_place_one_body, refusals_have_causes, signer_exactly};
 pub use promise::{judge_promise, tells_time, told_time};

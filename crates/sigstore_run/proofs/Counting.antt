@@ -34,21 +34,21 @@ found_there number front (Err f) rest e h k =
     here k ∙ sym (first_behind number front (Err f ∷ rest) h)
 
 -- where one more number is to come
-pub line_more : (outcomes : List Outcome) (whole text old : List ℕ) (number : ℕ) → number < 31
+pub line_more : (outcomes : List Outcome) (whole text old : List ℕ) (number : ℕ) → number < 33
     → text ≡ old ++ line_if (first_of number outcomes) (counted_of number outcomes)
-    → whole ≡ old ++ lines_from number (31 - number) outcomes
-    → whole ≡ text ++ lines_from (number + 1) (31 - (number + 1)) outcomes
+    → whole ≡ old ++ lines_from number (33 - number) outcomes
+    → whole ≡ text ++ lines_from (number + 1) (33 - (number + 1)) outcomes
 unfolding lines_from
 line_more outcomes whole text old number h t e =
     let line = line_if (first_of number outcomes) (counted_of number outcomes) in
-    let more : 31 - number ≡ suc (31 - (number + 1)) = omega (arith, h) in
+    let more : 33 - number ≡ suc (33 - (number + 1)) = omega (arith, h) in
     let next : suc number ≡ number + 1 = omega arith in
-    let step : lines_from number (31 - number) outcomes ≡ line ++ lines_from (number + 1) (31 - (number + 1)) outcomes = rw (more, sym next) refl in
-    rw t (e ∙ (ap (λ rest. old ++ rest) step ∙ sym (append_assoc old line (lines_from (number + 1) (31 - (number + 1)) outcomes))))
+    let step : lines_from number (33 - number) outcomes ≡ line ++ lines_from (number + 1) (33 - (number + 1)) outcomes = rw (more, sym next) refl in
+    rw t (e ∙ (ap (λ rest. old ++ rest) step ∙ sym (append_assoc old line (lines_from (number + 1) (33 - (number + 1)) outcomes))))
 
 -- where the last number was
-pub no_more : (outcomes : List Outcome) (whole text : List ℕ) (number : ℕ) → number ≡ 31
-    → whole ≡ text ++ lines_from number (31 - number) outcomes → text ≡ whole
+pub no_more : (outcomes : List Outcome) (whole text : List ℕ) (number : ℕ) → number ≡ 33
+    → whole ≡ text ++ lines_from number (33 - number) outcomes → text ≡ whole
 unfolding lines_from
 no_more outcomes whole text number n e = sym (e ∙ rw n (append-nil text))
 

@@ -130,6 +130,7 @@ handed_on verify.Bundle c = refl
 handed_on verify.TrustRoot c = refl
 handed_on verify.TrustedCertificate c = refl
 handed_on (verify.ArtifactRead fault) c = refl
+handed_on (verify.TooFewLogs asked found) c = refl
 handed_on verify.NoMemory c = refl
 
 -- no refusal of the chain
@@ -156,6 +157,7 @@ judges verify.Bundle c = tt
 judges verify.TrustRoot c = tt
 judges verify.TrustedCertificate c = tt
 judges (verify.ArtifactRead fault) c = tt
+judges (verify.TooFewLogs asked found) c = tt
 judges verify.NoMemory c = tt
 
 accepted_by : (v : Result Kept Error) (chain : TrustChain) (rooted : Rooted) → Ok rooted ≡ rooted_of chain v → Ok tt ≡ outcome_of v

@@ -101,4 +101,4 @@ lines_from number (suc more) outcomes =
 unfoldable pub summary_of : List Outcome → List ℕ
 summary_of outcomes =
     number_line (codes "generated") (length outcomes)
-    ++ (number_line (codes "accepted") (counted_of 0 outcomes) ++ lines_from 1 30 outcomes)
+    ++ (number_line (codes "accepted") (counted_of 0 outcomes) ++ lines_from 1 32 outcomes)

@@ -15,7 +15,7 @@ use Rattle.sigstore_run.specs.declared.workload.Workload.{Workload}
 
 -- the one key has signed, and the log has to show it
 abbrev pub policy_of : PublicKeyVerificationPolicy
-policy_of = record { key = spki; verify_tlog = true }
+policy_of = record { key = spki; verify_tlog = true; logs = record { value = 1 } }
 
 -- its tables
 abbrev pub tables_in : Workload → Tables

@@ -3,12 +3,12 @@ ghost use Rattle.std.specs.Prelude.{◌≡◌};
 ghost use Rattle.sigstore_crypto_parts.specs.Crypto.{crypto_by};
 ghost use Rattle.sigstore_verify.specs.Given.{Outside};
 ghost use Rattle.sigstore_verify.specs.Promises.{Promises};
-ghost use Rattle.sigstore_run.specs.Meant.{matcher_of, matcher_in, certificate_asked, keyless_meant, policy_meant, meaning_asked};
+ghost use Rattle.sigstore_run.specs.Meant.{matcher_of, matcher_in, certificate_asked, or_one, keyless_meant, policy_meant, meaning_asked};
 ghost use Rattle.sigstore_run.specs.Run.{given_with};
 
 use jiff::Timestamp;
 use sigstore_app_parts::{IdentityLine, KeylessFile, PolicyFile};
-use sigstore_crypto_parts::{ArtifactSource, CryptoProvider};
+use sigstore_crypto_parts::{ArtifactSource, CryptoProvider, LogThreshold};
 use sigstore_tuf::{MetadataStore, Repository, UpdaterConfig};
 use sigstore_types_parts::{Armor, Bytes};
 use sigstore_verify::{
@@ -79,6 +79,16 @@ fn certificate_asked(skip_chain: bool, skip_sct: bool) -> CertificatePolicy
     }
 }
 
+// One log, where the file doesn't say how many.
+fn or_one(asked: Option<LogThreshold>) -> LogThreshold
+    ensures { result ≡ or_one asked }
+{
+    match asked {
+        Some(asked) => asked,
+        None => LogThreshold::one(),
+    }
+}
+
 fn keyless_meant(file: KeylessFile) -> VerificationPolicy
     ensures { result ≡ keyless_meant file }
 {
@@ -88,12 +98,16 @@ fn keyless_meant(file: KeylessFile) -> VerificationPolicy
         skip_tlog,
         skip_chain,
         skip_sct,
+        scts,
+        logs,
     } = file;
     VerificationPolicy {
         identity: matcher_in(identity),
         issuer,
         verify_tlog: !skip_tlog,
         certificate: certificate_asked(skip_chain, skip_sct),
+        scts: or_one(scts),
+        logs: or_one(logs),
     }
 }
 
@@ -101,9 +115,14 @@ fn policy_meant(file: PolicyFile) -> AskedPolicy
     ensures { meaning_asked result ≡ policy_meant file }
 {
     match file {
-        PolicyFile::Key { key, skip_tlog } => AskedPolicy::Key(PublicKeyVerificationPolicy {
+        PolicyFile::Key {
+            key,
+            skip_tlog,
+            logs,
+        } => AskedPolicy::Key(PublicKeyVerificationPolicy {
             key,
             verify_tlog: !skip_tlog,
+            logs: or_one(logs),
         }),
         PolicyFile::Keyless(file) => AskedPolicy::Keyless(keyless_meant(file)),
     }

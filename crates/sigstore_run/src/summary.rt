@@ -76,9 +76,9 @@ fn push_line(text: &mut String, outcomes: &[Result<(), Error>], number: u8) -> R
 }
 
 fn push_lines(text: &mut String, outcomes: &[Result<(), Error>]) -> Result<(), NoMemory>
-    ensures { OnOk result (string_bytes text.new ≡ string_bytes text.old ++ lines_from 1 30 outcomes.now) }
+    ensures { OnOk result (string_bytes text.new ≡ string_bytes text.old ++ lines_from 1 32 outcomes.now) }
 {
-    'numbers: for number in 1..31u8 {
+    'numbers: for number in 1..33u8 {
         push_line(text, outcomes, number)?;
     }
     Ok(())

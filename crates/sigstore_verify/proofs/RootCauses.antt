@@ -103,6 +103,7 @@ module _ (given : Given) (before after : Outside) where
   by_verify verify.TrustRoot chain t h = (t, h)
   by_verify verify.TrustedCertificate chain t h = (t, h)
   by_verify (verify.ArtifactRead a) chain t h = (t, h)
+  by_verify (verify.TooFewLogs a b) chain t h = (t, h)
   by_verify verify.NoMemory chain t h = tt
 
   pub runs_cause : (fault : RootFault) → Runs given before after (Err fault) → Cause fault

@@ -4,4 +4,4 @@ use Rattle.sigstore_run.proofs.summary.push_lines.Given as goal
 
 abbrev pub invariant-numbers : goal.invariant-numbers
 invariant-numbers l =
-    string_bytes l.fn.text ++ lines_from 1 30 l.outcomes ≡ string_bytes l.text ++ lines_from l.number (31 - l.number) l.outcomes
+    string_bytes l.fn.text ++ lines_from 1 32 l.outcomes ≡ string_bytes l.text ++ lines_from l.number (33 - l.number) l.outcomes
