@@ -23,7 +23,7 @@ use Rattle.sigstore_run.specs.Report.{chain_text}
 use Rattle.sigstore_run.specs.Run.{answer, stop_answer, Command, Environment}
 use Rattle.archive_commands.specs.declared.layout.ArchiveLayout.{ArchiveLayout}
 use Rattle.archive_commands.specs.declared.output.Output.{Output}
-use Rattle.archive_commands.specs.declared.output.Output.TheVariants.{Lines}
+use Rattle.archive_commands.specs.declared.output.Output.TheVariants.{Lines, Archive}
 use Rattle.archive_commands.specs.Run.{anchor_of, moment_of, max_archive, held_in, Holds, spelled, Judges, is_trusted, is_refused, Checks, unread, judged, Walks, walk_refused, walked_to, Commands, checked, walked, Proceeds, stopped, commanded, Says, misworded, worded}
 use Rattle.archive_commands.specs.Complete.{Favoured, anchor_in}
 use Rattle.sigstore_app_parts.proofs.Wholes.{same_whole, never_unread}
@@ -106,9 +106,10 @@ module _ (anchor : Anchor) (before after : Outside) (chain : TrustChain) (bytes 
 
 -- ---- `archive`
 
-module _ (anchor : Anchor) (before after : Outside) (chain : TrustChain) (offer : OffersChain anchor (places_in before) (places_in after) chain) where
+module _ (anchor : Anchor) (before after : Outside) (chain : TrustChain) (bytes : List ℕ) (spells : spelling_of chain ≡ Ok bytes)
+    (offer : OffersChain anchor (places_in before) (places_in after) chain) where
   abbrev Written : Output → Type 0
-  Written said = (said ≡ spelled (spelling_of chain)) × StaysWarm after.store offer
+  Written said = (said ≡ Archive bytes) × StaysWarm after.store offer
 
   walks_so : (said : Output) → Walks anchor (places_in before) (places_in after) said → Written said
   walks_so said (walk_refused e n p s) = by_complete (p.complete chain offer)
@@ -120,7 +121,7 @@ module _ (anchor : Anchor) (before after : Outside) (chain : TrustChain) (offer 
     where
       by_complete : (◌≡◌ {A = Result TrustChain TufError} (Ok found) (Err tuf.NoMemory)) ⊎ ((◌≡◌ {A = Result TrustChain TufError} (Ok found) (Ok chain)) × StaysWarm after.store offer) → Written said
       by_complete (inl h) = no_both found tuf.NoMemory h
-      by_complete (inr (h, w)) = (s ∙ ap (λ (c : TrustChain). spelled (spelling_of c)) (ok_same found chain h), w)
+      by_complete (inr (h, w)) = (s ∙ ap (λ (c : TrustChain). spelled (spelling_of c)) (ok_same found chain h) ∙ ap spelled spells, w)
 
   pub archive_writes : (said : Output) → Commands false anchor before after said → Written said
   archive_writes said (checked line e p c s) = cc

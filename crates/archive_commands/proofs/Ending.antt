@@ -4,11 +4,13 @@ use Rattle.foundation.specs.Watched.{Watched}
 use Rattle.sigstore_run.specs.declared.answer.Status.{Status}
 use Rattle.sigstore_run.specs.declared.answer.Status.TheVariants as status
 use Rattle.sigstore_run.specs.Run.{Command, Environment, TakesAll}
+use Rattle.sigstore_verify.specs.FromRoot.{trust_path}
 use Rattle.archive_commands.specs.declared.output.Output.{Output}
 use Rattle.archive_commands.specs.Output.{status_of, octets_of}
 use Rattle.archive_commands.specs.Run.{Says, SaysWhole, Means}
 use Rattle.archive_commands.specs.Complete.{anchor_in, CompletesArchive, CompletesCheck}
 use Rattle.archive_commands.proofs.Completing.{commands_so, check_trusts, archive_writes}
+use Rattle.archive_commands.proofs.Offered.{root_short, offered_spelled}
 use Rattle.archive_commands.proofs.Never.{never_output, never_memory}
 
 module _ (command : Command) (before after : Environment) (out out' : Watched (List ℕ)) where
@@ -25,8 +27,10 @@ module _ (command : Command) (before after : Environment) (out out' : Watched (L
 
   pub said_archives : (said : Output) (ended : Status) → Says command before after said → TakesAll out out' (octets_of said) → ended ≡ status_of said → CompletesArchive command before after out out' ended
   said_archives said ended s w e chain f offer =
-      let so = archive_writes (anchor_in f) before.outside after.outside chain offer said (commands_so false command before after f said s) in
-      inr (inr (record { written = subst (λ (o : Output). TakesAll out out' (octets_of o)) so.0 w; ended_is = e ∙ ap status_of so.0 }, so.1))
+      let anchor = anchor_in f in
+      let spelled = offered_spelled anchor.crypto offer.folders anchor.root anchor.now trust_path chain offer.offers (root_short f.held f.anchored f.anchored_is) in
+      let so = archive_writes anchor before.outside after.outside chain spelled.0 spelled.1 offer said (commands_so false command before after f said s) in
+      inr (inr (record { bytes = spelled.0; spells = spelled.1; written = subst (λ (o : Output). TakesAll out out' (octets_of o)) so.0 w; accepted = e ∙ ap status_of so.0 }, so.1))
 
   pub said_checks : (said : Output) (ended : Status) → Says command before after said → TakesAll out out' (octets_of said) → ended ≡ status_of said → CompletesCheck command before after out out' ended
   said_checks said ended s w e chain bytes f source short holds =

@@ -1,3 +1,8 @@
+mod JsonTokens
+mod JsonTexts
+mod DelegatedNames
+mod VisitNames
+mod Offered
 mod Saying
 mod Completing
 mod Never

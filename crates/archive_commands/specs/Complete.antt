@@ -14,8 +14,7 @@ use Rattle.sigstore_run.specs.Report.{chain_text}
 use Rattle.sigstore_run.specs.Run.{Command, Environment, TakesAll}
 use Rattle.archive_commands.specs.declared.layout.ArchiveLayout.{ArchiveLayout}
 use Rattle.archive_commands.specs.Layout.{archive_layout_of}
-use Rattle.archive_commands.specs.Output.{status_of, octets_of}
-use Rattle.archive_commands.specs.Run.{anchor_of, moment_of, max_archive, spelled, Holds}
+use Rattle.archive_commands.specs.Run.{anchor_of, moment_of, max_archive, Holds}
 
 -- the words are those of the command, and told inputs are read without a fault and are these
 pub record Favoured (check : Bool) (command : Command) (before after : Environment) : Type 0 where
@@ -35,13 +34,14 @@ anchor_in {command = command} f = anchor_of f.anchored (moment_of f.layout comma
 abbrev pub OrFails : Watched (List ℕ) → Watched (List ℕ) → Status → Type 0 → Type 0
 OrFails out out' ended P = (ended ≡ status.Memory) ⊎ (((ended ≡ status.Output) × Rose out.faults out'.faults) ⊎ P)
 
--- what a chain's spelling makes `archive` say was taken whole
+-- the chain's archive was taken whole
 pub record WritesChain (chain : TrustChain) (out out' : Watched (List ℕ)) (ended : Status) : Type 0 where
-  pub written : TakesAll out out' (octets_of (spelled (spelling_of chain)))
-  pub ended_is : ended ≡ status_of (spelled (spelling_of chain))
+  pub bytes : List ℕ
+  pub spells : spelling_of chain ≡ Ok bytes
+  pub written : TakesAll out out' bytes
+  pub accepted : ended ≡ status.Accepted
 
--- Where the repository offers a chain over a told store, `archive` writes its archive, or that a number in it reaches 2^32; and the
--- store stays warm.
+-- Where the repository offers a chain over a told store, `archive` writes its archive, and the store stays warm.
 abbrev pub CompletesArchive : Command → Environment → Environment → Watched (List ℕ) → Watched (List ℕ) → Status → Type 0
 CompletesArchive command before after out out' ended =
     (chain : TrustChain) (f : Favoured false command before after)
