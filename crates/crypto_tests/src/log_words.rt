@@ -1,11 +1,11 @@
 // What rows of tables mean: names of logs, checkpoints and entries, moments, and answers as texts.
 use crate::log_data::{CHECKPOINTS, ENTRIES, KEYS, SIGNATURES};
-use crate::tables::{good, halves, holds, string, there};
+use crate::tables::{good, halves, holds, number, string, there};
 use jiff::Timestamp;
 use sigstore_app_parts::{Tables, read_provider};
-use sigstore_crypto::{Keyring, VerificationKey, sha256};
+use sigstore_crypto::{Keyring, VerificationKey, compute_key_hint, sha256};
 use sigstore_entries::{Checkpoint, TransparencyLogEntry};
-use sigstore_types_parts::{DerPublicKey, LogKeyId, TimeRange, parse_json};
+use sigstore_types_parts::{DerPublicKey, Hash, LogKeyId, Sha256Hash, TimeRange, parse_json};
 use std::process::Abort;
 
 // What a table has behind a name.
@@ -53,18 +53,63 @@ fn window<X: Abort>(rt: &X, word: &str) -> TimeRange {
     }
 }
 
-// Holds the key of `NAME`, or of `NAME@WINDOW`, under the log's id.
-fn hold<X: AllocGlobal + Abort>(rt: &X, logs: &mut Keyring, word: &str) {
-    let (name, valid_for) = match word.split_once('@') {
-        Some((name, range)) => (name, Some(window(rt, range))),
+// What stands before a mark, or the whole word, and what stands behind the mark.
+fn parted<'a>(word: &'a str, mark: char) -> (&'a str, Option<&'a str>) {
+    match word.split_once(mark) {
+        Some((name, rest)) => (name, Some(rest)),
         None => (word, None),
-    };
+    }
+}
+
+// The log's own id, or another one with its hint, of which all other octets are this number.
+fn id_of<X: AllocGlobal + Abort>(rt: &X, name: &str) -> Sha256Hash {
+    let (name, other) = parted(name, '#');
     let der = key(rt, name);
+    let (own, hint) = (sha256(der.as_bytes()), compute_key_hint(&der));
+    drop(der);
+    match other {
+        None => own,
+        Some(octet) => {
+            let mut id = [number(rt, octet).min(255) as u8; 32];
+            let [first, second, third, fourth] = *hint.as_array();
+            id[0] = first;
+            id[1] = second;
+            id[2] = third;
+            id[3] = fourth;
+            Hash::new(id)
+        }
+    }
+}
+
+// Holds under an id a key, in a window where one is told: `NAME` is the log's own id, `NAME#OCTET` another one with its hint;
+// behind it stands `=NAME` where the key is another log's, and then `@WINDOW`.
+fn hold<X: AllocGlobal + Abort>(rt: &X, logs: &mut Keyring, word: &str) {
+    let (held, range) = parted(word, '@');
+    let (name, other) = parted(held, '=');
+    let valid_for = match range {
+        Some(range) => Some(window(rt, range)),
+        None => None,
+    };
+    let der = match other {
+        Some(other) => key(rt, other),
+        None => key(rt, parted(name, '#').0),
+    };
     let read = good(rt, VerificationKey::from_spki(rt.alloc(), &der));
-    good(
-        rt,
-        logs.add_key_with_validity(sha256(der.as_bytes()), read, valid_for),
-    );
+    drop(der);
+    let id = id_of(rt, name);
+    good(rt, logs.add_key_with_validity(id, read, valid_for));
+}
+
+/// Which of these words of logs has an id; its name, without the key and the window.
+pub fn who<'a, X: AllocGlobal + Abort>(rt: &X, words: &'a str, id: &Sha256Hash) -> &'a str {
+    for word in words.split_ascii_whitespace() {
+        let (held, _) = parted(word, '@');
+        let (name, _) = parted(held, '=');
+        if id_of(rt, name) == *id {
+            return name;
+        }
+    }
+    "nobody"
 }
 
 /// The logs of these words.

@@ -3,11 +3,11 @@ ghost use Rattle.std.specs.Prelude.{bytes_eq};
 
 use crate::keys::scheme_of;
 use crate::tables::{
-    good, halves, hex_of, hold, holds, number, place, printed, string, there, word,
+    good, halves, hex_of, hold, holds, number, octets, place, printed, string, there, word,
 };
 use jiff::Timestamp;
 use sigstore_crypto::*;
-use sigstore_types_parts::{Bytes, DerPublicKey, Sha256Hash, SignatureBytes, TimeRange};
+use sigstore_types_parts::{Bytes, DerPublicKey, KeyHint, Sha256Hash, SignatureBytes, TimeRange};
 use std::process::Abort;
 
 // Accepts a signature that equals the raw key.
@@ -165,9 +165,82 @@ fn asked<X: AllocGlobal + Abort>(
     }
 }
 
+// The keys of a ring, a hint, a second, the text of a signature, and the first five octets of the id whose key it is good
+// by. A key is `OCTETS:KEY`, where its id is these octets and zeros, and behind it `@10` where it is used from second 10 to
+// 20; the last key under an id counts.
+const LEAST: &str = "\
+0102030400:a 0102030401:a | 01020304 0 a => 0102030400
+0102030401:a 0102030400:a | 01020304 0 a => 0102030400
+0102030480:a 010203047f:a | 01020304 0 a => 010203047f
+0102030400:b 0102030401:a | 01020304 0 a => 0102030401
+0102030400:b 0102030401:c 0102030402:a | 01020304 0 a => 0102030402
+0102030400:b 0102030401:c | 01020304 0 a => none
+0102030400:a@10 0102030401:a | 01020304 9 a => 0102030401
+0102030400:a@10 0102030401:a | 01020304 10 a => 0102030400
+0102030400:a@10 0102030401:a | 01020304 21 a => 0102030400
+0102030400:a@10 | 01020304 9 a => none
+0102030300:a 0102030401:a | 01020304 0 a => 0102030401
+0102030500:a | 01020304 0 a => none
+0102030400:a 0102030400:b 0102030401:a | 01020304 0 a => 0102030401
+ | 01020304 0 a => none";
+
+// Twenty-seven octets of zeros.
+const ZEROS: &str = "000000000000000000000000000000000000000000000000000000";
+
+// Holds `OCTETS:KEY`, or `OCTETS:KEY@10`.
+fn hold_under<X: AllocGlobal + Abort>(rt: &X, ring: &mut Keyring, named: &str) {
+    let (id, text) = halves(rt, named, ":");
+    let spelled = good(rt, format!(in rt.alloc(); "{id}{ZEROS}"));
+    let whole = octets(rt, spelled.as_str());
+    drop(spelled);
+    let id = good(rt, Sha256Hash::try_from(whole.as_bytes()));
+    drop(whole);
+    match text.split_once('@') {
+        Some((text, start)) => {
+            let start = moment(rt, number(rt, start).min(1000) as i64);
+            let window = TimeRange::new(start, Some(moment(rt, 20)));
+            good(
+                rt,
+                ring.add_key_with_validity(id, key(rt, text), Some(window)),
+            );
+        }
+        None => good(rt, ring.add_key(id, key(rt, text))),
+    }
+}
+
+/// The first octets of the least id by whose key a signature is good.
+pub fn least<X: AllocGlobal + Abort>(rt: &X, given: &str) -> String {
+    let (keys, rest) = halves(rt, given, " | ");
+    let (hint, rest) = halves(rt, rest, " ");
+    let (second, text) = halves(rt, rest, " ");
+    let mut ring = Keyring::new(rt.alloc());
+    for named in keys.split_ascii_whitespace() {
+        hold_under(rt, &mut ring, named);
+    }
+    let (hint, signature) = (octets(rt, hint), SignatureBytes::new(bytes(rt, text)));
+    let meant = good(rt, KeyHint::try_from(hint.as_bytes()));
+    drop(hint);
+    let time = moment(rt, number(rt, second).min(1000) as i64);
+    let found = ring.least_signer(&ByKey, &meant, time, &[], &signature);
+    drop(signature);
+    drop(ring);
+    match found {
+        Some(id) => begin(rt, &id),
+        None => string(rt, "none"),
+    }
+}
+
+fn begin<X: AllocGlobal + Abort>(rt: &X, id: &Sha256Hash) -> String {
+    let whole = hex_of(rt, id.as_bytes());
+    let begin = string(rt, there(rt, whole.as_str().get(..10)));
+    drop(whole);
+    begin
+}
+
 #[test]
 fn rings_answer_by_their_last_keys(rt: HostRuntime) {
     hold(&rt, "ring", ANSWERS);
+    hold(&rt, "least", LEAST);
     let (ring, empty) = (ring(&rt), Keyring::new(rt.alloc()));
     holds(&rt, ring.len() == 2 && !ring.is_empty() && empty.is_empty());
 }

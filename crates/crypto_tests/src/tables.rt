@@ -26,7 +26,7 @@ pub fn check<X: Abort>(rt: &X, row: &str, wanted: &str, found: String) {
 
 const CALLS: &str = "\
 refusal scheme algorithm sha256 sha384 sha512 from_spki judgement answers_alike in_der under_scheme raw_key \
-signature source said public_key ring entry promise told_time under_key signed log_refusal";
+signature source said public_key ring entry promise told_time under_key signed log_refusal least";
 
 /// The answer of a call that is given a text.
 fn answer<X: AllocGlobal + Abort>(rt: &X, call: &str, given: &str) -> String {
@@ -54,6 +54,7 @@ fn answer<X: AllocGlobal + Abort>(rt: &X, call: &str, given: &str) -> String {
         20 => logs::under_key(rt, given),
         21 => logs::signed(rt, given),
         22 => logs::refusal(rt, given),
+        23 => rings::least(rt, given),
         _ => string(rt, "no call"),
     }
 }
