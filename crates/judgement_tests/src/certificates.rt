@@ -116,7 +116,7 @@ fn is_signed<X: AllocGlobal + Abort>(
     is_good
 }
 
-const JUDGED: &str = "root 2024-06-01T00:10:00Z | Ok(())
+const JUDGED: &str = "root 2024-06-01T00:10:00Z | Ok(1)
 root 2024-06-01T00:10:01Z | Err(Expired { time: 2024-06-01T00:10:01Z, not_after: 2024-06-01T00:10:00Z })
 other_root 2024-06-01T00:10:00Z | Err(ChainInvalid)";
 

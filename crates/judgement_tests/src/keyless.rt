@@ -7,7 +7,7 @@ use jiff::Timestamp;
 use sigstore_app_parts::{
     IdentityLine, KeylessFile, PolicyFile, TableProvider, read_policy, read_provider,
 };
-use sigstore_crypto::{CertificateInfo, sha256};
+use sigstore_crypto::{CertificateInfo, LogThreshold, sha256};
 use sigstore_judgement::*;
 use sigstore_pem::PemArmor;
 use sigstore_types::{Artifact, ArtifactDigest, Bundle, DerPublicKey, HashAlgorithm, TrustedRoot};
@@ -196,7 +196,41 @@ fn naming(
     }
 }
 
-// The policy of a policy file.
+// The policy with the numbers of logs of a policy file.
+fn asking(
+    policy: VerificationPolicy,
+    scts: Option<LogThreshold>,
+    logs: Option<LogThreshold>,
+) -> VerificationPolicy {
+    let promised = match scts {
+        Some(count) => policy.require_scts(count.get()),
+        None => policy,
+    };
+    match logs {
+        Some(count) => promised.require_logs(count.get()),
+        None => promised,
+    }
+}
+
+// The policy of a policy file of a key.
+fn keyed(
+    key: DerPublicKey,
+    skip_tlog: bool,
+    logs: Option<LogThreshold>,
+) -> PublicKeyVerificationPolicy {
+    let policy = PublicKeyVerificationPolicy::new(key);
+    let asking = match logs {
+        Some(count) => policy.require_logs(count.get()),
+        None => policy,
+    };
+    if skip_tlog {
+        asking.skip_tlog_unsafe()
+    } else {
+        asking
+    }
+}
+
+// The policy of a policy file of a certificate.
 fn keyless(file: KeylessFile) -> VerificationPolicy {
     let KeylessFile {
         identity,
@@ -204,8 +238,10 @@ fn keyless(file: KeylessFile) -> VerificationPolicy {
         skip_tlog,
         skip_chain,
         skip_sct,
+        scts,
+        logs,
     } = file;
-    let named = naming(identity, issuer);
+    let named = asking(naming(identity, issuer), scts, logs);
     let logged = if skip_tlog {
         named.skip_tlog_unsafe()
     } else {
@@ -236,8 +272,12 @@ fn by_policy<X: AllocGlobal + Abort>(
             drop(policy);
             answer
         }
-        PolicyFile::Key { key, .. } => {
-            let policy = PublicKeyVerificationPolicy::new(key);
+        PolicyFile::Key {
+            key,
+            skip_tlog,
+            logs,
+        } => {
+            let policy = keyed(key, skip_tlog, logs);
             let answer = judged(rt, provider, given, &policy);
             drop(policy);
             answer
@@ -280,12 +320,19 @@ fn report<X: AllocGlobal + Abort>(rt: &X, texts: &Texts, accepted: &Verification
     good(rt, text)
 }
 
-// What is answered to a row: the report, or the refusal behind its number.
+// How many logs of certificates and transparency logs vouched.
+fn counts<X: AllocGlobal + Abort>(rt: &X, accepted: &VerificationResult) -> String {
+    let (scts, logs) = (accepted.sct_count(), accepted.log_count());
+    good(rt, format!(in rt.alloc(); "{scts} {logs}"))
+}
+
+// What is answered to a row: the report, or only its counts, or the refusal behind its number.
 fn told<X: AllocGlobal + Abort>(
     rt: &X,
     texts: &Texts,
     provider: &TableProvider,
     row: &str,
+    is_counted: bool,
 ) -> String {
     let given = given_in(rt, texts, row);
     let lines = filled(rt, texts, row, "policy");
@@ -297,7 +344,11 @@ fn told<X: AllocGlobal + Abort>(
     drop(given);
     match answer {
         Ok(result) => {
-            let shown = report(rt, texts, &result);
+            let shown = if is_counted {
+                counts(rt, &result)
+            } else {
+                report(rt, texts, &result)
+            };
             drop(result);
             shown
         }
@@ -316,11 +367,17 @@ fn try_bundles<X: AllocGlobal + Abort>(
     texts: &Texts,
     provider: &TableProvider,
     rows: &str,
+    is_counted: bool,
 ) {
     for row in rows.lines() {
         if !row.starts_with('#') {
             let (changes, wanted) = halves(rt, row, " => ");
-            check(rt, row, wanted, told(rt, texts, provider, changes));
+            check(
+                rt,
+                row,
+                wanted,
+                told(rt, texts, provider, changes, is_counted),
+            );
         }
     }
 }
@@ -329,17 +386,18 @@ fn try_bundles<X: AllocGlobal + Abort>(
 fn keyless_bundles(rt: HostRuntime) {
     let texts = texts(&rt);
     let tables = good(&rt, read_provider(rt.alloc(), SIGNATURES.as_bytes()));
-    try_bundles(&rt, &texts, &tables.provider, ACCEPTED);
-    try_bundles(&rt, &texts, &tables.provider, TRUSTED);
-    try_bundles(&rt, &texts, &tables.provider, PREPARED);
-    try_bundles(&rt, &texts, &tables.provider, TIMED);
-    try_bundles(&rt, &texts, &tables.provider, CERTIFIED);
-    try_bundles(&rt, &texts, &tables.provider, PROMISED);
-    try_bundles(&rt, &texts, &tables.provider, NAMED);
-    try_bundles(&rt, &texts, &tables.provider, LOGGED);
-    try_bundles(&rt, &texts, &tables.provider, SIGNED);
-    try_bundles(&rt, &texts, &tables.provider, DESCRIBED);
-    try_bundles(&rt, &texts, &tables.provider, ORDERED);
+    try_bundles(&rt, &texts, &tables.provider, ACCEPTED, false);
+    try_bundles(&rt, &texts, &tables.provider, TRUSTED, false);
+    try_bundles(&rt, &texts, &tables.provider, PREPARED, false);
+    try_bundles(&rt, &texts, &tables.provider, TIMED, false);
+    try_bundles(&rt, &texts, &tables.provider, CERTIFIED, false);
+    try_bundles(&rt, &texts, &tables.provider, PROMISED, false);
+    try_bundles(&rt, &texts, &tables.provider, NAMED, false);
+    try_bundles(&rt, &texts, &tables.provider, LOGGED, false);
+    try_bundles(&rt, &texts, &tables.provider, SIGNED, false);
+    try_bundles(&rt, &texts, &tables.provider, DESCRIBED, false);
+    try_bundles(&rt, &texts, &tables.provider, ORDERED, false);
+    try_bundles(&rt, &texts, &tables.provider, COUNTED, true);
     drop(tables);
     drop(texts);
 }

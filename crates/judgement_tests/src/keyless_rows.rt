@@ -204,8 +204,7 @@ leaf=@leaf_expired | authority_window="start":"2020-01-01T00:00:00Z","end":"2024
 pub const PROMISED: &str =
     r#"leaf=@leaf_without_sct | entries= | waived=skip tlog; => 11 Certificate(Sct(List))
 leaf=@leaf_scts_unread | entries= | waived=skip tlog; => 11 Certificate(Sct(List))
-leaf=@leaf_no_scts | entries= | waived=skip tlog; => 11 Certificate(Sct(NotOne))
-leaf=@leaf_two_scts | entries= | waived=skip tlog; => 11 Certificate(Sct(NotOne))
+leaf=@leaf_no_scts | entries= | waived=skip tlog; => 11 Certificate(Sct(Scheme))
 leaf=@leaf_sct_of_no_scheme | entries= | waived=skip tlog; => 11 Certificate(Sct(Scheme))
 leaf=@leaf_sct_of_p384 | entries= | waived=skip tlog; => 24 InvalidTrustRoot
 leaf=@leaf_sct_of_p384 | ct_logs=<ct_log>,<p384_ct_log> | entries= | waived=skip tlog; => 11 Certificate(Sct(TooFew { asked: 1, found: 0 }))
@@ -218,7 +217,7 @@ leaf=@leaf_sct_of_other_issuer | entries= | waived=skip tlog; => 11 Certificate(
 ct_window="start":"2024-06-01T00:00:02Z" => 11 Certificate(Sct(TooFew { asked: 1, found: 0 }))
 ct_window="start":"2020-01-01T00:00:00Z","end":"2024-06-01T00:00:00Z" => 11 Certificate(Sct(TooFew { asked: 1, found: 0 }))
 leaf=@leaf_without_sct | ct_logs= | entries= | waived=skip tlog; => 11 Certificate(Sct(List))
-leaf=@leaf_two_scts | ct_logs= | entries= | waived=skip tlog; => 11 Certificate(Sct(NotOne))
+leaf=@leaf_two_scts | ct_logs= | entries= | waived=skip tlog; => 24 InvalidTrustRoot
 leaf=@leaf_sct_of_no_scheme | ct_logs= | entries= | waived=skip tlog; => 11 Certificate(Sct(Scheme))
 leaf=@leaf_sct_of_unknown | ct_logs= | entries= | waived=skip tlog; => 24 InvalidTrustRoot"#;
 
@@ -339,3 +338,96 @@ bundle=@envelope | artifact=jello | envelope_entries=<entry> => 4 ArtifactMismat
 bundle=@envelope | envelope_signature=@envelope_signature_of_stranger | envelope_token=@envelope_token_of_stranger => 3 SignatureInvalid
 time=@time_late | promise=@promise_late | artifact=jello | waived=skip chain; => 17 TransparencyLog(IntegratedTime)
 time=@time_late | promise=@promise_late | artifact=jello | waived=skip chain;skip tlog; => 4 ArtifactMismatch"#;
+
+/// How many logs of certificates and transparency logs vouch: `SCTS LOGS` of what is accepted, or the refusal. A row's `asked`
+/// are the lines of the policy with the numbers that it asks for.
+pub const COUNTED: &str = r#"handed=blob => 1 1
+asked=scts 1;logs 1; => 1 1
+asked=scts 2; => 11 Certificate(Sct(TooFew { asked: 2, found: 1 }))
+asked=scts 255; => 11 Certificate(Sct(TooFew { asked: 255, found: 1 }))
+# timestamps of two logs and of three, of which all are trusted or one isn't
+leaf=@leaf_of_two_logs | ct_logs=@both_ct_logs | entries= | waived=skip tlog; => 2 0
+leaf=@leaf_of_two_logs | ct_logs=@both_ct_logs | asked=scts 2; | entries= | waived=skip tlog; => 2 0
+leaf=@leaf_of_two_logs | ct_logs=@both_ct_logs | asked=scts 3; | entries= | waived=skip tlog; => 11 Certificate(Sct(TooFew { asked: 3, found: 2 }))
+leaf=@leaf_of_two_logs | entries= | waived=skip tlog; => 1 0
+leaf=@leaf_of_two_logs | ct_logs=<second_ct_log> | entries= | waived=skip tlog; => 1 0
+leaf=@leaf_of_two_logs | asked=scts 2; | entries= | waived=skip tlog; => 11 Certificate(Sct(TooFew { asked: 2, found: 1 }))
+leaf=@leaf_of_two_logs | ct_logs=<ct_log>,<second_ct_log>,<rsa_ct_log> | asked=scts 3; | entries= | waived=skip tlog; => 11 Certificate(Sct(TooFew { asked: 3, found: 2 }))
+leaf=@leaf_of_three_logs | ct_logs=<ct_log>,<second_ct_log>,<rsa_ct_log> | asked=scts 3; | entries= | waived=skip tlog; => 3 0
+leaf=@leaf_of_three_logs | ct_logs=<ct_log>,<second_ct_log>,<rsa_ct_log> | asked=scts 4; | entries= | waived=skip tlog; => 11 Certificate(Sct(TooFew { asked: 4, found: 3 }))
+leaf=@leaf_of_three_logs | ct_logs=<ct_log>,<rsa_ct_log> | asked=scts 2; | entries= | waived=skip tlog; => 2 0
+# a log counts once: the same timestamp twice, and two of one log
+leaf=@leaf_two_scts | entries= | waived=skip tlog; => 1 0
+leaf=@leaf_two_scts | asked=scts 2; | entries= | waived=skip tlog; => 11 Certificate(Sct(TooFew { asked: 2, found: 1 }))
+leaf=@leaf_of_one_log_twice | ct_logs=@both_ct_logs | entries= | waived=skip tlog; => 1 0
+leaf=@leaf_of_one_log_twice | ct_logs=@both_ct_logs | asked=scts 2; | entries= | waived=skip tlog; => 11 Certificate(Sct(TooFew { asked: 2, found: 1 }))
+# one that isn't good takes nothing from one that is: of another key, of a log that isn't known, without a scheme, of another time
+leaf=@leaf_of_false_second | ct_logs=@both_ct_logs | entries= | waived=skip tlog; => 1 0
+leaf=@leaf_of_false_second | ct_logs=@both_ct_logs | asked=scts 2; | entries= | waived=skip tlog; => 11 Certificate(Sct(TooFew { asked: 2, found: 1 }))
+leaf=@leaf_of_false_second | ct_logs=<second_ct_log> | entries= | waived=skip tlog; => 11 Certificate(Sct(TooFew { asked: 1, found: 0 }))
+leaf=@leaf_of_false_and_good | entries= | waived=skip tlog; => 1 0
+leaf=@leaf_of_false_and_good | asked=scts 2; | entries= | waived=skip tlog; => 11 Certificate(Sct(TooFew { asked: 2, found: 1 }))
+leaf=@leaf_of_unknown_and_good | ct_logs=@both_ct_logs | entries= | waived=skip tlog; => 1 0
+leaf=@leaf_of_unknown_and_good | ct_logs=@both_ct_logs | asked=scts 2; | entries= | waived=skip tlog; => 11 Certificate(Sct(TooFew { asked: 2, found: 1 }))
+leaf=@leaf_of_no_scheme_and_good | ct_logs=@both_ct_logs | entries= | waived=skip tlog; => 1 0
+leaf=@leaf_of_no_scheme_and_good | ct_logs=@both_ct_logs | asked=scts 2; | entries= | waived=skip tlog; => 11 Certificate(Sct(TooFew { asked: 2, found: 1 }))
+leaf=@leaf_of_no_schemes | ct_logs=@both_ct_logs | entries= | waived=skip tlog; => 11 Certificate(Sct(Scheme))
+leaf=@leaf_of_no_schemes | ct_logs=@both_ct_logs | asked=scts 2; | entries= | waived=skip tlog; => 11 Certificate(Sct(Scheme))
+leaf=@leaf_of_two_logs | ct_logs=@both_ct_logs | ct_window="start":"2024-06-01T00:00:02Z" | entries= | waived=skip tlog; => 1 0
+leaf=@leaf_of_two_logs | ct_logs=@both_ct_logs | ct_window="start":"2024-06-01T00:00:02Z" | asked=scts 2; | entries= | waived=skip tlog; => 11 Certificate(Sct(TooFew { asked: 2, found: 1 }))
+leaf=@leaf_of_two_logs | ct_logs=@both_ct_logs | ct_window="start":"2020-01-01T00:00:00Z","end":"2024-06-01T00:00:00Z" | asked=scts 2; | entries= | waived=skip tlog; => 11 Certificate(Sct(TooFew { asked: 2, found: 1 }))
+leaf=@leaf_of_one_log_twice | ct_window="start":"2024-06-01T00:00:02Z" | entries= | waived=skip tlog; => 1 0
+# waivers
+waived=skip sct; | asked=scts 2; => 0 1
+waived=skip chain; | asked=scts 2; => 0 1
+leaf=@leaf_of_two_logs | ct_logs=@both_ct_logs | entries= | waived=skip tlog;skip sct; => 0 0
+waived=skip tlog; | asked=logs 2; => 1 0
+entries= | waived=skip tlog; | asked=logs 255; => 1 0
+waived=skip tlog; | asked=scts 2;logs 2; => 11 Certificate(Sct(TooFew { asked: 2, found: 1 }))
+waived=skip sct; | asked=scts 2;logs 2; => 32 TooFewLogs { asked: 2, found: 1 }
+# entries of one log and of two
+asked=logs 2; => 32 TooFewLogs { asked: 2, found: 1 }
+logs=@both_logs | asked=logs 2; => 32 TooFewLogs { asked: 2, found: 1 }
+entries=<entry>,<entry_second> => 1 1
+entries=<entry>,<entry_second> | asked=logs 2; => 32 TooFewLogs { asked: 2, found: 1 }
+entries=<entry>,<entry> | asked=logs 2; => 32 TooFewLogs { asked: 2, found: 1 }
+entries=<entry>,<entry_in_other_log> | logs=@both_logs => 1 2
+entries=<entry>,<entry_in_other_log> | logs=@both_logs | asked=logs 2; => 1 2
+entries=<entry_in_other_log>,<entry> | logs=@both_logs | asked=logs 2; => 1 2
+entries=<entry>,<entry_in_other_log>,<entry_second> | logs=@both_logs | asked=logs 3; => 32 TooFewLogs { asked: 3, found: 2 }
+entries=<entry_in_other_log> | logs=@both_logs => 1 1
+# a checkpoint that both signed is one log's, that of the lesser id, whose line stands last
+checkpoint=@checkpoint_of_both | logs=@both_logs => 1 1
+checkpoint=@checkpoint_of_both | logs=@both_logs | asked=logs 2; => 32 TooFewLogs { asked: 2, found: 1 }
+entries=<entry>,<entry_second> | checkpoint=@checkpoint_of_both | logs=@both_logs | asked=logs 2; => 32 TooFewLogs { asked: 2, found: 1 }
+entries=<entry>,<entry_in_other_log> | checkpoint=@checkpoint_of_both | logs=@both_logs | asked=logs 2; => 1 2
+entries=<entry>,<entry_in_other_log> | checkpoint_of_other=@checkpoint_of_both | logs=@both_logs | asked=logs 2; => 32 TooFewLogs { asked: 2, found: 1 }
+# under a key
+policy=key <signer_key>; | holder=@key_hint | entries=<entry_of_key> => 0 1
+policy=key <signer_key>;logs 2; | holder=@key_hint | entries=<entry_of_key> => 32 TooFewLogs { asked: 2, found: 1 }
+policy=key <signer_key>;logs 2; | holder=@key_hint | entries=<entry_of_key>,<entry_of_key_in_other_log> | logs=@both_logs => 0 2
+policy=key <signer_key>;logs 2;skip tlog; | holder=@key_hint | entries=<entry_of_key> => 0 0
+policy=key <signer_key>;logs 2;skip tlog; | holder=@key_hint | entries= => 0 0
+# two at once
+asked=scts 2;logs 2; => 11 Certificate(Sct(TooFew { asked: 2, found: 1 }))
+asked=scts 2; | identity=identity uri https://example.com/other; => 11 Certificate(Sct(TooFew { asked: 2, found: 1 }))
+asked=scts 2; | issuer=issuer https://other.example.com; => 11 Certificate(Sct(TooFew { asked: 2, found: 1 }))
+asked=scts 2; | ct_logs= => 24 InvalidTrustRoot
+asked=scts 2; | leaf=@leaf_expired | entries= | waived=skip tlog; => 10 Certificate(Expired { time: 2024-06-01T00:05:00Z, not_after: 2024-06-01T00:04:59Z })
+asked=scts 2; | token=@token_of_other => 19 Timestamp(Invalid)
+asked=scts 2; | artifact=jello => 11 Certificate(Sct(TooFew { asked: 2, found: 1 }))
+asked=logs 2; | identity=identity uri https://example.com/other; => 1 IdentityMismatch { expected: Uri("https://example.com/other"), actual: Some(Uri("https://example.com/release.yml@refs/tags/v1")) }
+asked=logs 2; | token=@token_of_other => 19 Timestamp(Invalid)
+asked=logs 2; | place=1 => 13 TransparencyLog(InclusionProof)
+asked=logs 2; | checkpoint=@checkpoint_of_other => 14 TransparencyLog(Checkpoint)
+asked=logs 2; | entries=<entry_second>,<entry> | place=1 => 13 TransparencyLog(InclusionProof)
+asked=logs 2; | promised=@promised_untimed | index=7 => 15 TransparencyLog(InclusionPromise)
+asked=logs 2; | artifact=jello => 32 TooFewLogs { asked: 2, found: 1 }
+asked=logs 2; | signature=@signature_of_stranger | token=@token_of_stranger => 32 TooFewLogs { asked: 2, found: 1 }
+asked=logs 2; | entries=<entry_of_other_signature> => 32 TooFewLogs { asked: 2, found: 1 }
+asked=logs 2; | entries=<entry_unread> => 32 TooFewLogs { asked: 2, found: 1 }
+asked=logs 2; | entries= => 27 Bundle
+policy=key <signer_key>; | holder=@key_hint | token=@token_of_other => 19 Timestamp(Invalid)
+policy=key <signer_key>;logs 2; | holder=@key_hint | token=@token_of_other => 32 TooFewLogs { asked: 2, found: 1 }
+policy=key <signer_key>;logs 2; | holder=@key_hint | place=1 => 13 TransparencyLog(InclusionProof)
+policy=key <signer_key>;logs 2; | holder=@key_hint | artifact=jello => 32 TooFewLogs { asked: 2, found: 1 }"#;

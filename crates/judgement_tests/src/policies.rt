@@ -1,9 +1,25 @@
 // Policies for certificates, and the names that they ask for.
-use crate::tables::{answered, check, debug, display, good, halves, text};
+use crate::tables::{answered, check, debug, display, good, halves, number, text, there};
 use foundation::Duplicate;
 use sigstore_crypto::SubjectAltName;
 use sigstore_judgement::{IdentityMatcher, VerificationPolicy};
+use std::num::NonZeroU8;
 use std::process::Abort;
+
+// A policy that asks for a number of logs of certificates, or else of transparency logs.
+fn counted<X: Abort>(
+    rt: &X,
+    policy: VerificationPolicy,
+    call: &str,
+    count: &str,
+) -> VerificationPolicy {
+    let count = there(rt, NonZeroU8::new(number(rt, count).min(255) as u8));
+    if call == "require_scts" {
+        policy.require_scts(count)
+    } else {
+        policy.require_logs(count)
+    }
+}
 
 // A policy with a step taken.
 fn stepped<X: AllocGlobal + Abort>(
@@ -11,6 +27,9 @@ fn stepped<X: AllocGlobal + Abort>(
     policy: VerificationPolicy,
     step: &str,
 ) -> VerificationPolicy {
+    if let Some((call, count)) = step.split_once('=') {
+        return counted(rt, policy, call, count);
+    }
     match step {
         "identity" => policy.require_identity(IdentityMatcher::from(text(rt, "c"))),
         "issuer" => policy.require_issuer(text(rt, "d")),
@@ -33,7 +52,8 @@ fn policy<X: AllocGlobal + Abort>(rt: &X, first: &str, steps: &str) -> Verificat
     policy
 }
 
-// What it asks for, whether the log is verified, what of the certificate is, and whether a copy equals it.
+// What it asks for, whether the log is verified, what of the certificate is, how many logs of certificates and transparency
+// logs are asked for, and whether a copy equals it.
 fn asked<X: AllocGlobal + Abort>(rt: &X, first: &str, steps: &str) -> String {
     let policy = policy(rt, first, steps);
     let copy = good(rt, policy.duplicate(rt.alloc()));
@@ -42,24 +62,37 @@ fn asked<X: AllocGlobal + Abort>(rt: &X, first: &str, steps: &str) -> String {
     let (identity, issuer) = (policy.identity(), policy.issuer());
     let (log, certificate) = (policy.verifies_tlog(), policy.certificate());
     let (chain, sct) = (certificate.verifies_chain(), certificate.verifies_sct());
-    let shown = format!(in rt.alloc(); "{identity:?} {issuer:?} {log} {chain} {sct} {is_copied}");
+    let (scts, logs) = (policy.scts(), policy.logs());
+    let shown = format!(in rt.alloc();
+        "{identity:?} {issuer:?} {log} {chain} {sct} {scts} {logs} {is_copied}"
+    );
     drop(policy);
     good(rt, shown)
 }
 
 // A row: how a policy is made, its steps, and the identity and the issuer that it asks for, whether log, chain and
-// timestamp are verified, and whether a copy equals it.
-const POLICIES: &str = "new: | Some(Email(\"a\")) Some(\"b\") true true true true
-any: | None None true true true true
-any: identity | Some(Exact(\"c\")) None true true true true
-any: issuer | None Some(\"d\") true true true true
-new: issuer identity | Some(Exact(\"c\")) Some(\"d\") true true true true
-new: skip_tlog_unsafe | Some(Email(\"a\")) Some(\"b\") false true true true
-new: skip_sct | Some(Email(\"a\")) Some(\"b\") true true false true
-new: skip_certificate_chain | Some(Email(\"a\")) Some(\"b\") true false false true
-new: skip_certificate_chain skip_sct | Some(Email(\"a\")) Some(\"b\") true false false true
-new: skip_sct skip_certificate_chain | Some(Email(\"a\")) Some(\"b\") true false false true
-any: skip_tlog_unsafe skip_sct issuer | None Some(\"d\") false true false true";
+// timestamps are verified, how many logs of certificates and transparency logs are asked for, and whether a copy equals it.
+const POLICIES: &str = "new: | Some(Email(\"a\")) Some(\"b\") true true true 1 1 true
+any: | None None true true true 1 1 true
+any: identity | Some(Exact(\"c\")) None true true true 1 1 true
+any: issuer | None Some(\"d\") true true true 1 1 true
+new: issuer identity | Some(Exact(\"c\")) Some(\"d\") true true true 1 1 true
+new: skip_tlog_unsafe | Some(Email(\"a\")) Some(\"b\") false true true 1 1 true
+new: skip_sct | Some(Email(\"a\")) Some(\"b\") true true false 1 1 true
+new: skip_certificate_chain | Some(Email(\"a\")) Some(\"b\") true false false 1 1 true
+new: skip_certificate_chain skip_sct | Some(Email(\"a\")) Some(\"b\") true false false 1 1 true
+new: skip_sct skip_certificate_chain | Some(Email(\"a\")) Some(\"b\") true false false 1 1 true
+any: skip_tlog_unsafe skip_sct issuer | None Some(\"d\") false true false 1 1 true
+any: require_scts=1 require_logs=1 | None None true true true 1 1 true
+any: require_scts=2 | None None true true true 2 1 true
+any: require_logs=255 | None None true true true 1 255 true
+new: require_scts=3 require_logs=2 issuer identity | Some(Exact(\"c\")) Some(\"d\") true true true 3 2 true
+new: require_logs=2 require_scts=3 | Some(Email(\"a\")) Some(\"b\") true true true 3 2 true
+any: require_scts=3 require_scts=2 require_logs=5 require_logs=4 | None None true true true 2 4 true
+any: require_scts=2 require_logs=3 skip_sct | None None true true false 2 3 true
+any: require_scts=2 require_logs=3 skip_certificate_chain | None None true false false 2 3 true
+any: require_scts=2 require_logs=3 skip_tlog_unsafe | None None false true true 2 3 true
+any: skip_tlog_unsafe skip_sct require_scts=2 require_logs=3 | None None false true false 2 3 true";
 
 #[test]
 fn policies_ask_for_what_is_named(rt: HostRuntime) {

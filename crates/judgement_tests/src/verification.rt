@@ -17,6 +17,7 @@ use sigstore_types::{
     VerificationMaterial, VerificationMaterialContent,
 };
 use std::alloc::Global;
+use std::num::NonZeroU8;
 use std::process::Abort;
 
 // The answer of a call by this name.
@@ -24,7 +25,7 @@ pub(crate) fn answer<X: AllocGlobal + Abort>(rt: &X, call: &str, given: &str) ->
     match call {
         "refusal" => shown(rt, sample(rt, given)),
         "judgement" => judged(rt, given),
-        "policy" => policy_shown(rt),
+        "policy" => policy_shown(rt, given),
         "acceptance" => accepted(rt, given),
         "handed" => handed(rt, given),
         _ => panic!(rt; "no call {call}"),
@@ -103,7 +104,7 @@ fn certificate(number: u8) -> CertificateError {
             time,
             not_after: time,
         },
-        _ => CertificateError::Sct(SctRule::NotOne),
+        _ => CertificateError::Sct(SctRule::TooFew { asked: 2, found: 1 }),
     }
 }
 
@@ -143,6 +144,7 @@ fn plain(number: u8) -> Error {
         28 => Error::TrustRoot,
         29 => Error::TrustedCertificate,
         30 => Error::ArtifactRead(ReadError::Failed),
+        32 => Error::TooFewLogs { asked: 2, found: 1 },
         _ => Error::NoMemory,
     }
 }
@@ -220,7 +222,8 @@ const REFUSALS: &str = "1 | 1 IdentityMismatch IdentityMismatch
 28 | 28 TrustRoot TrustRoot
 29 | 29 TrustedCertificate TrustedCertificate
 30 | 30 ArtifactRead ArtifactRead
-31 | 31 NoMemory NoMemory";
+31 | 31 NoMemory NoMemory
+32 | 32 TooFewLogs TooFewLogs";
 
 // An Ed25519 key of 32 zero bytes (RFC 8410).
 const ED25519: &str = "MCowBQYDK2VwAyEAAAAAAAAAAAAAAAAAAAAAAAAAAAAAAAAAAAAAAAAAAAA=";
@@ -377,15 +380,26 @@ fn digests_shown<X: AllocGlobal + Abort>(rt: &X, kept: &Kept) -> String {
     debug(rt, (count, algorithm, is_hello, is_copied))
 }
 
-// Whether an issuer, an integrated time and a verified time are there, and what was verified.
+// Whether an issuer, an integrated time and a verified time are there, what was verified, and how many logs of certificates
+// and transparency logs vouched.
 fn result_shown<X: AllocGlobal + Abort>(rt: &X, shown: &VerificationResult) -> String {
     let (issuer, integrated) = (shown.issuer().is_some(), shown.integrated_time().is_some());
     let (certificate, sct) = (shown.certificate_verified(), shown.sct_verified());
     let (tlog, identity) = (shown.tlog_verified(), shown.identity_policy_checked());
     let times = shown.verified_timestamps().len();
+    let counts = (shown.sct_count(), shown.log_count());
     debug(
         rt,
-        (issuer, integrated, times, certificate, sct, tlog, identity),
+        (
+            issuer,
+            integrated,
+            times,
+            certificate,
+            sct,
+            tlog,
+            identity,
+            counts,
+        ),
     )
 }
 
@@ -400,18 +414,32 @@ fn accepted<X: AllocGlobal + Abort>(rt: &X, part: &str) -> String {
 }
 
 const ACCEPTANCE: &str = "digests | (1, Sha2256, true, true)
-result | (false, false, 0, false, false, false, false)";
+result | (false, false, 0, false, false, false, false, (0, 0))";
 
-// The length of a policy's key, whether the log is to be verified, and whether a copy equals it.
-fn policy_shown<X: AllocGlobal + Abort>(rt: &X) -> String {
+// A policy for the key, with a number of logs that is asked for where one is given.
+fn asking<X: AllocGlobal + Abort>(rt: &X, count: &str) -> PublicKeyVerificationPolicy {
     let policy = policy(rt, UNCHANGED);
+    if count.is_empty() {
+        return policy;
+    }
+    policy.require_logs(there(rt, NonZeroU8::new(number(rt, count).min(255) as u8)))
+}
+
+// The length of a policy's key, whether the log is to be verified, how many logs are asked for, and whether a copy equals it.
+fn policy_shown<X: AllocGlobal + Abort>(rt: &X, count: &str) -> String {
+    let policy = asking(rt, count);
     let (length, verifies) = (policy.public_key().as_bytes().len(), policy.verifies_tlog());
+    let logs = policy.logs();
     let copy = good(rt, policy.duplicate(rt.alloc()));
     let is_copied = copy == policy;
     drop(copy);
     drop(policy);
-    debug(rt, (length, verifies, is_copied))
+    debug(rt, (length, verifies, logs, is_copied))
 }
+
+const POLICIES: &str = " | (91, false, 1, true)
+1 | (91, false, 1, true)
+255 | (91, false, 255, true)";
 
 // An artifact that is handed in: its bytes, or its digest by an algorithm.
 fn artifact<'a, X: AllocGlobal + Abort>(rt: &X, how: &str, text: &'a str) -> Artifact<'a> {
@@ -481,7 +509,7 @@ Ed25519 SHA2_256 hello | UnsupportedArtifact";
 fn verifications(rt: HostRuntime) {
     hold(&rt, "refusal", REFUSALS);
     hold(&rt, "judgement", JUDGED);
-    hold(&rt, "policy", " | (91, false, true)");
+    hold(&rt, "policy", POLICIES);
     hold(&rt, "acceptance", ACCEPTANCE);
     hold(&rt, "handed", HANDED);
 }
