@@ -7,7 +7,7 @@ use sigstore_types_parts::{DerCertificate, Text};
 use std::alloc::Global;
 
 /// Whether the owner of a mail address signed at a moment that is known, by a certificate that one of the authorities gave
-/// on that issuer's word, and that one of the logs promised to show.
+/// on that issuer's word; and how many of the logs promised to show it, of which there is one at least.
 pub fn check_signer<C: CryptoProvider>(
     alloc: Global,
     provider: &C,
@@ -18,7 +18,7 @@ pub fn check_signer<C: CryptoProvider>(
     certificate: &DerCertificate,
     intermediates: &[DerCertificate],
     signed_at: Timestamp,
-) -> Result<(), Refusal> {
+) -> Result<u64, Refusal> {
     let info = match parse_certificate_info(alloc, certificate) {
         Ok(info) => info,
         Err(Error::NoMemory) => return Err(Refusal::NoMemory),

@@ -1,6 +1,6 @@
 //! A caller of `sigstore_log`.
 use jiff::Timestamp;
-use sigstore_crypto::{CryptoProvider, Error, Keyring, VerificationKey, sha256};
+use sigstore_crypto::{CryptoProvider, Error, Keyring, LogIds, VerificationKey, sha256};
 use sigstore_entries::TransparencyLogEntry;
 use sigstore_log::{LogError, judge_entry};
 use sigstore_types_parts::DerPublicKey;
@@ -16,16 +16,18 @@ pub fn logs_of(alloc: Global, keys: &[DerPublicKey]) -> Result<Keyring, Error> {
     Ok(logs)
 }
 
-/// Whether each of these entries counts as logged by one of the logs; the first that doesn't is refused.
-pub fn check_logged<C: CryptoProvider>(
+/// In how many different ones of the logs these entries stand; the first that isn't logged is refused.
+pub fn count_logs<C: CryptoProvider>(
     alloc: Global,
     provider: &C,
     logs: &Keyring,
     now: Timestamp,
     entries: &[TransparencyLogEntry],
-) -> Result<(), LogError> {
+) -> Result<u64, LogError> {
+    let mut signed = LogIds::new(alloc);
     for entry in entries {
-        judge_entry(alloc, provider, logs, now, entry)?;
+        let shown = judge_entry(alloc, provider, logs, now, entry)?;
+        signed.add(&shown.log)?;
     }
-    Ok(())
+    Ok(signed.count())
 }
