@@ -200,7 +200,7 @@ leaf=@leaf_to_the_second | tokens=<token_alone>,<at_four> => 9 Certificate(NotYe
 token=@token_at_twelve | authority_window="start":"2020-01-01T00:00:00Z","end":"2024-06-01T00:05:59Z" => 8 Certificate(NoValidAuthority { time: 2024-06-01T00:12:00Z })
 leaf=@leaf_expired | authority_window="start":"2020-01-01T00:00:00Z","end":"2024-06-01T00:05:59Z" => 10 Certificate(Expired { time: 2024-06-01T00:05:00Z, not_after: 2024-06-01T00:04:59Z })"#;
 
-/// The timestamp of a log of certificates.
+/// The timestamps of logs of certificates.
 pub const PROMISED: &str =
     r#"leaf=@leaf_without_sct | entries= | waived=skip tlog; => 11 Certificate(Sct(List))
 leaf=@leaf_scts_unread | entries= | waived=skip tlog; => 11 Certificate(Sct(List))

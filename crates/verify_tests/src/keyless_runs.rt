@@ -4,7 +4,7 @@ use crate::tables::hold;
 // A row: the part, the text in its place, and the status with what is written. A policy's lines are parted by `;`. What
 // is waived is told as `no`, and a log that is waived gives its time all the same. An authority of the same name and
 // another key stands before the right one; the authority's window ends at the promise, which it has. The entry brings no
-// promise, and its log ended before the run.
+// promise, and its log ended before the run. The log's timestamp stands twice, and how many logs are asked for isn't told.
 const ACCEPTED: &str =
     r#"keyless | keyless;identity email a@example.com;issuer https://accounts.example.com | Accepted "accepted\nroot 1\ntimestamp 1\nsnapshot 1\nrole targets 1\ntarget 1714\nartifact sha256 2cf24dba5fb0a30e26e83b2ac5b9e29e1b161e5c1fa7425e73043362938b9824\nidentity email a@example.com\nissuer https://accounts.example.com\ncertificate yes\nsct yes\ntlog yes\npolicy yes\nintegrated 1700000100\ntimes 2\ntime 1700000060\ntime 1700000100\n"
 keyless | keyless;identity email a@example.com;issuer https://accounts.example.com;skip sct | Accepted "accepted\nroot 1\ntimestamp 1\nsnapshot 1\nrole targets 1\ntarget 1714\nartifact sha256 2cf24dba5fb0a30e26e83b2ac5b9e29e1b161e5c1fa7425e73043362938b9824\nidentity email a@example.com\nissuer https://accounts.example.com\ncertificate yes\nsct no\ntlog yes\npolicy yes\nintegrated 1700000100\ntimes 2\ntime 1700000060\ntime 1700000100\n"
