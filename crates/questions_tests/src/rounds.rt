@@ -293,13 +293,13 @@ fn told<X: AllocGlobal + Abort>(rt: &X, case: Case) -> String {
 }
 
 // A row: what the policy waives, a text of the bundle, the text in its place, the rounds and the refused rows, the end after
-// one round, and the end.
+// one round, and the end. All lines of a checkpoint are asked in one round: which log signed is told by each that is good.
 const ROUNDS: &str = r" |  |  | 2 4 | refused verify 19 TimestampInvalid | accepted
  | timestampVerificationData | timestamps | 2 3 | refused verify 7 ChainInvalid | accepted
-chain sct | timestampVerificationData | timestamps | 2 1 | refused verify 14 Checkpoint | accepted
+chain sct | timestampVerificationData | timestamps | 2 1 | accepted | accepted
 tlog chain sct |  |  | 2 1 | refused verify 19 TimestampInvalid | accepted
-chain sct | c4f+QjBEAiAgZXtcqx5i145zk5ICeWZ6f4f2oBf9hQF7X11laaPI0gIgE/WnJKVKgTI8Di/NnYBJV9TT+mx+Spe4NAsW7QoTOBI= | c4f+QjBEAiAgZXtcqx5iA45zk5ICeWZ6f4f2oBf9hQF7X11laaPI0gIgE/WnJKVKgTI8Di/NnYBJV9TT+mx+Spe4NAsW7QoTOBI=\n\u2014 log.example.com c4f+QjBEAiAgZXtcqx5i145zk5ICeWZ6f4f2oBf9hQF7X11laaPI0gIgE/WnJKVKgTI8Di/NnYBJV9TT+mx+Spe4NAsW7QoTOBI= | 3 3 | refused verify 19 TimestampInvalid | accepted
-chain sct | d2xIy92+j0m4CwIh | A2xIy92+j0m4CwIh | 3 3 | refused verify 19 TimestampInvalid | refused verify 14 Checkpoint
+chain sct | c4f+QjBEAiAgZXtcqx5i145zk5ICeWZ6f4f2oBf9hQF7X11laaPI0gIgE/WnJKVKgTI8Di/NnYBJV9TT+mx+Spe4NAsW7QoTOBI= | c4f+QjBEAiAgZXtcqx5iA45zk5ICeWZ6f4f2oBf9hQF7X11laaPI0gIgE/WnJKVKgTI8Di/NnYBJV9TT+mx+Spe4NAsW7QoTOBI=\n\u2014 log.example.com c4f+QjBEAiAgZXtcqx5i145zk5ICeWZ6f4f2oBf9hQF7X11laaPI0gIgE/WnJKVKgTI8Di/NnYBJV9TT+mx+Spe4NAsW7QoTOBI= | 2 3 | refused verify 19 TimestampInvalid | accepted
+chain sct | d2xIy92+j0m4CwIh | A2xIy92+j0m4CwIh | 2 3 | refused verify 19 TimestampInvalid | refused verify 14 Checkpoint
 tlog chain sct | 3lPcq9fe6V2UuBRR | AlPcq9fe6V2UuBRR | 3 2 | refused verify 19 TimestampInvalid | refused verify 19 TimestampInvalid";
 
 #[test]
