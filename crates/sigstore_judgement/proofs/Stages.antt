@@ -95,7 +95,8 @@ module _ (terms : Terms) (bundle : Bundle) where
 
   -- ---- an artifact that is read
 
-  read_judged : (bytes : List ℕ) (ready : Ready) (digests : List (HashAlgorithm × List ℕ)) → prepared_of read_kind terms.policy bundle ≡ Ok ready → digests ≡ digests_by ready.needed bytes
+  -- the judgement by the digests that were taken is that of the artifact
+  pub read_judged : (bytes : List ℕ) (ready : Ready) (digests : List (HashAlgorithm × List ℕ)) → prepared_of read_kind terms.policy bundle ≡ Ok ready → digests ≡ digests_by ready.needed bytes
       → judged_of terms bundle (Read bytes) ≡ judges ready digests None
   read_judged bytes ready digests p d =
       judged ready (Read bytes) p

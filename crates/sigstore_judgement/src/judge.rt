@@ -36,11 +36,20 @@ use std::alloc::Global;
 /// What was prepared for an artifact: who signed, their key under the scheme of this bundle, what it says of the
 /// artifact, and the digests of that which are needed.
 #[derive(Drop)]
-pub(crate) struct Ready<'a> {
+pub struct Ready<'a> {
     pub(crate) signer: Signing<'a>,
     pub(crate) key: VerificationKey,
     pub(crate) claim: Claim<'a>,
     pub(crate) needed: Sequence<HashAlgorithm>,
+}
+
+impl<'a> Ready<'a> {
+    /// The algorithms of the digests that are needed of the artifact, in their order.
+    pub fn needed(&self) -> &[HashAlgorithm]
+        ensures { result.now ≡ (ready_as self.now).needed }
+    {
+        self.needed.as_slice()
+    }
 }
 
 // The signer's key, under its own scheme.

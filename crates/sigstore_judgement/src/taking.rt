@@ -11,8 +11,12 @@ use sigstore_crypto_parts::{ArtifactHasher, ArtifactSource, HashUpdate, hash_rea
 use sigstore_types_parts::{ArtifactDigest, HashAlgorithm};
 use std::alloc::Global;
 
-// A hasher for each algorithm, none of which has seen anything.
-fn hashers_for(alloc: Global, algorithms: &[HashAlgorithm]) -> Result<Vec<ArtifactHasher>, Error>
+/// A hasher for each algorithm, in their order, none of which has seen anything. Errors: `Crypto` for an algorithm of
+/// SHA-3, which has none; `NoMemory`.
+pub fn hashers_for(
+    alloc: Global,
+    algorithms: &[HashAlgorithm],
+) -> Result<Vec<ArtifactHasher>, Error>
     ensures ok { IfOk result (λ hashers. AreOf hashers.items algorithms.now []) }
     ensures err { IfErr result (λ e. (e ≡ Error.NoMemory) ⊎ (list_all is_hashed algorithms.now ≡ false)) }
 {
@@ -26,8 +30,8 @@ fn hashers_for(alloc: Global, algorithms: &[HashAlgorithm]) -> Result<Vec<Artifa
     Ok(hashers)
 }
 
-// The digests of hashers, in their order.
-fn finalize_all(
+/// The digests of hashers, in their order. Errors: `NoMemory`.
+pub fn finalize_all(
     alloc: Global,
     hashers: Vec<ArtifactHasher>,
 ) -> Result<Sequence<ArtifactDigest>, Error>

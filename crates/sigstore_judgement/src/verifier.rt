@@ -56,7 +56,7 @@ impl<'p, C: CryptoProvider, M: Armor> Verifier<'p, C, M> {
     }
 
     // What a bundle is judged by at a moment.
-    fn grounds(&self, now: Timestamp) -> Grounds<'_, C, M>
+    pub(crate) fn grounds(&self, now: Timestamp) -> Grounds<'_, C, M>
         ensures { (policy : Meaning) → grounds_by C.CryptoProvider M.Armor result ≡ (terms_by C.CryptoProvider M.Armor self.now policy now).grounds }
     {
         Grounds {
