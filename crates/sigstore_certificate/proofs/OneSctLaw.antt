@@ -18,7 +18,7 @@ use Rattle.sigstore_certificate.specs.declared.error.Refusal.{Refusal}
 use Rattle.sigstore_certificate.specs.declared.error.Refusal.TheVariants.{InvalidTrustRoot}
 use Rattle.sigstore_certificate.specs.declared.error.SctRule.TheVariants as rule
 use Rattle.sigstore_certificate.specs.OneSct.{schemed, trusted_for, alone_of, OneAlone}
-use Rattle.sigstore_certificate.specs.Scts.{refused_by, scts_of, scheme_of, has_scheme, some_scheme, is_of_ring, some_log, written, signed_part_of, signed_data_of}
+use Rattle.sigstore_certificate.specs.Scts.{refused_by, scts_of, scheme_of, some_scheme, is_of_ring, some_log, written, signed_part_of, signed_data_of}
 use Rattle.sigstore_certificate.specs.Scts.{key_under, log_key, good_by, good_under, is_good_sct, promising_logs, enough_logs, scts_judged}
 use Rattle.sigstore_certificate.proofs.SctLaw.{shortened}
 

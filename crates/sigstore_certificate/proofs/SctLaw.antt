@@ -1,7 +1,7 @@
 -- The timestamps of logs of certificates are judged good exactly where they are.
-use Rattle.std.proofs.Common.{◌≡◌, ◌≤◌, ◌<◌, ℕ, List, length, Bool, true, false, nat_lt, nat_le, if◌then◌else◌, is_some, Option, Some, None, Result, Ok, Err, refl, sym, ap, subst, ◌∙◌}
+use Rattle.std.proofs.Common.{◌≡◌, ◌≤◌, ◌<◌, ℕ, List, length, Bool, true, false, nat_lt, if◌then◌else◌, is_some, Option, Some, None, Result, Ok, Err, refl, sym, ap, subst, ◌∙◌}
 use Rattle.std.proofs.lemmas.Bool.{ltb-true, lt-ltb, leb-true, le-leb}
-use Rattle.std.specs.Prelude.{⊤, Contains, IsTrue}
+use Rattle.std.specs.Prelude.{⊤, IsTrue}
 use Rattle.std.specs.List.{list_any}
 use Rattle.sha2.specs.Sha256.{sha256}
 use Rattle.foundation.specs.Steps.{◌>>=◌}
@@ -19,7 +19,7 @@ use Rattle.sigstore_crypto_parts.specs.Keyring.{has_key_of}
 use Rattle.sigstore_crypto_parts.specs.LogIds.{is_enough}
 use Rattle.sigstore_crypto_parts.specs.Scheme.{key_algorithm_of}
 use Rattle.sigstore_certificate.specs.declared.error.Refusal.{Refusal}
-use Rattle.sigstore_certificate.specs.declared.error.Refusal.TheVariants.{Sct as OfSct, InvalidTrustRoot}
+use Rattle.sigstore_certificate.specs.declared.error.Refusal.TheVariants.{InvalidTrustRoot}
 use Rattle.sigstore_certificate.specs.declared.error.SctRule.TheVariants as rule
 use Rattle.sigstore_certificate.specs.Certified.{Trust, parts_read, leaf_scts_judged}
 use Rattle.sigstore_certificate.specs.IsCertified.{IsKnown, HasScts, IsGoodSct, GoodExactly}

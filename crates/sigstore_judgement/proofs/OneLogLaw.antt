@@ -1,23 +1,21 @@
 -- An entry that is logged stands in one log.
-use Rattle.std.proofs.Common.{◌≡◌, ◌≤◌, ◌++◌, ℕ, List, [], ◌∷◌, length, Bool, true, false, is_some, nat_le, if◌then◌else◌, Option, Some, None, Result, Ok, Err, refl, sym, ap, subst, ◌∙◌, arith}
-use Rattle.std.specs.Prelude.{⊤, filter_map}
+use Rattle.std.proofs.Common.{◌≡◌, ◌≤◌, ◌++◌, ℕ, List, [], ◌∷◌, length, Bool, true, false, is_some, if◌then◌else◌, Option, Some, None, Ok, Err, refl, sym, ap, subst, ◌∙◌, arith}
+use Rattle.std.specs.Prelude.{filter_map}
 use Rattle.std.specs.List.{cons_option}
 use Rattle.std.proofs.lemmas.Bool.{le-leb}
 use Rattle.std.proofs.lemmas.List.{length-append}
 use Rattle.jiff_core.specs.declared.timestamp.Timestamp.{Timestamp}
-use Rattle.sigstore_types.specs.declared.bundle.Bundle.{Bundle}
-use Rattle.sigstore_types.specs.Bundle.{entries_in, structure_of, shown_of}
+use Rattle.sigstore_types.specs.Bundle.{entries_in, shown_of}
 use Rattle.sigstore_crypto_parts.specs.declared.log_ids.LogThreshold.{LogThreshold}
 use Rattle.sigstore_crypto_parts.specs.LogIds.{is_among, with_id, each_once, count_distinct}
 use Rattle.sigstore_entries.specs.declared.entry.TransparencyLogEntry.{TransparencyLogEntry}
 use Rattle.sigstore_log.specs.Entry.{log_of, log_of_proof}
 use Rattle.sigstore_log.specs.Logged.{Logged}
-use Rattle.sigstore_log.specs.Signed.{proof_signer, signer_of}
+use Rattle.sigstore_log.specs.Signed.{proof_signer}
 use Rattle.sigstore_log.proofs.Signer.{signed_where_found}
 use Rattle.sigstore_log.proofs.Signing.{signed_passes}
-use Rattle.sigstore_judgement.specs.declared.error.Error.{Error}
 use Rattle.sigstore_judgement.specs.declared.error.Error.TheVariants.{TooFewLogs}
-use Rattle.sigstore_judgement.specs.Entries.{log_judged_of, vouching_logs, log_count_of, logs_judged_of}
+use Rattle.sigstore_judgement.specs.Entries.{log_judged_of, vouching_logs, logs_judged_of}
 use Rattle.sigstore_judgement.specs.Grounds.{Grounds}
 use Rattle.sigstore_judgement.specs.OneLog.{OneLogSuffices}
 use Rattle.sigstore_judgement.specs.Signer.{Signer}
