@@ -12,6 +12,8 @@ mod enveloped;
 #[cfg(test)]
 mod fixture;
 #[cfg(test)]
+mod gates;
+#[cfg(test)]
 mod hostile;
 #[cfg(test)]
 mod keyless;

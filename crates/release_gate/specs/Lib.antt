@@ -1,0 +1,11 @@
+pub mod Files
+pub mod Folder
+pub mod Gate
+pub mod Judgement
+pub mod Lines
+pub mod Listed
+pub mod Memory
+pub mod Names
+pub mod Promises
+pub mod Verdict
+pub mod Walk

@@ -1,0 +1,211 @@
+// The gate: from a pinned root down to each artifact of a folder.
+ghost use Rattle.std.specs.Prelude.{◌≡◌, ◌≢◌, Ok, Err, IfOk, IfErr};
+ghost use Rattle.sigstore_types_parts.specs.Entries.{text_cmp};
+ghost use Rattle.sigstore_crypto_parts.specs.Crypto.{crypto_by};
+ghost use Rattle.sigstore_judgement.specs.Grounds.{terms_by};
+ghost use Rattle.sigstore_verify.specs.Given.{Anchor};
+ghost use Rattle.sigstore_judgement.specs.Under.{trust_of};
+ghost use Rattle.release_gate.specs.Gate.{Given, Outside, kept_of, fault_of_tuf, fault_of_trust, fault_of_stop, JudgesUnder};
+ghost use Rattle.release_gate.specs.Promises.{Promises};
+
+use crate::folder::Folder;
+use crate::judgement::Judgement;
+use crate::line::GateLine;
+use crate::walk::{Stop, judge_folder};
+use foundation::Sequence;
+use jiff::Timestamp;
+use sigstore_crypto_parts::CryptoProvider;
+use sigstore_judgement::{Error, Policy, Verifier};
+use sigstore_tuf::{MetadataStore, Repository, TrustChain, UpdaterConfig};
+use sigstore_types::TrustedRoot;
+use sigstore_types_parts::{Armor, Text, TypesError};
+use sigstore_verify::chain_from_root;
+use std::alloc::Global;
+use std::fmt;
+
+/// A folder that was judged: the chain of documents that authorises the trust file, and a line on each artifact, in
+/// ascending order of their names' bytes.
+#[derive(Drop)]
+pub struct Gated {
+    pub chain: TrustChain,
+    pub lines: Sequence<GateLine>,
+}
+
+/// Why a folder isn't judged.
+#[derive(Drop)]
+pub enum GateFault {
+    /// No chain of documents authorises a trust file; the folder wasn't touched.
+    Tuf(sigstore_tuf_parts::Error),
+    /// The trust file of this chain, which is trusted from the root, can't be used; the folder wasn't touched.
+    Trust { fault: Error, chain: TrustChain },
+    /// A call of the folder failed.
+    FolderFailed,
+    /// The folder lists this name twice, and none before it.
+    DoubledName { name: Text },
+    /// The folder lists more than 100,000 names: so many.
+    TooManyNames { count: u64 },
+    /// The folder listed this bundle, and then had none.
+    Vanished { name: Text },
+    /// An allocation was refused; nothing is said of root, repository or folder.
+    NoMemory,
+}
+
+fn fault_of_tuf(e: sigstore_tuf_parts::Error) -> GateFault
+    ensures { result ≡ fault_of_tuf e }
+{
+    match e {
+        sigstore_tuf_parts::Error::NoMemory => GateFault::NoMemory,
+        e => GateFault::Tuf(e),
+    }
+}
+
+fn fault_of_trust(fault: Error, chain: TrustChain) -> GateFault
+    ensures { result ≡ fault_of_trust fault chain }
+{
+    match fault {
+        Error::NoMemory => {
+            drop(chain);
+            GateFault::NoMemory
+        }
+        fault => GateFault::Trust { fault, chain },
+    }
+}
+
+fn fault_of_stop(stop: Stop) -> GateFault
+    ensures { result ≡ fault_of_stop stop }
+{
+    match stop {
+        Stop::Failed => GateFault::FolderFailed,
+        Stop::TooMany { count } => GateFault::TooManyNames { count },
+        Stop::Doubled { name } => GateFault::DoubledName { name },
+        Stop::Vanished { name } => GateFault::Vanished { name },
+        Stop::NoMemory => GateFault::NoMemory,
+    }
+}
+
+// The trust file.
+fn read_trust(alloc: Global, file: &[u8]) -> Result<TrustedRoot, Error>
+    ensures ok { IfOk result (λ trust. trust_of file.now ≡ Ok trust) }
+    ensures err { IfErr result (λ e. e ≢ Error.NoMemory → trust_of file.now ≡ Err e) }
+{
+    match TrustedRoot::from_json(alloc, file) {
+        Ok(trust) => Ok(trust),
+        Err(TypesError::NoMemory) => Err(Error::NoMemory),
+        Err(_) => Err(Error::TrustRoot),
+    }
+}
+
+// A verifier over a trust file. Errors: `TrustRoot` for its bytes, then those of `Verifier::new`.
+fn verifier_over<'p, C: CryptoProvider, M: Armor>(
+    alloc: Global,
+    provider: &'p C,
+    armor: &'p M,
+    file: &[u8],
+) -> Result<Verifier<'p, C, M>, Error>
+    ensures provider { IfOk result (λ verifier. verifier.provider.now ≡ provider.now) }
+    ensures armor { IfOk result (λ verifier. verifier.armor.now ≡ armor.now) }
+    ensures kept { IfOk result (λ verifier. kept_of file.now ≡ Ok verifier.material) }
+    ensures err { IfErr result (λ e. e ≢ Error.NoMemory → kept_of file.now ≡ Err e) }
+{
+    match read_trust(alloc, file) {
+        Ok(trust) => {
+            let verifier = Verifier::new(alloc, provider, armor, &trust);
+            drop(trust);
+            verifier
+        }
+        Err(e) => Err(e),
+    }
+}
+
+// The lines on a folder under a trust file.
+fn judge_under<C: CryptoProvider, M: Armor, D: Folder, P: Policy>(
+    alloc: Global,
+    verifier: &Verifier<'_, C, M>,
+    folder: &mut D,
+    max: u64,
+    policy: &P,
+    now: Timestamp,
+) -> Result<Sequence<GateLine>, GateFault>
+    ensures { JudgesUnder (terms_by C.CryptoProvider M.Armor verifier.now (P.meant policy.now) now) max (D.seen folder.old) (D.seen folder.new) result }
+{
+    let judgement = Judgement {
+        verifier,
+        policy,
+        moment: now,
+        max,
+    };
+    match judge_folder(alloc, &judgement, folder) {
+        Ok(lines) => Ok(lines),
+        Err(stop) => Err(fault_of_stop(stop)),
+    }
+}
+
+/// Judges a folder of artifacts and their bundles from a pinned TUF root: walks from the root to the target
+/// `trusted_root.json`, as `chain_from_root` of `sigstore_verify`, makes one verifier of it, and judges each artifact by
+/// its own bundle. A file whose name ends in `.sigstore.json` is a bundle, of the artifact whose name stands before that;
+/// every other file is an artifact, and has a line. Errors, in this order: `Tuf`; `Trust` for the first check that the
+/// trust file fails; `FolderFailed` of the listing, `TooManyNames`, `DoubledName`; then in ascending order of the
+/// artifacts' names `FolderFailed` and `Vanished`. An artifact is read in pieces and never held.
+pub fn gate_from_root<
+    R: Repository,
+    S: MetadataStore,
+    D: Folder,
+    P: Policy,
+    C: CryptoProvider,
+    M: Armor,
+>(
+    alloc: Global,
+    provider: &C,
+    armor: &M,
+    root_bytes: &[u8],
+    repo: &mut R,
+    store: &mut S,
+    config: UpdaterConfig,
+    now: Timestamp,
+    folder: &mut D,
+    max_artifact: u64,
+    policy: &P,
+) -> Result<Gated, GateFault>
+    ensures { let crypto = crypto_by C.CryptoProvider M.Armor provider.now armor.now in
+        let anchor : Anchor = record { crypto = crypto; root = root_bytes.now; config = config; now = now } in
+        let given : Given = record { anchor = anchor; policy = P.meant policy.now; max = max_artifact } in
+        let before : Outside = record { repo = R.seen repo.old; store = S.seen store.old; folder = D.seen folder.old } in
+        let after : Outside = record { repo = R.seen repo.new; store = S.seen store.new; folder = D.seen folder.new } in
+        Promises given before after result }
+{
+    let chain = match chain_from_root(
+        alloc, provider, armor, root_bytes, repo, store, &config, now,
+    ) {
+        Ok(chain) => chain,
+        Err(e) => return Err(fault_of_tuf(e)),
+    };
+    let verifier = match verifier_over(alloc, provider, armor, chain.file.as_bytes()) {
+        Ok(verifier) => verifier,
+        Err(fault) => return Err(fault_of_trust(fault, chain)),
+    };
+    match judge_under(alloc, &verifier, folder, max_artifact, policy, now) {
+        Ok(lines) => {
+            drop(verifier);
+            Ok(Gated { chain, lines })
+        }
+        Err(e) => {
+            drop(verifier);
+            drop(chain);
+            Err(e)
+        }
+    }
+}
+
+impl fmt::Display for GateFault {
+    fn fmt<W: fmt::Write>(&self, f: &mut fmt::Formatter<W>) -> fmt::Result {
+        f.write_str(match self {
+            GateFault::Tuf(_) => "Tuf",
+            GateFault::Trust { .. } => "Trust",
+            GateFault::FolderFailed => "FolderFailed",
+            GateFault::DoubledName { .. } => "DoubledName",
+            GateFault::TooManyNames { .. } => "TooManyNames",
+            GateFault::Vanished { .. } => "Vanished",
+            GateFault::NoMemory => "NoMemory",
+        })
+    }
+}

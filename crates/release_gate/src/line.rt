@@ -1,0 +1,46 @@
+// What a gate says of an artifact.
+
+use foundation::{Duplicate, NoMemory};
+use sigstore_types_parts::Text;
+use std::alloc::Global;
+use std::fmt;
+
+/// What a gate says of one artifact.
+#[derive(Clone, Copy, Debug, PartialEq, Eq, Drop)]
+pub enum Verdict {
+    /// Its own bundle is accepted over its bytes, under the policy.
+    Admitted,
+    /// The folder has no bundle of it.
+    Unsigned,
+    /// Its bundle has more than 16 MiB: so many bytes were seen.
+    BundleTooLong { seen: u64 },
+    /// Its bundle isn't accepted: the number of the verification's refusal.
+    Denied { number: u8 },
+}
+
+/// An artifact's name, and what is said of it.
+#[derive(Debug, PartialEq, Drop)]
+pub struct GateLine {
+    pub name: Text,
+    pub verdict: Verdict,
+}
+
+impl Duplicate for GateLine {
+    fn duplicate(&self, alloc: Global) -> Result<GateLine, NoMemory> {
+        Ok(GateLine {
+            name: self.name.duplicate(alloc)?,
+            verdict: self.verdict,
+        })
+    }
+}
+
+impl fmt::Display for Verdict {
+    fn fmt<W: fmt::Write>(&self, f: &mut fmt::Formatter<W>) -> fmt::Result {
+        f.write_str(match self {
+            Verdict::Admitted => "Admitted",
+            Verdict::Unsigned => "Unsigned",
+            Verdict::BundleTooLong { .. } => "BundleTooLong",
+            Verdict::Denied { .. } => "Denied",
+        })
+    }
+}
