@@ -5,6 +5,7 @@ pub mod archive;
 pub mod certificate;
 pub mod crypto;
 pub mod der;
+pub mod gate;
 pub mod growth;
 pub mod judgement;
 pub mod log;
