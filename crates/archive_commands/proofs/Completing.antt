@@ -20,11 +20,11 @@ use Rattle.sigstore_app_parts.specs.declared.gather.Stop.TheVariants.{Words, Mal
 use Rattle.sigstore_run.specs.declared.answer.Answer.{Answer}
 use Rattle.sigstore_run.specs.declared.answer.Status.TheVariants as status
 use Rattle.sigstore_run.specs.Report.{chain_text}
-use Rattle.sigstore_run.specs.Run.{answer, stop_answer, Command, Environment}
+use Rattle.sigstore_run.specs.Run.{answer, stop_answer, anchor_of, Command, Environment}
 use Rattle.archive_commands.specs.declared.layout.ArchiveLayout.{ArchiveLayout}
 use Rattle.archive_commands.specs.declared.output.Output.{Output}
 use Rattle.archive_commands.specs.declared.output.Output.TheVariants.{Lines, Archive}
-use Rattle.archive_commands.specs.Run.{anchor_of, moment_of, max_archive, held_in, Holds, spelled, Judges, is_trusted, is_refused, Checks, unread, judged, Walks, walk_refused, walked_to, Commands, checked, walked, Proceeds, stopped, commanded, Says, misworded, worded}
+use Rattle.archive_commands.specs.Run.{moment_of, max_archive, held_in, Holds, spelled, Judges, is_trusted, is_refused, Checks, unread, judged, Walks, walk_refused, walked_to, Commands, checked, walked, Proceeds, stopped, commanded, Says, misworded, worded}
 use Rattle.archive_commands.specs.Complete.{Favoured, anchor_in}
 use Rattle.sigstore_app_parts.proofs.Wholes.{same_whole, never_unread}
 

@@ -22,12 +22,12 @@ use Rattle.sigstore_app_parts.specs.declared.gather.Anchored.{Anchored}
 use Rattle.sigstore_run.specs.declared.answer.Answer.{Answer}
 use Rattle.sigstore_run.specs.declared.answer.Status.TheVariants as status
 use Rattle.sigstore_run.specs.Report.{chain_text}
-use Rattle.sigstore_run.specs.Run.{answer, said_of, Command, Environment}
+use Rattle.sigstore_run.specs.Run.{answer, said_of, anchor_of, Command, Environment}
 use Rattle.sigstore_run.proofs.ReportThere.{chain_text_there}
 use Rattle.archive_commands.specs.declared.layout.ArchiveLayout.{ArchiveLayout}
 use Rattle.archive_commands.specs.declared.output.Output.{Output}
 use Rattle.archive_commands.specs.Layout.{archive_layout_of}
-use Rattle.archive_commands.specs.Run.{anchor_of, archive_answer, held_in, Holds, Why, max_archive, moment_of, spelled, Judges, is_trusted, is_refused, Checks, judged, Walks, walked_to, Commands, walked, Proceeds, commanded, Says, worded}
+use Rattle.archive_commands.specs.Run.{archive_answer, held_in, Holds, Why, max_archive, moment_of, spelled, Judges, is_trusted, is_refused, Checks, judged, Walks, walked_to, Commands, walked, Proceeds, commanded, Says, worded}
 
 module _ (anchor : Anchor) (bytes : List ℕ) where
   pub trusted_said : (chain : TrustChain) (result : Result Answer NoMemory) → held_in anchor bytes ≡ Ok chain → Holds anchor bytes chain

@@ -11,10 +11,10 @@ use Rattle.sigstore_app_parts.specs.declared.gather.Anchored.{Anchored}
 use Rattle.sigstore_run.specs.declared.answer.Status.{Status}
 use Rattle.sigstore_run.specs.declared.answer.Status.TheVariants as status
 use Rattle.sigstore_run.specs.Report.{chain_text}
-use Rattle.sigstore_run.specs.Run.{Command, Environment, TakesAll}
+use Rattle.sigstore_run.specs.Run.{Command, Environment, TakesAll, anchor_of}
 use Rattle.archive_commands.specs.declared.layout.ArchiveLayout.{ArchiveLayout}
 use Rattle.archive_commands.specs.Layout.{archive_layout_of}
-use Rattle.archive_commands.specs.Run.{anchor_of, moment_of, max_archive, Holds}
+use Rattle.archive_commands.specs.Run.{moment_of, max_archive, Holds}
 
 -- the words are those of the command, and told inputs are read without a fault and are these
 pub record Favoured (check : Bool) (command : Command) (before after : Environment) : Type 0 where

@@ -3,10 +3,8 @@ use Rattle.std.specs.Prelude.{◌≡◌, ◌≢◌, ℕ, ◌^◌, List, codes, B
 use Rattle.std.specs.Result.{result_ok}
 use Rattle.jiff_core.specs.declared.timestamp.Timestamp as jiff
 use Rattle.foundation.specs.Watched.{Watched, Rose}
-use Rattle.sigstore_crypto_parts.specs.Crypto.{Crypto}
 use Rattle.sigstore_tuf_text.specs.declared.error.Error.{Error as TufError}
 use Rattle.sigstore_tuf_text.specs.declared.error.Error.TheVariants as tuf
-use Rattle.sigstore_tuf_rules.specs.Config.{default_config}
 use Rattle.sigstore_tuf_rules.specs.declared.chain.TrustChain.{TrustChain}
 use Rattle.sigstore_verify.specs.Given.{Anchor, Places, Outside, places_in}
 use Rattle.sigstore_verify.specs.FromRoot.{trust_path}
@@ -18,20 +16,17 @@ use Rattle.trust_archive.specs.Cause.{ArchiveCause}
 use Rattle.trust_archive.specs.Error as refusal
 use Rattle.trust_archive.specs.Judgement.{chain_of}
 use Rattle.trust_archive.specs.Spelling.{spelling_of}
-use Rattle.sigstore_app_parts.specs.Rows.{accepts_of}
-use Rattle.sigstore_app_parts.specs.Tables.{is_armored_by, armor_content}
 use Rattle.sigstore_app_parts.specs.Gather.{anchored_of, ReadsAs}
 use Rattle.sigstore_app_parts.specs.Printed.{pair_line, refused_line}
 use Rattle.sigstore_app_parts.specs.Whole.{GivesWhole, Unread}
 use Rattle.sigstore_app_parts.specs.declared.gather.Anchored.{Anchored}
 use Rattle.sigstore_app_parts.specs.declared.gather.Stop.{Stop}
 use Rattle.sigstore_app_parts.specs.declared.gather.Stop.TheVariants.{Words}
-use Rattle.sigstore_app_parts.specs.declared.tables.Tables.{Tables}
 use Rattle.sigstore_run.specs.declared.answer.Answer.{Answer}
 use Rattle.sigstore_run.specs.declared.answer.Status.{Status}
 use Rattle.sigstore_run.specs.declared.answer.Status.TheVariants as status
 use Rattle.sigstore_run.specs.Report.{chain_text}
-use Rattle.sigstore_run.specs.Run.{answer, stop_answer, tuf_answer, Command, Environment, TakesAll}
+use Rattle.sigstore_run.specs.Run.{answer, stop_answer, tuf_answer, anchor_of, Command, Environment, TakesAll}
 use Rattle.archive_commands.specs.declared.layout.ArchiveLayout.{ArchiveLayout}
 use Rattle.archive_commands.specs.declared.output.Output.{Output}
 use Rattle.archive_commands.specs.declared.output.Output.TheVariants.{Lines, Archive}
@@ -39,19 +34,6 @@ use Rattle.archive_commands.specs.Layout.{archive_layout_of}
 use Rattle.archive_commands.specs.Output.{status_of, octets_of}
 
 -- ---- what is given
-
--- the tables' provider and armour
-abbrev pub crypto_of : Tables → Crypto
-crypto_of tables = record {
-  accepts = accepts_of tables.provider.rows;
-  armored = is_armored_by tables.armor;
-  key_in = armor_content tables.armor.keys;
-  certificate_in = armor_content tables.armor.certificates;
-}
-
--- from what a chain is trusted: the tables, the root that was read, the client's limits, and the moment
-abbrev pub anchor_of : Anchored → jiff.Timestamp → Anchor
-anchor_of anchored now = record { crypto = crypto_of anchored.tables; root = anchored.root; config = default_config; now = now }
 
 -- the instant of the words, else the clock's
 abbrev pub moment_of : ArchiveLayout → jiff.Timestamp → jiff.Timestamp

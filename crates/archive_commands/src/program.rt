@@ -2,9 +2,9 @@
 ghost use Rattle.std.specs.Prelude.{◌≡◌, ◌≢◌, Some, Ok, Err, IfOk, IfErr, codes};
 ghost use Rattle.sigstore_verify.specs.Given.{Outside, Places};
 ghost use Rattle.sigstore_verify.specs.Promises.{PromisesChain};
-ghost use Rattle.sigstore_run.specs.Run.{Environment, said_of};
+ghost use Rattle.sigstore_run.specs.Run.{Environment, said_of, anchor_of};
 ghost use Rattle.sigstore_run.specs.Report.{chain_text};
-ghost use Rattle.archive_commands.specs.Run.{anchor_of, held_in, Holds, Why, archive_answer, unread_answer, spelled, Judges, Checks, Walks, Commands, Proceeds, Says, Means};
+ghost use Rattle.archive_commands.specs.Run.{held_in, Holds, Why, archive_answer, unread_answer, spelled, Judges, Checks, Walks, Commands, Proceeds, Says, Means};
 ghost use Rattle.archive_commands.specs.Complete.{CompletesCheck, CompletesArchive};
 ghost use Rattle.trust_archive.specs.Spelling.{spelling_of};
 

@@ -16,6 +16,7 @@ use Rattle.sigstore_app_parts.specs.declared.gather.Stop.{Stop}
 use Rattle.sigstore_app_parts.specs.declared.gather.Stop.TheVariants.{Words, Malformed, Input, Memory}
 use Rattle.sigstore_app_parts.specs.declared.gather.Gathered.{Gathered}
 use Rattle.sigstore_app_parts.specs.declared.gather.Anchored.{Anchored}
+use Rattle.sigstore_app_parts.specs.declared.gather.Governed.{Governed}
 use Rattle.sigstore_app_parts.specs.declared.policy.PolicyFile.{PolicyFile}
 use Rattle.sigstore_app_parts.specs.declared.tables.Tables.{Tables}
 
@@ -82,6 +83,13 @@ anchored_of held =
     tables_in held >>= λ tables.
     input_of Root held >>= λ root.
     Ok (record { tables = tables; root = root })
+
+-- the policy before them, or the first refusal
+unfoldable pub governed_of : Held → Result Governed Stop
+governed_of held =
+    policy_in held >>= λ policy.
+    anchored_of held >>= λ anchored.
+    Ok (record { policy = policy; anchored = anchored })
 
 -- bytes that told inputs hold within their limit, and that are outside their grammar
 pub record IsMalformed {A : Type 0} (which : Which) (reads : List ℕ → Result A UsageFault) (seen : Supply) : Type 0 where

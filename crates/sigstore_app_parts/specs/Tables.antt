@@ -6,8 +6,9 @@ use Rattle.base64.specs.Engines.{standard}
 use Rattle.base64.specs.GeneralPurpose.{decode_of}
 use Rattle.foundation.specs.Steps.{◌>>=◌}
 use Rattle.sigstore_types_parts.specs.Entries.{text_cmp, at_name}
+use Rattle.sigstore_crypto_parts.specs.Crypto.{Crypto}
 use Rattle.sigstore_app_parts.specs.Lines.{file_folded_of}
-use Rattle.sigstore_app_parts.specs.Rows.{parted_of, with_accept_row, accept_row_of, is_der, ArmorRows, armor_row_of}
+use Rattle.sigstore_app_parts.specs.Rows.{parted_of, with_accept_row, accept_row_of, accepts_of, is_der, ArmorRows, armor_row_of}
 use Rattle.sigstore_app_parts.specs.declared.usage_fault.UsageFault.{UsageFault}
 use Rattle.sigstore_app_parts.specs.declared.usage_fault.UsageFault.TheVariants.{Usage}
 use Rattle.sigstore_app_parts.specs.declared.rows.ArmorRow.{ArmorRow}
@@ -60,3 +61,12 @@ is_armored_by armor text = is_der text || is_some (at_name text armor.keys) || i
 -- what a text holds: the bytes that stand in base64 behind `der:`, or what its row says
 abbrev pub armor_content : ArmorRows → List ℕ → Option (List ℕ)
 armor_content rows text = if is_der text then result_ok (decode_of standard (drop 4 text)) else at_name text rows
+
+-- who decides signatures and reads armoured texts by these tables
+abbrev pub crypto_of : Tables → Crypto
+crypto_of tables = record {
+  accepts = accepts_of tables.provider.rows;
+  armored = is_armored_by tables.armor;
+  key_in = armor_content tables.armor.keys;
+  certificate_in = armor_content tables.armor.certificates;
+}

@@ -4,7 +4,7 @@ ghost use Rattle.sigstore_app_parts.specs.declared.inputs.Which.TheVariants.{Pol
 ghost use Rattle.sigstore_app_parts.specs.declared.gather.Stop.TheVariants.{Memory};
 ghost use Rattle.sigstore_app_parts.specs.Policy.{policy_of};
 ghost use Rattle.sigstore_app_parts.specs.Tables.{tables_of};
-ghost use Rattle.sigstore_app_parts.specs.Gather.{limit_of, word_of, stop_of, by_form, input_of, policy_in, tables_in, signed_in, gathered_of, anchored_of, ReadsAs};
+ghost use Rattle.sigstore_app_parts.specs.Gather.{limit_of, word_of, stop_of, by_form, input_of, policy_in, tables_in, signed_in, gathered_of, anchored_of, governed_of, ReadsAs};
 
 use crate::inputs::{InputFault, Inputs, Which};
 use crate::policy::{PolicyFile, read_policy};
@@ -42,6 +42,13 @@ pub struct Gathered {
 pub struct Anchored {
     pub tables: Tables,
     pub root: Bytes,
+}
+
+/// The inputs of a run that judges many artifacts: the policy, and by what it is judged.
+#[derive(Drop)]
+pub struct Governed {
+    pub policy: PolicyFile,
+    pub anchored: Anchored,
 }
 
 impl Which {
@@ -183,6 +190,19 @@ pub fn gather_anchor<I: Inputs>(alloc: Global, inputs: &mut I) -> Result<Anchore
     match take_tables(alloc, inputs) {
         Ok(tables) => match take_input(alloc, inputs, Which::Root) {
             Ok(root) => Ok(Anchored { tables, root }),
+            Err(e) => Err(e),
+        },
+        Err(e) => Err(e),
+    }
+}
+
+/// The inputs of a run that judges many artifacts, in their order: policy, provider, root. Errors as `gather_inputs`.
+pub fn gather_governed<I: Inputs>(alloc: Global, inputs: &mut I) -> Result<Governed, Stop>
+    ensures { ReadsAs governed_of (I.seen inputs.old) (I.seen inputs.new) result }
+{
+    match take_policy(alloc, inputs) {
+        Ok(policy) => match gather_anchor(alloc, inputs) {
+            Ok(anchored) => Ok(Governed { policy, anchored }),
             Err(e) => Err(e),
         },
         Err(e) => Err(e),

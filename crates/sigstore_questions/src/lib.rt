@@ -9,5 +9,5 @@ mod reading_store;
 
 pub use details::run_details;
 pub use last_asked::LastAsked;
-pub use program::run_questions;
+pub use program::{questions_text, run_questions};
 pub use reading_store::ReadingStore;

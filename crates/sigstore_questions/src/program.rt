@@ -87,8 +87,8 @@ fn asked<R: Repository, S: MetadataStore, A: ArtifactSource>(
     }
 }
 
-// The text of what was noted.
-fn said(noted: Noted) -> Answer
+/// What is said of the questions that were noted: the text of a provider file.
+pub fn questions_text(noted: Noted) -> Answer
     ensures text { result.text ≡ string_bytes noted.text }
     ensures status { result.status ≡ Accepted }
     ensures rows { IsQuestions result.text noted.tables }
@@ -118,7 +118,7 @@ fn proceed<I: Inputs, R: Repository, S: MetadataStore, A: ArtifactSource>(
 {
     match gather_inputs(alloc, inputs) {
         Ok(gathered) => match asked(alloc, gathered, now, repo, store, artifact) {
-            Ok(noted) => Ok(said(noted)),
+            Ok(noted) => Ok(questions_text(noted)),
             Err(e) => Err(e),
         },
         Err(stop) => match stopped(alloc, stop) {

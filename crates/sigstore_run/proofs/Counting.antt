@@ -1,5 +1,5 @@
 -- The first refusal of a number, and the lines of a summary.
-use Rattle.std.proofs.Common.{◌≡◌, ℕ, suc, ◌+◌, ◌-◌, ◌==◌, ◌<◌, List, [], ◌∷◌, ◌++◌, cond, Bool, true, false, Some, None, Ok, Err, Option, refl, sym, ap, ◌∙◌, append_assoc, arith, length, take, drop, get_or, drop-cons, add-one}
+use Rattle.std.proofs.Common.{◌≡◌, ℕ, suc, ◌+◌, ◌-◌, ◌==◌, ◌<◌, List, [], ◌∷◌, ◌++◌, cond, true, false, Some, None, Ok, Err, refl, sym, ap, ◌∙◌, append_assoc, arith, length, take, drop, get_or, drop-cons, add-one}
 use Rattle.std.proofs.Math.Seq.{take-suc}
 use Rattle.std.proofs.lemmas.List.{append-nil, take-append-drop}
 use Rattle.sigstore_judgement.specs.declared.error.Error.{Error}

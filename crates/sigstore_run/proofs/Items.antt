@@ -1,22 +1,22 @@
 -- What the top call answers of an item: its repository offers its chain, its store is empty, and nothing fails.
-use Rattle.std.proofs.Common.{◌≡◌, ◌⊎◌, ℕ, List, length, Some, None, Ok, Err, inl, inr, refl, ap, sym, ◌∙◌, subst, arith, rules}
+use Rattle.std.proofs.Common.{◌≡◌, ◌⊎◌, ℕ, List, length, Some, Ok, Err, inl, inr, refl, ap, sym, ◌∙◌, subst, rules}
 use Rattle.std.specs.Prelude.{Result, ⊤, IfOk, unwrap_or}
 use Rattle.std.specs.Result.{result_ok}
 use Rattle.foundation.specs.declared.no_memory.NoMemory.{NoMemory as NoMem}
 use Rattle.sigstore_app_parts.specs.declared.usage_fault.UsageFault.TheVariants.{Usage}
 use Rattle.sigstore_app_parts.specs.declared.gather.Stop.TheVariants.{Words}
+use Rattle.sigstore_app_parts.specs.Tables.{crypto_of}
 use Rattle.sigstore_run.specs.declared.answer.Answer.{Answer}
 use Rattle.sigstore_run.specs.Run.{stop_answer}
 use Rattle.sigstore_run.specs.Generate.{asked_of, SaysOf}
 use Rattle.jiff_core.specs.declared.timestamp.Timestamp as jiff
-use Rattle.foundation.specs.Watched.{Watched}
 use Rattle.sigstore_crypto_parts.specs.Crypto.{Crypto}
-use Rattle.sigstore_tuf_outside.specs.Repository.{Quiet, Files, Folders}
+use Rattle.sigstore_tuf_outside.specs.Repository.{Quiet}
 use Rattle.sigstore_tuf_outside.specs.Memory.{no_files}
 use Rattle.sigstore_tuf_rules.specs.Config.{default_config}
 use Rattle.sigstore_tuf_rules.specs.declared.config.UpdaterConfig.{UpdaterConfig}
 use Rattle.sigstore_tuf_rules.specs.declared.chain.TrustChain.{TrustChain}
-use Rattle.foundation.specs.Results.{ok_same, err_same, no_both}
+use Rattle.foundation.specs.Results.{err_same, no_both}
 use Rattle.sigstore_tuf_text.specs.declared.error.Error.{Error as TufError}
 use Rattle.sigstore_judgement.specs.declared.error.Error.{Error}
 use Rattle.sigstore_judgement.specs.declared.error.Error.TheVariants as verify
@@ -26,7 +26,7 @@ use Rattle.sigstore_judgement.specs.Policy.{PublicKey}
 use Rattle.sigstore_verify.specs.declared.from_root.Rooted.{Rooted}
 use Rattle.sigstore_verify.specs.declared.from_root.RootFault.{RootFault}
 use Rattle.sigstore_verify.specs.declared.from_root.RootFault.TheVariants.{Tuf, Verify, NoMemory}
-use Rattle.sigstore_verify.specs.Given.{Given, Outside}
+use Rattle.sigstore_verify.specs.Given.{Outside}
 use Rattle.sigstore_verify.specs.FromRoot.{root_of_verify}
 use Rattle.sigstore_verify.specs.Complete.{verdict_of, rooted_of, Favours}
 use Rattle.sigstore_verify.specs.Promises.{Promises}
@@ -36,10 +36,9 @@ use Rattle.sigstore_workload_repository.specs.Trust.{trust_file}
 use Rattle.sigstore_workload_repository.specs.Rows.{moment}
 use Rattle.sigstore_workload_repository.specs.Published.{published, chain}
 use Rattle.sigstore_workload_repository.specs.Law.{SignsDocuments, RepositoryOffers}
-use Rattle.sigstore_workload.specs.Provider.{crypto_of}
 use Rattle.sigstore_run.specs.Workload.{policy_of}
 use Rattle.sigstore_workload.specs.declared.supplies.Item.{Item}
-use Rattle.sigstore_run.specs.Judged.{Outcome, outcome_of, given_with_item, judged_as, AnswersItem}
+use Rattle.sigstore_run.specs.Judged.{outcome_of, given_with_item, judged_as, AnswersItem}
 
 -- the outside of one item: the published repository, an empty store and the item's artifact, none of which fails
 pub record IsItems (item : Item) (before after : Outside) : Type 0 where

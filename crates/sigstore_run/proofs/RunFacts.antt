@@ -13,6 +13,7 @@ use Rattle.sigstore_verify.specs.Given.{Outside}
 use Rattle.sigstore_verify.specs.FromRoot.{trust_path, IsAccepted}
 use Rattle.sigstore_verify.specs.Promises.{Promises}
 use Rattle.sigstore_app_parts.specs.Layout.{layout_of}
+use Rattle.sigstore_app_parts.specs.Tables.{crypto_of}
 use Rattle.sigstore_app_parts.specs.Gather.{gathered_of, ReadsAs}
 use Rattle.sigstore_app_parts.specs.declared.layout.Layout.{Layout}
 use Rattle.sigstore_app_parts.specs.declared.gather.Gathered.{Gathered}
@@ -24,7 +25,7 @@ use Rattle.sigstore_run.specs.declared.meant.Request.{Request}
 use Rattle.sigstore_run.proofs.ReportThere.{report_there}
 use Rattle.sigstore_run.specs.Meant.{policy_meant}
 use Rattle.sigstore_run.specs.Run as r
-use Rattle.sigstore_run.specs.Run.{answer, stop_answer, tuf_answer, verify_answer, refusal_answer, max_artifact, crypto_in, given_with, given_by, now_of, Command, Environment, said_of, Reports, Answers, SaysReport, Judges, Proceeds, Decides}
+use Rattle.sigstore_run.specs.Run.{answer, stop_answer, max_artifact, given_with, given_by, now_of, Command, Environment, said_of, Reports, Answers, SaysReport, Judges, Proceeds, Decides}
 
 -- the verification was called on what is asked for
 pub on_request : (crypto : Crypto) (q : Request) (now : jiff.Timestamp) (before after : Outside) (result : Result Rooted RootFault) (p : Meaning) (root bundle : List ℕ) (config : UpdaterConfig)
@@ -42,7 +43,7 @@ on_request crypto q now before after result p root bundle config a b c d h =
 -- the chain of an acceptance is trusted, so its report is what is said
 report_said : (g : Gathered) (now : jiff.Timestamp) (before after : Outside) (rooted : Rooted) (said : Answer) → IsAccepted (given_by g now) before after rooted → Reports rooted said → SaysReport rooted said
 report_said g now before after rooted said a h =
-    let t = report_there (crypto_in g) g.root now default_config.max_delegations trust_path rooted.chain rooted.digests rooted.result a.trusted in
+    let t = report_there (crypto_of g.tables) g.root now default_config.max_delegations trust_path rooted.chain rooted.digests rooted.result a.trusted in
     record { text = t.0; reported = t.1; said_is = same _ _ (sym h ∙ ap said_of t.1) }
   where
     same : (x y : Answer) → Some x ≡ Some y → x ≡ y

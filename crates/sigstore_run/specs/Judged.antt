@@ -19,8 +19,9 @@ use Rattle.sigstore_workload_repository.specs.Trust.{trust_file}
 use Rattle.sigstore_workload_repository.specs.Published.{chain}
 use Rattle.sigstore_workload_repository.specs.Rows.{document_rows, moment}
 use Rattle.sigstore_workload_items.specs.Drawn.{drawn_from}
-use Rattle.sigstore_workload.specs.Provider.{tables_of, crypto_of}
+use Rattle.sigstore_workload.specs.Provider.{tables_of}
 use Rattle.sigstore_workload.specs.Supplies.{Plan, items_of}
+use Rattle.sigstore_app_parts.specs.Tables.{crypto_of}
 use Rattle.sigstore_run.specs.Workload.{policy_of}
 use Rattle.sigstore_workload.specs.declared.supplies.Item.{Item}
 

@@ -4,7 +4,6 @@ use Rattle.std.specs.Result.{result_ok}
 use Rattle.jiff_core.specs.declared.timestamp.Timestamp as jiff
 use Rattle.foundation.specs.Watched.{Watched, Rose}
 use Rattle.foundation.specs.declared.no_memory.NoMemory.{NoMemory}
-use Rattle.sigstore_crypto_parts.specs.Good.{Judge}
 use Rattle.sigstore_crypto_parts.specs.Crypto.{Crypto}
 use Rattle.sigstore_tuf_text.specs.declared.error.Error.{Error as TufError}
 use Rattle.sigstore_tuf_text.specs.Error as tuf
@@ -14,18 +13,18 @@ use Rattle.sigstore_judgement.specs.Error as verify
 use Rattle.sigstore_verify.specs.declared.from_root.Rooted.{Rooted}
 use Rattle.sigstore_verify.specs.declared.from_root.RootFault.{RootFault}
 use Rattle.sigstore_verify.specs.declared.from_root.RootFault.TheVariants as root
-use Rattle.sigstore_verify.specs.Given.{Given, Outside}
+use Rattle.sigstore_verify.specs.Given.{Anchor, Given, Outside}
 use Rattle.sigstore_verify.specs.FromRoot.{Runs, IsAccepted}
 use Rattle.sigstore_verify.specs.Cause.{RootCause}
 use Rattle.sigstore_app_parts.specs.Inputs.{Supply}
 use Rattle.sigstore_app_parts.specs.Sink.{WritesText}
-use Rattle.sigstore_app_parts.specs.Rows.{accepts_of}
-use Rattle.sigstore_app_parts.specs.Tables.{is_armored_by, armor_content}
+use Rattle.sigstore_app_parts.specs.Tables.{crypto_of}
 use Rattle.sigstore_app_parts.specs.Layout.{layout_of}
 use Rattle.sigstore_app_parts.specs.Gather.{word_of, gathered_of, MalformedCause, StopCause, ReadsAs}
 use Rattle.sigstore_app_parts.specs.declared.inputs.Which.{Which}
 use Rattle.sigstore_app_parts.specs.Printed.{line_of, pair_line, refused_line}
 use Rattle.sigstore_app_parts.specs.declared.layout.Layout.{Layout}
+use Rattle.sigstore_app_parts.specs.declared.gather.Anchored.{Anchored}
 use Rattle.sigstore_app_parts.specs.declared.gather.Gathered.{Gathered}
 use Rattle.sigstore_app_parts.specs.declared.gather.Stop.{Stop}
 use Rattle.sigstore_app_parts.specs.declared.gather.Stop.TheVariants.{Words, Malformed, Input, Memory}
@@ -70,17 +69,9 @@ refusal_answer root.NoMemory = None
 abbrev pub max_artifact : ℕ
 max_artifact = 2 ^ 40
 
-abbrev pub judge_of : Gathered → Judge
-judge_of gathered = accepts_of gathered.tables.provider.rows
-
--- the tables' provider and armour
-abbrev pub crypto_in : Gathered → Crypto
-crypto_in gathered = record {
-  accepts = judge_of gathered;
-  armored = is_armored_by gathered.tables.armor;
-  key_in = armor_content gathered.tables.armor.keys;
-  certificate_in = armor_content gathered.tables.armor.certificates;
-}
+-- from what a chain is trusted: the tables, the root that was read, the client's limits, and the moment
+abbrev pub anchor_of : Anchored → jiff.Timestamp → Anchor
+anchor_of anchored now = record { crypto = crypto_of anchored.tables; root = anchored.root; config = default_config; now = now }
 
 -- the instant of the words, else the clock's
 abbrev pub now_of : Layout → jiff.Timestamp → jiff.Timestamp
@@ -102,7 +93,7 @@ request_of gathered = record { policy = gathered.policy; root = gathered.root; b
 
 -- the same of the inputs, whose tables decide
 abbrev pub given_by : Gathered → jiff.Timestamp → Given
-given_by gathered now = given_with (crypto_in gathered) (request_of gathered) now
+given_by gathered now = given_with (crypto_of gathered.tables) (request_of gathered) now
 
 -- what the program is told: its words, and the clock's instant
 pub record Command : Type 0 where

@@ -120,8 +120,9 @@ pub fn refused_tuf(alloc: Global, e: &sigstore_tuf_parts::Error) -> Result<Answe
     Ok(refusal(alloc, "tuf", e.number(), e.name())?)
 }
 
+/// What is said of a refusal of the trust file, the bundle or the artifact.
 #[tactic(auto, unfolding(crate::specs::Run::verify_answer))]
-fn refused_verify(alloc: Global, e: &sigstore_verify::Error) -> Result<Answer, NoMemory>
+pub fn refused_verify(alloc: Global, e: &sigstore_verify::Error) -> Result<Answer, NoMemory>
     ensures { IfOk result (λ said. said ≡ verify_answer e.now) }
 {
     Ok(refusal(alloc, "verify", e.number(), e.name())?)

@@ -1,7 +1,7 @@
 // What a workload's items are judged as.
 ghost use Rattle.std.specs.Prelude.{◌≡◌, ◌++◌, ◌∷◌, map, IfOk};
+ghost use Rattle.sigstore_app_parts.specs.Tables.{crypto_of};
 ghost use Rattle.sigstore_run.specs.Judged.{AnswersItem, judged_as};
-ghost use Rattle.sigstore_workload.specs.Provider.{crypto_of};
 ghost use Rattle.sigstore_run.specs.Workload.{policy_of, tables_in};
 ghost use Rattle.sigstore_workload_repository.specs.Documents.{root_bytes};
 ghost use Rattle.sigstore_workload_repository.specs.Law.{SignsDocuments};

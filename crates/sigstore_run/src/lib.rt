@@ -12,9 +12,9 @@ mod steady;
 mod summary;
 mod workload;
 
-pub use answer::{Answer, Status, exit_code, pair, refusal, refused_tuf, stopped};
+pub use answer::{Answer, Status, exit_code, pair, refusal, refused_tuf, refused_verify, stopped};
 pub use generated::Asked;
-pub use meant::{Request, verify_request};
+pub use meant::{AskedPolicy, MAX_ARTIFACT, Request, policy_meant, verify_request};
 pub use program::run;
 pub use report::report_chain;
 pub use summary::summarise;

@@ -17,8 +17,8 @@ use sigstore_verify::{
 };
 use std::alloc::Global;
 
-// The greatest length of the artifact in bytes.
-const MAX_ARTIFACT: u64 = 1_099_511_627_776;
+/// The greatest length of an artifact in bytes: 1 TiB.
+pub const MAX_ARTIFACT: u64 = 1_099_511_627_776;
 
 /// What the inputs ask for: that the bundle be verified from the root under the policy.
 #[derive(Drop)]
@@ -30,7 +30,7 @@ pub struct Request {
 
 /// A policy of either kind, as a file means it.
 #[derive(Drop)]
-pub(crate) enum AskedPolicy {
+pub enum AskedPolicy {
     Key(PublicKeyVerificationPolicy),
     Keyless(VerificationPolicy),
 }
@@ -111,7 +111,8 @@ fn keyless_meant(file: KeylessFile) -> VerificationPolicy
     }
 }
 
-fn policy_meant(file: PolicyFile) -> AskedPolicy
+/// The policy that a file means.
+pub fn policy_meant(file: PolicyFile) -> AskedPolicy
     ensures { meaning_asked result ≡ policy_meant file }
 {
     match file {

@@ -1,7 +1,7 @@
 // A workload: what is verified, and under which policy.
 ghost use Rattle.std.specs.Prelude.{◌≡◌, ◌<◌, ◌≤◌, length, IfOk};
-ghost use Rattle.sigstore_workload.specs.Provider.{crypto_of};
 ghost use Rattle.sigstore_workload_repository.specs.Law.{SignsDocuments};
+ghost use Rattle.sigstore_app_parts.specs.Tables.{crypto_of};
 ghost use Rattle.sigstore_run.specs.Workload.{tables_in, IsWorkload};
 
 use foundation::{NoMemory, Sequence};

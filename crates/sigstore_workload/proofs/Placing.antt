@@ -4,7 +4,7 @@ use Rattle.std.proofs.lemmas.List.{length-map}
 use Rattle.sigstore_merkle.specs.Tree.{leaf_hash}
 use Rattle.sigstore_merkle.specs.Whole.{Path, IsTree, lone, joined, with_sibling}
 use Rattle.sigstore_workload_items.specs.Numbers.{next_number}
-use Rattle.sigstore_workload_items.specs.Drawn.{drawn_of, drawn_from}
+use Rattle.sigstore_workload_items.specs.Drawn.{drawn_from}
 use Rattle.sigstore_workload_items.specs.declared.drawn.Drawn.{Drawn}
 use Rattle.sigstore_workload_items.specs.declared.log.Log.{Log}
 use Rattle.sigstore_workload.specs.Supplies.{leaves_of, item_of, items_from}

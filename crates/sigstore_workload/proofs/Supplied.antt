@@ -1,10 +1,9 @@
 -- What supplies are, by what they were drawn from.
-use Rattle.std.proofs.Common.{◌≡◌, ℕ, List, [], length, ◌<◌, true, Some, Ok, Err, IfOk, refl, ap, sym, subst, ◌∙◌}
+use Rattle.std.proofs.Common.{◌≡◌, ℕ, List, [], length, true, Some, Ok, Err, IfOk, refl, ap, sym, subst, ◌∙◌}
 use Rattle.std.specs.Prelude.{Result}
 use Rattle.foundation.specs.declared.no_memory.NoMemory.{NoMemory}
 use Rattle.sigstore_app_parts.specs.RowLaws.{AddsSignature}
-use Rattle.sigstore_app_parts.specs.Tables.{is_armored_by, armor_content}
-use Rattle.sigstore_app_parts.specs.declared.tables.Tables.{Tables}
+use Rattle.sigstore_app_parts.specs.Tables.{is_armored_by, armor_content, crypto_of}
 use Rattle.sigstore_workload_items.specs.Keys.{armored_key, spki, raw_key}
 use Rattle.sigstore_workload_items.specs.Drawn.{drawn_from}
 use Rattle.sigstore_workload_items.specs.declared.drawn.Drawn.{Drawn}
@@ -13,7 +12,7 @@ use Rattle.sigstore_workload_repository.specs.Rows.{document_rows}
 use Rattle.sigstore_workload_repository.specs.Law.{SignsDocuments}
 use Rattle.base64.proofs.OnLiterals.{base64_on_literals}
 use Rattle.sigstore_workload_repository.proofs.Texts.{armored_text}
-use Rattle.sigstore_workload.specs.Provider.{tables_of, crypto_of}
+use Rattle.sigstore_workload.specs.Provider.{tables_of}
 use Rattle.sigstore_workload.specs.Supplies.{AreSupplied}
 use Rattle.sigstore_workload.specs.declared.supplies.Supplies.{Supplies}
 use Rattle.sigstore_workload.proofs.Adding.{documents_there}

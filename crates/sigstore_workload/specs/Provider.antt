@@ -1,10 +1,8 @@
 -- The table of the signatures of a workload that are good.
 use Rattle.std.specs.Prelude.{ℕ, List, [], ◌∷◌, codes, if◌then◌else◌}
 use Rattle.sha2.specs.Sha256.{sha256}
-use Rattle.sigstore_crypto_parts.specs.Crypto.{Crypto}
 use Rattle.sigstore_crypto_parts.specs.declared.scheme.SigningScheme.TheVariants.{EcdsaP256Sha256}
-use Rattle.sigstore_app_parts.specs.Rows.{AcceptRows, with_accept_row, accepts_of}
-use Rattle.sigstore_app_parts.specs.Tables.{is_armored_by, armor_content}
+use Rattle.sigstore_app_parts.specs.Rows.{AcceptRows, with_accept_row}
 use Rattle.sigstore_app_parts.specs.declared.rows.AcceptRow.{AcceptRow}
 use Rattle.sigstore_app_parts.specs.declared.tables.Tables.{Tables}
 use Rattle.sigstore_workload_items.specs.Keys.{raw_key}
@@ -43,13 +41,4 @@ abbrev pub tables_of : List AcceptRow → Log → List Drawn → Tables
 tables_of documents log items = record {
   provider = record { rows = provider_rows_of documents log items };
   armor = record { keys = []; certificates = [] };
-}
-
--- who decides signatures and reads armoured texts by these tables
-abbrev pub crypto_of : Tables → Crypto
-crypto_of tables = record {
-  accepts = accepts_of tables.provider.rows;
-  armored = is_armored_by tables.armor;
-  key_in = armor_content tables.armor.keys;
-  certificate_in = armor_content tables.armor.certificates;
 }

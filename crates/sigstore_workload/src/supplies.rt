@@ -3,8 +3,8 @@ ghost use Rattle.std.specs.Prelude.{◌≡◌, ◌≤◌, ◌<◌, ◌+◌, ◌^
 ghost use Rattle.sigstore_merkle.specs.Whole.{IsTree};
 ghost use Rattle.sigstore_workload_items.specs.Drawn.{drawn_from};
 ghost use Rattle.sigstore_workload_items.specs.Log.{IsLog, bundle_of};
+ghost use Rattle.sigstore_app_parts.specs.Tables.{crypto_of};
 ghost use Rattle.sigstore_workload.specs.Supplies.{leaves_of, item_of, items_from, AreSupplies, AreSupplied};
-ghost use Rattle.sigstore_workload.specs.Provider.{crypto_of};
 ghost use Rattle.sigstore_workload_repository.specs.Law.{SignsDocuments};
 
 use crate::rows::tables;

@@ -1,6 +1,7 @@
 use Rattle.std.proofs.Common.{IfOk, subst}
 use Rattle.sigstore_app_parts.proofs.Wholes.{whole_read}
-use Rattle.archive_commands.specs.Run.{anchor_of, Judges}
+use Rattle.sigstore_run.specs.Run.{anchor_of}
+use Rattle.archive_commands.specs.Run.{Judges}
 use Rattle.archive_commands.proofs.Saying.{checks_said}
 use Rattle.archive_commands.proofs.program.checked.Goals as goal
 

@@ -1,5 +1,6 @@
 use Rattle.std.proofs.Common.{refl}
-use Rattle.archive_commands.specs.Run.{anchor_of, checked}
+use Rattle.sigstore_run.specs.Run.{anchor_of}
+use Rattle.archive_commands.specs.Run.{checked}
 use Rattle.archive_commands.proofs.Saying.{commanded_said}
 use Rattle.archive_commands.proofs.program.commanded.Goals as goal
 

@@ -4,7 +4,7 @@ use Rattle.trust_archive.specs.Archive.{IsArchive}
 use Rattle.trust_archive.specs.Cause.{ArchiveCause}
 use Rattle.trust_archive.specs.Judgement.{chain_of}
 use Rattle.trust_archive.specs.declared.error.ArchiveError.TheVariants as archive
-use Rattle.archive_commands.specs.Run.{crypto_of}
+use Rattle.sigstore_app_parts.specs.Tables.{crypto_of}
 use Rattle.archive_commands.proofs.Saying.{at_anchor}
 use Rattle.archive_commands.proofs.program.held.Goals as goal
 

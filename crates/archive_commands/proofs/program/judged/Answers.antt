@@ -1,5 +1,5 @@
 use Rattle.std.proofs.Common.{rules}
-use Rattle.archive_commands.specs.Run.{anchor_of}
+use Rattle.sigstore_run.specs.Run.{anchor_of}
 use Rattle.archive_commands.proofs.Saying.{trusted_said, refused_said}
 use Rattle.archive_commands.proofs.program.judged.Goals as goal
 

@@ -1,6 +1,7 @@
 use Rattle.std.proofs.Common.{ap, rules}
+use Rattle.sigstore_run.specs.Run.{anchor_of}
 use Rattle.archive_commands.specs.declared.output.Output.TheVariants.{Lines}
-use Rattle.archive_commands.specs.Run.{anchor_of, walk_refused}
+use Rattle.archive_commands.specs.Run.{walk_refused}
 use Rattle.archive_commands.proofs.Saying.{walked_said}
 use Rattle.archive_commands.proofs.program.walked.Goals as goal
 

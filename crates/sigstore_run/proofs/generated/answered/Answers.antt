@@ -1,4 +1,4 @@
-use Rattle.std.proofs.Common.{◌≡◌, Err, subst, sym, ap, ◌∙◌, rules}
+use Rattle.std.proofs.Common.{Err, ap, ◌∙◌, rules}
 use Rattle.sigstore_run.proofs.Items.{usage_said}
 use Rattle.sigstore_run.proofs.generated.answered.Goals as goal
 

@@ -1,5 +1,4 @@
 use Rattle.std.proofs.Common.{IfOk, subst, ◌∙◌}
-use Rattle.sigstore_workload_items.specs.Drawn.{drawn_from}
 use Rattle.sigstore_workload.specs.Supplies.{AreSupplied}
 use Rattle.sigstore_workload.proofs.Placing.{drawn_few}
 use Rattle.sigstore_workload.proofs.Supplied.{counted, signed}

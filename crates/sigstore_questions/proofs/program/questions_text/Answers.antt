@@ -2,7 +2,7 @@ use Rattle.std.proofs.Common.{string_bytes, sym, subst}
 use Rattle.sigstore_questions_parts.specs.Notes.{Seen}
 use Rattle.sigstore_questions_parts.proofs.AskedFacts.{texts_of_asked, rows_of_asked}
 use Rattle.sigstore_questions.specs.Means.{IsQuestions}
-use Rattle.sigstore_questions.proofs.program.said.Goals as goal
+use Rattle.sigstore_questions.proofs.program.questions_text.Goals as goal
 
 pub returns-clause-rows : goal.returns-clause-rows
 returns-clause-rows c =
