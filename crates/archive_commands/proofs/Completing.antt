@@ -1,26 +1,22 @@
 -- Where nothing outside fails, `check` trusts an archive of a trusted chain, and `archive` writes a chain that is offered.
-use Rattle.std.proofs.Common.{◌≡◌, ◌⊎◌, inl, inr, ℕ, ◌≤◌, List, length, Some, None, Result, Ok, Err, Bool, true, false, codes, sym, ap, ◌∙◌, subst, arith}
+use Rattle.std.proofs.Common.{◌≡◌, ◌⊎◌, inl, inr, ℕ, ◌≤◌, List, length, Some, None, Result, Ok, Err, Bool, true, false, codes, sym, ap, ◌∙◌, subst}
 use Rattle.std.specs.Result.{result_ok}
-use Rattle.foundation.specs.Watched.{Rose, IfTold}
 use Rattle.foundation.specs.Results.{ok_same, err_same, no_both}
 use Rattle.sigstore_tuf_text.specs.declared.error.Error.{Error as TufError}
 use Rattle.sigstore_tuf_text.specs.declared.error.Error.TheVariants as tuf
-use Rattle.sigstore_tuf_outside.specs.Repository.{Quiet}
 use Rattle.sigstore_tuf_rules.specs.declared.chain.TrustChain.{TrustChain}
 use Rattle.sigstore_verify.specs.Given.{Anchor, Outside, places_in}
 use Rattle.sigstore_verify.specs.FromRoot.{trust_path}
 use Rattle.sigstore_verify.specs.Complete.{TellsQuietly, OffersChain, StaysWarm}
 use Rattle.trust_archive.specs.Spelling.{spelling_of}
 use Rattle.trust_archive.proofs.Whole.{chain_complete}
-use Rattle.sigstore_app_parts.specs.Inputs.{Held, Supply}
-use Rattle.sigstore_app_parts.specs.Gather.{anchored_of, ReadsAs}
+use Rattle.sigstore_app_parts.specs.Gather.{anchored_of}
 use Rattle.sigstore_app_parts.specs.declared.gather.Anchored.{Anchored}
-use Rattle.sigstore_app_parts.specs.declared.gather.Stop.{Stop}
-use Rattle.sigstore_app_parts.specs.declared.gather.Stop.TheVariants.{Words, Malformed, Input, Memory}
 use Rattle.sigstore_run.specs.declared.answer.Answer.{Answer}
 use Rattle.sigstore_run.specs.declared.answer.Status.TheVariants as status
 use Rattle.sigstore_run.specs.Report.{chain_text}
-use Rattle.sigstore_run.specs.Run.{answer, stop_answer, anchor_of, Command, Environment}
+use Rattle.sigstore_run.specs.Run.{answer, anchor_of, Command, Environment}
+use Rattle.sigstore_run.proofs.Stopping.{never_stopped, read_same, quiet_not_rose}
 use Rattle.archive_commands.specs.declared.layout.ArchiveLayout.{ArchiveLayout}
 use Rattle.archive_commands.specs.declared.output.Output.{Output}
 use Rattle.archive_commands.specs.declared.output.Output.TheVariants.{Lines, Archive}
@@ -28,40 +24,12 @@ use Rattle.archive_commands.specs.Run.{moment_of, max_archive, held_in, Holds, s
 use Rattle.archive_commands.specs.Complete.{Favoured, anchor_in}
 use Rattle.sigstore_app_parts.proofs.Wholes.{same_whole, never_unread}
 
-unsaid : (line : Answer) → stop_answer Memory ≡ Some line → ⊥
-unfolding stop_answer
-unsaid line h = cc
-
-quiet_not_rose : (a b : ℕ) → Quiet a b → Rose a b → ⊥
-quiet_not_rose a b q r = omega arith
-
--- told inputs that are read without a fault don't stop the run, and are these
-module _ (before after : Supply) (held : Held) (anchored : Anchored) (told : before.told ≡ Some held) (quiet : Rose before.faults after.faults → ⊥) (is : anchored_of held ≡ Ok anchored) where
-  never_stopped : (stop : Stop) (line : Answer) → ReadsAs anchored_of before after (Err stop) → stop_answer stop ≡ Some line → ⊥
-  never_stopped stop line r h = by_stop stop r h
-    where
-      by_either : (stop : Stop) → Rose before.faults after.faults ⊎ IfTold before.told (λ held. anchored_of held ≡ Err stop) → ⊥
-      by_either stop (inl rose) = quiet rose
-      by_either stop (inr refuses) = no_both anchored stop (sym is ∙ subst (λ t. IfTold t (λ held. anchored_of held ≡ Err stop)) told refuses)
-
-      by_stop : (stop : Stop) → ReadsAs anchored_of before after (Err stop) → stop_answer stop ≡ Some line → ⊥
-      by_stop Words r h = by_either Words (r.err (λ e. cc))
-      by_stop (Malformed which) r h = by_either (Malformed which) (r.err (λ e. cc))
-      by_stop (Input which) r h = by_either (Input which) (r.err (λ e. cc))
-      by_stop Memory r h = unsaid line h
-
-  anchored_same : (found : Anchored) → ReadsAs anchored_of before after (Ok found) → found ≡ anchored
-  anchored_same found r = ok_same found anchored (sym (subst (λ t. IfTold t (λ held. anchored_of held ≡ Ok found)) told r.ok) ∙ is)
-
 -- what a favoured run says, it says as a command with these inputs
 module _ (check : Bool) (command : Command) (before after : Environment) (f : Favoured check command before after) (said : Output) where
   pub commands_so : Says command before after said → Commands check (anchor_in f) before.outside after.outside said
   commands_so (misworded line n s h e) = let never : None ≡ Some f.layout = sym n ∙ ap result_ok f.worded in cc
   commands_so (worded layout l p) = by_layout layout (ok_same layout f.layout (sym l ∙ f.worded)) p
     where
-      quiet : Rose before.inputs.faults after.inputs.faults → ⊥
-      quiet rose = quiet_not_rose before.inputs.faults after.inputs.faults f.inputs.quiet rose
-
       by_anchored : (found : Anchored) → found ≡ f.anchored → Commands f.layout.check (anchor_of found (moment_of f.layout command.clock)) before.outside after.outside said
           → Commands check (anchor_in f) before.outside after.outside said
       by_anchored found same c =
@@ -69,8 +37,8 @@ module _ (check : Bool) (command : Command) (before after : Environment) (f : Fa
           (subst (λ (a : Anchored). Commands f.layout.check (anchor_of a (moment_of f.layout command.clock)) before.outside after.outside said) same c)
 
       by_proceeds : Proceeds f.layout.check (moment_of f.layout command.clock) before after said → Commands check (anchor_in f) before.outside after.outside said
-      by_proceeds (stopped stop line r s h e) = absurd (never_stopped before.inputs after.inputs f.held f.anchored f.inputs.told quiet f.anchored_is stop line r h)
-      by_proceeds (commanded found r c) = by_anchored found (anchored_same before.inputs after.inputs f.held f.anchored f.inputs.told quiet f.anchored_is found r) c
+      by_proceeds (stopped stop line r s h e) = absurd (never_stopped anchored_of before.inputs after.inputs f.held f.anchored f.inputs.told f.inputs.quiet f.anchored_is stop line r h)
+      by_proceeds (commanded found r c) = by_anchored found (read_same anchored_of before.inputs after.inputs f.held f.anchored f.inputs.told f.inputs.quiet f.anchored_is found r) c
 
       by_layout : (layout : ArchiveLayout) → layout ≡ f.layout → Proceeds layout.check (moment_of layout command.clock) before after said
           → Commands check (anchor_in f) before.outside after.outside said

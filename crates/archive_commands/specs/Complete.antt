@@ -1,6 +1,6 @@
 -- When `archive` has to write a chain's archive, and when `check` has to trust one: where nothing outside fails.
-use Rattle.std.specs.Prelude.{◌≡◌, ◌⊎◌, ℕ, ◌≤◌, List, length, codes, Bool, true, false, Ok}
-use Rattle.foundation.specs.Watched.{Watched, Rose}
+use Rattle.std.specs.Prelude.{◌≡◌, ℕ, ◌≤◌, List, length, codes, Bool, true, false, Ok}
+use Rattle.foundation.specs.Watched.{Watched}
 use Rattle.sigstore_tuf_rules.specs.declared.chain.TrustChain.{TrustChain}
 use Rattle.sigstore_verify.specs.Given.{Anchor, places_in}
 use Rattle.sigstore_verify.specs.Complete.{TellsQuietly, OffersChain, StaysWarm}
@@ -10,6 +10,7 @@ use Rattle.sigstore_app_parts.specs.Gather.{anchored_of}
 use Rattle.sigstore_app_parts.specs.declared.gather.Anchored.{Anchored}
 use Rattle.sigstore_run.specs.declared.answer.Status.{Status}
 use Rattle.sigstore_run.specs.declared.answer.Status.TheVariants as status
+use Rattle.sigstore_run.specs.Complete.{OrFails}
 use Rattle.sigstore_run.specs.Report.{chain_text}
 use Rattle.sigstore_run.specs.Run.{Command, Environment, TakesAll, anchor_of}
 use Rattle.archive_commands.specs.declared.layout.ArchiveLayout.{ArchiveLayout}
@@ -29,10 +30,6 @@ pub record Favoured (check : Bool) (command : Command) (before after : Environme
 -- from what the chain is trusted
 abbrev pub anchor_in : {check : Bool} {command : Command} {before after : Environment} → Favoured check command before after → Anchor
 anchor_in {command = command} f = anchor_of f.anchored (moment_of f.layout command.clock)
-
--- Memory was wanting, or the sink failed, or P.
-abbrev pub OrFails : Watched (List ℕ) → Watched (List ℕ) → Status → Type 0 → Type 0
-OrFails out out' ended P = (ended ≡ status.Memory) ⊎ (((ended ≡ status.Output) × Rose out.faults out'.faults) ⊎ P)
 
 -- the chain's archive was taken whole
 pub record WritesChain (chain : TrustChain) (out out' : Watched (List ℕ)) (ended : Status) : Type 0 where

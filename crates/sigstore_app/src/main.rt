@@ -1,11 +1,13 @@
-//! Verifies a bundle over an artifact from a pinned TUF root: `verify` and eight options. `archive` writes the chain
-//! of documents to one file, and `check` judges such a file; `audit` judges whether a log grew. The report or the
-//! refusal goes to standard output; the exit status says which.
+//! Verifies a bundle over an artifact from a pinned TUF root: `verify` and eight options. `gate` judges each artifact
+//! of a folder by its own bundle. `archive` writes the chain of documents to one file, and `check` judges such a file;
+//! `audit` judges whether a log grew. The report, the lines or the refusal go to standard output; the exit status says
+//! which.
 #![tactic(auto)]
 
 use archive_commands::{ArchiveLayout, archive_layout, run_archive};
 use audit_commands::{AuditLayout, AuditObjects, audit_layout, audit_objects_at, run_audit};
 use foundation::NoMemory;
+use gate_commands::{GateLayout, GateObjects, gate_layout, gate_objects_at, run_gate};
 use sigstore_app_parts::read_layout;
 use sigstore_files::{Objects, clock_of, objects_at, words_of};
 use sigstore_run::{Status, exit_code, run};
@@ -54,6 +56,27 @@ fn audited<X: Runtime + AllocGlobal>(rt: &X, words: &[Text], layout: AuditLayout
     )
 }
 
+// Runs `gate` over the real objects that its words name.
+fn gated<X: Runtime + AllocGlobal>(rt: &X, words: &[Text], layout: GateLayout) -> Status {
+    let GateObjects {
+        mut inputs,
+        mut repository,
+        mut store,
+        mut folder,
+        mut out,
+    } = gate_objects_at(rt, layout);
+    run_gate(
+        rt.alloc(),
+        words,
+        clock_of(rt),
+        &mut inputs,
+        &mut repository,
+        &mut store,
+        &mut folder,
+        &mut out,
+    )
+}
+
 // Runs the program over the real objects that its words name.
 fn status_of<X: Runtime + AllocGlobal>(rt: &X) -> Result<Status, NoMemory> {
     let words = words_of(rt)?;
@@ -62,6 +85,9 @@ fn status_of<X: Runtime + AllocGlobal>(rt: &X) -> Result<Status, NoMemory> {
     }
     if let Some(layout) = audit_layout(rt.alloc(), &words)? {
         return Ok(audited(rt, &words, layout));
+    }
+    if let Some(layout) = gate_layout(rt.alloc(), &words)? {
+        return Ok(gated(rt, &words, layout));
     }
     let Objects {
         mut inputs,

@@ -2,6 +2,7 @@ mod Meaning
 mod Digests
 pub mod ReportThere
 mod RunFacts
+pub mod Stopping
 mod RunCompleting
 mod Items
 mod Counting

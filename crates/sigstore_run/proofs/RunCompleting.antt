@@ -1,10 +1,9 @@
 -- A run over an offered chain says the verdict, unless memory is wanting or the sink fails.
-use Rattle.std.proofs.Common.{◌≡◌, ◌⊎◌, inl, inr, ℕ, List, Some, None, Result, Ok, Err, sym, ap, ◌∙◌, subst, arith}
+use Rattle.std.proofs.Common.{◌≡◌, ◌⊎◌, inl, inr, ℕ, List, Some, None, Result, Ok, Err, sym, ap, ◌∙◌, subst}
 use Rattle.std.specs.Result.{result_ok}
-use Rattle.foundation.specs.Watched.{Watched, Rose, IfTold}
+use Rattle.foundation.specs.Watched.{Watched}
 use Rattle.foundation.specs.Results.{ok_same, err_same, no_both}
 use Rattle.sigstore_tuf_rules.specs.declared.chain.TrustChain.{TrustChain}
-use Rattle.sigstore_tuf_outside.specs.Repository.{Quiet}
 use Rattle.sigstore_verify.specs.declared.from_root.Rooted.{Rooted}
 use Rattle.sigstore_verify.specs.declared.from_root.RootFault.{RootFault}
 use Rattle.sigstore_verify.specs.declared.from_root.RootFault.TheVariants as root
@@ -12,42 +11,18 @@ use Rattle.sigstore_verify.specs.Given.{Given, Outside}
 use Rattle.sigstore_verify.specs.FromRoot.{Runs}
 use Rattle.sigstore_verify.specs.Complete.{verdict_of, rooted_of, Favours, StaysWarm}
 use Rattle.sigstore_verify.proofs.RootCompleting.{runs_complete}
-use Rattle.sigstore_app_parts.specs.Inputs.{Held, Supply}
-use Rattle.sigstore_app_parts.specs.Gather.{gathered_of, ReadsAs}
+use Rattle.sigstore_app_parts.specs.Gather.{gathered_of}
 use Rattle.sigstore_app_parts.specs.declared.layout.Layout.{Layout}
 use Rattle.sigstore_app_parts.specs.declared.gather.Gathered.{Gathered}
-use Rattle.sigstore_app_parts.specs.declared.gather.Stop.{Stop}
-use Rattle.sigstore_app_parts.specs.declared.gather.Stop.TheVariants.{Words, Malformed, Input, Memory}
 use Rattle.sigstore_run.specs.declared.answer.Status.{Status}
 use Rattle.sigstore_run.specs.declared.answer.Answer.{Answer}
-use Rattle.sigstore_run.specs.Run.{stop_answer, refusal_answer, now_of, Command, Environment, SaysReport, Judges, want_judging, refused, reported, Proceeds, want_inputs, stopped, judged, Decides, want_words, misworded, worded, RunsTo, unwritten, cut, written}
+use Rattle.sigstore_run.specs.Run.{refusal_answer, now_of, Command, Environment, SaysReport, Judges, want_judging, refused, reported, Proceeds, want_inputs, stopped, judged, Decides, want_words, misworded, worded, RunsTo, unwritten, cut, written}
 use Rattle.sigstore_run.specs.Complete.{Favoured, Says, given_in, Completes}
+use Rattle.sigstore_run.proofs.Stopping.{never_stopped, read_same}
 
 no_answer : (said : Answer) → refusal_answer root.NoMemory ≡ Some said → ⊥
 unfolding refusal_answer
 no_answer said h = cc
-
-unsaid : (said : Answer) → stop_answer Memory ≡ Some said → ⊥
-unfolding stop_answer
-unsaid said h = cc
-
--- told inputs that are read without a fault don't stop the run
-module _ (before after : Supply) (held : Held) (gathered : Gathered) (told : before.told ≡ Some held) (quiet : Rose before.faults after.faults → ⊥) (is : gathered_of held ≡ Ok gathered) where
-  never_stopped : (stop : Stop) (said : Answer) → ReadsAs gathered_of before after (Err stop) → stop_answer stop ≡ Some said → ⊥
-  never_stopped stop said r h = by_stop stop r h
-    where
-      by_either : (stop : Stop) → Rose before.faults after.faults ⊎ IfTold before.told (λ held. gathered_of held ≡ Err stop) → ⊥
-      by_either stop (inl rose) = quiet rose
-      by_either stop (inr refuses) = no_both gathered stop (sym is ∙ subst (λ t. IfTold t (λ held. gathered_of held ≡ Err stop)) told refuses)
-
-      by_stop : (stop : Stop) → ReadsAs gathered_of before after (Err stop) → stop_answer stop ≡ Some said → ⊥
-      by_stop Words r h = by_either Words (r.err (λ e. cc))
-      by_stop (Malformed which) r h = by_either (Malformed which) (r.err (λ e. cc))
-      by_stop (Input which) r h = by_either (Input which) (r.err (λ e. cc))
-      by_stop Memory r h = unsaid said h
-
-  gathered_same : (found : Gathered) → ReadsAs gathered_of before after (Ok found) → found ≡ gathered
-  gathered_same found r = ok_same found gathered (sym (subst (λ t. IfTold t (λ held. gathered_of held ≡ Ok found)) told r.ok) ∙ is)
 
 module _ (given : Given) (before after : Outside) (chain : TrustChain) (bytes : List ℕ) (f : Favours given before after chain bytes) where
   abbrev V : Answer → Type 0
@@ -82,13 +57,10 @@ module _ (command : Command) (before after : Environment) (chain : TrustChain) (
   proceeds_says : (layout : Layout) (said : Answer) → layout ≡ f.layout → Proceeds (now_of layout command.clock) before after (Ok said) → T said
   proceeds_says layout said same p = by_proceeds (subst (λ (l : Layout). Proceeds (now_of l command.clock) before after (Ok said)) same p)
     where
-      quiet : Rose before.inputs.faults after.inputs.faults → ⊥
-      quiet rose = let still : Quiet before.inputs.faults after.inputs.faults = f.inputs.quiet in omega arith
-
       by_proceeds : Proceeds (now_of f.layout command.clock) before after (Ok said) → T said
       by_proceeds (want_inputs stop e r s eq) = no_both said e eq
-      by_proceeds (stopped stop other r s h eq) = absurd (never_stopped before.inputs after.inputs f.held f.gathered f.inputs.told quiet f.gathered_is stop other r h)
-      by_proceeds (judged found r j) = judged_says found said (gathered_same before.inputs after.inputs f.held f.gathered f.inputs.told quiet f.gathered_is found r) j
+      by_proceeds (stopped stop other r s h eq) = absurd (never_stopped gathered_of before.inputs after.inputs f.held f.gathered f.inputs.told f.inputs.quiet f.gathered_is stop other r h)
+      by_proceeds (judged found r j) = judged_says found said (read_same gathered_of before.inputs after.inputs f.held f.gathered f.inputs.told f.inputs.quiet f.gathered_is found r) j
 
   decides_says : (said : Answer) → Decides command before after (Ok said) → T said
   decides_says said (want_words e s eq) = no_both said e eq

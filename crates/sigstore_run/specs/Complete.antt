@@ -44,11 +44,13 @@ pub record SaysVerdict (given : Given) (chain : TrustChain) (bytes : List ℕ) (
   pub written : TakesAll out out' said.text
   pub ended_is : ended ≡ said.status
 
+-- Memory was wanting, or the sink failed, or P.
+abbrev pub OrFails : Watched (List ℕ) → Watched (List ℕ) → Status → Type 0 → Type 0
+OrFails out out' ended P = (ended ≡ status.Memory) ⊎ (((ended ≡ status.Output) × Rose out.faults out'.faults) ⊎ P)
+
 -- Where a chain is offered and nothing outside fails, the run says the verdict over it, with status 0 for an acceptance and 1 for a
 -- refusal, and the store stays warm; or memory was wanting, with status 5; or the sink failed, with status 4.
 abbrev pub Completes : Command → Environment → Environment → Watched (List ℕ) → Watched (List ℕ) → Status → Type 0
 Completes command before after out out' ended =
     (chain : TrustChain) (bytes : List ℕ) (f : Favoured command before after chain bytes)
-    → (ended ≡ status.Memory)
-    ⊎ (((ended ≡ status.Output) × Rose out.faults out'.faults)
-    ⊎ (SaysVerdict (given_in f) chain bytes out out' ended × StaysWarm after.outside.store f.outside.offer))
+    → OrFails out out' ended (SaysVerdict (given_in f) chain bytes out out' ended × StaysWarm after.outside.store f.outside.offer)

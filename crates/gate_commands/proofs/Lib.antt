@@ -1,0 +1,4 @@
+mod Naming
+mod Saying
+mod Meaning
+mod Completing

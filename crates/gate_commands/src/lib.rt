@@ -1,0 +1,17 @@
+//! The command `gate`: judges a folder of artifacts, each by its own bundle, under one chain of trust, and writes a line
+//! for each.
+#![tactic(auto)]
+
+mod judging;
+mod laws;
+mod layout;
+mod lines;
+mod names;
+mod objects;
+mod program;
+
+pub use judging::gate_folder;
+pub use laws::denials_are_named;
+pub use layout::{GateLayout, asked_gate_layout, gate_layout};
+pub use objects::{GateObjects, gate_objects_at};
+pub use program::run_gate;
