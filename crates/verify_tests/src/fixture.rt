@@ -3,7 +3,8 @@ use crate::tables::{
     Change, bytes, change_in, display, failures, first, good, source, string, text_of, there, words,
 };
 use crate::{
-    archives, audits, delegated, enveloped, gates, hostile, keyless, keyless_data, logged, stamped,
+    archives, audits, delegated, enveloped, gate_runs, gates, hostile, keyless, keyless_data,
+    logged, stamped,
 };
 use jiff::Timestamp;
 use sigstore_app_parts::{MemoryInputs, MemorySink, Which};
@@ -24,6 +25,7 @@ pub(crate) fn answer<X: AllocGlobal + Abort>(rt: &X, call: &str, given: &str) ->
         "audit" => audits::said(rt, given),
         "gate" => gates::said(rt, given),
         "listed" => gates::listed(rt, given),
+        "gate run" => gate_runs::said(rt, given),
         "each" => hostile::each(rt, given),
         "bounded" => hostile::bounded(rt, given),
         "fault" => match given {

@@ -19,33 +19,34 @@ use std::fs;
 use std::process::Abort;
 
 // A row: the part, the text in its place, the folder's files, and what is said. A file is `NAME=TEXT`, where `@` is the
-// fixture's bundle; an artifact may have five octets. Of the folder the call of the number fails: the listing, the reading
-// of the bundle, that of the artifact, and the one that finds its end.
+// fixture's bundle and `#` are 16 MiB and one octet; an artifact may have five octets. Of the folder the call of the
+// number fails: the listing, the reading of the bundle, that of the artifact, and the one that finds its end.
 const GATED: &str =
-    r#"nothing |  | hello.txt=hello hello.txt.sigstore.json=@ other.txt=x | hello.txt Admitted; other.txt Unsigned; 
-nothing |  |  | 
-nothing |  | b.txt=jello b.txt.sigstore.json=@ | b.txt Denied { number: 4 }; 
-nothing |  | a=hello b=hello b.sigstore.json=@ | a Unsigned; b Admitted; 
-nothing |  | b=hello B=x a.sigstore.json=@ a=hello -=x | - Unsigned; B Unsigned; a Admitted; b Unsigned; 
-nothing |  | a=hello a.sigstore.json={ | a Denied { number: 22 }; 
-nothing |  | a=hello! a.sigstore.json=@ | a Denied { number: 30 }; 
-nothing |  | a.sigstore.json=@ a.sigstore.json.sigstore.json=@ | 
-skip |  | a=hello a.sigstore.json=@ | a Admitted; 
-material | "x509CertificateChain":{"certificates":[]} | a=hello a.sigstore.json=@ | a Denied { number: 22 }; 
-content | "messageSignature":{"signature":"AQ=="} | a=hello b=jello a.sigstore.json=@ b.sigstore.json=@ | a Admitted; b Denied { number: 3 }; 
+    r#"nothing |  | hello.txt=hello hello.txt.sigstore.json=@ other.txt=x | hello.txt Admitted; other.txt Unsigned
+nothing |  |  | none
+nothing |  | b.txt=jello b.txt.sigstore.json=@ | b.txt Denied { number: 4 }
+nothing |  | a=hello b=hello b.sigstore.json=@ | a Unsigned; b Admitted
+nothing |  | b=hello B=x a.sigstore.json=@ a=hello -=x | - Unsigned; B Unsigned; a Admitted; b Unsigned
+nothing |  | a=hello a.sigstore.json={ | a Denied { number: 22 }
+nothing |  | a=hello! a.sigstore.json=@ | a Denied { number: 30 }
+nothing |  | a=hello a.sigstore.json=# b=hello b.sigstore.json=@ | a BundleTooLong { seen: 16777217 }; b Admitted
+nothing |  | a.sigstore.json=@ a.sigstore.json.sigstore.json=@ | none
+skip |  | a=hello a.sigstore.json=@ | a Admitted
+material | "x509CertificateChain":{"certificates":[]} | a=hello a.sigstore.json=@ | a Denied { number: 22 }
+content | "messageSignature":{"signature":"AQ=="} | a=hello b=jello a.sigstore.json=@ b.sigstore.json=@ | a Admitted; b Denied { number: 3 }
 repository fails | 1 | a=hello a.sigstore.json=@ | Tuf 18
 trust | { | a=hello a.sigstore.json=@ | Trust 28
 artifact fails | 1 | a=hello a.sigstore.json=@ | FolderFailed
 artifact fails | 2 | a=hello a.sigstore.json=@ | FolderFailed
 artifact fails | 3 | a=hello a.sigstore.json=@ | FolderFailed
 artifact fails | 4 | a=hello a.sigstore.json=@ | FolderFailed
-artifact fails | 5 | a=hello a.sigstore.json=@ | a Admitted; "#;
+artifact fails | 5 | a=hello a.sigstore.json=@ | a Admitted"#;
 
 // A row: the name that is listed once more, the folder's files, and what is said.
 const LISTED: &str = "a | a=hello b=x | DoubledName a
 b.sigstore.json | b=x b.sigstore.json=@ c=x | DoubledName b.sigstore.json
 b.sigstore.json | a=x b=hello | Vanished b.sigstore.json
-c.sigstore.json | a=x b=hello | a Unsigned; b Unsigned; ";
+c.sigstore.json | a=x b=hello | a Unsigned; b Unsigned";
 
 #[test]
 fn folders_are_judged(rt: HostRuntime) {
@@ -199,20 +200,27 @@ impl Folder for Listing {
     ghost lists = { λ _. tt };
 }
 
+// One octet more than a bundle may have, where one of these files asks for them.
+fn long<X: AllocGlobal + Abort>(rt: &X, files: &str) -> Vec<u8> {
+    let count = if files.contains('#') { 16_777_217 } else { 0 };
+    good(rt, vec![in rt.alloc(); 0u8; count])
+}
+
 // The folder with these files.
-fn folder<X: AllocGlobal + Abort>(rt: &X, change: Change, files: &str) -> MemoryFolder {
+pub(crate) fn folder<X: AllocGlobal + Abort>(rt: &X, change: Change, files: &str) -> MemoryFolder {
     let mut folder = MemoryFolder::new(rt.alloc(), failures(rt, change.of("artifact fails", "")));
-    let made = bundle(rt, change);
+    let (made, long) = (bundle(rt, change), long(rt, files));
     for file in files.split_whitespace() {
         let (name, content) = halves(rt, file, "=");
-        let bytes = if content == "@" {
-            made.as_bytes()
-        } else {
-            content.as_bytes()
+        let bytes = match content {
+            "@" => made.as_bytes(),
+            "#" => long.as_slice(),
+            _ => content.as_bytes(),
         };
         good(rt, folder.put(rt.alloc(), name, bytes));
     }
     drop(made);
+    drop(long);
     folder
 }
 
@@ -287,12 +295,16 @@ pub(crate) fn listed<X: AllocGlobal + Abort>(rt: &X, row: &str) -> String {
     said
 }
 
-// Lines, each ended by a mark.
+// Lines, with a mark between them.
 fn lines_told<X: AllocGlobal + Abort>(rt: &X, lines: &[GateLine]) -> String {
+    if lines.is_empty() {
+        return string(rt, "none");
+    }
     let mut told = string(rt, "");
     for line in lines {
+        let mark = if told.is_empty() { "" } else { "; " };
         let (name, verdict) = (line.name.as_str(), line.verdict);
-        good(rt, write!(told, "{name} {verdict:?}; "));
+        good(rt, write!(told, "{mark}{name} {verdict:?}"));
     }
     told
 }

@@ -12,6 +12,8 @@ mod enveloped;
 #[cfg(test)]
 mod fixture;
 #[cfg(test)]
+mod gate_runs;
+#[cfg(test)]
 mod gates;
 #[cfg(test)]
 mod hostile;
