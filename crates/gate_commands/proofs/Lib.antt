@@ -1,4 +1,5 @@
 mod Naming
+mod LineByLine
 mod Saying
 mod Meaning
 mod Completing

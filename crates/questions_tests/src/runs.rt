@@ -24,13 +24,13 @@ const ASK: &str =
 
 // A text in a file, and another one in its place.
 #[derive(Clone, Copy)]
-struct Change<'a> {
+pub(crate) struct Change<'a> {
     file: &'a str,
     old: &'a str,
     new: &'a str,
 }
 
-const NONE: Change<'static> = Change {
+pub(crate) const NONE: Change<'static> = Change {
     file: "",
     old: "",
     new: "",
@@ -58,7 +58,7 @@ fn put<X: AllocGlobal + Abort>(
     drop(document);
 }
 
-fn repository<X: AllocGlobal + Abort>(rt: &X, change: Change) -> MemoryRepository {
+pub(crate) fn repository<X: AllocGlobal + Abort>(rt: &X, change: Change) -> MemoryRepository {
     let mut repo = MemoryRepository::new(rt.alloc(), no_failures(rt));
     put(rt, &mut repo, change, "2.root.json", SECOND_ROOT);
     put(rt, &mut repo, change, "timestamp.json", TIMESTAMP);
@@ -73,7 +73,7 @@ fn repository<X: AllocGlobal + Abort>(rt: &X, change: Change) -> MemoryRepositor
     repo
 }
 
-fn inputs<X: AllocGlobal + Abort>(rt: &X, change: Change) -> MemoryInputs {
+pub(crate) fn inputs<X: AllocGlobal + Abort>(rt: &X, change: Change) -> MemoryInputs {
     let mut inputs = MemoryInputs::new(no_failures(rt));
     inputs.put(Which::Root, file(rt, change, "root.json", ROOT));
     inputs.put(Which::Policy, file(rt, change, "policy", POLICY));
@@ -88,7 +88,7 @@ fn artifact<X: AllocGlobal + Abort>(rt: &X, change: Change) -> MemorySource {
     MemorySource::new(release, step, no_failures(rt))
 }
 
-fn words<X: AllocGlobal + Abort>(rt: &X, line: &str) -> Vec<Text> {
+pub(crate) fn words<X: AllocGlobal + Abort>(rt: &X, line: &str) -> Vec<Text> {
     let mut words = Vec::new(rt.alloc());
     for word in line.split_whitespace() {
         let word = good(rt, Text::new(rt.alloc(), word));
@@ -97,12 +97,12 @@ fn words<X: AllocGlobal + Abort>(rt: &X, line: &str) -> Vec<Text> {
     words
 }
 
-fn sink<X: AllocGlobal + Abort>(rt: &X) -> MemorySink {
+pub(crate) fn sink<X: AllocGlobal + Abort>(rt: &X) -> MemorySink {
     good(rt, MemorySink::new(rt.alloc(), 32_768, no_failures(rt)))
 }
 
 // What a sink took, in which each line feed is a `;`.
-fn taken<X: AllocGlobal + Abort>(rt: &X, sink: MemorySink) -> String {
+pub(crate) fn taken<X: AllocGlobal + Abort>(rt: &X, sink: MemorySink) -> String {
     let text = string(rt, good(rt, str::from_utf8(sink.bytes())));
     drop(sink);
     let taken = good(rt, text.replace(rt.alloc(), '\n', ";"));

@@ -1,0 +1,76 @@
+// The questions of a folder over the stored world.
+use crate::runs::{NONE, inputs, repository, sink, taken, words};
+use crate::tables::{bytes, check, good, no_failures};
+use crate::world::{BUNDLE, RELEASE, ROWS};
+use gate_questions::run_gate_questions;
+use jiff::Timestamp;
+use release_gate::MemoryFolder;
+use sigstore_app_parts::Which;
+use sigstore_questions::ReadingStore;
+use sigstore_run::Status;
+use sigstore_tuf::MemoryStore;
+use std::process::Abort;
+
+const ASK: &str =
+    "gate-questions --root=a --repository=b --store=c --folder=d --policy=e --refused=f --now=2027-01-01T00:00:00Z";
+
+const GATE: &str =
+    "gate --root=a --repository=b --store=c --folder=d --policy=e --provider=f --now=2027-01-01T00:00:00Z";
+
+// The release under two names, each with its bundle, and a file without one.
+fn folder<X: AllocGlobal + Abort>(rt: &X) -> MemoryFolder {
+    let mut folder = MemoryFolder::new(rt.alloc(), no_failures(rt));
+    for (name, text) in [
+        ("release.txt", RELEASE),
+        ("release.txt.sigstore.json", BUNDLE),
+        ("again.txt", RELEASE),
+        ("again.txt.sigstore.json", BUNDLE),
+        ("other.txt", "x"),
+    ] {
+        good(rt, folder.put(rt.alloc(), name, text.as_bytes()));
+    }
+    folder
+}
+
+// How the questions of these words over the folder end, and what is written.
+fn asked<X: AllocGlobal + Abort>(rt: &X, line: &str) -> (Status, String) {
+    let words = words(rt, line);
+    let (mut inputs, mut repo) = (inputs(rt, NONE), repository(rt, NONE));
+    inputs.put(Which::Provider, bytes(rt, ""));
+    let mut store = ReadingStore::new(MemoryStore::new(rt.alloc()));
+    let mut folder = folder(rt);
+    let mut sink = sink(rt);
+    let ended = run_gate_questions(
+        rt.alloc(),
+        &words,
+        Timestamp::UNIX_EPOCH,
+        &mut inputs,
+        &mut repo,
+        &mut store,
+        &mut folder,
+        &mut sink,
+    );
+    drop(words);
+    drop(inputs);
+    drop(repo);
+    drop(store);
+    drop(folder);
+    (ended, taken(rt, sink))
+}
+
+// Each question once, though two artifacts ask it: those of one verification.
+#[test]
+fn the_questions_of_a_folder_are_asked(rt: HostRuntime) {
+    let (ended, text) = asked(&rt, ASK);
+    let rows = good(&rt, ROWS.replace(rt.alloc(), '\n', ";"));
+    check(&rt, ASK, rows.as_str(), text);
+    drop(rows);
+    assert!(&rt; ended == Status::Accepted, "the questions are asked");
+}
+
+#[test]
+fn words_that_judge_a_folder_ask_nothing(rt: HostRuntime) {
+    let (ended, text) = asked(&rt, GATE);
+    check(&rt, GATE, "usage;", text);
+    assert!(&rt; ended == Status::Usage, "gate isn't gate-questions");
+}
