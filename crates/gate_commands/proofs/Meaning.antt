@@ -18,7 +18,7 @@ use Rattle.sigstore_run.specs.Run.{stop_answer, tuf_answer, verify_answer, Comma
 use Rattle.gate_commands.specs.declared.layout.GateLayout.{GateLayout}
 use Rattle.gate_commands.specs.Layout.{gate_layout_of}
 use Rattle.gate_commands.specs.Lines.{lines_text, all_admitted, status_by, lines_answer}
-use Rattle.gate_commands.specs.Run.{moment_of, Environment, folder_answer, fault_answer, answer_of, Judges, Proceeds, stopped, judged, Says, misworded, worded, Asked, given_in, Means}
+use Rattle.gate_commands.specs.Run.{moment_of, Environment, fault_answer, answer_of, Judges, Proceeds, stopped, judged, Says, misworded, worded, Asked, given_in, Means}
 
 module _ (command : Command) (before after : Environment) (out out' : Watched (List ℕ)) where
   abbrev M : Status → Type 0

@@ -1,10 +1,7 @@
 -- Each refusal's number has its own name.
 use Rattle.std.proofs.Common.{refl}
-use Rattle.sigstore_judgement.specs.declared.error.CertificateError.{CertificateError}
 use Rattle.sigstore_judgement.specs.declared.error.CertificateError.TheVariants as certificate
-use Rattle.sigstore_judgement.specs.declared.error.TransparencyLogError.{TransparencyLogError}
 use Rattle.sigstore_judgement.specs.declared.error.TransparencyLogError.TheVariants as log
-use Rattle.sigstore_judgement.specs.declared.error.TimestampError.{TimestampError}
 use Rattle.sigstore_judgement.specs.declared.error.TimestampError.TheVariants as stamp
 use Rattle.sigstore_judgement.specs.declared.error.Error.TheVariants as e
 use Rattle.gate_commands.specs.Names.{DenialsAreNamed}

@@ -1,5 +1,4 @@
-use Rattle.std.proofs.Common.{◌∙◌, ◌++◌, string_bytes}
-use Rattle.gate_commands.specs.Lines.{lines_text}
+use Rattle.std.proofs.Common.{◌∙◌, string_bytes}
 use Rattle.gate_commands.proofs.LineByLine.{lines_more}
 use Rattle.gate_commands.proofs.lines.push_lines.Goals as goal
 
