@@ -12,7 +12,7 @@ _ratmanganese() {
         name=
     fi
     case $name in
-    --repository | --store | --tiles)
+    --repository | --store | --folder | --tiles)
         mapfile -t COMPREPLY < <(compgen -d -- "$word")
         compopt -o filenames
         return
@@ -33,20 +33,31 @@ _ratmanganese() {
             return
         fi
     elif [ "$command" = verify-real ]; then
-        names="$names --json --help"
+        case ${COMP_WORDS[1]} in
+        gate) names="--root= --repository= --store= --folder= --policy= --now= --json --help" ;;
+        archive) names="--root= --repository= --store= --now= --help" ;;
+        check) names="--root= --archive= --now= --help" ;;
+        audit) names="--key= --first= --second= --tiles= --help" ;;
+        *)
+            names="$names --json --help"
+            [ "$COMP_CWORD" != 1 ] || names="$names gate archive check audit"
+            ;;
+        esac
     elif [ "$COMP_CWORD" = 1 ]; then
-        mapfile -t COMPREPLY < <(compgen -W "verify questions archive check audit generate explain build install version help" -- "$word")
+        mapfile -t COMPREPLY < <(compgen -W "verify questions gate gate-questions archive check audit generate explain build install version help" -- "$word")
         return
     else
         case ${COMP_WORDS[1]} in
         verify) names="$names --provider=" ;;
         questions) names="$names --refused=" ;;
+        gate) names="--root= --repository= --store= --folder= --policy= --now= --provider=" ;;
+        gate-questions) names="--root= --repository= --store= --folder= --policy= --now= --refused=" ;;
         archive) names="--root= --repository= --store= --now= --provider=" ;;
         check) names="--root= --archive= --now= --provider=" ;;
         audit) names="--key= --first= --second= --tiles= --provider=" ;;
         generate) names="--number= --count=" ;;
         explain)
-            [ "$COMP_CWORD" != 2 ] || mapfile -t COMPREPLY < <(compgen -W "tuf verify archive audit status" -- "$word")
+            [ "$COMP_CWORD" != 2 ] || mapfile -t COMPREPLY < <(compgen -W "tuf verify archive audit gate status" -- "$word")
             return
             ;;
         install)
