@@ -1,6 +1,7 @@
 // Folders of artifacts and bundles under the fixture's chain: the lines on them, and why one isn't judged.
-ghost use Rattle.std.specs.Prelude.{◌≡◌};
-ghost use Rattle.foundation.specs.Watched.{untold};
+ghost use Rattle.std.specs.Prelude.{◌≡◌, IfErr};
+ghost use Rattle.foundation.specs.Watched.{untold, Since};
+ghost use Rattle.release_gate.specs.Folder.{ListingCause};
 
 use crate::fixture::{PARTS, SPKI, bundle, given_root, provider, repository, root, targets};
 use crate::tables::{
@@ -162,11 +163,10 @@ struct Listing {
     more: Text,
 }
 
-fn names_and<D: Folder>(
-    alloc: Global,
-    folder: &mut D,
-    more: &str,
-) -> Result<Vec<Text>, FolderFault> {
+fn names_and<D: Folder>(alloc: Global, folder: &mut D, more: &str) -> Result<Vec<Text>, FolderFault>
+    ensures since { Since (D.seen folder.old) (D.seen folder.new) }
+    ensures refused { IfErr result (ListingCause (D.seen folder.old) (D.seen folder.new)) }
+{
     let mut names = folder.names(alloc)?;
     let Ok(name) = Text::new(alloc, more) else {
         return Err(FolderFault::NoMemory);
@@ -181,7 +181,12 @@ impl Folder for Listing {
     ghost seen = { λ d. untold d.folder.calls.faults };
 
     fn names(&mut self, alloc: Global) -> Result<Vec<Text>, FolderFault> {
-        names_and(alloc, &mut self.folder, self.more.as_str())
+        match names_and(alloc, &mut self.folder, self.more.as_str()) {
+            Ok(names) => Ok(names),
+            Err(FolderFault::NoMemory) => Err(FolderFault::NoMemory),
+            Err(FolderFault::Failed) => Err(FolderFault::Failed),
+            Err(FolderFault::TooLong { .. }) => Err(FolderFault::Failed),
+        }
     }
 
     fn read_bundle(
