@@ -10,7 +10,7 @@ if [ -d "$top/crates" ]; then
     program=$app/out/sigstore_app
     questions=$asking/out/sigstore_questions_app
     me=./ratmanganese
-    unbuilt="the proved program isn't built, or a source is newer than it: run \`./ratmanganese build\`, which takes about an hour the first time"
+    unbuilt="the proved program isn't built, or a source is newer than it: run \`./ratmanganese build\`, which takes one to three hours the first time"
 else
     program=$top/programs/sigstore_app
     questions=$top/programs/sigstore_questions_app
