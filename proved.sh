@@ -4,16 +4,16 @@
 # In a checkout they lie where they are built. What `./ratmanganese install` made has no crates: there they
 # lie in the folder programs.
 # shellcheck disable=SC2034,SC2154
-app=$top/crates/sigstore_app
-asking=$top/crates/sigstore_questions_app
+app=$top/crates/program_verify
+asking=$top/crates/program_questions
 if [ -d "$top/crates" ]; then
-    program=$app/out/sigstore_app
-    questions=$asking/out/sigstore_questions_app
+    program=$app/out/program_verify
+    questions=$asking/out/program_questions
     me=./ratmanganese
     unbuilt="the proved program isn't built, or a source is newer than it: run \`./ratmanganese build\`, which takes one to three hours the first time"
 else
-    program=$top/programs/sigstore_app
-    questions=$top/programs/sigstore_questions_app
+    program=$top/programs/program_verify
+    questions=$top/programs/program_questions
     me=ratmanganese
     unbuilt="the proved program isn't in $top/programs: install it anew by \`./ratmanganese install\` of a checkout where \`./ratmanganese build\` has run"
 fi

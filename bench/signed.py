@@ -8,10 +8,10 @@ import subprocess
 import sys
 
 CRATES = pathlib.Path(__file__).resolve().parent.parent / "crates"
-APP = CRATES / "sigstore_app"
-PROGRAM = APP / "out" / "sigstore_app"
-ASKING = CRATES / "sigstore_questions_app"
-QUESTIONS = ASKING / "out" / "sigstore_questions_app"
+APP = CRATES / "program_verify"
+PROGRAM = APP / "out" / "program_verify"
+ASKING = CRATES / "program_questions"
+QUESTIONS = ASKING / "out" / "program_questions"
 RAW_KEY = b"\x04" + bytes(64)
 # A SubjectPublicKeyInfo of P-256.
 SPKI = bytes.fromhex("3059301306072a8648ce3d020106082a8648ce3d030107034200") + RAW_KEY

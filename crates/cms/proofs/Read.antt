@@ -2,12 +2,12 @@
 use Rattle.std.proofs.Common.{◌≡◌, ◌∙◌, ℕ, List, Option, Some, None, Ok, Err, refl, sym, ap, subst, true}
 use Rattle.foundation.specs.Steps.{◌>>=◌}
 use Rattle.foundation.specs.Results.{ok_same, step_ok}
-use Rattle.der_core_parts.specs.Outcome.{Outcome}
-use Rattle.der_core_parts.specs.Choices.{is_tag}
-use Rattle.der_core_parts.specs.Grammar.{Grammar, framed, read_all, write}
-use Rattle.der_core_parts.specs.Laws.{all-only, one-written}
-use Rattle.der_core_parts.specs.Sets.{set_from, set_of}
-use Rattle.der_core_parts.specs.Types.{any_type}
+use Rattle.der_grammar.specs.Outcome.{Outcome}
+use Rattle.der_grammar.specs.Choices.{is_tag}
+use Rattle.der_grammar.specs.Grammar.{Grammar, framed, read_all, write}
+use Rattle.der_grammar.specs.Laws.{all-only, one-written}
+use Rattle.der_grammar.specs.Sets.{set_from, set_of}
+use Rattle.der_grammar.specs.Types.{any_type}
 use Rattle.x509_core.specs.declared.algorithm.AlgorithmIdentifierOwned.{AlgorithmIdentifierOwned}
 use Rattle.x509_core.specs.declared.attribute.Attribute.{Attribute}
 use Rattle.x509_core.specs.Types.{attribute_type}

@@ -2,12 +2,12 @@
 use Rattle.std.proofs.Common.{◌≡◌, ℕ, ◌<◌, true, ltb, eqb, List, [], ◌∷◌, length, Ok, refl, ap, arith}
 use Rattle.std.specs.Prelude.{ℤ, is_ok}
 use Rattle.std.proofs.lemmas.Bool.{lt-ltb, eqb-true}
-use Rattle.der_core_parts.specs.declared.error.DerError.TheVariants.{Value}
-use Rattle.der_core_parts.specs.Choices.{is_tag}
-use Rattle.der_core_parts.specs.Grammar.{Grammar, framed, write}
-use Rattle.der_core_parts.specs.Sets.{keyed, set_from}
-use Rattle.der_core_parts.specs.Tlv.{tlv}
-use Rattle.der_core_parts.specs.TlvLaws.{passed}
+use Rattle.der_grammar.specs.declared.error.DerError.TheVariants.{Value}
+use Rattle.der_grammar.specs.Choices.{is_tag}
+use Rattle.der_grammar.specs.Grammar.{Grammar, framed, write}
+use Rattle.der_grammar.specs.Sets.{keyed, set_from}
+use Rattle.der_grammar.specs.Tlv.{tlv}
+use Rattle.der_grammar.specs.TlvLaws.{passed}
 use Rattle.der_core.specs.declared.civil.Civil.{Civil}
 use Rattle.der_core.specs.Times.{utc_of, generalized_of}
 use Rattle.x509_core.specs.declared.attribute.Attribute.{Attribute}

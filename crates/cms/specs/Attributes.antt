@@ -1,11 +1,11 @@
 -- The attributes that a signer needs (RFC 5652, 11).
 use Rattle.std.specs.Prelude.{◌≡◌, ℕ, ℤ, List, [], ◌∷◌, Ok}
 use Rattle.foundation.specs.Steps.{◌>>=◌}
-use Rattle.der_core_parts.specs.Outcome.{Outcome}
-use Rattle.der_core_parts.specs.Grammar.{Grammar}
-use Rattle.der_core_parts.specs.Octets.{octet_string_type}
-use Rattle.der_core_parts.specs.Sets.{set_from}
-use Rattle.der_core_parts.specs.Types.{any_type}
+use Rattle.der_grammar.specs.Outcome.{Outcome}
+use Rattle.der_grammar.specs.Grammar.{Grammar}
+use Rattle.der_grammar.specs.Octets.{octet_string_type}
+use Rattle.der_grammar.specs.Sets.{set_from}
+use Rattle.der_grammar.specs.Types.{any_type}
 use Rattle.der_core.specs.declared.civil.Civil.{Civil}
 use Rattle.der_core.specs.Oid.{oid_type}
 use Rattle.der_core.specs.Times.{utc_of, generalized_of, IsWithinSecond}

@@ -3,7 +3,7 @@ use Rattle.std.specs.Prelude.{List, [], ◌∷◌, Bool, true, false, not, ◌||
 use Rattle.std.specs.List.{list_any}
 use Rattle.std.specs.Str.{bytes_eq}
 use Rattle.foundation.specs.Steps.{◌>>=◌}
-use Rattle.der_core_parts.specs.Sets.{set_from}
+use Rattle.der_grammar.specs.Sets.{set_from}
 use Rattle.x509_core.specs.Types.{algorithm_type}
 use Rattle.cms_parts.specs.declared.cert.CertificateChoices.{CertificateChoices}
 use Rattle.cms_parts.specs.declared.cert.CertificateChoices.TheVariants as certificate

@@ -1,8 +1,8 @@
 -- What a builder makes, or the first refusal.
 use Rattle.std.specs.Prelude.{◌≡◌, ◌⊎◌, ℕ, Result, Ok, Err, ⊤}
-use Rattle.der_core_parts.specs.declared.error.DerError.{DerError}
-use Rattle.der_core_parts.specs.declared.error.DerError.TheVariants as der
-use Rattle.der_core_parts.specs.Outcome.{Outcome}
+use Rattle.der_grammar.specs.declared.error.DerError.{DerError}
+use Rattle.der_grammar.specs.declared.error.DerError.TheVariants as der
+use Rattle.der_grammar.specs.Outcome.{Outcome}
 use Rattle.cms.specs.declared.error.Error.{Error}
 use Rattle.cms.specs.declared.error.Error.TheVariants.{Asn1, Signature, Builder, NoMemory}
 

@@ -2,9 +2,9 @@
 use Rattle.std.specs.Prelude.{ℕ, ◌==◌, ◌&&◌, List, [], ◌∷◌, ◌++◌, Bool, true, false, Option, Some, None, Ok, Err, if◌then◌else◌}
 use Rattle.std.specs.Str.{bytes_eq}
 use Rattle.foundation.specs.Steps.{◌>>=◌}
-use Rattle.der_core_parts.specs.Grammar.{write}
-use Rattle.der_core_parts.specs.Sets.{set_from, set_of}
-use Rattle.der_core_parts.specs.Tags.{oid_tag}
+use Rattle.der_grammar.specs.Grammar.{write}
+use Rattle.der_grammar.specs.Sets.{set_from, set_of}
+use Rattle.der_grammar.specs.Tags.{oid_tag}
 use Rattle.x509_core.specs.declared.algorithm.AlgorithmIdentifierOwned.{AlgorithmIdentifierOwned}
 use Rattle.x509_core.specs.declared.attribute.Attribute.{Attribute}
 use Rattle.x509_core.specs.Types.{attribute_type}

@@ -1,7 +1,7 @@
 // The attributes that a signer needs.
 ghost use Rattle.std.specs.Prelude.{◌≡◌, ◌≢◌, IfOk, IfErr, Ok, Err};
-ghost use Rattle.der_core_parts.specs.declared.error.DerError.TheVariants.{Value as BadValue};
-ghost use Rattle.der_core_parts.specs.Outcome.{IsTooLong as IsTooLongDer};
+ghost use Rattle.der_grammar.specs.declared.error.DerError.TheVariants.{Value as BadValue};
+ghost use Rattle.der_grammar.specs.Outcome.{IsTooLong as IsTooLongDer};
 ghost use Rattle.x509_core.specs.declared.time.Time.{Time as TimeType};
 ghost use Rattle.x509_core.specs.Types.{time_type};
 ghost use Rattle.cms_parts.specs.Identifiers.{signing_time_oid};

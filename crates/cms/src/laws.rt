@@ -1,8 +1,8 @@
 // What was built is what was put in.
 ghost use Rattle.std.specs.Prelude.{◌≡◌, ℕ, List, Ok, Some};
-ghost use Rattle.der_core_parts.specs.Grammar.{read_all, write};
-ghost use Rattle.der_core_parts.specs.Sets.{set_of};
-ghost use Rattle.der_core_parts.specs.Types.{any_type};
+ghost use Rattle.der_grammar.specs.Grammar.{read_all, write};
+ghost use Rattle.der_grammar.specs.Sets.{set_of};
+ghost use Rattle.der_grammar.specs.Types.{any_type};
 ghost use Rattle.x509_core.specs.declared.attribute.Attribute.{Attribute};
 ghost use Rattle.x509_core.specs.Types.{attribute_type};
 ghost use Rattle.cms_parts.specs.declared.content_info.ContentInfo.{ContentInfo};

@@ -1,9 +1,9 @@
 -- Authenticated data.
 use Rattle.std.specs.Prelude.{Option, ℕ, List, refl}
-use Rattle.der_core_parts.specs.Types.{AsnType, Components, sequence_type, set_of_type, implicit_type, components_as}
-use Rattle.der_core_parts.specs.Types.{followed_by, required_component, optional_component}
-use Rattle.der_core_parts.specs.Octets.{octet_string_type}
-use Rattle.der_core_parts.specs.Tags.{sequence_tag, set_tag, constructed_0_tag, constructed_3_tag}
+use Rattle.der_grammar.specs.Types.{AsnType, Components, sequence_type, set_of_type, implicit_type, components_as}
+use Rattle.der_grammar.specs.Types.{followed_by, required_component, optional_component}
+use Rattle.der_grammar.specs.Octets.{octet_string_type}
+use Rattle.der_grammar.specs.Tags.{sequence_tag, set_tag, constructed_0_tag, constructed_3_tag}
 use Rattle.x509_core.specs.Types.{algorithm_type, attribute_type}
 use Rattle.cms_parts.specs.Tags.{constructed_1_tag, constructed_2_tag}
 use Rattle.cms_parts.specs.Versions.{version_type}

@@ -1,8 +1,8 @@
 -- Digested data.
 use Rattle.std.specs.Prelude.{refl}
-use Rattle.der_core_parts.specs.Types.{AsnType, sequence_type, components_as}
-use Rattle.der_core_parts.specs.Types.{followed_by, required_component}
-use Rattle.der_core_parts.specs.Octets.{octet_string_type}
+use Rattle.der_grammar.specs.Types.{AsnType, sequence_type, components_as}
+use Rattle.der_grammar.specs.Types.{followed_by, required_component}
+use Rattle.der_grammar.specs.Octets.{octet_string_type}
 use Rattle.x509_core.specs.Types.{algorithm_type}
 use Rattle.cms_parts.specs.Versions.{version_type}
 use Rattle.cms_parts.specs.SignedData.{encapsulated_content_info_type}

@@ -1,8 +1,8 @@
 -- Encrypted data.
 use Rattle.std.specs.Prelude.{refl}
-use Rattle.der_core_parts.specs.Types.{AsnType, sequence_type, set_of_type, implicit_type, components_as}
-use Rattle.der_core_parts.specs.Types.{followed_by, required_component, optional_component}
-use Rattle.der_core_parts.specs.Tags.{set_tag}
+use Rattle.der_grammar.specs.Types.{AsnType, sequence_type, set_of_type, implicit_type, components_as}
+use Rattle.der_grammar.specs.Types.{followed_by, required_component, optional_component}
+use Rattle.der_grammar.specs.Tags.{set_tag}
 use Rattle.x509_core.specs.Types.{attribute_type}
 use Rattle.cms_parts.specs.Tags.{constructed_1_tag}
 use Rattle.cms_parts.specs.Versions.{version_type}

@@ -1,9 +1,9 @@
 -- Enveloped data.
 use Rattle.std.specs.Prelude.{◌≡◌, ◌⊎◌, refl}
 use Rattle.std.proofs.Common.{inl, inr}
-use Rattle.der_core_parts.specs.Types.{AsnType, sequence_type, set_of_type, implicit_type, components_as}
-use Rattle.der_core_parts.specs.Types.{followed_by, required_component, optional_component, choice_type}
-use Rattle.der_core_parts.specs.Tags.{sequence_tag, set_tag, constructed_0_tag, constructed_3_tag}
+use Rattle.der_grammar.specs.Types.{AsnType, sequence_type, set_of_type, implicit_type, components_as}
+use Rattle.der_grammar.specs.Types.{followed_by, required_component, optional_component, choice_type}
+use Rattle.der_grammar.specs.Tags.{sequence_tag, set_tag, constructed_0_tag, constructed_3_tag}
 use Rattle.x509_core.specs.Types.{attribute_type}
 use Rattle.cms_parts.specs.Tags.{constructed_1_tag, constructed_2_tag, constructed_4_tag}
 use Rattle.cms_parts.specs.Mapped.{mapped_type}

@@ -1,9 +1,9 @@
 -- Evidence records.
 use Rattle.std.specs.Prelude.{refl}
-use Rattle.der_core_parts.specs.Types.{AsnType, sequence_type, sequence_of_type, set_of_type, explicit_type, any_type, components_as}
-use Rattle.der_core_parts.specs.Types.{followed_by, required_component, optional_component}
-use Rattle.der_core_parts.specs.Octets.{octet_string_type}
-use Rattle.der_core_parts.specs.Tags.{constructed_0_tag}
+use Rattle.der_grammar.specs.Types.{AsnType, sequence_type, sequence_of_type, set_of_type, explicit_type, any_type, components_as}
+use Rattle.der_grammar.specs.Types.{followed_by, required_component, optional_component}
+use Rattle.der_grammar.specs.Octets.{octet_string_type}
+use Rattle.der_grammar.specs.Tags.{constructed_0_tag}
 use Rattle.der_core.specs.Oid.{oid_type}
 use Rattle.x509_core.specs.Types.{algorithm_type, attribute_type}
 use Rattle.cms_parts.specs.Tags.{constructed_1_tag, constructed_2_tag}

@@ -1,9 +1,9 @@
 -- Recipients that share a key or a password, and others.
 use Rattle.std.specs.Prelude.{refl}
-use Rattle.der_core_parts.specs.Types.{AsnType, sequence_type, implicit_type, any_type, components_as}
-use Rattle.der_core_parts.specs.Types.{followed_by, required_component, optional_component}
-use Rattle.der_core_parts.specs.Octets.{octet_string_type}
-use Rattle.der_core_parts.specs.Tags.{sequence_tag, constructed_0_tag}
+use Rattle.der_grammar.specs.Types.{AsnType, sequence_type, implicit_type, any_type, components_as}
+use Rattle.der_grammar.specs.Types.{followed_by, required_component, optional_component}
+use Rattle.der_grammar.specs.Octets.{octet_string_type}
+use Rattle.der_grammar.specs.Tags.{sequence_tag, constructed_0_tag}
 use Rattle.der_core.specs.Oid.{oid_type}
 use Rattle.der_core.specs.Times.{generalized_time_type}
 use Rattle.x509_core.specs.Types.{algorithm_type, attribute_type}

@@ -1,10 +1,10 @@
 -- Recipients by key transport.
 use Rattle.std.specs.Prelude.{◌≡◌, ◌⊎◌, ℕ, List, refl}
 use Rattle.std.proofs.Common.{inl, inr}
-use Rattle.der_core_parts.specs.Types.{AsnType, sequence_type, implicit_type, components_as}
-use Rattle.der_core_parts.specs.Types.{followed_by, required_component, choice_type}
-use Rattle.der_core_parts.specs.Octets.{octet_string_type}
-use Rattle.der_core_parts.specs.Tags.{octet_string_tag}
+use Rattle.der_grammar.specs.Types.{AsnType, sequence_type, implicit_type, components_as}
+use Rattle.der_grammar.specs.Types.{followed_by, required_component, choice_type}
+use Rattle.der_grammar.specs.Octets.{octet_string_type}
+use Rattle.der_grammar.specs.Tags.{octet_string_tag}
 use Rattle.x509_core.specs.Kinds.{subject_key_identifier_type}
 use Rattle.x509_core.specs.Types.{algorithm_type}
 use Rattle.cms_parts.specs.Tags.{primitive_0_tag}

@@ -1,11 +1,11 @@
 -- Time-stamped data.
 use Rattle.std.specs.Prelude.{◌≡◌, ◌⊎◌, List, refl}
 use Rattle.std.proofs.Common.{inl, inr}
-use Rattle.der_core_parts.specs.Types.{AsnType, sequence_type, sequence_of_type, set_of_type, explicit_type, any_type, components_as}
-use Rattle.der_core_parts.specs.Types.{followed_by, required_component, optional_component, choice_type}
-use Rattle.der_core_parts.specs.Octets.{octet_string_type}
-use Rattle.der_core_parts.specs.Booleans.{boolean_type}
-use Rattle.der_core_parts.specs.Tags.{constructed_0_tag}
+use Rattle.der_grammar.specs.Types.{AsnType, sequence_type, sequence_of_type, set_of_type, explicit_type, any_type, components_as}
+use Rattle.der_grammar.specs.Types.{followed_by, required_component, optional_component, choice_type}
+use Rattle.der_grammar.specs.Octets.{octet_string_type}
+use Rattle.der_grammar.specs.Booleans.{boolean_type}
+use Rattle.der_grammar.specs.Tags.{constructed_0_tag}
 use Rattle.der_core.specs.Oid.{oid_type}
 use Rattle.der_core.specs.Strings.{ia5_type, utf8_type}
 use Rattle.x509_core.specs.Kinds.{certificate_list_type}

@@ -1,8 +1,8 @@
 -- The version of time-stamped data and of evidence records.
 use Rattle.std.specs.Prelude.{◌≡◌, ℕ, List, [], ◌∷◌, Ok, refl}
-use Rattle.der_core_parts.specs.Listed.{listed_type, with_number}
-use Rattle.der_core_parts.specs.Tags.{integer_tag}
-use Rattle.der_core_parts.specs.Types.{AsnType}
+use Rattle.der_grammar.specs.Listed.{listed_type, with_number}
+use Rattle.der_grammar.specs.Tags.{integer_tag}
+use Rattle.der_grammar.specs.Types.{AsnType}
 use Rattle.cms_envelope.specs.declared.tsd_version.TsdVersion.{TsdVersion}
 use Rattle.cms_envelope.specs.declared.tsd_version.TsdVersion.TheVariants.{V1}
 

@@ -1,7 +1,7 @@
 // Authenticated data.
 ghost use Rattle.std.specs.Prelude.{◌≡◌, ◌≢◌, IfErr, OnOk, OnErr, Err};
-ghost use Rattle.der_core_parts.specs.Outcome.{IsTooLong};
-ghost use Rattle.der_core_parts.specs.Grammar.{Appended, KeepsFront};
+ghost use Rattle.der_grammar.specs.Outcome.{IsTooLong};
+ghost use Rattle.der_grammar.specs.Grammar.{Appended, KeepsFront};
 ghost use Rattle.cms_envelope.specs.AuthenticatedData.{authenticated_tail, tail_of, authenticated_data_type};
 
 use crate::enveloped_data::{OriginatorInfo, RecipientInfos};

@@ -1,13 +1,13 @@
 -- What is written has a tag of one octet, and what contradicts a refusal.
 use Rattle.std.proofs.Common.{◌≡◌, ◌≢◌, ℕ, ◌%◌, true, false, ltb, eqb, List, Ok, refl}
 use Rattle.std.proofs.lemmas.Bool.{lt-ltb, eqb-true}
-use Rattle.der_core_parts.specs.declared.error.DerError.{DerError}
-use Rattle.der_core_parts.specs.declared.error.DerError.TheVariants.{Truncated, Length, Tag, Value, Trailing, SetDuplicate, Oid, TooLong, NoMemory}
-use Rattle.der_core_parts.specs.Choices.{is_tag}
-use Rattle.der_core_parts.specs.Grammar.{Grammar}
-use Rattle.der_core_parts.specs.Law.{IsLawful}
-use Rattle.der_core_parts.specs.Tlv.{IsTag}
-use Rattle.der_core_parts.specs.Types.{false_if_not}
+use Rattle.der_grammar.specs.declared.error.DerError.{DerError}
+use Rattle.der_grammar.specs.declared.error.DerError.TheVariants.{Truncated, Length, Tag, Value, Trailing, SetDuplicate, Oid, TooLong, NoMemory}
+use Rattle.der_grammar.specs.Choices.{is_tag}
+use Rattle.der_grammar.specs.Grammar.{Grammar}
+use Rattle.der_grammar.specs.Law.{IsLawful}
+use Rattle.der_grammar.specs.Tlv.{IsTag}
+use Rattle.der_grammar.specs.Types.{false_if_not}
 
 passes : (t : ℕ) → IsTag t → is_tag t ≡ true
 passes t h =

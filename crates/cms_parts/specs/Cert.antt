@@ -1,9 +1,9 @@
 -- Certificates and what names them.
 use Rattle.std.specs.Prelude.{◌≡◌, ◌⊎◌, ℕ, List, refl}
 use Rattle.std.proofs.Common.{inl, inr}
-use Rattle.der_core_parts.specs.Types.{AsnType, sequence_type, explicit_type, any_type, components_as}
-use Rattle.der_core_parts.specs.Types.{followed_by, required_component, choice_type}
-use Rattle.der_core_parts.specs.Tags.{constructed_3_tag}
+use Rattle.der_grammar.specs.Types.{AsnType, sequence_type, explicit_type, any_type, components_as}
+use Rattle.der_grammar.specs.Types.{followed_by, required_component, choice_type}
+use Rattle.der_grammar.specs.Tags.{constructed_3_tag}
 use Rattle.der_core.specs.Oid.{oid_type}
 use Rattle.x509_core.specs.Kinds.{name_type, serial_number_type, certificate_type}
 use Rattle.cms_parts.specs.declared.cert.OtherCertificateFormat.{OtherCertificateFormat}

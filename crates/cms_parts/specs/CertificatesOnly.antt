@@ -1,8 +1,8 @@
 -- Signed data that hands on certificates and nothing else.
 use Rattle.std.specs.Prelude.{ℕ, List, [], map, Some, None, Ok}
 use Rattle.foundation.specs.Steps.{◌>>=◌}
-use Rattle.der_core_parts.specs.Outcome.{Outcome}
-use Rattle.der_core_parts.specs.Sets.{set_from}
+use Rattle.der_grammar.specs.Outcome.{Outcome}
+use Rattle.der_grammar.specs.Sets.{set_from}
 use Rattle.cms_parts.specs.declared.cert.CertificateChoices.{CertificateChoices}
 use Rattle.cms_parts.specs.declared.cert.CertificateChoices.TheVariants.{Certificate}
 use Rattle.cms_parts.specs.declared.content_info.CmsVersion.TheVariants.{V1}

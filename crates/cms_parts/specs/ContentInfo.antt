@@ -1,8 +1,8 @@
 -- A content under its type.
 use Rattle.std.specs.Prelude.{refl}
-use Rattle.der_core_parts.specs.Types.{AsnType, sequence_type, explicit_type, any_type, components_as}
-use Rattle.der_core_parts.specs.Types.{followed_by, required_component}
-use Rattle.der_core_parts.specs.Tags.{constructed_0_tag}
+use Rattle.der_grammar.specs.Types.{AsnType, sequence_type, explicit_type, any_type, components_as}
+use Rattle.der_grammar.specs.Types.{followed_by, required_component}
+use Rattle.der_grammar.specs.Tags.{constructed_0_tag}
 use Rattle.der_core.specs.Oid.{oid_type}
 use Rattle.cms_parts.specs.declared.content_info.ContentInfo.{ContentInfo}
 

@@ -1,9 +1,9 @@
 -- Revocation information.
 use Rattle.std.specs.Prelude.{◌≡◌, ◌⊎◌, ℕ, List, refl}
 use Rattle.std.proofs.Common.{inl, inr}
-use Rattle.der_core_parts.specs.Types.{AsnType, sequence_type, set_of_type, implicit_type, any_type, components_as}
-use Rattle.der_core_parts.specs.Types.{followed_by, required_component, choice_type}
-use Rattle.der_core_parts.specs.Tags.{sequence_tag}
+use Rattle.der_grammar.specs.Types.{AsnType, sequence_type, set_of_type, implicit_type, any_type, components_as}
+use Rattle.der_grammar.specs.Types.{followed_by, required_component, choice_type}
+use Rattle.der_grammar.specs.Tags.{sequence_tag}
 use Rattle.x509_core.specs.Kinds.{certificate_list_type}
 use Rattle.x509_core.specs.Types.{algorithm_type}
 use Rattle.cms_parts.specs.Tags.{constructed_1_tag}

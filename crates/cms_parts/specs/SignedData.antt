@@ -1,8 +1,8 @@
 -- Signed data.
 use Rattle.std.specs.Prelude.{refl}
-use Rattle.der_core_parts.specs.Types.{AsnType, sequence_type, set_of_type, implicit_type, explicit_type, any_type, components_as}
-use Rattle.der_core_parts.specs.Types.{followed_by, required_component, optional_component}
-use Rattle.der_core_parts.specs.Tags.{set_tag, constructed_0_tag}
+use Rattle.der_grammar.specs.Types.{AsnType, sequence_type, set_of_type, implicit_type, explicit_type, any_type, components_as}
+use Rattle.der_grammar.specs.Types.{followed_by, required_component, optional_component}
+use Rattle.der_grammar.specs.Tags.{set_tag, constructed_0_tag}
 use Rattle.der_core.specs.Oid.{oid_type}
 use Rattle.x509_core.specs.Types.{algorithm_type}
 use Rattle.cms_parts.specs.Tags.{constructed_1_tag}

@@ -1,8 +1,8 @@
 -- Versions of the syntax.
 use Rattle.std.specs.Prelude.{◌≡◌, ℕ, List, [], ◌∷◌, Ok, refl}
-use Rattle.der_core_parts.specs.Listed.{listed_type, with_number}
-use Rattle.der_core_parts.specs.Tags.{integer_tag}
-use Rattle.der_core_parts.specs.Types.{AsnType}
+use Rattle.der_grammar.specs.Listed.{listed_type, with_number}
+use Rattle.der_grammar.specs.Tags.{integer_tag}
+use Rattle.der_grammar.specs.Types.{AsnType}
 use Rattle.cms_parts.specs.declared.content_info.CmsVersion.{CmsVersion}
 use Rattle.cms_parts.specs.declared.content_info.CmsVersion.TheVariants.{V0, V1, V2, V3, V4, V5}
 

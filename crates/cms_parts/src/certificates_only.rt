@@ -1,6 +1,6 @@
 // Signed data that hands on certificates and nothing else.
 ghost use Rattle.std.specs.Prelude.{◌≡◌, ◌≢◌, [], ◌∷◌, IfOk, IfErr, Ok, Err, map};
-ghost use Rattle.der_core_parts.specs.Outcome.{IsTooLong, IsSetRefusal};
+ghost use Rattle.der_grammar.specs.Outcome.{IsTooLong, IsSetRefusal};
 ghost use Rattle.cms_parts.specs.declared.cert.CertificateChoices.TheVariants.{Certificate as choice};
 ghost use Rattle.cms_parts.specs.CertificatesOnly.{certificates_only, content_of, content_with, content_of_path};
 

@@ -1,7 +1,7 @@
 // Values of a type as those of any type, and as members of a set.
 ghost use Rattle.std.specs.Prelude.{◌≡◌, ◌≢◌, [], ◌∷◌, IfOk, IfErr, Ok, Err};
-ghost use Rattle.der_core_parts.specs.Outcome.{IsTooLong};
-ghost use Rattle.der_core_parts.specs.Sets.{set_from};
+ghost use Rattle.der_grammar.specs.Outcome.{IsTooLong};
+ghost use Rattle.der_grammar.specs.Sets.{set_from};
 ghost use Rattle.cms_parts.specs.Values.{any_from};
 
 use der_core::{Any, Der, DerError, SetOfVec};
@@ -26,7 +26,7 @@ pub fn as_any<T: Der>(alloc: Global, value: &T) -> Result<Any, DerError>
 }
 
 /// The set of one member; TooLong exactly where it can't be written.
-#[tactic(auto, unfolding(der_core_parts::specs::Sets::set_from, der_core_parts::specs::Sets::keyed))]
+#[tactic(auto, unfolding(der_grammar::specs::Sets::set_from, der_grammar::specs::Sets::keyed))]
 pub fn set_of_one<T: Der>(alloc: Global, member: T) -> Result<SetOfVec<T>, DerError>
     ensures ok { IfOk result (λ set. set_from T.grammar (member ∷ []) ≡ Ok set) }
     ensures err { IfErr result (λ e. e ≢ DerError.NoMemory → set_from T.grammar (member ∷ []) ≡ Err e) }

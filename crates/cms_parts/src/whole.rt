@@ -1,6 +1,6 @@
 // Contents that are one value.
 ghost use Rattle.std.specs.Prelude.{◌≡◌, ◌≢◌, IfOk, IfErr, Ok, Err};
-ghost use Rattle.der_core_parts.specs.Choices.{explicit};
+ghost use Rattle.der_grammar.specs.Choices.{explicit};
 
 use der_core::{Der, DerError, Reader, read_value};
 use std::alloc::Global;

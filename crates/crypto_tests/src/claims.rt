@@ -5,7 +5,7 @@ use crate::claim_data::{
 use crate::tables::{
     displayed, equals, good, halves, hex_of, hold, octets, place, printed, string,
 };
-use sigstore_crypto::{CertificateInfo, FulcioCiClaims, SubjectAltName, parse_certificate_info};
+use certificate_claims::{CertificateInfo, FulcioCiClaims, SubjectAltName, parse_certificate_info};
 use sigstore_types_parts::{DerCertificate, Text};
 use std::process::Abort;
 

@@ -2,7 +2,7 @@
 // lengths (FIPS 204, RFC 9881). The digests of raw keys are openssl's, of what it cuts out.
 use crate::keys::{Echo, scheme_of};
 use crate::tables::{good, halves, hold, holds, number, printed, there};
-use sigstore_crypto::*;
+use sigstore_keys::*;
 use sigstore_types_parts::{Bytes, DerPublicKey, SignatureBytes};
 use std::process::Abort;
 

@@ -1,11 +1,11 @@
 // Schemes, sorts of keys, digests on outside values, and keys and signatures that are judged.
 ghost use Rattle.std.specs.Prelude.{bytes_eq};
-ghost use Rattle.sigstore_crypto_parts.specs.Good.{subject_of};
+ghost use Rattle.sigstore_keys.specs.Good.{subject_of};
 
 use crate::tables::{
     copied, displayed, good, halves, hold, holds, key_in, numbered, place, printed, there,
 };
-use sigstore_crypto::*;
+use sigstore_keys::*;
 use sigstore_types_parts::{Bytes, HashAlgorithm, SignatureBytes, Text};
 use std::fmt::Debug;
 use std::process::Abort;

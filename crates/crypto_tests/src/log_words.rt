@@ -1,10 +1,10 @@
 // What rows of tables mean: names of logs, checkpoints and entries, moments, and answers as texts.
 use crate::log_data::{CHECKPOINTS, ENTRIES, KEYS, SIGNATURES};
 use crate::tables::{good, halves, holds, number, string, there};
+use command_files::{Tables, read_provider};
 use jiff::Timestamp;
-use sigstore_app_parts::{Tables, read_provider};
-use sigstore_crypto::{Keyring, VerificationKey, compute_key_hint, sha256};
 use sigstore_entries::{Checkpoint, TransparencyLogEntry};
+use sigstore_keys::{Keyring, VerificationKey, compute_key_hint, sha256};
 use sigstore_types_parts::{DerPublicKey, Hash, LogKeyId, Sha256Hash, TimeRange, parse_json};
 use std::process::Abort;
 

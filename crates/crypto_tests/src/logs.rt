@@ -2,8 +2,8 @@
 // trees are those of src/log_data.rt; every answer was worked out by hand.
 use crate::log_words::{checkpoint, entry, key, logs, moment, tables, who};
 use crate::tables::{displayed, good, halves, hold, number, numbered, printed, string};
+use command_files::Tables;
 use jiff::Timestamp;
-use sigstore_app_parts::Tables;
 use sigstore_log::{
     CheckpointVerifyExt, EntryEvidence, LogError, checkpoint_signer, judge_entry, judge_promise,
     logged_exactly, one_place_one_body, refusals_have_causes, signer_exactly, told_time,
@@ -158,7 +158,7 @@ fn name<X: AllocGlobal + Abort>(rt: &X, id: &Sha256Hash) -> &'static str {
 
 fn is_id<X: AllocGlobal + Abort>(rt: &X, id: &Sha256Hash, name: &str) -> bool {
     let key = key(rt, name);
-    *id == sigstore_crypto::sha256(key.as_bytes())
+    *id == sigstore_keys::sha256(key.as_bytes())
 }
 
 // A word, and a time where there is one.

@@ -1,11 +1,11 @@
 // Pairs of keys that sign, and their public keys in DER.
 ghost use Rattle.std.specs.Prelude.{◌≡◌, ◌≢◌, ◌∷◌, Some, None, Ok, Err, IfOk, IfErr, if◌then◌else◌, length, ◌==◌};
-ghost use Rattle.sigstore_crypto_parts.specs.KeyPair.{signed_or};
+ghost use Rattle.sigstore_keys.specs.KeyPair.{signed_or};
 
 use crate::keys::algorithm_of;
 use crate::tables::{check, good, halves, hex_of, hold, holds, octets, there};
 use foundation::NoMemory;
-use sigstore_crypto::*;
+use sigstore_keys::*;
 use sigstore_types_parts::{Bytes, DerPublicKey, SignatureBytes};
 use std::alloc::Global;
 use std::process::Abort;

@@ -6,7 +6,7 @@ use crate::tables::{
     good, halves, hex_of, hold, holds, number, octets, place, printed, string, there, word,
 };
 use jiff::Timestamp;
-use sigstore_crypto::*;
+use sigstore_keys::*;
 use sigstore_types_parts::{Bytes, DerPublicKey, KeyHint, Sha256Hash, SignatureBytes, TimeRange};
 use std::process::Abort;
 

@@ -1,7 +1,7 @@
 // Sources of bytes, in memory and over a file, that are read and digested.
 use crate::keys::hexadecimal;
 use crate::tables::{check, good, halves, hold, number, printed, text, there};
-use sigstore_crypto::*;
+use sigstore_keys::*;
 use sigstore_types_parts::{Bytes, FailList};
 use std::fs;
 use std::num::NonZeroU32;

@@ -4,9 +4,9 @@ use Rattle.std.specs.Prelude.{◌&&◌, ◌||◌, is_ok}
 use Rattle.std.proofs.lemmas.Bool.{cases_lt, le-ltb, lt-ltb, ltb-true, eqb-true}
 use Rattle.std.proofs.lemmas.Bool.Decides.{nat_tests}
 use Rattle.foundation.specs.Steps.{◌>>=◌}
-use Rattle.der_core_parts.specs.declared.error.DerError.TheVariants.{Oid}
-use Rattle.der_core_parts.specs.Outcome.{Outcome}
-use Rattle.der_core_parts.specs.TlvLaws.{ok_is, passed}
+use Rattle.der_grammar.specs.declared.error.DerError.TheVariants.{Oid}
+use Rattle.der_grammar.specs.Outcome.{Outcome}
+use Rattle.der_grammar.specs.TlvLaws.{ok_is, passed}
 use Rattle.der_core.proofs.OidReading.{later-step}
 use Rattle.der_core.specs.Oid.{fifth_octet, fourth_octet, third_octet, second_octet, group_at, first_arcs, one_arc, later_at, later_arcs, arcs_of, is_oid, group_bytes, groups_bytes, arcs_bytes, are_arcs, oid_of}
 

@@ -2,11 +2,11 @@
 use Rattle.std.proofs.Common.{◌≡◌, ℕ, zero, suc, ◌+◌, ◌-◌, ◌*◌, ◌<◌, ◌≤◌, ltb, eqb, List, [], ◌∷◌, ◌++◌, length, Ok, Err, refl, sym, ap, ◌∙◌, append_assoc, arith, inl, inr}
 use Rattle.std.proofs.lemmas.List.{append-nil}
 use Rattle.foundation.specs.Steps.{◌>>=◌}
-use Rattle.der_core_parts.specs.declared.error.DerError.{DerError}
-use Rattle.der_core_parts.specs.declared.error.DerError.TheVariants.{Value}
-use Rattle.der_core_parts.specs.Outcome.{Outcome}
-use Rattle.der_core_parts.specs.TlvLaws.{ok_is, chosen, passed, not_refused}
-use Rattle.der_core_parts.specs.ManyLaws.{two_ways}
+use Rattle.der_grammar.specs.declared.error.DerError.{DerError}
+use Rattle.der_grammar.specs.declared.error.DerError.TheVariants.{Value}
+use Rattle.der_grammar.specs.Outcome.{Outcome}
+use Rattle.der_grammar.specs.TlvLaws.{ok_is, chosen, passed, not_refused}
+use Rattle.der_grammar.specs.ManyLaws.{two_ways}
 use Rattle.der_core.specs.Oid.{fifth_octet, fourth_octet, third_octet, second_octet, group_at, one_arc, later_at, later_arcs}
 
 -- ---- a group takes an octet at least

@@ -5,10 +5,10 @@ use Rattle.std.specs.Option.{option_to_list}
 use Rattle.std.proofs.lemmas.Bool.{le-ltb}
 use Rattle.std.proofs.lemmas.List.{length-append, drop_all}
 use Rattle.foundation.specs.Steps.{◌>>=◌}
-use Rattle.der_core_parts.specs.declared.error.DerError.{DerError}
-use Rattle.der_core_parts.specs.declared.error.DerError.TheVariants.{Value, Oid}
-use Rattle.der_core_parts.specs.Outcome.{Outcome}
-use Rattle.der_core_parts.specs.TlvLaws.{chosen}
+use Rattle.der_grammar.specs.declared.error.DerError.{DerError}
+use Rattle.der_grammar.specs.declared.error.DerError.TheVariants.{Value, Oid}
+use Rattle.der_grammar.specs.Outcome.{Outcome}
+use Rattle.der_grammar.specs.TlvLaws.{chosen}
 use Rattle.der_core.specs.Oid.{group_at, group_bytes, groups_bytes, are_arcs, oid_of, is_digit, one_character, at_end, decimals, oid_of_text}
 use Rattle.der_core.proofs.OidLaws.{group-again}
 

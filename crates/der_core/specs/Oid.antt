@@ -2,10 +2,10 @@
 use Rattle.std.specs.Prelude.{ℕ, zero, suc, ◌+◌, ◌-◌, ◌*◌, ◌/◌, ◌%◌, Bool, false, ◌&&◌, ◌||◌, ◌==◌, nat_lt, not, List}
 use Rattle.std.specs.Prelude.{[], ◌∷◌, ◌++◌, length, take, Option, Some, None, Ok, Err, is_ok, if◌then◌else◌, refl}
 use Rattle.foundation.specs.Steps.{◌>>=◌}
-use Rattle.der_core_parts.specs.declared.error.DerError.TheVariants.{Value, Oid}
-use Rattle.der_core_parts.specs.Outcome.{Outcome}
-use Rattle.der_core_parts.specs.Types.{AsnType, primitive_type}
-use Rattle.der_core_parts.specs.Tags.{oid_tag}
+use Rattle.der_grammar.specs.declared.error.DerError.TheVariants.{Value, Oid}
+use Rattle.der_grammar.specs.Outcome.{Outcome}
+use Rattle.der_grammar.specs.Types.{AsnType, primitive_type}
+use Rattle.der_grammar.specs.Tags.{oid_tag}
 
 -- ---- reading
 

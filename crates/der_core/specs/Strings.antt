@@ -3,8 +3,8 @@ use Rattle.std.specs.Prelude.{ℕ, ◌+◌, ◌^◌, ◌%◌, Bool, true, false,
 use Rattle.std.specs.Prelude.{◌==◌, nat_lt, List, [], ◌∷◌, length, slice_index, refl}
 use Rattle.std.specs.List.{list_all}
 use Rattle.std.specs.Str.{is_utf8}
-use Rattle.der_core_parts.specs.Types.{AsnType, primitive_type}
-use Rattle.der_core_parts.specs.Tags.{bit_string_tag, ia5_tag, integer_tag, utf8_tag}
+use Rattle.der_grammar.specs.Types.{AsnType, primitive_type}
+use Rattle.der_grammar.specs.Tags.{bit_string_tag, ia5_tag, integer_tag, utf8_tag}
 
 -- at least one octet; the first nine bits are neither all zeros nor all ones (X.690, 8.3.2)
 abbrev pub is_int : List ℕ → Bool

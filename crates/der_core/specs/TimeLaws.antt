@@ -3,8 +3,8 @@ use Rattle.std.proofs.Common.{◌≡◌, ℕ, ◌+◌, ◌-◌, ◌*◌, ◌<◌
 use Rattle.std.proofs.Common.{subst, arith, inl, inr}
 use Rattle.std.specs.Prelude.{◌&&◌, slice_index, nat_lt}
 use Rattle.std.proofs.lemmas.Bool.{cases_lt, lt-ltb, le-ltb, ltb-true}
-use Rattle.der_core_parts.specs.declared.error.DerError.TheVariants.{Value}
-use Rattle.der_core_parts.specs.TlvLaws.{bind_ok, passed, ok_is}
+use Rattle.der_grammar.specs.declared.error.DerError.TheVariants.{Value}
+use Rattle.der_grammar.specs.TlvLaws.{bind_ok, passed, ok_is}
 use Rattle.der_core.specs.declared.civil.Civil.{Civil}
 use Rattle.der_core.specs.Oid.{is_digit}
 use Rattle.der_core.specs.Times.{pair, pair_at, real, is_civil, civil_at, generalized_of, utc_of, full_year}

@@ -4,10 +4,10 @@ use Rattle.std.specs.Prelude.{slice_index, Ok, Err, is_ok, if◌then◌else◌, 
 use Rattle.std.specs.Int.{int_min, int_max}
 use Rattle.foundation.specs.Steps.{◌>>=◌}
 use Rattle.jiff_core.specs.Calendar.{days_in_month, days_from_civil}
-use Rattle.der_core_parts.specs.declared.error.DerError.TheVariants.{Value}
-use Rattle.der_core_parts.specs.Outcome.{Outcome}
-use Rattle.der_core_parts.specs.Types.{AsnType, primitive_type}
-use Rattle.der_core_parts.specs.Tags.{generalized_time_tag, utc_time_tag}
+use Rattle.der_grammar.specs.declared.error.DerError.TheVariants.{Value}
+use Rattle.der_grammar.specs.Outcome.{Outcome}
+use Rattle.der_grammar.specs.Types.{AsnType, primitive_type}
+use Rattle.der_grammar.specs.Tags.{generalized_time_tag, utc_time_tag}
 use Rattle.der_core.specs.declared.civil.Civil.{Civil}
 use Rattle.der_core.specs.Oid.{is_digit}
 

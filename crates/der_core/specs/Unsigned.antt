@@ -1,9 +1,9 @@
 -- INTEGER of numbers from 0 on, and the octets of such a number.
 use Rattle.std.specs.Prelude.{ℕ, Bool, false, ◌&&◌, ◌==◌, nat_lt, List, [], ◌∷◌, Ok, Err, if◌then◌else◌, refl}
-use Rattle.der_core_parts.specs.declared.error.DerError.TheVariants.{Value}
-use Rattle.der_core_parts.specs.Outcome.{Outcome}
-use Rattle.der_core_parts.specs.Types.{AsnType, primitive_type}
-use Rattle.der_core_parts.specs.Tags.{integer_tag}
+use Rattle.der_grammar.specs.declared.error.DerError.TheVariants.{Value}
+use Rattle.der_grammar.specs.Outcome.{Outcome}
+use Rattle.der_grammar.specs.Types.{AsnType, primitive_type}
+use Rattle.der_grammar.specs.Tags.{integer_tag}
 use Rattle.der_core.specs.Strings.{is_int}
 
 -- the sign bit is 0

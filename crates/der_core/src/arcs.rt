@@ -4,7 +4,7 @@ ghost use Rattle.std.specs.Bool.{OnTrue, OnFalse};
 ghost use Rattle.der_core.specs.Oid.{group_at, first_arcs, one_arc, arcs_of, later_arcs, group_bytes, groups_bytes, arcs_bytes, are_arcs, oid_of};
 
 use arrayvec::ArrayVec;
-use der_core_parts::DerError;
+use der_grammar::DerError;
 
 /// The arcs of an identifier.
 pub type Arcs = ArrayVec<u32, 40>;

@@ -3,7 +3,7 @@ ghost use Rattle.std.specs.Prelude.{◌≡◌, ◌<◌, ◌+◌, length, pos, tr
 ghost use Rattle.jiff_core.specs.Calendar.{days_in_month};
 ghost use Rattle.der_core.specs.Times.{is_civil, pair_at, civil_at, generalized_of, utc_of};
 
-use der_core_parts::DerError;
+use der_grammar::DerError;
 
 /// A date with a time of day, to the second.
 #[derive(Clone, Copy, Debug, PartialEq, Eq)]

@@ -1,11 +1,11 @@
 // Civil times as digits.
 ghost use Rattle.std.specs.Prelude.{◌≡◌, ◌≤◌, ◌<◌, ◌+◌, ◌/◌, ◌%◌, ◌++◌, ◌∷◌, [], ℕ, List, true, length, IfOk, IfErr, Ok};
-ghost use Rattle.der_core_parts.specs.declared.error.DerError.TheVariants.{Value as BadValue};
+ghost use Rattle.der_grammar.specs.declared.error.DerError.TheVariants.{Value as BadValue};
 ghost use Rattle.der_core.specs.Times.{digits, rest_digits, is_civil, generalized_of, utc_of};
 
 use crate::civil::Civil;
 use arrayvec::ArrayVec;
-use der_core_parts::DerError;
+use der_grammar::DerError;
 
 /// The contents of a time.
 pub type Contents = ArrayVec<u8, 15>;

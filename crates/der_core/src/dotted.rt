@@ -5,7 +5,7 @@ ghost use Rattle.std.specs.Option.{option_to_list};
 ghost use Rattle.der_core.specs.Oid.{decimals, one_character, at_end, oid_of_text};
 
 use crate::arcs::Arcs;
-use der_core_parts::DerError;
+use der_grammar::DerError;
 
 /// The arc that a character ends, and the number at hand behind it.
 fn one_more(number: Option<u32>, character: u8) -> Result<(Option<u32>, Option<u32>), DerError>

@@ -3,7 +3,7 @@ ghost use Rattle.std.specs.Prelude.{◌≡◌, ℕ, refl};
 ghost use Rattle.der_core.specs.Strings.{is_int, is_bit_string, is_utf8_string, is_ia5_string};
 
 use crate::primitive::{Primitive, PrimitiveKind};
-use der_core_parts::tag;
+use der_grammar::tag;
 
 /// The kind of whole numbers.
 #[derive(Drop)]

@@ -1,4 +1,4 @@
-//! Strict DER (ITU-T X.690): the types that hold no others, and the names of `der_core_parts`.
+//! Strict DER (ITU-T X.690): the types that hold no others, and the names of `der_grammar`.
 #![tactic(auto)]
 
 mod arcs;
@@ -13,7 +13,7 @@ mod time;
 mod uint;
 
 pub use civil::Civil;
-pub use der_core_parts::{
+pub use der_grammar::{
     Any, Der, DerError, OctetString, Reader, SetOfVec, Tag, Tlv, append_default, append_each,
     append_explicit, append_explicit_default, append_explicit_optional, append_framed,
     append_implicit, append_implicit_optional, append_optional, no_prefix, read_default, read_each,

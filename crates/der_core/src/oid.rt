@@ -7,7 +7,7 @@ ghost use Rattle.der_core.specs.Oid.{oid_type, is_oid, arcs_of, arcs, oid_of, oi
 
 use crate::arcs::{Arcs, Contents, arcs_in, contents_of};
 use crate::dotted::arcs_of_text;
-use der_core_parts::{Der, DerError, OctetString, Tag, tag};
+use der_grammar::{Der, DerError, OctetString, Tag, tag};
 use foundation::{Duplicate, NoMemory};
 use std::alloc::Global;
 use std::fmt;

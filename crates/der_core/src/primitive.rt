@@ -2,12 +2,12 @@
 ghost use Rattle.std.specs.Prelude.{◌≡◌, ◌≢◌, ℕ, List, Bool, true, false, bytes_eq, IfOk, IfErr, Ok, Err};
 ghost use Rattle.std.specs.Cmp.{partial_equiv_from_equiv};
 ghost use Rattle.std.specs.Cmp.Lexicographic.{nat_list_eq_equiv};
-ghost use Rattle.der_core_parts.specs.Choices.{is_tag};
-ghost use Rattle.der_core_parts.specs.Grammar.{primitive};
-ghost use Rattle.der_core_parts.specs.Laws.{primitive-lawful};
-ghost use Rattle.der_core_parts.specs.Types.{valid};
+ghost use Rattle.der_grammar.specs.Choices.{is_tag};
+ghost use Rattle.der_grammar.specs.Grammar.{primitive};
+ghost use Rattle.der_grammar.specs.Laws.{primitive-lawful};
+ghost use Rattle.der_grammar.specs.Types.{valid};
 
-use der_core_parts::{Der, DerError, OctetString, Tag};
+use der_grammar::{Der, DerError, OctetString, Tag};
 use foundation::{Duplicate, NoMemory};
 use std::alloc::Global;
 use std::fmt;

@@ -2,20 +2,20 @@
 ghost use Rattle.std.specs.Prelude.{◌≡◌, ◌<◌, ℕ, List, Bool, true, bytes_eq, IfOk, IfErr, Ok, Err, is_ok, length, refl};
 ghost use Rattle.std.specs.Cmp.{partial_equiv_from_equiv};
 ghost use Rattle.std.specs.Cmp.Lexicographic.{nat_list_eq_equiv};
-ghost use Rattle.der_core_parts.specs.Choices.{is_tag};
-ghost use Rattle.der_core_parts.specs.Grammar.{primitive};
-ghost use Rattle.der_core_parts.specs.Laws.{primitive-lawful};
-ghost use Rattle.der_core_parts.specs.Outcome.{Outcome};
-ghost use Rattle.der_core_parts.specs.Types.{valid};
+ghost use Rattle.der_grammar.specs.Choices.{is_tag};
+ghost use Rattle.der_grammar.specs.Grammar.{primitive};
+ghost use Rattle.der_grammar.specs.Laws.{primitive-lawful};
+ghost use Rattle.der_grammar.specs.Outcome.{Outcome};
+ghost use Rattle.der_grammar.specs.Types.{valid};
 ghost use Rattle.der_core.specs.declared.civil.Civil.{Civil as CivilTime};
 ghost use Rattle.der_core.specs.Times.{generalized_of, utc_of, reads, is_civil, nanos_of, nearest, IsWithinSecond};
-ghost use Rattle.der_core_parts.specs.declared.error.DerError.TheVariants.{Value as BadValue};
+ghost use Rattle.der_grammar.specs.declared.error.DerError.TheVariants.{Value as BadValue};
 ghost use Rattle.der_core.specs.TimeLaws.{utc-real, generalized-real};
 
 use crate::civil::{Civil, EPOCH, generalized_in, utc_in};
 use crate::digits::{Contents, generalized_out, utc_out};
 use crate::moment::{civil_of, moment_of};
-use der_core_parts::{Der, DerError, OctetString, Tag, tag};
+use der_grammar::{Der, DerError, OctetString, Tag, tag};
 use foundation::{Duplicate, NoMemory};
 use jiff::Timestamp;
 use std::alloc::Global;

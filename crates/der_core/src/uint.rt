@@ -4,7 +4,7 @@ ghost use Rattle.std.specs.Cmp.{partial_equiv_from_equiv};
 ghost use Rattle.std.specs.Cmp.Lexicographic.{nat_list_eq_equiv};
 ghost use Rattle.der_core.specs.Unsigned.{is_uint, without_zeros, with_sign, uint_of, uint_type};
 
-use der_core_parts::{Der, DerError, OctetString, Tag, tag};
+use der_grammar::{Der, DerError, OctetString, Tag, tag};
 use foundation::{Duplicate, NoMemory};
 use std::alloc::Global;
 use std::fmt;

@@ -5,11 +5,11 @@ use Rattle.std.specs.Str.{bytes_eq}
 use Rattle.std.proofs.Common.{sym, subst, cond, eqb, leb, ◌≤◌, ◌∙◌, ap, arith, true, false}
 use Rattle.std.proofs.lemmas.Bool.{eqb-true, le-leb}
 use Rattle.std.proofs.lemmas.Slice.Eq.{bytes_eq-Decides}
-use Rattle.der_core_parts.specs.declared.error.DerError.TheVariants.{Value}
-use Rattle.der_core_parts.specs.Outcome.{Outcome}
-use Rattle.der_core_parts.specs.TlvLaws.{ok_is, passed}
-use Rattle.der_core_parts.specs.Types.{AsnType, primitive_type, refined_type}
-use Rattle.der_core_parts.specs.Tags.{integer_tag}
+use Rattle.der_grammar.specs.declared.error.DerError.TheVariants.{Value}
+use Rattle.der_grammar.specs.Outcome.{Outcome}
+use Rattle.der_grammar.specs.TlvLaws.{ok_is, passed}
+use Rattle.der_grammar.specs.Types.{AsnType, primitive_type, refined_type}
+use Rattle.der_grammar.specs.Tags.{integer_tag}
 use Rattle.foundation.specs.Results.{and_true}
 use Rattle.der_core.specs.Unsigned.{without_zeros, with_sign}
 

@@ -2,7 +2,7 @@
 ghost use Rattle.std.specs.Prelude.{◌≡◌, ◌≢◌, ◌<◌, ◌≤◌, ℕ, [], IfOk, IfErr, Ok, Err, nat_eq, refl};
 ghost use Rattle.std.specs.Cmp.Rules.{comparing};
 ghost use Rattle.std.proofs.Common.{rules};
-ghost use Rattle.der_core_parts.specs.declared.error.DerError.TheVariants.{Value as BadValue};
+ghost use Rattle.der_grammar.specs.declared.error.DerError.TheVariants.{Value as BadValue};
 ghost use Rattle.der_numbers.specs.Numbers.{number_from, octets_before, contents_of, number_of, number_type};
 
 use der_core::{Der, DerError, OctetString, Tag, Uint, tag};

@@ -8,19 +8,19 @@ use Rattle.release_gate.specs.Gate.{Outside}
 use Rattle.release_gate.specs.Promises.{Promises}
 use Rattle.release_gate.specs.declared.gate.Gated.{Gated}
 use Rattle.release_gate.specs.declared.gate.GateFault.{GateFault}
-use Rattle.sigstore_app_parts.specs.declared.gather.Governed.{Governed}
-use Rattle.sigstore_app_parts.specs.declared.gather.Stop.{Stop}
-use Rattle.sigstore_app_parts.specs.declared.gather.Stop.TheVariants as stop
-use Rattle.sigstore_app_parts.specs.declared.tables.TableProvider.{TableProvider}
-use Rattle.sigstore_app_parts.specs.declared.usage_fault.UsageFault.{UsageFault}
-use Rattle.sigstore_questions_parts.specs.Believing.{believing}
-use Rattle.sigstore_run.specs.declared.answer.Status.{Status}
-use Rattle.sigstore_run.specs.declared.answer.Status.TheVariants.{Accepted, Usage, Input}
-use Rattle.sigstore_run.specs.declared.answer.Answer.{Answer}
-use Rattle.sigstore_run.specs.Run.{stop_answer, TakesAll, Command}
-use Rattle.gate_commands.specs.declared.layout.GateLayout.{GateLayout}
-use Rattle.gate_commands.specs.Layout.{asked_gate_layout_of}
-use Rattle.gate_commands.specs.Run.{Environment, given_with}
+use Rattle.command_files.specs.declared.gather.Governed.{Governed}
+use Rattle.command_files.specs.declared.gather.Stop.{Stop}
+use Rattle.command_files.specs.declared.gather.Stop.TheVariants as stop
+use Rattle.command_files.specs.declared.tables.TableProvider.{TableProvider}
+use Rattle.command_files.specs.declared.usage_fault.UsageFault.{UsageFault}
+use Rattle.question_notes.specs.Believing.{believing}
+use Rattle.command_verify.specs.declared.answer.Status.{Status}
+use Rattle.command_verify.specs.declared.answer.Status.TheVariants.{Accepted, Usage, Input}
+use Rattle.command_verify.specs.declared.answer.Answer.{Answer}
+use Rattle.command_verify.specs.Run.{stop_answer, TakesAll, Command}
+use Rattle.command_gate.specs.declared.layout.GateLayout.{GateLayout}
+use Rattle.command_gate.specs.Layout.{asked_gate_layout_of}
+use Rattle.command_gate.specs.Run.{Environment, given_with}
 use Rattle.gate_questions.specs.Means.{Proceeds, rows, stopped, Decides, misworded, worded, RunsTo, unwritten, cut, written, WritesRows}
 
 -- what is said of a stop doesn't end as questions do

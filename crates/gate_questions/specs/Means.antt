@@ -7,22 +7,22 @@ use Rattle.release_gate.specs.Gate.{Outside}
 use Rattle.release_gate.specs.Promises.{Promises}
 use Rattle.release_gate.specs.declared.gate.Gated.{Gated}
 use Rattle.release_gate.specs.declared.gate.GateFault.{GateFault}
-use Rattle.sigstore_app_parts.specs.Sink.{WritesText}
-use Rattle.sigstore_app_parts.specs.Gather.{governed_of, ReadsAs}
-use Rattle.sigstore_app_parts.specs.declared.gather.Governed.{Governed}
-use Rattle.sigstore_app_parts.specs.declared.gather.Stop.{Stop}
-use Rattle.sigstore_app_parts.specs.declared.gather.Stop.TheVariants.{Words}
-use Rattle.sigstore_app_parts.specs.declared.sink.SinkFault.{SinkFault}
-use Rattle.sigstore_app_parts.specs.declared.tables.Tables.{Tables}
-use Rattle.sigstore_questions_parts.specs.Believing.{believing}
-use Rattle.sigstore_questions.specs.Means.{IsQuestions}
-use Rattle.sigstore_run.specs.declared.answer.Status.{Status}
-use Rattle.sigstore_run.specs.declared.answer.Status.TheVariants.{Accepted, Output, Memory}
-use Rattle.sigstore_run.specs.declared.answer.Answer.{Answer}
-use Rattle.sigstore_run.specs.Run.{stop_answer, TakesAll, Command}
-use Rattle.gate_commands.specs.declared.layout.GateLayout.{GateLayout}
-use Rattle.gate_commands.specs.Layout.{asked_gate_layout_of}
-use Rattle.gate_commands.specs.Run.{Environment, given_with, moment_of}
+use Rattle.command_files.specs.Sink.{WritesText}
+use Rattle.command_files.specs.Gather.{governed_of, ReadsAs}
+use Rattle.command_files.specs.declared.gather.Governed.{Governed}
+use Rattle.command_files.specs.declared.gather.Stop.{Stop}
+use Rattle.command_files.specs.declared.gather.Stop.TheVariants.{Words}
+use Rattle.command_files.specs.declared.sink.SinkFault.{SinkFault}
+use Rattle.command_files.specs.declared.tables.Tables.{Tables}
+use Rattle.question_notes.specs.Believing.{believing}
+use Rattle.command_questions.specs.Means.{IsQuestions}
+use Rattle.command_verify.specs.declared.answer.Status.{Status}
+use Rattle.command_verify.specs.declared.answer.Status.TheVariants.{Accepted, Output, Memory}
+use Rattle.command_verify.specs.declared.answer.Answer.{Answer}
+use Rattle.command_verify.specs.Run.{stop_answer, TakesAll, Command}
+use Rattle.command_gate.specs.declared.layout.GateLayout.{GateLayout}
+use Rattle.command_gate.specs.Layout.{asked_gate_layout_of}
+use Rattle.command_gate.specs.Run.{Environment, given_with, moment_of}
 
 -- What was run is the judgement of the folder under these inputs at the moment, in which the signatures of the file `refused` aren't good
 -- and all others are. What it came to is told to nobody.

@@ -2,19 +2,19 @@
 ghost use Rattle.std.specs.Prelude.{◌≡◌, IfOk};
 ghost use Rattle.release_gate.specs.Gate.{Outside};
 ghost use Rattle.release_gate.specs.Promises.{Promises};
-ghost use Rattle.sigstore_questions_parts.specs.Believing.{believing};
-ghost use Rattle.sigstore_run.specs.declared.answer.Status.TheVariants.{Accepted};
-ghost use Rattle.gate_commands.specs.Run.{Environment, given_with};
+ghost use Rattle.question_notes.specs.Believing.{believing};
+ghost use Rattle.command_verify.specs.declared.answer.Status.TheVariants.{Accepted};
+ghost use Rattle.command_gate.specs.Run.{Environment, given_with};
 ghost use Rattle.gate_questions.specs.Means.{Asks, Proceeds, Decides, RunsTo, WritesRows};
 
+use command_files::{Anchored, Governed, Inputs, Sink, Stop, gather_governed, write_all};
+use command_gate::{asked_gate_layout, gate_folder};
+use command_questions::{ReadingStore, questions_text};
+use command_verify::{Answer, Status, stopped};
 use foundation::NoMemory;
-use gate_commands::{asked_gate_layout, gate_folder};
 use jiff::Timestamp;
+use question_notes::{Noted, Notes, NotingArmor, NotingProvider};
 use release_gate::{Folder, GateFault, Gated};
-use sigstore_app_parts::{Anchored, Governed, Inputs, Sink, Stop, gather_governed, write_all};
-use sigstore_questions::{ReadingStore, questions_text};
-use sigstore_questions_parts::{Noted, Notes, NotingArmor, NotingProvider};
-use sigstore_run::{Answer, Status, stopped};
 use sigstore_tuf::{MetadataStore, Repository};
 use sigstore_types_parts::Text;
 use std::alloc::Global;

@@ -2,17 +2,16 @@
 use crate::keyless::{Texts, named, texts};
 use crate::keyless_data::SIGNATURES;
 use crate::tables::{check, debug, good, string, there};
+use certificate_claims::parse_certificate_info;
+use command_files::{TableProvider, read_provider};
 use jiff::Timestamp;
 use path_core::Anchor;
-use sigstore_app_parts::{TableProvider, read_provider};
 use sigstore_certificate::{DigitallySigned, VerificationPolicy, judge_certificate};
-use sigstore_crypto::{
-    Keyring, SigningScheme, VerificationKey, parse_certificate_info, sha256, verify_signature,
-};
+use sigstore_keys::{Keyring, SigningScheme, VerificationKey, sha256, verify_signature};
 use sigstore_types::{DerCertificate, DerPublicKey, SignatureBytes};
 use std::process::Abort;
 use std::slice;
-use x509_core_parts::{CertView, sct_list};
+use x509_views::{CertView, sct_list};
 
 fn certificate<X: AllocGlobal + Abort>(rt: &X, texts: &Texts, name: &str) -> DerCertificate {
     good(

@@ -5,9 +5,9 @@
 // those between, its root and its window. `made` answers whether a verifier is made of it.
 use crate::data::{OCTETS, OF_SIGSTORE};
 use crate::tables::good;
+use command_files::read_provider;
 use foundation::Duplicate;
 use jiff::Timestamp;
-use sigstore_app_parts::read_provider;
 use sigstore_judgement::{Verifier, usable_exactly};
 use sigstore_types::{Authority, TimeRange, TrustedLog, TrustedRoot, TsaAuthority};
 use std::process::Abort;

@@ -4,16 +4,16 @@ use crate::tables::{
     text, text_of, word, words,
 };
 use crate::verification;
+use command_files::*;
 use foundation::NoMemory;
-use sigstore_app_parts::*;
-use sigstore_crypto::{CryptoProvider, SigningScheme, sha256};
+use sigstore_keys::{CryptoProvider, SigningScheme, sha256};
 use sigstore_types_parts::{Armor, Bytes};
 use std::alloc::Global;
 use std::fs;
 use std::process::Abort;
 use std::rt::Files;
 
-// The answer of a call of sigstore_app_parts; for any other name that of a call of sigstore_judgement.
+// The answer of a call of command_files; for any other name that of a call of sigstore_judgement.
 pub(crate) fn answer<X: AllocGlobal + Abort>(rt: &X, call: &str, given: &str) -> String {
     match call {
         "fault" => name(rt, given),

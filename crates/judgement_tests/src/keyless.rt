@@ -2,13 +2,14 @@
 use crate::keyless_data::{SIGNATURES, TEXTS};
 use crate::keyless_rows::*;
 use crate::tables::{bytes, check, good, halves, lines_of, number, source, string, there};
-use foundation::Duplicate;
-use jiff::Timestamp;
-use sigstore_app_parts::{
+use certificate_claims::CertificateInfo;
+use command_files::{
     IdentityLine, KeylessFile, PolicyFile, TableProvider, read_policy, read_provider,
 };
-use sigstore_crypto::{CertificateInfo, LogThreshold, sha256};
+use foundation::Duplicate;
+use jiff::Timestamp;
 use sigstore_judgement::*;
+use sigstore_keys::{LogThreshold, sha256};
 use sigstore_pem::PemArmor;
 use sigstore_types::{Artifact, ArtifactDigest, Bundle, DerPublicKey, HashAlgorithm, TrustedRoot};
 use std::collections::BTreeMap;

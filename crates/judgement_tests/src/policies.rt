@@ -1,7 +1,7 @@
 // Policies for certificates, and the names that they ask for.
 use crate::tables::{answered, check, debug, display, good, halves, number, text, there};
+use certificate_claims::SubjectAltName;
 use foundation::Duplicate;
-use sigstore_crypto::SubjectAltName;
 use sigstore_judgement::{IdentityMatcher, VerificationPolicy};
 use std::num::NonZeroU8;
 use std::process::Abort;

@@ -1,8 +1,8 @@
 // Verifications of bundles with time-stamp tokens.
 use crate::stamps::{GOOD_ROWS, STAMPS};
 use crate::tables::{check, debug, good, halves, string};
+use command_files::{Tables, read_provider};
 use jiff::Timestamp;
-use sigstore_app_parts::{Tables, read_provider};
 use sigstore_judgement::{Error, PublicKeyVerificationPolicy, VerificationResult, verify};
 use sigstore_types::{Artifact, Bundle, DerPublicKey, TrustedRoot};
 use std::process::Abort;

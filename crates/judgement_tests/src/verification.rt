@@ -1,16 +1,15 @@
 // The table of refusals, and verifications by a provider that accepts a signature equal to its subject.
 ghost use Rattle.std.specs.Prelude.{bytes_eq, Some, None, false};
-ghost use Rattle.sigstore_crypto_parts.specs.Good.{subject_of};
+ghost use Rattle.sigstore_keys.specs.Good.{subject_of};
 
 use crate::tables::{
     Change, change_in, debug, good, halves, hold, number, source, text, there, word,
 };
+use certificate_claims::SubjectAltName;
 use foundation::{Duplicate, NoMemory, Sequence};
 use jiff::Timestamp;
-use sigstore_crypto::{
-    CryptoProvider, ReadError, SigningScheme, SubjectAltName, sha256, sha384, sha512,
-};
 use sigstore_judgement::*;
+use sigstore_keys::{CryptoProvider, ReadError, SigningScheme, sha256, sha384, sha512};
 use sigstore_types::{
     Armor, Artifact, ArtifactDigest, Bundle, Bytes, DerPublicKey, DigestBytes, HashAlgorithm,
     MessageDigest, MessageSignature, SignatureBytes, SignatureContent, Text, TrustedRoot,

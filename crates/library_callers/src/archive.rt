@@ -1,6 +1,6 @@
 //! A caller of `trust_archive`.
 use jiff::Timestamp;
-use sigstore_crypto::CryptoProvider;
+use sigstore_keys::CryptoProvider;
 use sigstore_tuf::TrustChain;
 use sigstore_types_parts::{Armor, Bytes};
 use std::alloc::Global;

@@ -1,8 +1,9 @@
 //! A caller of `sigstore_certificate`.
+use certificate_claims::parse_certificate_info;
 use jiff::Timestamp;
 use path_core::Anchor;
 use sigstore_certificate::{IdentityMatcher, Refusal, VerificationPolicy, judge_certificate};
-use sigstore_crypto::{CryptoProvider, Error, Keyring, parse_certificate_info};
+use sigstore_keys::{CryptoProvider, Error, Keyring};
 use sigstore_types_parts::{DerCertificate, Text};
 use std::alloc::Global;
 

@@ -1,5 +1,5 @@
-//! A caller of `sigstore_crypto`.
-use sigstore_crypto::{
+//! A caller of `certificate_claims`.
+use sigstore_keys::{
     ArtifactSource, CryptoProvider, Error, ReadError, VerificationKey, sha256_reader,
 };
 use sigstore_types_parts::{DerPublicKey, SignatureBytes};

@@ -1,7 +1,7 @@
 //! A caller of `release_gate`.
 use jiff::Timestamp;
 use release_gate::{Folder, GateFault, Gated, Verdict, gate_from_root};
-use sigstore_crypto::CryptoProvider;
+use sigstore_keys::CryptoProvider;
 use sigstore_tuf::{MetadataStore, Repository, UpdaterConfig};
 use sigstore_types_parts::{Armor, DerPublicKey};
 use sigstore_verify::PublicKeyVerificationPolicy;

@@ -1,7 +1,7 @@
 //! A caller of `sigstore_judgement`.
 use jiff::Timestamp;
-use sigstore_crypto::CryptoProvider;
 use sigstore_judgement::{Error, Policy, VerificationResult, Verifier};
+use sigstore_keys::CryptoProvider;
 use sigstore_types::{Bundle, TrustedRoot};
 use sigstore_types_parts::{Armor, Artifact, TypesError};
 use std::alloc::Global;

@@ -1,7 +1,7 @@
 //! A caller of `sigstore_log`.
 use jiff::Timestamp;
-use sigstore_crypto::{CryptoProvider, Error, Keyring, LogIds, VerificationKey, sha256};
 use sigstore_entries::TransparencyLogEntry;
+use sigstore_keys::{CryptoProvider, Error, Keyring, LogIds, VerificationKey, sha256};
 use sigstore_log::{LogError, judge_entry};
 use sigstore_types_parts::DerPublicKey;
 use std::alloc::Global;

@@ -2,7 +2,7 @@
 use foundation::Sequence;
 use jiff::Timestamp;
 use path_core::{Anchor, PathError, Purpose, Steps, find_path};
-use sigstore_crypto::CryptoProvider;
+use sigstore_keys::CryptoProvider;
 use sigstore_types_parts::{Bytes, DerCertificate};
 use std::alloc::Global;
 

@@ -1,7 +1,7 @@
 //! A caller of `sigstore_rekor`.
 use foundation::NoMemory;
-use sigstore_crypto::sha256;
 use sigstore_entries::{KindVersion, TransparencyLogEntry};
+use sigstore_keys::sha256;
 use sigstore_rekor::{Error, Request, read_entry, search_by_hash};
 use std::alloc::Global;
 

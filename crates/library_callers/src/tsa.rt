@@ -1,7 +1,7 @@
 //! A caller of `sigstore_tsa`.
 use foundation::NoMemory;
 use jiff::Timestamp;
-use sigstore_crypto::CryptoProvider;
+use sigstore_keys::CryptoProvider;
 use sigstore_tsa::{TokenFault, token_time};
 use sigstore_types::{SignatureBytes, TimestampToken, TsaAuthority};
 use std::alloc::Global;

@@ -1,6 +1,6 @@
 //! A caller of `sigstore_tuf`.
 use jiff::Timestamp;
-use sigstore_crypto::CryptoProvider;
+use sigstore_keys::CryptoProvider;
 use sigstore_tuf::{Error, MetadataStore, Repository, Updater};
 use sigstore_types_parts::{Armor, Bytes};
 use std::alloc::Global;

@@ -1,6 +1,6 @@
 //! A caller of `sigstore_verify`.
 use jiff::Timestamp;
-use sigstore_crypto::{ArtifactSource, CryptoProvider};
+use sigstore_keys::{ArtifactSource, CryptoProvider};
 use sigstore_tuf::{MetadataStore, Repository, UpdaterConfig};
 use sigstore_types_parts::{Armor, DerPublicKey};
 use sigstore_verify::{PublicKeyVerificationPolicy, RootFault, Rooted, verify_from_root};

@@ -1,7 +1,7 @@
 -- What the steps of an audit promise.
 use Rattle.std.specs.Prelude.{◌≡◌, ℕ, List, Result, Ok, Err, IfOk, IfErr, ⊤}
 use Rattle.foundation.specs.Watched.{Watched, Since}
-use Rattle.sigstore_crypto_parts.specs.Good.{Judge}
+use Rattle.sigstore_keys.specs.Good.{Judge}
 use Rattle.sigstore_entries.specs.declared.checkpoint.Checkpoint.{Checkpoint}
 use Rattle.log_tiles.specs.Source.{Leaves}
 use Rattle.log_tiles.specs.Auditing.{pair_signed, AreJoined, GrowthCause}

@@ -1,6 +1,6 @@
 // The audit of a log: whether a newer checkpoint's tree grew from an older one's.
 ghost use Rattle.std.specs.Prelude.{◌≡◌, ◌≢◌, Ok, Err, IfOk, IfErr};
-ghost use Rattle.sigstore_crypto_parts.specs.Key.{spki_key_of};
+ghost use Rattle.sigstore_keys.specs.Key.{spki_key_of};
 ghost use Rattle.sigstore_entries.specs.declared.checkpoint.Checkpoint.{Checkpoint};
 ghost use Rattle.log_tiles.specs.Source.{Leaves};
 ghost use Rattle.log_tiles.specs.Proving.{IsProof, Serves, Gives};
@@ -12,8 +12,8 @@ use crate::error::{TileError, Which};
 use crate::judge::verify_consistency;
 use crate::proving::consistency;
 use crate::source::TileSource;
-use sigstore_crypto_parts::{CryptoProvider, Error, VerificationKey};
 use sigstore_entries::Checkpoint;
+use sigstore_keys::{CryptoProvider, Error, VerificationKey};
 use sigstore_log::CheckpointVerifyExt;
 use sigstore_types_parts::{DerPublicKey, Sha256Hash, TypesError};
 use std::alloc::Global;

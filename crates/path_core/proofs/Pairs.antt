@@ -1,9 +1,9 @@
 -- The scheme among pairs that are tried one after the other.
 use Rattle.std.proofs.Common.{◌≡◌, ℕ, ◌+◌, ◌<◌, ◌≤◌, true, false, cond, List, ◌∷◌, map, length, get_or, drop, Option, Some, None, sym, ◌∙◌, ap}
 use Rattle.std.proofs.lemmas.List.{drop_more, drop_all}
-use Rattle.sigstore_crypto_parts.specs.declared.pairs.SignatureAlgorithm.{SignatureAlgorithm}
-use Rattle.sigstore_crypto_parts.specs.declared.scheme.SigningScheme.{SigningScheme}
-use Rattle.sigstore_crypto_parts.specs.Pairs.{pair_of}
+use Rattle.sigstore_keys.specs.declared.pairs.SignatureAlgorithm.{SignatureAlgorithm}
+use Rattle.sigstore_keys.specs.declared.scheme.SigningScheme.{SigningScheme}
+use Rattle.sigstore_keys.specs.Pairs.{pair_of}
 use Rattle.path_core.specs.Links.{is_pair, scheme_among}
 
 abbrev pub scheme_from : List ℕ → List ℕ → ℕ → List SignatureAlgorithm → Option SigningScheme

@@ -1,10 +1,10 @@
 -- Certificates that are trusted beforehand (RFC 5280, 6.1.1 (d)).
 use Rattle.std.specs.Prelude.{ℕ, List, Bool, not, ◌&&◌, int_lt, pos, Option, Result, Ok, Err, ⊤, if◌then◌else◌}
 use Rattle.jiff_core.specs.declared.timestamp.Timestamp.{Timestamp}
-use Rattle.x509_core_parts.specs.Certificates.{Certificate as Parts, certificate_of}
+use Rattle.x509_views.specs.Certificates.{Certificate as Parts, certificate_of}
 use Rattle.spki_core.specs.Reading.{Reading}
 use Rattle.sigstore_types_parts.specs.declared.time_range.TimeRange.{TimeRange}
-use Rattle.sigstore_crypto_parts.specs.Keyring.{is_used_at}
+use Rattle.sigstore_keys.specs.Keyring.{is_used_at}
 use Rattle.path_core.specs.declared.error.PathError.{PathError}
 use Rattle.path_core.specs.declared.error.PathError.TheVariants.{Certificate, NameConstraints}
 use Rattle.path_core.specs.Traits.{constrains_names}

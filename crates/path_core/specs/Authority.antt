@@ -1,9 +1,9 @@
 -- Whether a certificate may issue others, by its basic constraints (RFC 5280, 4.2.1.9).
 use Rattle.std.specs.Prelude.{ℕ, List, Bool, true, false, nat_le, Option, Some, None, Ok, Err, if◌then◌else◌, refl}
-use Rattle.der_core_parts.specs.Outcome.{Outcome}
-use Rattle.der_core_parts.specs.Grammar.{read_all}
-use Rattle.der_core_parts.specs.Types.{AsnType, sequence_type, components_as, followed_by, optional_component}
-use Rattle.der_core_parts.specs.Booleans.{false_by_default}
+use Rattle.der_grammar.specs.Outcome.{Outcome}
+use Rattle.der_grammar.specs.Grammar.{read_all}
+use Rattle.der_grammar.specs.Types.{AsnType, sequence_type, components_as, followed_by, optional_component}
+use Rattle.der_grammar.specs.Booleans.{false_by_default}
 use Rattle.der_core.specs.Unsigned.{uint_type}
 use Rattle.der_numbers.specs.Numbers.{number_from}
 use Rattle.path_core.specs.declared.basic_constraints.BasicConstraints.{BasicConstraints}

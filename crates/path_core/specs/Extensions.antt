@@ -1,8 +1,8 @@
 -- Extensions that have to be known (RFC 5280, 4.2).
 use Rattle.std.specs.Prelude.{ℕ, List, [], ◌∷◌, Bool, false, not, ◌&&◌, ◌==◌}
 use Rattle.std.specs.List.{list_any}
-use Rattle.der_core_parts.specs.Types.{is_in}
-use Rattle.x509_core_parts.specs.Extensions.{OneExtension}
+use Rattle.der_grammar.specs.Types.{is_in}
+use Rattle.x509_views.specs.Extensions.{OneExtension}
 
 -- id-ce, 2.5.29, with a last arc, as its contents
 abbrev pub extension_oid : ℕ → List ℕ

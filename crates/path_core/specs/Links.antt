@@ -1,12 +1,12 @@
 -- When one certificate was issued by the next (RFC 5280, 6.1.3).
 use Rattle.std.specs.Prelude.{ℕ, List, [], ◌∷◌, Bool, false, ◌&&◌, ◌==◌, bytes_eq, Option, Some, None, Ok, Err, if◌then◌else◌}
-use Rattle.x509_core_parts.specs.Certificates.{Certificate, certificate_of}
+use Rattle.x509_views.specs.Certificates.{Certificate, certificate_of}
 use Rattle.spki_core.specs.Reading.{Reading}
 use Rattle.spki_core.specs.Spki.{Spki, spki_view_of}
-use Rattle.sigstore_crypto_parts.specs.declared.scheme.SigningScheme.{SigningScheme}
-use Rattle.sigstore_crypto_parts.specs.Good.{Judge, is_good}
-use Rattle.sigstore_crypto_parts.specs.Key.{key_with}
-use Rattle.sigstore_crypto_parts.specs.Pairs.{Pair, known_pairs}
+use Rattle.sigstore_keys.specs.declared.scheme.SigningScheme.{SigningScheme}
+use Rattle.sigstore_keys.specs.Good.{Judge, is_good}
+use Rattle.sigstore_keys.specs.Key.{key_with}
+use Rattle.sigstore_keys.specs.Pairs.{Pair, known_pairs}
 
 -- the issuer's name is the next one's subject, octet by octet (6.1.3 (a) (4); names that only a comparison by RFC 5280, 7.1,
 -- would find equal differ here, which refuses more)

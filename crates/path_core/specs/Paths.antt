@@ -3,7 +3,7 @@ use Rattle.std.specs.Prelude.{◌≡◌, ◌⊎◌, ℕ, ◌<◌, ◌≤◌, Lis
 use Rattle.std.specs.Prelude.{◌++◌, map, length, slice_get, Option, Some, None, Ok, IsTrue}
 use Rattle.std.specs.Option.{option_map}
 use Rattle.jiff_core.specs.declared.timestamp.Timestamp.{Timestamp}
-use Rattle.sigstore_crypto_parts.specs.Good.{Judge}
+use Rattle.sigstore_keys.specs.Good.{Judge}
 use Rattle.path_core.specs.declared.purpose.Purpose.{Purpose}
 use Rattle.path_core.specs.declared.route.Route.{Route}
 use Rattle.path_core.specs.declared.route.FoundPath.{FoundPath}

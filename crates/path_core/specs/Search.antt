@@ -3,7 +3,7 @@ use Rattle.std.specs.Prelude.{◌≡◌, ℕ, zero, suc, ◌+◌, ◌-◌, Bool,
 use Rattle.std.specs.Prelude.{List, [], ◌∷◌, ◌++◌, length, slice_get, slice_index_or, Option, Some, None}
 use Rattle.std.specs.List.{list_any}
 use Rattle.std.specs.Option.{option_map, option_or, option_map_or}
-use Rattle.sigstore_crypto_parts.specs.Good.{Judge}
+use Rattle.sigstore_keys.specs.Good.{Judge}
 use Rattle.path_core.specs.declared.given.Given.{Given}
 use Rattle.path_core.specs.declared.route.Route.{Route}
 use Rattle.path_core.specs.declared.way.Way.{Way}

@@ -1,10 +1,10 @@
 -- Certificates that were read once.
 use Rattle.std.specs.Prelude.{◌≡◌, ⊤, Option, Some, None, Ok, Err}
-use Rattle.x509_core_parts.specs.Certificates.{Certificate}
+use Rattle.x509_views.specs.Certificates.{Certificate}
 use Rattle.spki_core.specs.Reading.{Reading}
 use Rattle.spki_core.specs.Spki.{Spki, spki_view_of}
 use Rattle.spki_core.specs.Views.{spki_parts}
-use Rattle.x509_core_parts.specs.Views.{certificate_parts}
+use Rattle.x509_views.specs.Views.{certificate_parts}
 use Rattle.spki_core.specs.declared.spki.SpkiView.{SpkiView}
 use Rattle.path_core.specs.declared.seen.Facts.{Facts}
 use Rattle.path_core.specs.Traits.{traits_of}

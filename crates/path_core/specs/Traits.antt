@@ -2,12 +2,12 @@
 use Rattle.std.specs.Prelude.{ℕ, List, Bool, false, not, ◌&&◌, ◌==◌, ⊤, Some, Result, Ok, Err, is_some, if◌then◌else◌}
 use Rattle.foundation.specs.Steps.{◌>>=◌}
 use Rattle.jiff_core.specs.declared.timestamp.Timestamp.{Timestamp}
-use Rattle.x509_core_parts.specs.Certificates.{Certificate, certificate_of}
+use Rattle.x509_views.specs.Certificates.{Certificate, certificate_of}
 use Rattle.spki_core.specs.Reading.{Reading}
 use Rattle.sigstore_types_parts.specs.declared.time_range.TimeRange.{TimeRange}
 use Rattle.sigstore_types_parts.specs.TimeRange.{contains}
-use Rattle.sigstore_crypto.specs.Claims.{value_of}
-use Rattle.sigstore_crypto.specs.Info.{extensions_of, moment_of}
+use Rattle.certificate_claims.specs.Claims.{value_of}
+use Rattle.certificate_claims.specs.Info.{extensions_of, moment_of}
 use Rattle.path_core.specs.declared.authority.Authority.{Authority}
 use Rattle.path_core.specs.declared.error.LeafFault.{LeafFault}
 use Rattle.path_core.specs.declared.error.LeafFault.TheVariants as fault

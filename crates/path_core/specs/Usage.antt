@@ -1,9 +1,9 @@
 -- What a certificate may be used for, by its extended key usage (RFC 5280, 4.2.1.12).
 use Rattle.std.specs.Prelude.{ℕ, List, [], ◌∷◌, Bool, true, false, bytes_eq, Option, Some, None, Ok, Err}
 use Rattle.std.specs.List.{list_any}
-use Rattle.der_core_parts.specs.Outcome.{Outcome}
-use Rattle.der_core_parts.specs.Grammar.{read_all}
-use Rattle.der_core_parts.specs.Many.{sequence_of}
+use Rattle.der_grammar.specs.Outcome.{Outcome}
+use Rattle.der_grammar.specs.Grammar.{read_all}
+use Rattle.der_grammar.specs.Many.{sequence_of}
 use Rattle.der_core.specs.Oid.{oid_type}
 use Rattle.path_core.specs.declared.purpose.Purpose.{Purpose}
 use Rattle.path_core.specs.declared.purpose.Purpose.TheVariants.{CodeSigning, TimeStamping}

@@ -1,6 +1,6 @@
 // Certificates that are trusted beforehand.
 ghost use Rattle.std.specs.Prelude.{◌≡◌, ◌≢◌, IfOk, IfErr, Ok, Err};
-ghost use Rattle.x509_core_parts.specs.Views.{certificate_parts};
+ghost use Rattle.x509_views.specs.Views.{certificate_parts};
 ghost use Rattle.path_core.specs.declared.error.PathError.TheVariants.{NoMemory};
 ghost use Rattle.path_core.specs.Anchors.{unconstrained, may_anchor, is_since_1970};
 
@@ -11,7 +11,7 @@ use jiff::Timestamp;
 use sigstore_types_parts::{DerCertificate, TimeRange};
 use std::alloc::Global;
 use std::marker::Model;
-use x509_core_parts::{CertView, X509Error};
+use x509_views::{CertView, X509Error};
 
 /// A certificate that is trusted beforehand, with the window in which it is; contracts see both.
 #[derive(Drop)]

@@ -1,11 +1,11 @@
 // A certificate's extensions; no memory is taken.
 ghost use Rattle.std.specs.Prelude.{◌≡◌};
 ghost use Rattle.std.specs.List.{list_any};
-ghost use Rattle.der_core_parts.specs.Types.{is_in};
-ghost use Rattle.x509_core_parts.specs.Walk.{coming};
+ghost use Rattle.der_grammar.specs.Types.{is_in};
+ghost use Rattle.x509_views.specs.Walk.{coming};
 ghost use Rattle.path_core.specs.Extensions.{known_numbers, is_known, is_unknown, has_unknown_critical};
 
-use x509_core_parts::{Extensions, NamedExtension};
+use x509_views::{Extensions, NamedExtension};
 
 fn is_known_number(last: u8) -> bool
     ensures { result ≡ is_in last known_numbers }

@@ -23,7 +23,7 @@ use crate::steps::Steps;
 use crate::way::Way;
 use foundation::{NoMemory, Sequence};
 use jiff::Timestamp;
-use sigstore_crypto_parts::CryptoProvider;
+use sigstore_keys::CryptoProvider;
 use sigstore_types_parts::{Bytes, DerCertificate};
 use std::alloc::Global;
 

@@ -5,7 +5,7 @@ ghost use Rattle.path_core.specs.Search.{setting_of, source_at, target_at};
 use crate::purpose::Purpose;
 use crate::seen::{Seen, SeenAnchor};
 use jiff::Timestamp;
-use sigstore_crypto_parts::CryptoProvider;
+use sigstore_keys::CryptoProvider;
 
 /// What a search is given, by reference.
 #[derive(Drop)]

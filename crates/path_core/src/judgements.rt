@@ -9,7 +9,7 @@ use crate::given::{Given, source_of, target_of};
 use crate::link::is_linked;
 use crate::steps::Steps;
 use foundation::NoMemory;
-use sigstore_crypto_parts::CryptoProvider;
+use sigstore_keys::CryptoProvider;
 use std::alloc::Global;
 use std::collections::BTreeMap;
 

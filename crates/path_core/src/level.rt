@@ -10,7 +10,7 @@ use crate::judgements::{Judgements, is_link};
 use crate::route::Route;
 use crate::way::Way;
 use foundation::{Duplicate, NoMemory};
-use sigstore_crypto_parts::CryptoProvider;
+use sigstore_keys::CryptoProvider;
 use std::alloc::Global;
 
 /// The ways of a level in order, with a mark at each position that one of them ends at.

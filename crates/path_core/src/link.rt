@@ -2,17 +2,17 @@
 ghost use Rattle.std.specs.Prelude.{◌≡◌, option_copied};
 ghost use Rattle.spki_core.specs.Spki.{spki_view_of};
 ghost use Rattle.spki_core.specs.Views.{spki_parts};
-ghost use Rattle.x509_core_parts.specs.Views.{certificate_parts};
-ghost use Rattle.sigstore_crypto_parts.specs.Pairs.{pair_of};
+ghost use Rattle.x509_views.specs.Views.{certificate_parts};
+ghost use Rattle.sigstore_keys.specs.Pairs.{pair_of};
 ghost use Rattle.path_core.specs.Links.{is_pair, scheme_of, good_under, is_signed, is_issued, links};
 ghost use Rattle.path_core.specs.Seen.{IsKey};
 
 use crate::seen::Seen;
-use sigstore_crypto_parts::{
+use sigstore_keys::{
     CryptoProvider, SignatureAlgorithm, SigningScheme, validate_raw_public_key,
     webpki_verification_algs,
 };
-use x509_core_parts::{CertView, SpkiView};
+use x509_views::{CertView, SpkiView};
 
 fn is_pair(pair: &SignatureAlgorithm, key_id: &[u8], signature_id: &[u8]) -> bool
     ensures { result ≡ is_pair key_id.now signature_id.now (pair_of pair.now) }

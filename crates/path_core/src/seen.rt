@@ -1,9 +1,9 @@
 // Certificates that were read once.
 ghost use Rattle.std.specs.Prelude.{◌≡◌, IfOk, IfErr, Ok, Err, option_copied};
-ghost use Rattle.x509_core_parts.specs.Certificates.{certificate_of};
+ghost use Rattle.x509_views.specs.Certificates.{certificate_of};
 ghost use Rattle.spki_core.specs.Reading.{Reading};
 ghost use Rattle.spki_core.specs.Spki.{spki_view_of};
-ghost use Rattle.x509_core_parts.specs.Views.{certificate_parts};
+ghost use Rattle.x509_views.specs.Views.{certificate_parts};
 ghost use Rattle.path_core.specs.Anchors.{TrustAnchor, opens};
 ghost use Rattle.path_core.specs.Links.{spki_of};
 ghost use Rattle.path_core.specs.Seen.{IsKey, AreFacts, IsSeen};
@@ -18,7 +18,7 @@ use jiff::Timestamp;
 use sigstore_types_parts::{DerCertificate, TimeRange};
 use std::alloc::Global;
 use std::marker::Model;
-use x509_core_parts::{CertView, SpkiView, X509Error};
+use x509_views::{CertView, SpkiView, X509Error};
 
 /// What was read of a certificate.
 #[derive(Drop)]
@@ -37,7 +37,7 @@ pub(crate) struct Seen<'a> {
 
 impl<'a> Model for Seen<'a> {
     ghost use Rattle.std.specs.Prelude.{ℕ, List};
-    ghost use Rattle.x509_core_parts.specs.Certificates.{certificate_of};
+    ghost use Rattle.x509_views.specs.Certificates.{certificate_of};
     ghost use Rattle.path_core.specs.Seen.{IsSeen};
 
     ghost Value = { List ℕ };

@@ -20,7 +20,7 @@ pub(crate) enum Usage {
     },
 }
 
-#[tactic(auto, unfolding(der_core_parts::specs::Grammar::read, der_core_parts::specs::Grammar::read_all))]
+#[tactic(auto, unfolding(der_grammar::specs::Grammar::read, der_grammar::specs::Grammar::read_all))]
 fn purposes_in(alloc: Global, value: &[u8]) -> Result<Vec<ObjectIdentifier>, DerError>
     ensures ok { IfOk result (λ purposes. purposes_of value.now ≡ Ok purposes.items) }
     ensures err { IfErr result (λ e. e ≢ DerError.NoMemory → purposes_of value.now ≡ Err e) }

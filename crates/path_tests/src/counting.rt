@@ -1,6 +1,6 @@
 // A judge of signatures that counts how often it is asked.
-use sigstore_app_parts::TableProvider;
-use sigstore_crypto::{CryptoProvider, SigningScheme};
+use command_files::TableProvider;
+use sigstore_keys::{CryptoProvider, SigningScheme};
 use std::cell::Cell;
 
 /// It answers as a table does.

@@ -2,15 +2,15 @@
 use Rattle.std.proofs.Common.{◌≡◌, ℕ, List, Bool, true, false, if◌then◌else◌, refl, sym, subst, Option, Result}
 use Rattle.std.proofs.Math.Path.{fun_ext}
 use Rattle.jiff_core.specs.declared.timestamp.Timestamp as jiff
-use Rattle.sigstore_crypto_parts.specs.Good.{Judge}
-use Rattle.sigstore_app_parts.specs.Rows.{AcceptRows, accepts_of}
-use Rattle.sigstore_crypto_parts.specs.Crypto.{Crypto}
+use Rattle.sigstore_keys.specs.Good.{Judge}
+use Rattle.command_files.specs.Rows.{AcceptRows, accepts_of}
+use Rattle.sigstore_keys.specs.Crypto.{Crypto}
 use Rattle.sigstore_verify.specs.declared.from_root.Rooted.{Rooted}
 use Rattle.sigstore_verify.specs.declared.from_root.RootFault.{RootFault}
 use Rattle.sigstore_verify.specs.Given.{Outside}
 use Rattle.sigstore_verify.specs.Promises.{Promises}
-use Rattle.sigstore_run.specs.Run.{given_with}
-use Rattle.sigstore_run.specs.declared.meant.Request.{Request}
+use Rattle.command_verify.specs.Run.{given_with}
+use Rattle.command_verify.specs.declared.meant.Request.{Request}
 use Rattle.questions_tests.specs.Answered.{AreAnswers, by_answers}
 
 by_cases : (good refused judged : Bool) → (good ≡ true → judged ≡ true) → (refused ≡ true → judged ≡ false)

@@ -1,8 +1,8 @@
 -- What answers to questions say of whoever judges signatures.
 use Rattle.std.specs.Prelude.{◌≡◌, ℕ, List, true, false, if◌then◌else◌}
-use Rattle.sigstore_crypto_parts.specs.Good.{Judge}
-use Rattle.sigstore_crypto_parts.specs.declared.scheme.SigningScheme.{SigningScheme}
-use Rattle.sigstore_app_parts.specs.Rows.{AcceptRows, accepts_of}
+use Rattle.sigstore_keys.specs.Good.{Judge}
+use Rattle.sigstore_keys.specs.declared.scheme.SigningScheme.{SigningScheme}
+use Rattle.command_files.specs.Rows.{AcceptRows, accepts_of}
 
 -- each answer is the judge's own: a row that is good is good by it, and one that is refused isn't
 pub record AreAnswers (judge : Judge) (good refused : AcceptRows) : Type 0 where

@@ -1,17 +1,17 @@
 // What known answers decide: where a verification asks nothing but questions whose answers are known, it ends as it
 // ends under whoever judges signatures so.
 ghost use Rattle.std.specs.Prelude.{◌≡◌, List, ℕ, Bool};
-ghost use Rattle.sigstore_crypto_parts.specs.declared.scheme.SigningScheme.{SigningScheme};
-ghost use Rattle.sigstore_crypto_parts.specs.Crypto.{Crypto};
+ghost use Rattle.sigstore_keys.specs.declared.scheme.SigningScheme.{SigningScheme};
+ghost use Rattle.sigstore_keys.specs.Crypto.{Crypto};
 ghost use Rattle.sigstore_verify.specs.Given.{Outside};
 ghost use Rattle.sigstore_verify.specs.Promises.{Promises};
-ghost use Rattle.sigstore_run.specs.Run.{given_with};
+ghost use Rattle.command_verify.specs.Run.{given_with};
 ghost use Rattle.questions_tests.specs.Answered.{AreAnswers, by_answers};
 
+use command_files::TableProvider;
+use command_verify::{Request, verify_request};
 use jiff::Timestamp;
-use sigstore_app_parts::TableProvider;
-use sigstore_crypto::{ArtifactSource, CryptoProvider, SigningScheme, sha256, sha384, sha512};
-use sigstore_run::{Request, verify_request};
+use sigstore_keys::{ArtifactSource, CryptoProvider, SigningScheme, sha256, sha384, sha512};
 use sigstore_tuf::{MetadataStore, Repository};
 use sigstore_types_parts::{Armor, HashAlgorithm};
 use sigstore_verify::{RootFault, Rooted};

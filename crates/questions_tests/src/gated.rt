@@ -2,12 +2,12 @@
 use crate::runs::{NONE, inputs, repository, sink, taken, words};
 use crate::tables::{bytes, check, good, no_failures};
 use crate::world::{BUNDLE, RELEASE, ROWS};
+use command_files::Which;
+use command_questions::ReadingStore;
+use command_verify::Status;
 use gate_questions::run_gate_questions;
 use jiff::Timestamp;
 use release_gate::MemoryFolder;
-use sigstore_app_parts::Which;
-use sigstore_questions::ReadingStore;
-use sigstore_run::Status;
 use sigstore_tuf::MemoryStore;
 use std::process::Abort;
 

@@ -1,8 +1,8 @@
 // What is noted of calls, worked out by hand: `a` is YQ==, `b` Yg==, `c` Yw==; the digest is that of `hello`.
 use crate::tables::{check, good, halves, there};
-use sigstore_app_parts::read_provider;
-use sigstore_crypto::{CryptoProvider, SigningScheme, sha256};
-use sigstore_questions_parts::{Notes, NotingArmor, NotingProvider};
+use command_files::read_provider;
+use question_notes::{Notes, NotingArmor, NotingProvider};
+use sigstore_keys::{CryptoProvider, SigningScheme, sha256};
 use sigstore_types_parts::Armor;
 use std::process::Abort;
 

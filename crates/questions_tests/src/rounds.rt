@@ -8,11 +8,11 @@ use crate::choices::{
     TRUST_NAME,
 };
 use crate::tables::{bytes, check, good, halves, no_failures, string, there};
+use command_files::{Gathered, MemoryInputs, MemorySink, Which, gather_inputs, read_provider};
+use command_questions::{ReadingStore, run_questions};
+use command_verify::{Request, Status, run};
 use jiff::Timestamp;
-use sigstore_app_parts::{Gathered, MemoryInputs, MemorySink, Which, gather_inputs, read_provider};
-use sigstore_crypto::MemorySource;
-use sigstore_questions::{ReadingStore, run_questions};
-use sigstore_run::{Request, Status, run};
+use sigstore_keys::MemorySource;
 use sigstore_tuf::{MemoryRepository, MemoryStore};
 use sigstore_types_parts::{Bytes, Text};
 use std::marker::PhantomData;

@@ -4,11 +4,11 @@ use crate::world::{
     BUNDLE, POLICY, RELEASE, ROOT, ROWS, SECOND_ROOT, SNAPSHOT, TARGETS, TIMESTAMP, TRUST,
     TRUST_NAME,
 };
+use command_files::{MemoryInputs, MemorySink, Which};
+use command_questions::{LastAsked, ReadingStore, run_details, run_questions};
+use command_verify::{Status, run};
 use jiff::Timestamp;
-use sigstore_app_parts::{MemoryInputs, MemorySink, Which};
-use sigstore_crypto::MemorySource;
-use sigstore_questions::{LastAsked, ReadingStore, run_details, run_questions};
-use sigstore_run::{Status, run};
+use sigstore_keys::MemorySource;
 use sigstore_tuf::{MemoryRepository, MemoryStore, MetadataStore, StoreFault};
 use sigstore_types_parts::{Bytes, Text};
 use std::alloc::Global;

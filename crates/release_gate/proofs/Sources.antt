@@ -4,7 +4,7 @@ use Rattle.std.specs.Prelude.{IfSome, option_map}
 use Rattle.std.specs.Io.KnownBytes.{prepend_known, IsAtEnd}
 use Rattle.foundation.specs.Watched.{IfTold}
 use Rattle.foundation.specs.Results.{some_same}
-use Rattle.sigstore_crypto_parts.proofs.Parts.{prepend_more}
+use Rattle.sigstore_keys.proofs.Parts.{prepend_more}
 use Rattle.release_gate.specs.Folder.{Contents, IsPiece, left_of}
 
 -- the promise of a reading at an offset

@@ -6,9 +6,9 @@ use Rattle.std.proofs.lemmas.Bool.{le-ltb, lt-ltb}
 use Rattle.foundation.specs.Watched.{Watched, Rose, IfTold, Since}
 use Rattle.sigstore_types_parts.specs.declared.hash_algorithm.HashAlgorithm.{HashAlgorithm}
 use Rattle.sigstore_types.specs.declared.bundle.Bundle.{Bundle}
-use Rattle.sigstore_crypto_parts.specs.Digest.{is_hashed}
-use Rattle.sigstore_crypto_parts.specs.declared.reader.ReadError.{ReadError}
-use Rattle.sigstore_crypto_parts.specs.declared.reader.ReadError.TheVariants.{Failed, TooLong}
+use Rattle.sigstore_keys.specs.Digest.{is_hashed}
+use Rattle.sigstore_keys.specs.declared.reader.ReadError.{ReadError}
+use Rattle.sigstore_keys.specs.declared.reader.ReadError.TheVariants.{Failed, TooLong}
 use Rattle.sigstore_judgement.specs.declared.error.Error.{Error}
 use Rattle.sigstore_judgement.specs.declared.error.Error.TheVariants as verify
 use Rattle.sigstore_judgement.specs.declared.report.VerificationResult.{VerificationResult}

@@ -1,8 +1,8 @@
 -- What the code judges by, and what it says of an artifact that wasn't read to its end.
 use Rattle.std.specs.Prelude.{◌≡◌, Result, Ok, Err}
 use Rattle.sigstore_types_parts.specs.declared.armor.Armor as armor
-use Rattle.sigstore_crypto_parts.specs.declared.provider.CryptoProvider as provider
-use Rattle.sigstore_crypto_parts.specs.declared.reader.ReadError.TheVariants.{Failed, TooLong}
+use Rattle.sigstore_keys.specs.declared.provider.CryptoProvider as provider
+use Rattle.sigstore_keys.specs.declared.reader.ReadError.TheVariants.{Failed, TooLong}
 use Rattle.sigstore_judgement.specs.declared.error.Error.{Error}
 use Rattle.sigstore_judgement.specs.declared.error.Error.TheVariants.{ArtifactRead}
 use Rattle.sigstore_judgement.specs.declared.policy.Policy as policy

@@ -4,7 +4,7 @@ use Rattle.sigstore_types_parts.specs.declared.error.TypesError.{TypesError}
 use Rattle.sigstore_types.specs.declared.bundle.Bundle.{Bundle}
 use Rattle.sigstore_types.specs.Bundle.{bundle_of_bytes}
 use Rattle.sigstore_tuf_outside.specs.Repository.{Files}
-use Rattle.sigstore_crypto_parts.specs.declared.reader.ReadError.TheVariants.{TooLong}
+use Rattle.sigstore_keys.specs.declared.reader.ReadError.TheVariants.{TooLong}
 use Rattle.sigstore_judgement.specs.declared.error.Error.{Error}
 use Rattle.sigstore_judgement.specs.declared.error.Error.TheVariants.{InvalidBundle, ArtifactRead}
 use Rattle.sigstore_judgement.specs.declared.report.VerificationResult.{VerificationResult}

@@ -1,7 +1,7 @@
 // The gate: from a pinned root down to each artifact of a folder.
 ghost use Rattle.std.specs.Prelude.{◌≡◌, ◌≢◌, Ok, Err, IfOk, IfErr};
 ghost use Rattle.sigstore_types_parts.specs.Entries.{text_cmp};
-ghost use Rattle.sigstore_crypto_parts.specs.Crypto.{crypto_by};
+ghost use Rattle.sigstore_keys.specs.Crypto.{crypto_by};
 ghost use Rattle.sigstore_judgement.specs.Grounds.{terms_by};
 ghost use Rattle.sigstore_verify.specs.Given.{Anchor};
 ghost use Rattle.sigstore_judgement.specs.Under.{trust_of};
@@ -14,8 +14,8 @@ use crate::line::GateLine;
 use crate::walk::{Stop, judge_folder};
 use foundation::Sequence;
 use jiff::Timestamp;
-use sigstore_crypto_parts::CryptoProvider;
 use sigstore_judgement::{Error, Policy, Verifier};
+use sigstore_keys::CryptoProvider;
 use sigstore_tuf::{MetadataStore, Repository, TrustChain, UpdaterConfig};
 use sigstore_types::TrustedRoot;
 use sigstore_types_parts::{Armor, Text, TypesError};

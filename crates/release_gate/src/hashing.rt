@@ -1,12 +1,12 @@
 // A file of a folder, read to its end in pieces and never held.
 ghost use Rattle.std.specs.Prelude.{ℕ};
 ghost use Rattle.foundation.specs.Watched.{Since};
-ghost use Rattle.sigstore_crypto_parts.specs.Hasher.{Fed};
-ghost use Rattle.sigstore_crypto_parts.specs.Reader.{ReadsInto};
+ghost use Rattle.sigstore_keys.specs.Hasher.{Fed};
+ghost use Rattle.sigstore_keys.specs.Reader.{ReadsInto};
 ghost use Rattle.release_gate.specs.Folder.{source_of};
 
 use crate::folder::Folder;
-use sigstore_crypto_parts::{HashUpdate, ReadError};
+use sigstore_keys::{HashUpdate, ReadError};
 
 const PIECE: usize = 65536;
 

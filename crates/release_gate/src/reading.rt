@@ -2,7 +2,7 @@
 ghost use Rattle.std.specs.Prelude.{◌≡◌, ℕ, true};
 ghost use Rattle.std.specs.List.{list_all};
 ghost use Rattle.foundation.specs.Watched.{Since};
-ghost use Rattle.sigstore_crypto_parts.specs.Digest.{is_hashed};
+ghost use Rattle.sigstore_keys.specs.Digest.{is_hashed};
 ghost use Rattle.sigstore_judgement.specs.Taking.{Takes};
 ghost use Rattle.release_gate.specs.Folder.{source_of};
 

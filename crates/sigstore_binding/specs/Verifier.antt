@@ -1,7 +1,7 @@
 -- Who signed, as an entry logs it (its verifier), and what verifiers hold.
 use Rattle.std.specs.Prelude.{ℕ, List, Option, Some, None, Result, Ok, Err}
 use Rattle.spki_core.specs.declared.error.X509Error.{X509Error}
-use Rattle.x509_core_parts.specs.Certificates.{Certificate as Parts, certificate_of}
+use Rattle.x509_views.specs.Certificates.{Certificate as Parts, certificate_of}
 use Rattle.sigstore_types_parts.specs.declared.armor.Armor as armor
 use Rattle.sigstore_types_parts.specs.declared.time_range.TimeRange.{TimeRange}
 use Rattle.sigstore_rekor_parts.specs.declared.error.Error.{Error as RekorError}

@@ -4,8 +4,8 @@ ghost use Rattle.sha2.specs.Sha256.{sha256};
 ghost use Rattle.sigstore_envelopes.specs.Encoding.{encoding_of};
 
 use foundation::NoMemory;
-use sigstore_crypto_parts::sha256;
 use sigstore_envelopes::DsseEnvelope;
+use sigstore_keys::sha256;
 use sigstore_types_parts::{Bytes, Sha256Hash};
 use std::alloc::Global;
 use std::marker::Model;

@@ -4,7 +4,7 @@ ghost use Rattle.sigstore_binding.specs.Checks.{is_own, holds_or, check_of};
 ghost use Rattle.sigstore_binding.specs.declared.error.BindingError.TheVariants.{EntryMismatch};
 ghost use Rattle.std.specs.Prelude.{Some};
 ghost use Rattle.sigstore_binding.specs.Verifier.{readings_by, signatory_as, armored_key_of, armored_certificate_of, key_of_certificate, certified_key_of, certificate_check, key_check, armored_check, raw_check, certified_check, enveloped_check};
-ghost use Rattle.x509_core_parts.specs.Certificates.{certificate_of};
+ghost use Rattle.x509_views.specs.Certificates.{certificate_of};
 
 use crate::check::same;
 use crate::error::BindingError;
@@ -12,7 +12,7 @@ use crate::signed::SignedBy;
 use sigstore_rekor_parts::{HashedRekordV002Verifier, PublicKeyContent};
 use sigstore_types_parts::{Armor, Bytes, DerCertificate, DerPublicKey, PemContent};
 use std::alloc::Global;
-use x509_core_parts::{CertView, X509Error};
+use x509_views::{CertView, X509Error};
 
 // The key of an armoured text.
 fn armored_key<M: Armor>(alloc: Global, armor: &M, text: &PemContent) -> Result<Bytes, BindingError>

@@ -8,15 +8,15 @@ use Rattle.foundation.specs.Steps.{◌>>=◌}
 use Rattle.foundation.specs.Results.{err_same, refused_at, no_both}
 use Rattle.jiff_core.specs.declared.timestamp.Timestamp.{Timestamp}
 use Rattle.spki_core.specs.Reading.{Reading}
-use Rattle.x509_core_parts.specs.Certificates.{Certificate, certificate_of}
-use Rattle.x509_core_parts.specs.Precertificates.{sct_oid, precert_of}
-use Rattle.x509_core_parts.specs.Scts.{Parts as OneSct, sct_list_of}
+use Rattle.x509_views.specs.Certificates.{Certificate, certificate_of}
+use Rattle.x509_views.specs.Precertificates.{sct_oid, precert_of}
+use Rattle.x509_views.specs.Scts.{Parts as OneSct, sct_list_of}
 use Rattle.sigstore_types_parts.specs.TimeRange.{is_by}
-use Rattle.sigstore_crypto_parts.specs.declared.log_ids.LogThreshold.{LogThreshold}
-use Rattle.sigstore_crypto_parts.specs.LogIds.{is_enough}
-use Rattle.sigstore_crypto.specs.declared.certificate_info.CertificateInfo.{CertificateInfo}
-use Rattle.sigstore_crypto.specs.Claims.{value_of}
-use Rattle.sigstore_crypto.specs.Info.{extensions_of}
+use Rattle.sigstore_keys.specs.declared.log_ids.LogThreshold.{LogThreshold}
+use Rattle.sigstore_keys.specs.LogIds.{is_enough}
+use Rattle.certificate_claims.specs.declared.certificate_info.CertificateInfo.{CertificateInfo}
+use Rattle.certificate_claims.specs.Claims.{value_of}
+use Rattle.certificate_claims.specs.Info.{extensions_of}
 use Rattle.path_core.specs.declared.error.LeafFault.TheVariants as leaf
 use Rattle.path_core.specs.declared.error.PathError.{PathError}
 use Rattle.path_core.specs.declared.error.PathError.TheVariants as path

@@ -4,8 +4,8 @@ use Rattle.std.specs.Prelude.{⊤}
 use Rattle.std.proofs.lemmas.Slice.Eq.{bytes_eq-Decides}
 use Rattle.foundation.specs.Steps.{◌>>=◌}
 use Rattle.foundation.specs.Results.{step_ok}
-use Rattle.sigstore_crypto.specs.declared.certificate_info.CertificateInfo.{CertificateInfo}
-use Rattle.sigstore_crypto.specs.declared.certificate_info.SubjectAltName.{SubjectAltName}
+use Rattle.certificate_claims.specs.declared.certificate_info.CertificateInfo.{CertificateInfo}
+use Rattle.certificate_claims.specs.declared.certificate_info.SubjectAltName.{SubjectAltName}
 use Rattle.sigstore_certificate.specs.declared.policy.IdentityMatcher.{IdentityMatcher}
 use Rattle.sigstore_certificate.specs.declared.policy.VerificationPolicy.{VerificationPolicy}
 use Rattle.sigstore_certificate.specs.declared.error.Refusal.{Refusal}

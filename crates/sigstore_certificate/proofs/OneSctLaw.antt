@@ -6,14 +6,14 @@ use Rattle.foundation.specs.Steps.{◌>>=◌}
 use Rattle.sha2.specs.Sha256.{sha256}
 use Rattle.spki_core.specs.Reading.{Reading}
 use Rattle.spki_core.specs.declared.error.X509Error.TheVariants.{SctList}
-use Rattle.x509_core_parts.specs.Certificates.{Certificate}
-use Rattle.x509_core_parts.specs.Precertificates.{precert_of}
-use Rattle.x509_core_parts.specs.Scts.{Parts as Sct, signed_of, signed_bytes}
-use Rattle.sigstore_crypto_parts.specs.declared.log_ids.LogThreshold.{LogThreshold}
-use Rattle.sigstore_crypto_parts.specs.declared.scheme.SigningScheme.{SigningScheme}
-use Rattle.sigstore_crypto_parts.specs.Good.{Judge}
-use Rattle.sigstore_crypto_parts.specs.Keyring.{Ring, has_key_of}
-use Rattle.sigstore_crypto_parts.specs.LogIds.{count_distinct}
+use Rattle.x509_views.specs.Certificates.{Certificate}
+use Rattle.x509_views.specs.Precertificates.{precert_of}
+use Rattle.x509_views.specs.Scts.{Parts as Sct, signed_of, signed_bytes}
+use Rattle.sigstore_keys.specs.declared.log_ids.LogThreshold.{LogThreshold}
+use Rattle.sigstore_keys.specs.declared.scheme.SigningScheme.{SigningScheme}
+use Rattle.sigstore_keys.specs.Good.{Judge}
+use Rattle.sigstore_keys.specs.Keyring.{Ring, has_key_of}
+use Rattle.sigstore_keys.specs.LogIds.{count_distinct}
 use Rattle.sigstore_certificate.specs.declared.error.Refusal.{Refusal}
 use Rattle.sigstore_certificate.specs.declared.error.Refusal.TheVariants.{InvalidTrustRoot}
 use Rattle.sigstore_certificate.specs.declared.error.SctRule.TheVariants as rule

@@ -7,17 +7,17 @@ use Rattle.sha2.specs.Sha256.{sha256}
 use Rattle.foundation.specs.Steps.{◌>>=◌}
 use Rattle.foundation.specs.Results.{step_ok, ok_same}
 use Rattle.spki_core.specs.Reading.{Reading}
-use Rattle.x509_core_parts.specs.Certificates.{Certificate, certificate_of}
-use Rattle.x509_core_parts.specs.Precertificates.{precert_of}
-use Rattle.x509_core_parts.specs.Scts.{Parts as Sct, signed_of}
-use Rattle.sigstore_crypto_parts.specs.declared.key.VerificationKey.{VerificationKey}
-use Rattle.sigstore_crypto_parts.specs.declared.log_ids.LogThreshold.{LogThreshold}
-use Rattle.sigstore_crypto_parts.specs.declared.scheme.SigningScheme.{SigningScheme}
-use Rattle.sigstore_crypto_parts.specs.Good.{Judge, is_good}
-use Rattle.sigstore_crypto_parts.specs.Key.{key_with, same_sort}
-use Rattle.sigstore_crypto_parts.specs.Keyring.{has_key_of}
-use Rattle.sigstore_crypto_parts.specs.LogIds.{is_enough}
-use Rattle.sigstore_crypto_parts.specs.Scheme.{key_algorithm_of}
+use Rattle.x509_views.specs.Certificates.{Certificate, certificate_of}
+use Rattle.x509_views.specs.Precertificates.{precert_of}
+use Rattle.x509_views.specs.Scts.{Parts as Sct, signed_of}
+use Rattle.sigstore_keys.specs.declared.key.VerificationKey.{VerificationKey}
+use Rattle.sigstore_keys.specs.declared.log_ids.LogThreshold.{LogThreshold}
+use Rattle.sigstore_keys.specs.declared.scheme.SigningScheme.{SigningScheme}
+use Rattle.sigstore_keys.specs.Good.{Judge, is_good}
+use Rattle.sigstore_keys.specs.Key.{key_with, same_sort}
+use Rattle.sigstore_keys.specs.Keyring.{has_key_of}
+use Rattle.sigstore_keys.specs.LogIds.{is_enough}
+use Rattle.sigstore_keys.specs.Scheme.{key_algorithm_of}
 use Rattle.sigstore_certificate.specs.declared.error.Refusal.{Refusal}
 use Rattle.sigstore_certificate.specs.declared.error.Refusal.TheVariants.{InvalidTrustRoot}
 use Rattle.sigstore_certificate.specs.declared.error.SctRule.TheVariants as rule

@@ -4,10 +4,10 @@ use Rattle.std.proofs.lemmas.Bool.{ltb-false}
 use Rattle.foundation.specs.Steps.{◌>>=◌}
 use Rattle.foundation.specs.Results.{err_same}
 use Rattle.spki_core.specs.declared.error.X509Error.TheVariants.{SctList}
-use Rattle.der_core_parts.specs.Tlv.{IsBytes}
-use Rattle.x509_core_parts.specs.Certificates.{Certificate, certificate_of}
-use Rattle.x509_core_parts.specs.Precertificates.{precert_of}
-use Rattle.x509_core_parts.specs.Scts.{Parts as OneSct, signed_of, signed_bytes}
+use Rattle.der_grammar.specs.Tlv.{IsBytes}
+use Rattle.x509_views.specs.Certificates.{Certificate, certificate_of}
+use Rattle.x509_views.specs.Precertificates.{precert_of}
+use Rattle.x509_views.specs.Scts.{Parts as OneSct, signed_of, signed_bytes}
 use Rattle.sigstore_certificate.specs.declared.error.Refusal.{Refusal}
 use Rattle.sigstore_certificate.specs.declared.error.Refusal.TheVariants.{Sct}
 use Rattle.sigstore_certificate.specs.declared.error.SctRule.TheVariants.{Precertificate}

@@ -3,17 +3,17 @@ use Rattle.std.specs.Prelude.{◌≡◌, ◌≤◌, ◌<◌, ℕ, List, Contains
 use Rattle.sha2.specs.Sha256.{sha256}
 use Rattle.jiff_core.specs.declared.timestamp.Timestamp.{Timestamp}
 use Rattle.spki_core.specs.declared.error.X509Error.{X509Error}
-use Rattle.x509_core_parts.specs.Certificates.{Certificate, certificate_of}
-use Rattle.x509_core_parts.specs.Precertificates.{sct_oid, precert_of}
-use Rattle.x509_core_parts.specs.Scts.{Parts as OneSct, sct_list_of}
-use Rattle.der_core_parts.specs.Tlv.{IsBytes}
+use Rattle.x509_views.specs.Certificates.{Certificate, certificate_of}
+use Rattle.x509_views.specs.Precertificates.{sct_oid, precert_of}
+use Rattle.x509_views.specs.Scts.{Parts as OneSct, sct_list_of}
+use Rattle.der_grammar.specs.Tlv.{IsBytes}
 use Rattle.sigstore_types_parts.specs.TimeRange.{is_by}
-use Rattle.sigstore_crypto_parts.specs.declared.log_ids.LogThreshold.{LogThreshold}
-use Rattle.sigstore_crypto_parts.specs.declared.scheme.SigningScheme.{SigningScheme}
-use Rattle.sigstore_crypto.specs.declared.certificate_info.CertificateInfo.{CertificateInfo}
-use Rattle.sigstore_crypto.specs.declared.certificate_info.SubjectAltName.{SubjectAltName}
-use Rattle.sigstore_crypto.specs.Claims.{value_of}
-use Rattle.sigstore_crypto.specs.Info.{extensions_of}
+use Rattle.sigstore_keys.specs.declared.log_ids.LogThreshold.{LogThreshold}
+use Rattle.sigstore_keys.specs.declared.scheme.SigningScheme.{SigningScheme}
+use Rattle.certificate_claims.specs.declared.certificate_info.CertificateInfo.{CertificateInfo}
+use Rattle.certificate_claims.specs.declared.certificate_info.SubjectAltName.{SubjectAltName}
+use Rattle.certificate_claims.specs.Claims.{value_of}
+use Rattle.certificate_claims.specs.Info.{extensions_of}
 use Rattle.path_core.specs.declared.error.LeafFault.{LeafFault}
 use Rattle.path_core.specs.declared.error.PathError.TheVariants.{Leaf}
 use Rattle.path_core.specs.declared.purpose.Purpose.TheVariants.{CodeSigning}

@@ -1,7 +1,7 @@
 -- What the calls of this crate hand on, as what is trusted.
 use Rattle.std.specs.Prelude.{ℕ, List, Result}
 use Rattle.jiff_core.specs.declared.timestamp.Timestamp.{Timestamp}
-use Rattle.sigstore_crypto_parts.specs.Good.{Judge}
+use Rattle.sigstore_keys.specs.Good.{Judge}
 use Rattle.sigstore_certificate.specs.declared.error.Refusal.{Refusal}
 use Rattle.sigstore_certificate.specs.declared.given.Given.{Given}
 use Rattle.sigstore_certificate.specs.Certified.{Trust, issued_at}

@@ -2,20 +2,20 @@
 use Rattle.std.specs.Prelude.{◌≡◌, ◌↔◌, ◌≤◌, ◌<◌, ℕ, List, [], ◌∷◌, length, Contains, Bool, true, false, ⊤, Option, Some, None, Ok, IsTrue}
 use Rattle.sha2.specs.Sha256.{sha256}
 use Rattle.jiff_core.specs.declared.timestamp.Timestamp.{Timestamp}
-use Rattle.x509_core_parts.specs.Certificates.{Certificate, certificate_of}
-use Rattle.x509_core_parts.specs.Precertificates.{precert_of}
-use Rattle.x509_core_parts.specs.Scts.{Parts as Sct, signed_of}
+use Rattle.x509_views.specs.Certificates.{Certificate, certificate_of}
+use Rattle.x509_views.specs.Precertificates.{precert_of}
+use Rattle.x509_views.specs.Scts.{Parts as Sct, signed_of}
 use Rattle.sigstore_types_parts.specs.Instant.{at_millisecond}
 use Rattle.sigstore_types_parts.specs.TimeRange.{is_by}
-use Rattle.sigstore_crypto_parts.specs.declared.key.VerificationKey.{VerificationKey}
-use Rattle.sigstore_crypto_parts.specs.declared.log_ids.LogThreshold.{LogThreshold}
-use Rattle.sigstore_crypto_parts.specs.declared.scheme.SigningScheme.{SigningScheme}
-use Rattle.sigstore_crypto_parts.specs.Good.{is_good}
-use Rattle.sigstore_crypto_parts.specs.Key.{key_with, same_sort}
-use Rattle.sigstore_crypto_parts.specs.Keyring.{is_used_at, key_at, has_key_of}
-use Rattle.sigstore_crypto_parts.specs.Scheme.{key_algorithm_of}
-use Rattle.sigstore_crypto.specs.declared.certificate_info.CertificateInfo.{CertificateInfo}
-use Rattle.sigstore_crypto.specs.declared.certificate_info.SubjectAltName.{SubjectAltName}
+use Rattle.sigstore_keys.specs.declared.key.VerificationKey.{VerificationKey}
+use Rattle.sigstore_keys.specs.declared.log_ids.LogThreshold.{LogThreshold}
+use Rattle.sigstore_keys.specs.declared.scheme.SigningScheme.{SigningScheme}
+use Rattle.sigstore_keys.specs.Good.{is_good}
+use Rattle.sigstore_keys.specs.Key.{key_with, same_sort}
+use Rattle.sigstore_keys.specs.Keyring.{is_used_at, key_at, has_key_of}
+use Rattle.sigstore_keys.specs.Scheme.{key_algorithm_of}
+use Rattle.certificate_claims.specs.declared.certificate_info.CertificateInfo.{CertificateInfo}
+use Rattle.certificate_claims.specs.declared.certificate_info.SubjectAltName.{SubjectAltName}
 use Rattle.path_core.specs.declared.purpose.Purpose.TheVariants.{CodeSigning}
 use Rattle.path_core.specs.declared.route.FoundPath.{FoundPath}
 use Rattle.path_core.specs.Anchors.{TrustAnchor}

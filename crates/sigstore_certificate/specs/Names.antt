@@ -1,9 +1,9 @@
 -- Whether a certificate names the identity and the issuer that are asked for.
 use Rattle.std.specs.Prelude.{ℕ, List, Bool, false, bytes_eq, if◌then◌else◌, Option, Some, None, Result, Ok, Err, ⊤}
 use Rattle.foundation.specs.Steps.{◌>>=◌}
-use Rattle.sigstore_crypto.specs.declared.certificate_info.CertificateInfo.{CertificateInfo}
-use Rattle.sigstore_crypto.specs.declared.certificate_info.SubjectAltName.{SubjectAltName}
-use Rattle.sigstore_crypto.specs.declared.certificate_info.SubjectAltName.TheVariants as name
+use Rattle.certificate_claims.specs.declared.certificate_info.CertificateInfo.{CertificateInfo}
+use Rattle.certificate_claims.specs.declared.certificate_info.SubjectAltName.{SubjectAltName}
+use Rattle.certificate_claims.specs.declared.certificate_info.SubjectAltName.TheVariants as name
 use Rattle.sigstore_certificate.specs.declared.policy.IdentityMatcher.{IdentityMatcher}
 use Rattle.sigstore_certificate.specs.declared.policy.IdentityMatcher.TheVariants as asked
 use Rattle.sigstore_certificate.specs.declared.policy.VerificationPolicy.{VerificationPolicy}

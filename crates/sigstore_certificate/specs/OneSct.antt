@@ -2,12 +2,12 @@
 use Rattle.std.specs.Prelude.{◌≡◌, ℕ, List, [], ◌∷◌, if◌then◌else◌, Option, Some, None, Result, Ok, Err, ⊤}
 use Rattle.foundation.specs.Steps.{◌>>=◌}
 use Rattle.sha2.specs.Sha256.{sha256}
-use Rattle.x509_core_parts.specs.Certificates.{Certificate}
-use Rattle.x509_core_parts.specs.Scts.{Parts as Sct}
-use Rattle.sigstore_crypto_parts.specs.declared.log_ids.LogThreshold.{LogThreshold}
-use Rattle.sigstore_crypto_parts.specs.declared.scheme.SigningScheme.{SigningScheme}
-use Rattle.sigstore_crypto_parts.specs.Good.{Judge}
-use Rattle.sigstore_crypto_parts.specs.Keyring.{Ring, has_key_of}
+use Rattle.x509_views.specs.Certificates.{Certificate}
+use Rattle.x509_views.specs.Scts.{Parts as Sct}
+use Rattle.sigstore_keys.specs.declared.log_ids.LogThreshold.{LogThreshold}
+use Rattle.sigstore_keys.specs.declared.scheme.SigningScheme.{SigningScheme}
+use Rattle.sigstore_keys.specs.Good.{Judge}
+use Rattle.sigstore_keys.specs.Keyring.{Ring, has_key_of}
 use Rattle.sigstore_certificate.specs.declared.error.Refusal.{Refusal}
 use Rattle.sigstore_certificate.specs.declared.error.Refusal.TheVariants as refusal
 use Rattle.sigstore_certificate.specs.declared.error.SctRule.TheVariants as rule

@@ -1,7 +1,7 @@
 -- What a policy asks of a certificate.
 use Rattle.std.specs.Prelude.{ℕ, List, ◌++◌, Bool, true, false, codes}
-use Rattle.sigstore_crypto.specs.declared.certificate_info.SubjectAltName.{SubjectAltName}
-use Rattle.sigstore_crypto.specs.declared.certificate_info.SubjectAltName.TheVariants as name
+use Rattle.certificate_claims.specs.declared.certificate_info.SubjectAltName.{SubjectAltName}
+use Rattle.certificate_claims.specs.declared.certificate_info.SubjectAltName.TheVariants as name
 use Rattle.sigstore_certificate.specs.declared.policy.CertificatePolicy.{CertificatePolicy}
 use Rattle.sigstore_certificate.specs.declared.policy.CertificatePolicy.TheVariants.{Skip, Verify}
 use Rattle.sigstore_certificate.specs.declared.policy.IdentityMatcher.{IdentityMatcher}

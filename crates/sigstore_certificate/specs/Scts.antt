@@ -5,22 +5,22 @@ use Rattle.std.specs.List.{list_any}
 use Rattle.foundation.specs.Steps.{◌>>=◌}
 use Rattle.sha2.specs.Sha256.{sha256}
 use Rattle.spki_core.specs.Reading.{Reading}
-use Rattle.x509_core_parts.specs.Certificates.{Certificate}
-use Rattle.x509_core_parts.specs.Precertificates.{sct_oid, precert_of}
-use Rattle.x509_core_parts.specs.Scts.{Parts as Sct, sct_list_of, signed_of}
+use Rattle.x509_views.specs.Certificates.{Certificate}
+use Rattle.x509_views.specs.Precertificates.{sct_oid, precert_of}
+use Rattle.x509_views.specs.Scts.{Parts as Sct, sct_list_of, signed_of}
 use Rattle.sigstore_types_parts.specs.Instant.{at_millisecond}
-use Rattle.sigstore_crypto_parts.specs.declared.key.VerificationKey.{VerificationKey}
-use Rattle.sigstore_crypto_parts.specs.declared.log_ids.LogThreshold.{LogThreshold}
-use Rattle.sigstore_crypto_parts.specs.declared.scheme.SigningScheme.{SigningScheme}
-use Rattle.sigstore_crypto_parts.specs.declared.scheme.SigningScheme.TheVariants.{EcdsaP256Sha256, EcdsaP384Sha384}
-use Rattle.sigstore_crypto_parts.specs.declared.scheme.SigningScheme.TheVariants.{RsaPkcs1Sha256, RsaPkcs1Sha384, RsaPkcs1Sha512}
-use Rattle.sigstore_crypto_parts.specs.Good.{Judge, is_good}
-use Rattle.sigstore_crypto_parts.specs.Key.{key_with, same_sort}
-use Rattle.sigstore_crypto_parts.specs.Keyring.{Ring, key_at, has_key_of}
-use Rattle.sigstore_crypto_parts.specs.LogIds.{count_distinct, is_enough}
-use Rattle.sigstore_crypto_parts.specs.Scheme.{key_algorithm_of}
-use Rattle.sigstore_crypto.specs.Claims.{value_of}
-use Rattle.sigstore_crypto.specs.Info.{extensions_of}
+use Rattle.sigstore_keys.specs.declared.key.VerificationKey.{VerificationKey}
+use Rattle.sigstore_keys.specs.declared.log_ids.LogThreshold.{LogThreshold}
+use Rattle.sigstore_keys.specs.declared.scheme.SigningScheme.{SigningScheme}
+use Rattle.sigstore_keys.specs.declared.scheme.SigningScheme.TheVariants.{EcdsaP256Sha256, EcdsaP384Sha384}
+use Rattle.sigstore_keys.specs.declared.scheme.SigningScheme.TheVariants.{RsaPkcs1Sha256, RsaPkcs1Sha384, RsaPkcs1Sha512}
+use Rattle.sigstore_keys.specs.Good.{Judge, is_good}
+use Rattle.sigstore_keys.specs.Key.{key_with, same_sort}
+use Rattle.sigstore_keys.specs.Keyring.{Ring, key_at, has_key_of}
+use Rattle.sigstore_keys.specs.LogIds.{count_distinct, is_enough}
+use Rattle.sigstore_keys.specs.Scheme.{key_algorithm_of}
+use Rattle.certificate_claims.specs.Claims.{value_of}
+use Rattle.certificate_claims.specs.Info.{extensions_of}
 use Rattle.sigstore_certificate.specs.declared.error.SctRule.{SctRule}
 use Rattle.sigstore_certificate.specs.declared.error.SctRule.TheVariants as rule
 use Rattle.sigstore_certificate.specs.declared.error.Refusal.{Refusal}

@@ -9,12 +9,13 @@ use crate::names::check_names;
 use crate::policy::{CertificatePolicy, VerificationPolicy};
 use crate::scts::check_scts;
 use crate::times::issuer_at_each;
+use certificate_claims::CertificateInfo;
 use jiff::Timestamp;
 use path_core::Anchor;
-use sigstore_crypto::{CertificateInfo, CryptoProvider, Keyring, LogThreshold};
+use sigstore_keys::{CryptoProvider, Keyring, LogThreshold};
 use sigstore_types_parts::DerCertificate;
 use std::alloc::Global;
-use x509_core_parts::{CertView, X509Error};
+use x509_views::{CertView, X509Error};
 
 // How many trusted logs promised the certificate for its issuer by that key.
 #[tactic(auto, unfolding(crate::specs::Certified::leaf_scts_judged))]

@@ -1,8 +1,8 @@
 // What a log of certificates signed.
 ghost use Rattle.std.specs.Prelude.{◌≡◌, ◌≢◌, Ok, Err, IfOk, IfErr, option_copied};
-ghost use Rattle.x509_core_parts.specs.Precertificates.{precert_of};
-ghost use Rattle.x509_core_parts.specs.Scts.{signed_of};
-ghost use Rattle.x509_core_parts.specs.Views.{certificate_parts};
+ghost use Rattle.x509_views.specs.Precertificates.{precert_of};
+ghost use Rattle.x509_views.specs.Scts.{signed_of};
+ghost use Rattle.x509_views.specs.Views.{certificate_parts};
 ghost use Rattle.sigstore_certificate.specs.declared.error.SctRule.TheVariants.{Precertificate};
 ghost use Rattle.sigstore_certificate.specs.Scts.{written, signed_data_of};
 
@@ -11,7 +11,7 @@ use der_core::OctetString;
 use sigstore_types_parts::Sha256Hash;
 use std::alloc::Global;
 use std::marker::Model;
-use x509_core_parts::{CertView, Sct, X509Error, precert_tbs, sct_signed_bytes};
+use x509_views::{CertView, Sct, X509Error, precert_tbs, sct_signed_bytes};
 
 /// What a log signed with a certificate's timestamp (RFC 6962, section 3.2), and the log's identifier; contracts see
 /// both.

@@ -4,10 +4,10 @@ ghost use Rattle.sigstore_certificate.specs.Error.{refusal_of_path};
 ghost use Rattle.sigstore_certificate.specs.declared.error.Refusal.TheVariants.{NoMemory};
 
 use crate::policy::IdentityMatcher;
+use certificate_claims::SubjectAltName;
 use foundation::NoMemory;
 use jiff::Timestamp;
 use path_core::{LeafFault, PathError};
-use sigstore_crypto::SubjectAltName;
 use sigstore_types_parts::Text;
 use std::{error, fmt};
 

@@ -1,6 +1,7 @@
 // What a judgement is given.
+use certificate_claims::CertificateInfo;
 use path_core::Anchor;
-use sigstore_crypto::{CertificateInfo, Keyring};
+use sigstore_keys::Keyring;
 use sigstore_types_parts::DerCertificate;
 
 /// What is trusted, and the certificate with those beside it, by reference.

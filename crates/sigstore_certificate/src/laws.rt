@@ -3,7 +3,7 @@ ghost use Rattle.sigstore_certificate.specs.Cause.{Refusals, WrittenUnlessLong};
 ghost use Rattle.sigstore_certificate.specs.IsCertified.{CertifiedExactly, GoodExactly};
 ghost use Rattle.sigstore_certificate.specs.OneSct.{OneAlone};
 
-use x509_core_parts::precertificate_is_there;
+use x509_views::precertificate_is_there;
 
 /// The law of certificates: the judgement accepts exactly those that are to be accepted, told without any order of
 /// checks, each check dropped by its waiver.

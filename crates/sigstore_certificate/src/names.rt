@@ -4,8 +4,8 @@ ghost use Rattle.sigstore_certificate.specs.Names.{is_matched, identity_judged, 
 
 use crate::error::Refusal;
 use crate::policy::{IdentityMatcher, VerificationPolicy};
+use certificate_claims::{CertificateInfo, SubjectAltName};
 use foundation::{Duplicate, NoMemory};
-use sigstore_crypto::{CertificateInfo, SubjectAltName};
 use sigstore_types_parts::Text;
 use std::alloc::Global;
 

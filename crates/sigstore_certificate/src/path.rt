@@ -3,16 +3,17 @@ ghost use Rattle.std.specs.Prelude.{◌≡◌, ◌≢◌, Ok, Err, IfOk, IfErr};
 ghost use Rattle.path_core.specs.declared.purpose.Purpose.TheVariants.{CodeSigning};
 ghost use Rattle.path_core.specs.Path.{path_of};
 ghost use Rattle.path_core.specs.Paths.{setting};
-ghost use Rattle.sigstore_crypto_parts.specs.Keyring.{is_used_at};
+ghost use Rattle.sigstore_keys.specs.Keyring.{is_used_at};
 ghost use Rattle.sigstore_certificate.specs.Certified.{has_authority, authority_judged, window_judged, issued_at};
 ghost use Rattle.sigstore_certificate.specs.Error.{by_path, refusal_of_path};
 ghost use Rattle.sigstore_certificate.specs.Given.{trust_of, issuer_in};
 
 use crate::error::Refusal;
 use crate::given::Given;
+use certificate_claims::CertificateInfo;
 use jiff::Timestamp;
 use path_core::{Anchor, FoundPath, Purpose, Steps, find_path};
-use sigstore_crypto::{CertificateInfo, CryptoProvider};
+use sigstore_keys::CryptoProvider;
 use sigstore_types_parts::Bytes;
 use std::alloc::Global;
 

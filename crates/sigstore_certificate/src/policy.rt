@@ -6,8 +6,9 @@ ghost use Rattle.sigstore_certificate.specs.declared.policy.IdentityMatcher.TheV
 ghost use Rattle.sigstore_certificate.specs.Names.{matches};
 ghost use Rattle.sigstore_certificate.specs.Policy.{matcher_of, shown, verifies_chain, verifies_sct, without_sct};
 
+use certificate_claims::SubjectAltName;
 use foundation::{Duplicate, NoMemory};
-use sigstore_crypto::{LogThreshold, SubjectAltName};
+use sigstore_keys::LogThreshold;
 use sigstore_types_parts::Text;
 use std::alloc::Global;
 use std::fmt;

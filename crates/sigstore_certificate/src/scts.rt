@@ -2,27 +2,27 @@
 ghost use Rattle.std.specs.Prelude.{◌≡◌, ◌≢◌, [], Ok, Err, IfOk, IfErr, OnOk, filter_map, option_copied};
 ghost use Rattle.std.specs.List.{cons_option, list_any};
 ghost use Rattle.sha2.specs.Sha256.{sha256};
-ghost use Rattle.x509_core_parts.specs.Precertificates.{sct_oid, precert_of};
-ghost use Rattle.x509_core_parts.specs.Scts.{signed_of};
-ghost use Rattle.x509_core_parts.specs.Views.{certificate_parts};
-ghost use Rattle.sigstore_crypto_parts.specs.Good.{is_good};
-ghost use Rattle.sigstore_crypto_parts.specs.Key.{same_sort};
-ghost use Rattle.sigstore_crypto_parts.specs.Keyring.{has_key_of, key_at};
-ghost use Rattle.sigstore_crypto_parts.specs.LogIds.{with_id, each_once, count_distinct, is_enough};
+ghost use Rattle.x509_views.specs.Precertificates.{sct_oid, precert_of};
+ghost use Rattle.x509_views.specs.Scts.{signed_of};
+ghost use Rattle.x509_views.specs.Views.{certificate_parts};
+ghost use Rattle.sigstore_keys.specs.Good.{is_good};
+ghost use Rattle.sigstore_keys.specs.Key.{same_sort};
+ghost use Rattle.sigstore_keys.specs.Keyring.{has_key_of, key_at};
+ghost use Rattle.sigstore_keys.specs.LogIds.{with_id, each_once, count_distinct, is_enough};
 ghost use Rattle.sigstore_certificate.specs.Scts.{scts_in, listed, scts_of, scheme_of, has_scheme, some_scheme, is_of_logs, some_log, written, signed_part_of};
 ghost use Rattle.sigstore_certificate.specs.Scts.{key_under, log_key, good_over, good_by, good_under, is_good_sct, promising, promising_logs, enough_logs, scts_judged};
 
 use crate::digitally_signed::signed_part;
 use crate::error::{Refusal, SctRule};
+use certificate_claims::extension_value;
 use der_core::OctetString;
 use foundation::{NoMemory, Sequence};
-use sigstore_crypto::{
-    CryptoProvider, Keyring, LogIds, LogThreshold, SigningScheme, VerificationKey, extension_value,
-    sha256,
+use sigstore_keys::{
+    CryptoProvider, Keyring, LogIds, LogThreshold, SigningScheme, VerificationKey, sha256,
 };
 use sigstore_types_parts::{Bytes, Sha256Hash, SignatureBytes, at_millisecond};
 use std::alloc::Global;
-use x509_core_parts::{CertView, Sct, X509Error, sct_list, sct_signed_bytes};
+use x509_views::{CertView, Sct, X509Error, sct_list, sct_signed_bytes};
 
 // The contents of the identifier 1.3.6.1.4.1.11129.2.4.2 (RFC 6962, 3.3).
 const SCT_OID: [u8; 10] = [43, 6, 1, 4, 1, 214, 121, 2, 4, 2];

@@ -10,7 +10,7 @@ use crate::given::Given;
 use crate::path::issuer_at;
 use foundation::NoMemory;
 use jiff::Timestamp;
-use sigstore_crypto::CryptoProvider;
+use sigstore_keys::CryptoProvider;
 use sigstore_types_parts::Bytes;
 use std::alloc::Global;
 use std::collections::BTreeSet;

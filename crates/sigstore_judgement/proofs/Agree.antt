@@ -7,12 +7,12 @@ use Rattle.sigstore_types.specs.declared.bundle.Bundle.{Bundle}
 use Rattle.sigstore_types.specs.declared.content.SignatureContent.{SignatureContent}
 use Rattle.sigstore_types.specs.declared.content.SignatureContent.TheVariants.{MessageSignature as OfMessage, DsseEnvelope as OfEnvelope}
 use Rattle.sigstore_types_parts.specs.declared.hash_algorithm.HashAlgorithm.{HashAlgorithm}
-use Rattle.sigstore_crypto_parts.specs.declared.key.VerificationKey.{VerificationKey}
-use Rattle.sigstore_crypto_parts.specs.declared.scheme.SigningScheme.{SigningScheme}
-use Rattle.sigstore_crypto_parts.specs.Digest.{is_hashed}
-use Rattle.sigstore_crypto_parts.specs.Good.{Judge}
-use Rattle.sigstore_crypto_parts.specs.Key.{spki_key_of}
-use Rattle.sigstore_crypto_parts.specs.Scheme.{digest_algorithm_of, has_digest}
+use Rattle.sigstore_keys.specs.declared.key.VerificationKey.{VerificationKey}
+use Rattle.sigstore_keys.specs.declared.scheme.SigningScheme.{SigningScheme}
+use Rattle.sigstore_keys.specs.Digest.{is_hashed}
+use Rattle.sigstore_keys.specs.Good.{Judge}
+use Rattle.sigstore_keys.specs.Key.{spki_key_of}
+use Rattle.sigstore_keys.specs.Scheme.{digest_algorithm_of, has_digest}
 use Rattle.sigstore_judgement.specs.declared.error.Error.{Error}
 use Rattle.sigstore_judgement.specs.declared.error.Error.TheVariants.{UnsupportedArtifact, Crypto}
 use Rattle.sigstore_judgement.specs.declared.report.VerificationResult.{VerificationResult}

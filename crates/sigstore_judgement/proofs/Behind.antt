@@ -4,7 +4,7 @@ use Rattle.std.specs.Prelude.{filter_map}
 use Rattle.std.specs.List.{cons_option}
 use Rattle.jiff_core.specs.declared.timestamp.Timestamp.{Timestamp}
 use Rattle.foundation.specs.Steps.{◌>>=◌}
-use Rattle.sigstore_crypto_parts.specs.LogIds.{with_id, each_once}
+use Rattle.sigstore_keys.specs.LogIds.{with_id, each_once}
 use Rattle.sigstore_judgement.specs.declared.error.Error.{Error}
 use Rattle.sigstore_judgement.specs.Entries.{with_time, behind}
 

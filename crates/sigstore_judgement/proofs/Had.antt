@@ -15,11 +15,11 @@ use Rattle.sigstore_types.specs.declared.content.SignatureContent.TheVariants.{M
 use Rattle.sigstore_envelopes.specs.declared.statement.Statement.{Statement}
 use Rattle.sigstore_envelopes.specs.declared.statement.Subject.{Subject}
 use Rattle.sigstore_envelopes.specs.Statement.{algorithms_of, where_told, tells_sha256, tells_sha512, is_spelled}
-use Rattle.sigstore_crypto_parts.specs.declared.key.VerificationKey.{VerificationKey}
-use Rattle.sigstore_crypto_parts.specs.declared.scheme.SigningScheme.{SigningScheme}
-use Rattle.sigstore_crypto_parts.specs.Digest.{is_hashed, digest_by, digests_by}
-use Rattle.sigstore_crypto_parts.specs.Good.{Judge}
-use Rattle.sigstore_crypto_parts.specs.Scheme.{digest_algorithm_of}
+use Rattle.sigstore_keys.specs.declared.key.VerificationKey.{VerificationKey}
+use Rattle.sigstore_keys.specs.declared.scheme.SigningScheme.{SigningScheme}
+use Rattle.sigstore_keys.specs.Digest.{is_hashed, digest_by, digests_by}
+use Rattle.sigstore_keys.specs.Good.{Judge}
+use Rattle.sigstore_keys.specs.Scheme.{digest_algorithm_of}
 use Rattle.sigstore_judgement.specs.declared.error.Error.{Error}
 use Rattle.sigstore_judgement.specs.Artifact.{Digests, Read, Digest, digest_of, digest_among}
 use Rattle.sigstore_binding.specs.Rows.{Message}

@@ -19,20 +19,20 @@ use Rattle.sigstore_types.specs.declared.content.SignatureContent.TheVariants.{M
 use Rattle.sigstore_types.specs.declared.trusted_root.TrustedRoot.{TrustedRoot}
 use Rattle.sigstore_types.specs.Bundle.{bundle_of_bytes, entries_in, tokens_in, has_proof, shown_of, structure_of}
 use Rattle.sigstore_types.specs.TrustedRoot.{trusted_root_of_bytes}
-use Rattle.sigstore_crypto_parts.specs.declared.error.Error.{Error as CryptoError}
-use Rattle.sigstore_crypto_parts.specs.declared.error.Error.TheVariants as crypto
-use Rattle.sigstore_crypto_parts.specs.declared.key.VerificationKey.{VerificationKey}
-use Rattle.sigstore_crypto_parts.specs.declared.scheme.SigningScheme.{SigningScheme}
-use Rattle.sigstore_crypto_parts.specs.declared.log_ids.LogThreshold.{LogThreshold}
-use Rattle.sigstore_crypto_parts.specs.Digest.{is_hashed}
-use Rattle.sigstore_crypto_parts.specs.LogIds.{is_enough}
-use Rattle.sigstore_crypto_parts.specs.Key.{spki_key_of}
+use Rattle.sigstore_keys.specs.declared.error.Error.{Error as CryptoError}
+use Rattle.sigstore_keys.specs.declared.error.Error.TheVariants as crypto
+use Rattle.sigstore_keys.specs.declared.key.VerificationKey.{VerificationKey}
+use Rattle.sigstore_keys.specs.declared.scheme.SigningScheme.{SigningScheme}
+use Rattle.sigstore_keys.specs.declared.log_ids.LogThreshold.{LogThreshold}
+use Rattle.sigstore_keys.specs.Digest.{is_hashed}
+use Rattle.sigstore_keys.specs.LogIds.{is_enough}
+use Rattle.sigstore_keys.specs.Key.{spki_key_of}
 use Rattle.sigstore_entries.specs.declared.entry.TransparencyLogEntry.{TransparencyLogEntry}
 use Rattle.sigstore_log.specs.declared.error.LogError.{LogError}
 use Rattle.sigstore_log.specs.declared.error.LogError.TheVariants as entry
 use Rattle.sigstore_log.specs.Cause.{LogCause}
-use Rattle.sigstore_crypto.specs.declared.certificate_info.CertificateInfo.{CertificateInfo}
-use Rattle.sigstore_crypto.specs.Info.{info_of}
+use Rattle.certificate_claims.specs.declared.certificate_info.CertificateInfo.{CertificateInfo}
+use Rattle.certificate_claims.specs.Info.{info_of}
 use Rattle.sigstore_certificate.specs.declared.error.Refusal.{Refusal}
 use Rattle.sigstore_certificate.specs.declared.error.Refusal.TheVariants as refusal
 use Rattle.sigstore_certificate.specs.declared.policy.VerificationPolicy.{VerificationPolicy}

@@ -14,13 +14,13 @@ use Rattle.sigstore_types.specs.declared.bundle.Bundle.{Bundle}
 use Rattle.sigstore_types.specs.declared.content.SignatureContent.{SignatureContent}
 use Rattle.sigstore_types.specs.declared.content.SignatureContent.TheVariants.{MessageSignature as OfMessage, DsseEnvelope as OfEnvelope}
 use Rattle.sigstore_types.specs.Bundle.{entries_in, tokens_in, structure_of}
-use Rattle.sigstore_crypto_parts.specs.declared.error.Error.{Error as CryptoError}
-use Rattle.sigstore_crypto_parts.specs.declared.key.VerificationKey.{VerificationKey}
-use Rattle.sigstore_crypto_parts.specs.declared.scheme.SigningScheme.{SigningScheme}
-use Rattle.sigstore_crypto_parts.specs.declared.log_ids.LogThreshold.{LogThreshold}
-use Rattle.sigstore_crypto_parts.specs.Key.{spki_key_of}
-use Rattle.sigstore_crypto_parts.specs.LogIds.{is_enough}
-use Rattle.sigstore_crypto.specs.Info.{info_of}
+use Rattle.sigstore_keys.specs.declared.error.Error.{Error as CryptoError}
+use Rattle.sigstore_keys.specs.declared.key.VerificationKey.{VerificationKey}
+use Rattle.sigstore_keys.specs.declared.scheme.SigningScheme.{SigningScheme}
+use Rattle.sigstore_keys.specs.declared.log_ids.LogThreshold.{LogThreshold}
+use Rattle.sigstore_keys.specs.Key.{spki_key_of}
+use Rattle.sigstore_keys.specs.LogIds.{is_enough}
+use Rattle.certificate_claims.specs.Info.{info_of}
 use Rattle.sigstore_certificate.specs.declared.error.Refusal.{Refusal}
 use Rattle.sigstore_certificate.specs.declared.error.Refusal.TheVariants as refusal
 use Rattle.sigstore_certificate.specs.Certified.{certified_of}

@@ -7,12 +7,12 @@ use Rattle.foundation.specs.Steps.{◌>>=◌}
 use Rattle.sigstore_types_parts.specs.HashAlgorithm.{same_algorithm, digest_len_of}
 use Rattle.sigstore_types_parts.specs.declared.hash_algorithm.HashAlgorithm.{HashAlgorithm}
 use Rattle.sigstore_types_parts.specs.declared.hash_algorithm.HashAlgorithm.TheVariants.{Sha2256, Sha2384, Sha2512, Sha3256, Sha3384}
-use Rattle.sigstore_crypto_parts.specs.declared.error.Error.{Error}
-use Rattle.sigstore_crypto_parts.specs.declared.error.Error.TheVariants.{Verification}
-use Rattle.sigstore_crypto_parts.specs.declared.error.VerificationFault.TheVariants as fault
-use Rattle.sigstore_crypto_parts.specs.declared.key.VerificationKey.{VerificationKey}
-use Rattle.sigstore_crypto_parts.specs.Good.{Judge, is_raw_key, accepted_of, judged_over, is_good_over, sized_digest_of, prehashed_of}
-use Rattle.sigstore_crypto_parts.specs.Scheme.{key_algorithm_of, digest_algorithm_of}
+use Rattle.sigstore_keys.specs.declared.error.Error.{Error}
+use Rattle.sigstore_keys.specs.declared.error.Error.TheVariants.{Verification}
+use Rattle.sigstore_keys.specs.declared.error.VerificationFault.TheVariants as fault
+use Rattle.sigstore_keys.specs.declared.key.VerificationKey.{VerificationKey}
+use Rattle.sigstore_keys.specs.Good.{Judge, is_raw_key, accepted_of, judged_over, is_good_over, sized_digest_of, prehashed_of}
+use Rattle.sigstore_keys.specs.Scheme.{key_algorithm_of, digest_algorithm_of}
 use Rattle.sigstore_judgement.specs.Artifact.{digest_among}
 use Rattle.sigstore_judgement.specs.Content.{subject_by, is_good_of, is_artifact_signed}
 use Rattle.sigstore_judgement.proofs.Had.{same_is}

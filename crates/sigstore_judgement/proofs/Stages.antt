@@ -7,8 +7,8 @@ use Rattle.foundation.specs.Steps.{◌>>=◌}
 use Rattle.sigstore_types_parts.specs.declared.hash_algorithm.HashAlgorithm.{HashAlgorithm}
 use Rattle.sigstore_types.specs.declared.bundle.Bundle.{Bundle}
 use Rattle.sigstore_types.specs.Bundle.{entries_in}
-use Rattle.sigstore_crypto_parts.specs.Digest.{is_hashed, digests_by}
-use Rattle.sigstore_crypto_parts.specs.declared.reader.ReadError.{ReadError}
+use Rattle.sigstore_keys.specs.Digest.{is_hashed, digests_by}
+use Rattle.sigstore_keys.specs.declared.reader.ReadError.{ReadError}
 use Rattle.sigstore_judgement.specs.declared.error.Error.{Error}
 use Rattle.sigstore_judgement.specs.declared.error.Error.TheVariants.{ArtifactRead, NoMemory}
 use Rattle.sigstore_judgement.specs.declared.report.VerificationResult.{VerificationResult}

@@ -3,9 +3,9 @@ use Rattle.std.proofs.Common.{◌≡◌, ℕ, zero, suc, ◌<◌, ◌+◌, List,
 use Rattle.std.proofs.lemmas.List.{take_more}
 use Rattle.std.specs.List.{list_all}
 use Rattle.sigstore_types_parts.specs.declared.hash_algorithm.HashAlgorithm.{HashAlgorithm}
-use Rattle.sigstore_crypto_parts.specs.declared.hasher.ArtifactHasher.{ArtifactHasher}
-use Rattle.sigstore_crypto_parts.specs.Digest.{is_hashed, digest_by, digests_by}
-use Rattle.sigstore_crypto_parts.specs.Hasher.{Holds, algorithm_in, Grows, Fed}
+use Rattle.sigstore_keys.specs.declared.hasher.ArtifactHasher.{ArtifactHasher}
+use Rattle.sigstore_keys.specs.Digest.{is_hashed, digest_by, digests_by}
+use Rattle.sigstore_keys.specs.Hasher.{Holds, algorithm_in, Grows, Fed}
 use Rattle.sigstore_judgement.specs.Taken.{AreOf, Finalized}
 
 -- one hasher more

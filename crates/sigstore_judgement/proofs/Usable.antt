@@ -14,9 +14,9 @@ use Rattle.sigstore_types_parts.specs.TimeRange.{ends_by}
 use Rattle.sigstore_types.specs.declared.authority.Authority.{Authority}
 use Rattle.sigstore_types.specs.declared.trusted_root.TrustedLog.{TrustedLog}
 use Rattle.sigstore_types.specs.declared.trusted_root.TrustedRoot.{TrustedRoot}
-use Rattle.sigstore_crypto_parts.specs.declared.keyring.HeldKey.{HeldKey}
-use Rattle.sigstore_crypto_parts.specs.Keyring.{Ring, held_at, with_held}
-use Rattle.sigstore_crypto_parts.proofs.Rings.{apart}
+use Rattle.sigstore_keys.specs.declared.keyring.HeldKey.{HeldKey}
+use Rattle.sigstore_keys.specs.Keyring.{Ring, held_at, with_held}
+use Rattle.sigstore_keys.proofs.Rings.{apart}
 use Rattle.path_core.specs.declared.error.PathError.{PathError}
 use Rattle.path_core.specs.Anchors.{TrustAnchor, may_anchor}
 use Rattle.sigstore_judgement.specs.declared.error.Error.{Error}

@@ -7,12 +7,12 @@ use Rattle.sigstore_types_parts.specs.TimeRange.{ends_by}
 use Rattle.sigstore_types.specs.declared.authority.Authority.{Authority}
 use Rattle.sigstore_types.specs.declared.trusted_root.TrustedLog.{TrustedLog}
 use Rattle.sigstore_types.specs.declared.trusted_root.TrustedRoot.{TrustedRoot}
-use Rattle.sigstore_crypto_parts.specs.declared.error.Error.{Error as CryptoError}
-use Rattle.sigstore_crypto_parts.specs.declared.error.Error.TheVariants as crypto
-use Rattle.sigstore_crypto_parts.specs.declared.key.VerificationKey.{VerificationKey}
-use Rattle.sigstore_crypto_parts.specs.declared.scheme.SigningScheme.TheVariants.{RsaPkcs1Sha256}
-use Rattle.sigstore_crypto_parts.specs.Key.{spki_key_of, der_key_of}
-use Rattle.sigstore_crypto_parts.specs.Keyring.{Ring, held_at}
+use Rattle.sigstore_keys.specs.declared.error.Error.{Error as CryptoError}
+use Rattle.sigstore_keys.specs.declared.error.Error.TheVariants as crypto
+use Rattle.sigstore_keys.specs.declared.key.VerificationKey.{VerificationKey}
+use Rattle.sigstore_keys.specs.declared.scheme.SigningScheme.TheVariants.{RsaPkcs1Sha256}
+use Rattle.sigstore_keys.specs.Key.{spki_key_of, der_key_of}
+use Rattle.sigstore_keys.specs.Keyring.{Ring, held_at}
 use Rattle.path_core.specs.declared.error.PathError.{PathError}
 use Rattle.path_core.specs.Anchors.{TrustAnchor, may_anchor}
 use Rattle.sigstore_judgement.specs.declared.error.Error.{Error}

@@ -4,12 +4,12 @@ use Rattle.std.specs.List.{AllByRecursion}
 use Rattle.jiff_core.specs.declared.timestamp.Timestamp.{Timestamp}
 use Rattle.sigstore_types.specs.declared.bundle.Bundle.{Bundle}
 use Rattle.sigstore_types.specs.Bundle.{entries_in, tokens_in}
-use Rattle.sigstore_crypto_parts.specs.declared.scheme.SigningScheme.{SigningScheme}
-use Rattle.sigstore_crypto_parts.specs.declared.key.VerificationKey.{VerificationKey}
-use Rattle.sigstore_crypto_parts.specs.Key.{spki_key_of}
-use Rattle.sigstore_crypto_parts.specs.Good.{is_good_over}
+use Rattle.sigstore_keys.specs.declared.scheme.SigningScheme.{SigningScheme}
+use Rattle.sigstore_keys.specs.declared.key.VerificationKey.{VerificationKey}
+use Rattle.sigstore_keys.specs.Key.{spki_key_of}
+use Rattle.sigstore_keys.specs.Good.{is_good_over}
 use Rattle.sigstore_entries.specs.declared.entry.TransparencyLogEntry.{TransparencyLogEntry}
-use Rattle.sigstore_crypto.specs.declared.certificate_info.CertificateInfo.{CertificateInfo}
+use Rattle.certificate_claims.specs.declared.certificate_info.CertificateInfo.{CertificateInfo}
 use Rattle.sigstore_certificate.specs.declared.policy.VerificationPolicy.{VerificationPolicy}
 use Rattle.sigstore_certificate.specs.IsCertified.{IsCertified}
 use Rattle.sigstore_judgement.specs.declared.evidence.Evidence.{Evidence}

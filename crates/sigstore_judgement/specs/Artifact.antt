@@ -4,7 +4,7 @@ use Rattle.sigstore_types_parts.specs.HashAlgorithm.{same_algorithm}
 use Rattle.sigstore_types_parts.specs.declared.hash_algorithm.HashAlgorithm.{HashAlgorithm}
 use Rattle.sigstore_types_parts.specs.declared.hash_algorithm.Artifact.{Artifact as Given}
 use Rattle.sigstore_types_parts.specs.declared.hash_algorithm.Artifact.TheVariants as given
-use Rattle.sigstore_crypto_parts.specs.Digest.{is_hashed, digest_by}
+use Rattle.sigstore_keys.specs.Digest.{is_hashed, digest_by}
 use Rattle.sigstore_judgement.specs.declared.error.Error.{Error}
 use Rattle.sigstore_judgement.specs.declared.error.Error.TheVariants.{UnsupportedArtifact, Crypto}
 use Rattle.sigstore_judgement.specs.declared.artifact.Had.{Had}

@@ -14,8 +14,8 @@ use Rattle.sigstore_envelopes.specs.Statement.{statement_of_bytes, algorithms_of
 use Rattle.sigstore_types.specs.declared.content.SignatureContent.{SignatureContent}
 use Rattle.sigstore_types.specs.declared.content.SignatureContent.TheVariants.{MessageSignature as OfMessage, DsseEnvelope as OfEnvelope}
 use Rattle.sigstore_types.specs.declared.content.MessageDigest.{MessageDigest}
-use Rattle.sigstore_crypto_parts.specs.declared.scheme.SigningScheme.{SigningScheme}
-use Rattle.sigstore_crypto_parts.specs.Scheme.{digest_algorithm_of}
+use Rattle.sigstore_keys.specs.declared.scheme.SigningScheme.{SigningScheme}
+use Rattle.sigstore_keys.specs.Scheme.{digest_algorithm_of}
 use Rattle.sigstore_judgement.specs.declared.claim.Claim.{Claim as Given}
 use Rattle.sigstore_judgement.specs.declared.claim.Claim.TheVariants as given
 use Rattle.sigstore_judgement.specs.declared.error.Error.{Error}

@@ -8,11 +8,11 @@ use Rattle.sigstore_envelopes.specs.Encoding.{encoding_of}
 use Rattle.sigstore_types.specs.declared.content.SignatureContent.{SignatureContent}
 use Rattle.sigstore_types.specs.declared.content.SignatureContent.TheVariants.{MessageSignature as OfMessage, DsseEnvelope as OfEnvelope}
 use Rattle.sigstore_types.specs.declared.content.MessageDigest.{MessageDigest}
-use Rattle.sigstore_crypto_parts.specs.declared.error.Error.{Error as CryptoError}
-use Rattle.sigstore_crypto_parts.specs.declared.scheme.SigningScheme.{SigningScheme}
-use Rattle.sigstore_crypto_parts.specs.declared.key.VerificationKey.{VerificationKey}
-use Rattle.sigstore_crypto_parts.specs.Scheme.{key_algorithm_of, digest_algorithm_of, has_digest, resolved_of}
-use Rattle.sigstore_crypto_parts.specs.Good.{Judge, subject_of, is_good_over}
+use Rattle.sigstore_keys.specs.declared.error.Error.{Error as CryptoError}
+use Rattle.sigstore_keys.specs.declared.scheme.SigningScheme.{SigningScheme}
+use Rattle.sigstore_keys.specs.declared.key.VerificationKey.{VerificationKey}
+use Rattle.sigstore_keys.specs.Scheme.{key_algorithm_of, digest_algorithm_of, has_digest, resolved_of}
+use Rattle.sigstore_keys.specs.Good.{Judge, subject_of, is_good_over}
 use Rattle.sigstore_binding.specs.Rows.{Signed, Message, Envelope}
 use Rattle.sigstore_judgement.specs.declared.error.Error.{Error}
 use Rattle.sigstore_judgement.specs.declared.error.Error.TheVariants.{SignatureInvalid, ArtifactMismatch, UnsupportedArtifact}

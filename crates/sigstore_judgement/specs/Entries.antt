@@ -8,9 +8,9 @@ use Rattle.jiff_core.specs.declared.timestamp.Timestamp.{Timestamp}
 use Rattle.sigstore_types_parts.specs.TimeRange.{contains}
 use Rattle.sigstore_types.specs.declared.bundle.Bundle.{Bundle}
 use Rattle.sigstore_types.specs.Bundle.{entries_in}
-use Rattle.sigstore_crypto_parts.specs.declared.log_ids.LogThreshold.{LogThreshold}
-use Rattle.sigstore_crypto_parts.specs.Crypto.{Crypto}
-use Rattle.sigstore_crypto_parts.specs.LogIds.{count_distinct, is_enough}
+use Rattle.sigstore_keys.specs.declared.log_ids.LogThreshold.{LogThreshold}
+use Rattle.sigstore_keys.specs.Crypto.{Crypto}
+use Rattle.sigstore_keys.specs.LogIds.{count_distinct, is_enough}
 use Rattle.sigstore_entries.specs.declared.entry.TransparencyLogEntry.{TransparencyLogEntry}
 use Rattle.sigstore_log.specs.Entry.{logged_of, log_of}
 use Rattle.sigstore_log.specs.Logged.{Logged}

@@ -1,8 +1,8 @@
 -- What a bundle is judged by, whoever signed it.
 use Rattle.jiff_core.specs.declared.timestamp.Timestamp.{Timestamp}
 use Rattle.sigstore_types_parts.specs.declared.armor.Armor as armor
-use Rattle.sigstore_crypto_parts.specs.declared.provider.CryptoProvider as provider
-use Rattle.sigstore_crypto_parts.specs.Crypto.{Crypto, crypto_by}
+use Rattle.sigstore_keys.specs.declared.provider.CryptoProvider as provider
+use Rattle.sigstore_keys.specs.Crypto.{Crypto, crypto_by}
 use Rattle.sigstore_binding.specs.Verifier.{Readings}
 use Rattle.sigstore_certificate.specs.Certified.{Trust}
 use Rattle.sigstore_judgement.specs.declared.grounds.Grounds as declared

@@ -3,7 +3,7 @@ use Rattle.std.specs.Prelude.{◌≡◌, List, Bool, Ok}
 use Rattle.jiff_core.specs.declared.timestamp.Timestamp.{Timestamp}
 use Rattle.sigstore_types.specs.declared.bundle.Bundle.{Bundle}
 use Rattle.sigstore_types.specs.Bundle.{entries_in, structure_of}
-use Rattle.sigstore_crypto_parts.specs.declared.log_ids.LogThreshold.{LogThreshold}
+use Rattle.sigstore_keys.specs.declared.log_ids.LogThreshold.{LogThreshold}
 use Rattle.sigstore_judgement.specs.Entries.{log_judged_of, log_count_of, logs_judged_of}
 use Rattle.sigstore_judgement.specs.Grounds.{Grounds}
 use Rattle.sigstore_judgement.specs.Signer.{Signer}

@@ -1,6 +1,6 @@
 -- What a bundle is verified under: what is asked of its signing certificate, or a key that its holder manages.
 use Rattle.std.specs.Prelude.{Bool}
-use Rattle.sigstore_crypto_parts.specs.declared.log_ids.LogThreshold.{LogThreshold}
+use Rattle.sigstore_keys.specs.declared.log_ids.LogThreshold.{LogThreshold}
 use Rattle.sigstore_certificate.specs.declared.policy.VerificationPolicy.{VerificationPolicy}
 use Rattle.sigstore_judgement.specs.declared.policy.PublicKeyVerificationPolicy.{PublicKeyVerificationPolicy}
 use Rattle.sigstore_judgement.specs.declared.policy.PolicyKind.{PolicyKind}

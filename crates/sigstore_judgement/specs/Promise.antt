@@ -6,10 +6,10 @@ use Rattle.foundation.specs.Watched.{Watched, Rose}
 use Rattle.jiff_core.specs.declared.timestamp.Timestamp.{Timestamp}
 use Rattle.sigstore_types.specs.declared.bundle.Bundle.{Bundle}
 use Rattle.sigstore_types.specs.declared.trusted_root.TrustedRoot.{TrustedRoot}
-use Rattle.sigstore_crypto_parts.specs.Crypto.{Crypto}
-use Rattle.sigstore_crypto_parts.specs.Digest.{digests_by}
-use Rattle.sigstore_crypto_parts.specs.declared.reader.ReadError.{ReadError}
-use Rattle.sigstore_crypto_parts.specs.declared.reader.ReadError.TheVariants.{Failed, TooLong}
+use Rattle.sigstore_keys.specs.Crypto.{Crypto}
+use Rattle.sigstore_keys.specs.Digest.{digests_by}
+use Rattle.sigstore_keys.specs.declared.reader.ReadError.{ReadError}
+use Rattle.sigstore_keys.specs.declared.reader.ReadError.TheVariants.{Failed, TooLong}
 use Rattle.sigstore_judgement.specs.declared.error.Error.{Error}
 use Rattle.sigstore_judgement.specs.declared.error.Error.TheVariants.{ArtifactRead, NoMemory}
 use Rattle.sigstore_judgement.specs.declared.report.VerificationResult.{VerificationResult}

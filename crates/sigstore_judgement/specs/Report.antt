@@ -1,7 +1,7 @@
 -- What a report says of whom the certificate names.
 use Rattle.std.specs.Prelude.{ℕ, List, Option, Some, None}
-use Rattle.sigstore_crypto.specs.declared.certificate_info.CertificateInfo.{CertificateInfo}
-use Rattle.sigstore_crypto.specs.declared.certificate_info.SubjectAltName.{SubjectAltName}
+use Rattle.certificate_claims.specs.declared.certificate_info.CertificateInfo.{CertificateInfo}
+use Rattle.certificate_claims.specs.declared.certificate_info.SubjectAltName.{SubjectAltName}
 
 abbrev pub identity_said : Option CertificateInfo → Option SubjectAltName
 identity_said None = None

@@ -1,9 +1,9 @@
 -- Hashers of an artifact and the digests that they give.
 use Rattle.std.specs.Prelude.{◌≡◌, ℕ, List, [], ◌∷◌, ⊤}
 use Rattle.sigstore_types_parts.specs.declared.hash_algorithm.HashAlgorithm.{HashAlgorithm}
-use Rattle.sigstore_crypto_parts.specs.declared.hasher.ArtifactHasher.{ArtifactHasher}
-use Rattle.sigstore_crypto_parts.specs.Digest.{digest_by}
-use Rattle.sigstore_crypto_parts.specs.Hasher.{Holds, algorithm_in}
+use Rattle.sigstore_keys.specs.declared.hasher.ArtifactHasher.{ArtifactHasher}
+use Rattle.sigstore_keys.specs.Digest.{digest_by}
+use Rattle.sigstore_keys.specs.Hasher.{Holds, algorithm_in}
 
 -- one hasher for each algorithm, each of which has seen these bytes
 abbrev pub AreOf : List ArtifactHasher → List HashAlgorithm → List ℕ → Type 0

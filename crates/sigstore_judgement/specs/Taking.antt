@@ -2,8 +2,8 @@
 use Rattle.std.specs.Prelude.{◌≡◌, ◌⊎◌, ℕ, ◌≤◌, List, Result, IfOk, IfErr}
 use Rattle.foundation.specs.Watched.{Watched}
 use Rattle.sigstore_types_parts.specs.declared.hash_algorithm.HashAlgorithm.{HashAlgorithm}
-use Rattle.sigstore_crypto_parts.specs.Digest.{digests_by}
-use Rattle.sigstore_crypto_parts.specs.declared.reader.ReadError.{ReadError}
+use Rattle.sigstore_keys.specs.Digest.{digests_by}
+use Rattle.sigstore_keys.specs.declared.reader.ReadError.{ReadError}
 use Rattle.sigstore_judgement.specs.declared.error.Error.{Error}
 use Rattle.sigstore_judgement.specs.declared.error.Error.TheVariants.{ArtifactRead, NoMemory}
 use Rattle.sigstore_judgement.specs.Promise.{ReadWhole, ReadCause, TookWithin}

@@ -8,8 +8,8 @@ use Rattle.sigstore_types.specs.declared.bundle.Bundle.{Bundle}
 use Rattle.sigstore_types.specs.declared.trusted_root.TrustedRoot.{TrustedRoot}
 use Rattle.sigstore_types.specs.Bundle.{bundle_of_bytes}
 use Rattle.sigstore_types.specs.TrustedRoot.{trusted_root_of_bytes}
-use Rattle.sigstore_crypto_parts.specs.Crypto.{Crypto}
-use Rattle.sigstore_crypto_parts.specs.Digest.{digests_by}
+use Rattle.sigstore_keys.specs.Crypto.{Crypto}
+use Rattle.sigstore_keys.specs.Digest.{digests_by}
 use Rattle.sigstore_judgement.specs.declared.error.Error.{Error}
 use Rattle.sigstore_judgement.specs.declared.error.Error.TheVariants as verify
 use Rattle.sigstore_judgement.specs.declared.report.Kept.{Kept}

@@ -6,7 +6,7 @@ use Rattle.sigstore_types_parts.specs.TimeRange.{ends_by}
 use Rattle.sigstore_types.specs.declared.authority.Authority.{Authority}
 use Rattle.sigstore_types.specs.declared.trusted_root.TrustedLog.{TrustedLog}
 use Rattle.sigstore_types.specs.declared.trusted_root.TrustedRoot.{TrustedRoot}
-use Rattle.sigstore_crypto_parts.specs.declared.key.VerificationKey.{VerificationKey}
+use Rattle.sigstore_keys.specs.declared.key.VerificationKey.{VerificationKey}
 use Rattle.path_core.specs.Anchors.{may_anchor}
 use Rattle.sigstore_judgement.specs.declared.trust.LogKind.{LogKind}
 use Rattle.sigstore_judgement.specs.declared.trust.LogKind.TheVariants.{Entries, Certificates}

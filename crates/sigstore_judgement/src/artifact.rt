@@ -5,7 +5,7 @@ ghost use Rattle.sigstore_types_parts.specs.HashAlgorithm.{same_algorithm};
 ghost use Rattle.sigstore_judgement.specs.Artifact.{kind_in};
 
 use crate::error::Error;
-use sigstore_crypto_parts::ArtifactHasher;
+use sigstore_keys::ArtifactHasher;
 use sigstore_types_parts::{ArtifactDigest, HashAlgorithm};
 
 /// How an artifact is handed in: all its bytes, through a reader, or one digest of it.

@@ -9,8 +9,8 @@ ghost use Rattle.sigstore_judgement.specs.Claim.{claim_as, typed_of, or_invalid,
 use crate::artifact::taken;
 use crate::error::Error;
 use foundation::{NoMemory, Sequence};
-use sigstore_crypto_parts::SigningScheme;
 use sigstore_envelopes::{DsseEnvelope, Statement, Subject};
+use sigstore_keys::SigningScheme;
 use sigstore_types::{MessageDigest, SignatureContent};
 use sigstore_types_parts::{ArtifactDigest, HashAlgorithm, PayloadBytes, Text, TypesError};
 use std::alloc::Global;

@@ -1,7 +1,7 @@
 // What is signed, before and after the artifact is had.
 ghost use Rattle.std.specs.Prelude.{◌≡◌, ◌≢◌, Ok, Err, IfOk, IfErr, option_copied};
 ghost use Rattle.std.specs.List.{list_all};
-ghost use Rattle.sigstore_crypto_parts.specs.Good.{is_good};
+ghost use Rattle.sigstore_keys.specs.Good.{is_good};
 ghost use Rattle.sigstore_envelopes.specs.Encoding.{encoding_of};
 ghost use Rattle.sigstore_binding.specs.Rows.{signed_as};
 ghost use Rattle.sigstore_judgement.specs.Artifact.{kind_in, digest_among, digest_had, bytes_had};
@@ -14,7 +14,7 @@ use crate::claim::{Claim, is_bound};
 use crate::error::Error;
 use foundation::NoMemory;
 use sigstore_binding::{HashedEnvelope, Signed};
-use sigstore_crypto_parts::{CryptoProvider, SigningScheme, VerificationKey};
+use sigstore_keys::{CryptoProvider, SigningScheme, VerificationKey};
 use sigstore_types::{MessageSignature, SignatureContent};
 use sigstore_types_parts::{ArtifactDigest, HashAlgorithm, SignatureBytes};
 use std::alloc::Global;
@@ -24,7 +24,7 @@ use std::alloc::Global;
 pub(crate) fn scheme_of(
     scheme: SigningScheme,
     content: &SignatureContent,
-) -> Result<SigningScheme, sigstore_crypto_parts::Error>
+) -> Result<SigningScheme, sigstore_keys::Error>
     ensures { result ≡ scheme_of scheme content.now }
 {
     match content {

@@ -1,7 +1,7 @@
 // The entries of a bundle under the logs that are trusted, and what they say of the bundle.
 ghost use Rattle.std.specs.Prelude.{◌≡◌, ◌≢◌, Some, Ok, Err, IfOk, IfErr, OnOk, filter_map};
 ghost use Rattle.sigstore_types.specs.Bundle.{entries_in};
-ghost use Rattle.sigstore_crypto_parts.specs.LogIds.{with_id, each_once, is_enough};
+ghost use Rattle.sigstore_keys.specs.LogIds.{with_id, each_once, is_enough};
 ghost use Rattle.sigstore_log.specs.Entry.{logged_of, log_of};
 ghost use Rattle.sigstore_judgement.specs.Artifact.{digest_had};
 ghost use Rattle.sigstore_binding.specs.Described.{describes_of};
@@ -21,8 +21,8 @@ use crate::signing::{Signing, validity_of};
 use foundation::{NoMemory, Sequence};
 use jiff::Timestamp;
 use sigstore_binding::{BindingError, Signed, SignedBy, describe_entry};
-use sigstore_crypto_parts::{CryptoProvider, LogIds, LogThreshold};
 use sigstore_entries::TransparencyLogEntry;
+use sigstore_keys::{CryptoProvider, LogIds, LogThreshold};
 use sigstore_log::{EntryEvidence, LogError, judge_entry};
 use sigstore_types::Bundle;
 use sigstore_types_parts::Armor;

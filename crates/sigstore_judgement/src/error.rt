@@ -3,11 +3,11 @@ ghost use Rattle.std.specs.Prelude.{◌≡◌};
 ghost use Rattle.sigstore_judgement.specs.Error.{number_of, name_of, certificate_number_of, certificate_name_of, log_number_of, log_name_of, timestamp_number_of, timestamp_name_of, error_of_crypto, error_of_certificate, lowered};
 ghost use Rattle.sigstore_judgement.specs.declared.error.Error.TheVariants.{NoMemory};
 
+use certificate_claims::SubjectAltName;
 use foundation::NoMemory;
 use jiff::Timestamp;
 use sigstore_certificate::{IdentityMatcher, Refusal, SctRule};
-use sigstore_crypto::SubjectAltName;
-use sigstore_crypto_parts::ReadError;
+use sigstore_keys::ReadError;
 use sigstore_types_parts::{Sha256Hash, Text, TypesError};
 use std::{error, fmt};
 
@@ -271,12 +271,12 @@ impl From<NoMemory> for Error {
     }
 }
 
-impl From<sigstore_crypto_parts::Error> for Error {
+impl From<sigstore_keys::Error> for Error {
     ghost from_gives = { λ fault e. e ≡ error_of_crypto fault };
 
-    fn from(fault: sigstore_crypto_parts::Error) -> Error {
+    fn from(fault: sigstore_keys::Error) -> Error {
         match fault {
-            sigstore_crypto_parts::Error::NoMemory => Error::NoMemory,
+            sigstore_keys::Error::NoMemory => Error::NoMemory,
             _ => Error::Crypto,
         }
     }

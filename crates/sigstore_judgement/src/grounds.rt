@@ -2,7 +2,7 @@
 
 use crate::trust::Material;
 use jiff::Timestamp;
-use sigstore_crypto_parts::CryptoProvider;
+use sigstore_keys::CryptoProvider;
 use sigstore_types_parts::Armor;
 
 /// Who decides signatures and reads armoured texts, what is kept of the trust file, and the moment.

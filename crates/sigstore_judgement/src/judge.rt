@@ -1,6 +1,6 @@
 // The judgement of a bundle, before and after its artifact is had.
 ghost use Rattle.std.specs.Prelude.{◌≡◌, ◌≢◌, Ok, Err, IfOk, IfErr};
-ghost use Rattle.sigstore_crypto_parts.specs.Key.{spki_key_of};
+ghost use Rattle.sigstore_keys.specs.Key.{spki_key_of};
 ghost use Rattle.sigstore_certificate.specs.Certified.{certified_of};
 ghost use Rattle.sigstore_judgement.specs.Artifact.{kind_in, digest_had, bytes_had};
 ghost use Rattle.sigstore_judgement.specs.Claim.{claim_as, needed_of};
@@ -24,11 +24,11 @@ use crate::report::VerificationResult;
 use crate::signing::{Signing, who_signed};
 use crate::tokens::check_tokens;
 use crate::verified::verified_times;
+use certificate_claims::CertificateInfo;
 use foundation::Sequence;
 use jiff::Timestamp;
 use sigstore_certificate::{VerificationPolicy, judge_certificate};
-use sigstore_crypto::CertificateInfo;
-use sigstore_crypto_parts::{CryptoProvider, SigningScheme, VerificationKey};
+use sigstore_keys::{CryptoProvider, SigningScheme, VerificationKey};
 use sigstore_types::{Bundle, SignatureContent};
 use sigstore_types_parts::{Armor, DerCertificate, DerPublicKey, HashAlgorithm};
 use std::alloc::Global;
@@ -59,7 +59,7 @@ fn key_of(alloc: Global, der: &DerPublicKey) -> Result<VerificationKey, Error>
 {
     match VerificationKey::from_spki(alloc, der) {
         Ok(key) => Ok(key),
-        Err(sigstore_crypto_parts::Error::NoMemory) => Err(Error::NoMemory),
+        Err(sigstore_keys::Error::NoMemory) => Err(Error::NoMemory),
         Err(_) => Err(Error::Crypto),
     }
 }

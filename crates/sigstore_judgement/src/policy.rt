@@ -5,7 +5,7 @@ ghost use Rattle.sigstore_judgement.specs.Policy.{meaning_of};
 
 use foundation::{Duplicate, NoMemory};
 use sigstore_certificate::VerificationPolicy;
-use sigstore_crypto_parts::LogThreshold;
+use sigstore_keys::LogThreshold;
 use sigstore_types_parts::DerPublicKey;
 use std::alloc::Global;
 use std::num::NonZeroU8;

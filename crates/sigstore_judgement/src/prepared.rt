@@ -12,7 +12,7 @@ use crate::policy::Policy;
 use crate::report::VerificationResult;
 use crate::verifier::Verifier;
 use jiff::Timestamp;
-use sigstore_crypto_parts::CryptoProvider;
+use sigstore_keys::CryptoProvider;
 use sigstore_types::Bundle;
 use sigstore_types_parts::{Armor, ArtifactDigest};
 use std::alloc::Global;

@@ -3,9 +3,9 @@ ghost use Rattle.std.specs.Prelude.{◌≡◌};
 ghost use Rattle.std.specs.Option.{option_copied};
 ghost use Rattle.sigstore_judgement.specs.Report.{identity_said, issuer_said};
 
+use certificate_claims::{CertificateInfo, SubjectAltName};
 use foundation::{Duplicate, NoMemory, Sequence};
 use jiff::Timestamp;
-use sigstore_crypto::{CertificateInfo, SubjectAltName};
 use sigstore_types_parts::ArtifactDigest;
 use std::alloc::Global;
 

@@ -1,15 +1,15 @@
 // Who signed.
 ghost use Rattle.std.specs.Prelude.{◌≡◌, ◌≢◌, Ok, Err, IfOk, IfErr, MatchResult, option_copied};
 ghost use Rattle.sigstore_types.specs.Bundle.{structure_of};
-ghost use Rattle.sigstore_crypto.specs.Info.{info_of};
+ghost use Rattle.certificate_claims.specs.Info.{info_of};
 ghost use Rattle.sigstore_judgement.specs.Error.{by_types, by_info};
 ghost use Rattle.sigstore_judgement.specs.Policy.{meaning_of};
 ghost use Rattle.sigstore_judgement.specs.Signer.{signer_as, key_in, validity_of, certificate_in, keyed_of, named_of, managed_of, owner_of, signer_of};
 
 use crate::error::{CertificateError, Error, lowered};
 use crate::policy::{PolicyKind, PublicKeyVerificationPolicy};
+use certificate_claims::{CertificateInfo, parse_certificate_info};
 use sigstore_certificate::VerificationPolicy;
-use sigstore_crypto::{CertificateInfo, parse_certificate_info};
 use sigstore_types::{Bundle, validate_structure};
 use sigstore_types_parts::{DerCertificate, DerPublicKey, TimeRange};
 use std::alloc::Global;
@@ -82,7 +82,7 @@ fn info_in(alloc: Global, certificate: &DerCertificate) -> Result<CertificateInf
 {
     match parse_certificate_info(alloc, certificate) {
         Ok(info) => Ok(info),
-        Err(sigstore_crypto_parts::Error::NoMemory) => Err(Error::NoMemory),
+        Err(sigstore_keys::Error::NoMemory) => Err(Error::NoMemory),
         Err(_) => Err(Error::Certificate(CertificateError::Malformed)),
     }
 }

@@ -1,13 +1,13 @@
 // The digests of an artifact, by all algorithms that are needed in one pass.
 ghost use Rattle.std.specs.Prelude.{◌≡◌, ◌⊎◌, true, false, [], IfOk, IfErr, Ok, Err};
 ghost use Rattle.std.specs.List.{list_all};
-ghost use Rattle.sigstore_crypto_parts.specs.Digest.{is_hashed, digests_by};
+ghost use Rattle.sigstore_keys.specs.Digest.{is_hashed, digests_by};
 ghost use Rattle.sigstore_judgement.specs.Taken.{AreOf, Finalized};
 ghost use Rattle.sigstore_judgement.specs.Taking.{Takes};
 
 use crate::error::Error;
 use foundation::Sequence;
-use sigstore_crypto_parts::{ArtifactHasher, ArtifactSource, HashUpdate, hash_reader};
+use sigstore_keys::{ArtifactHasher, ArtifactSource, HashUpdate, hash_reader};
 use sigstore_types_parts::{ArtifactDigest, HashAlgorithm};
 use std::alloc::Global;
 

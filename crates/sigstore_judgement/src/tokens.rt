@@ -9,7 +9,7 @@ use crate::error::{Error, TimestampError};
 use crate::grounds::Grounds;
 use foundation::Sequence;
 use jiff::Timestamp;
-use sigstore_crypto_parts::CryptoProvider;
+use sigstore_keys::CryptoProvider;
 use sigstore_tsa::{TokenFault, token_time};
 use sigstore_types_parts::{Armor, SignatureBytes, TimestampToken};
 use std::alloc::Global;

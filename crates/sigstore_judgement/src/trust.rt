@@ -1,16 +1,16 @@
 // What a verifier keeps of a trust file.
 ghost use Rattle.std.specs.Prelude.{◌≡◌, ◌≢◌, ◌∷◌, ◌++◌, [], Ok, Err, IfOk, IfErr, OnOk};
 ghost use Rattle.path_core.specs.Anchors.{may_anchor};
-ghost use Rattle.sigstore_crypto_parts.specs.declared.error.Error.TheVariants as crypto;
-ghost use Rattle.sigstore_crypto_parts.specs.declared.scheme.SigningScheme.TheVariants.{RsaPkcs1Sha256};
-ghost use Rattle.sigstore_crypto_parts.specs.Key.{der_key_of};
+ghost use Rattle.sigstore_keys.specs.declared.error.Error.TheVariants as crypto;
+ghost use Rattle.sigstore_keys.specs.declared.scheme.SigningScheme.TheVariants.{RsaPkcs1Sha256};
+ghost use Rattle.sigstore_keys.specs.Key.{der_key_of};
 ghost use Rattle.sigstore_judgement.specs.declared.trust.LogKind.TheVariants.{Certificates};
 ghost use Rattle.sigstore_judgement.specs.Trust.{window_usable, id_usable, id_new, log_key_of, log_added, logs_added, nonempty, or_certificate, certificate_added, certificates_added, authority_added, authorities_added, with_stamping, stamping_among, material_of};
 
 use crate::error::Error;
 use foundation::{Duplicate, Sequence};
 use path_core::{Anchor, PathError};
-use sigstore_crypto_parts::{Keyring, SigningScheme, VerificationKey};
+use sigstore_keys::{Keyring, SigningScheme, VerificationKey};
 use sigstore_types::{Authority, TrustedLog, TrustedRoot, TsaAuthority};
 use sigstore_types_parts::{
     DerCertificate, DerPublicKey, LogKeyId, Sha256Hash, TimeRange, TypesError,
@@ -72,10 +72,7 @@ fn check_new(id: &Sha256Hash, ring: &Keyring) -> Result<(), Error>
     }
 }
 
-fn bare_key(
-    alloc: Global,
-    der: &DerPublicKey,
-) -> Result<VerificationKey, sigstore_crypto_parts::Error>
+fn bare_key(alloc: Global, der: &DerPublicKey) -> Result<VerificationKey, sigstore_keys::Error>
     ensures ok { IfOk result (λ key. der_key_of RsaPkcs1Sha256 der.now ≡ Ok key) }
     ensures err { IfErr result (λ e. e ≢ crypto.NoMemory → der_key_of RsaPkcs1Sha256 der.now ≡ Err e) }
 {
@@ -92,7 +89,7 @@ fn ct_key(alloc: Global, der: &DerPublicKey) -> Result<VerificationKey, Error>
 {
     match VerificationKey::from_spki(alloc, der) {
         Ok(key) => Ok(key),
-        Err(sigstore_crypto_parts::Error::NoMemory) => Err(Error::NoMemory),
+        Err(sigstore_keys::Error::NoMemory) => Err(Error::NoMemory),
         Err(_) => Ok(bare_key(alloc, der)?),
     }
 }

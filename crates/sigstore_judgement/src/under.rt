@@ -1,6 +1,6 @@
 // The judgement of a bundle under a trust file, both from their bytes.
 ghost use Rattle.std.specs.Prelude.{◌≡◌, ◌≢◌, Ok, Err, IfOk, IfErr};
-ghost use Rattle.sigstore_crypto_parts.specs.Crypto.{crypto_by};
+ghost use Rattle.sigstore_keys.specs.Crypto.{crypto_by};
 ghost use Rattle.sigstore_judgement.specs.Under.{trust_of, bundle_of, Asked, JudgesBundle};
 
 use crate::error::{Error, lowered};
@@ -8,7 +8,7 @@ use crate::policy::Policy;
 use crate::report::Kept;
 use crate::verifier::Verifier;
 use jiff::Timestamp;
-use sigstore_crypto_parts::{ArtifactSource, CryptoProvider};
+use sigstore_keys::{ArtifactSource, CryptoProvider};
 use sigstore_types::{Bundle, TrustedRoot};
 use sigstore_types_parts::Armor;
 use std::alloc::Global;

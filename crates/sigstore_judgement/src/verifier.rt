@@ -1,6 +1,6 @@
 // The verification of a bundle over an artifact.
 ghost use Rattle.std.specs.Prelude.{◌≡◌, ◌≢◌, Ok, Err, IfOk, IfErr};
-ghost use Rattle.sigstore_crypto_parts.specs.Crypto.{crypto_by};
+ghost use Rattle.sigstore_keys.specs.Crypto.{crypto_by};
 ghost use Rattle.sigstore_judgement.specs.Artifact.{Blob, Digest, artifact_of};
 ghost use Rattle.sigstore_judgement.specs.Grounds.{grounds_by, terms_by};
 ghost use Rattle.sigstore_judgement.specs.Policy.{Meaning, meaning_of};
@@ -16,7 +16,7 @@ use crate::report::{Kept, VerificationResult};
 use crate::taking::{digests_in, read_digests};
 use crate::trust::{Material, material_in};
 use jiff::Timestamp;
-use sigstore_crypto_parts::{ArtifactSource, CryptoProvider};
+use sigstore_keys::{ArtifactSource, CryptoProvider};
 use sigstore_types::{Bundle, TrustedRoot};
 use sigstore_types_parts::{Armor, Artifact, ArtifactDigest};
 use std::alloc::Global;

@@ -10,9 +10,9 @@ use Rattle.std.proofs.lemmas.Slice.Eq.{bytes_eq-Decides}
 use Rattle.foundation.specs.Results.{and_true}
 use Rattle.jiff_core.specs.declared.timestamp.Timestamp.{Timestamp}
 use Rattle.sigstore_types_parts.specs.Entries.{text_cmp}
-use Rattle.sigstore_crypto_parts.specs.declared.keyring.HeldKey.{HeldKey}
-use Rattle.sigstore_crypto_parts.specs.Good.{Judge, is_good}
-use Rattle.sigstore_crypto_parts.specs.Keyring.{Ring, is_meant, is_signer, signers_of, lesser, least_of}
+use Rattle.sigstore_keys.specs.declared.keyring.HeldKey.{HeldKey}
+use Rattle.sigstore_keys.specs.Good.{Judge, is_good}
+use Rattle.sigstore_keys.specs.Keyring.{Ring, is_meant, is_signer, signers_of, lesser, least_of}
 use Rattle.sigstore_entries.specs.declared.checkpoint.Checkpoint.{Checkpoint}
 use Rattle.sigstore_entries.specs.declared.signature_line.CheckpointSignature.{CheckpointSignature}
 use Rattle.sigstore_entries.specs.Checkpoint.{signed_data_of}

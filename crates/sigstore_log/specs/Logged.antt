@@ -3,10 +3,10 @@ use Rattle.std.specs.Prelude.{◌≡◌, ◌↔◌, ℕ, List, length, true, fal
 use Rattle.std.specs.Ordering.{is_gt}
 use Rattle.jiff_core.specs.declared.timestamp.Timestamp.{Timestamp}
 use Rattle.sigstore_types_parts.specs.Entries.{text_cmp}
-use Rattle.sigstore_crypto_parts.specs.declared.key.VerificationKey.{VerificationKey}
-use Rattle.sigstore_crypto_parts.specs.declared.keyring.HeldKey.{HeldKey}
-use Rattle.sigstore_crypto_parts.specs.Good.{Judge, is_good}
-use Rattle.sigstore_crypto_parts.specs.Keyring.{Ring, is_meant}
+use Rattle.sigstore_keys.specs.declared.key.VerificationKey.{VerificationKey}
+use Rattle.sigstore_keys.specs.declared.keyring.HeldKey.{HeldKey}
+use Rattle.sigstore_keys.specs.Good.{Judge, is_good}
+use Rattle.sigstore_keys.specs.Keyring.{Ring, is_meant}
 use Rattle.sigstore_merkle.specs.Tree.{leaf_hash, root_from}
 use Rattle.sigstore_entries.specs.declared.checkpoint.Checkpoint.{Checkpoint}
 use Rattle.sigstore_entries.specs.declared.inclusion_proof.InclusionProof.{InclusionProof}

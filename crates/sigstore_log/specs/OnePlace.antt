@@ -1,8 +1,8 @@
 -- Two entries at one place of a log's tree (RFC 6962, section 2.1.1).
 use Rattle.std.specs.Prelude.{◌≡◌, ◌<◌, ◌^◌}
 use Rattle.jiff_core.specs.declared.timestamp.Timestamp.{Timestamp}
-use Rattle.sigstore_crypto_parts.specs.Good.{Judge}
-use Rattle.sigstore_crypto_parts.specs.Keyring.{Ring}
+use Rattle.sigstore_keys.specs.Good.{Judge}
+use Rattle.sigstore_keys.specs.Keyring.{Ring}
 use Rattle.sigstore_merkle.specs.declared.collision.Inclusion.{Inclusion}
 use Rattle.sigstore_merkle.specs.Collision.{OneOrCollision}
 use Rattle.sigstore_entries.specs.declared.entry.TransparencyLogEntry.{TransparencyLogEntry}

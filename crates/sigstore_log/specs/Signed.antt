@@ -5,13 +5,13 @@ use Rattle.std.specs.List.{list_any}
 use Rattle.sha2.specs.Sha256.{sha256}
 use Rattle.foundation.specs.Steps.{◌>>=◌}
 use Rattle.jiff_core.specs.declared.timestamp.Timestamp.{Timestamp}
-use Rattle.sigstore_crypto_parts.specs.declared.error.Error.{Error as CryptoError}
-use Rattle.sigstore_crypto_parts.specs.declared.error.Error.TheVariants as crypto
-use Rattle.sigstore_crypto_parts.specs.declared.error.CheckpointFault.TheVariants as fault
-use Rattle.sigstore_crypto_parts.specs.declared.key.VerificationKey.{VerificationKey}
-use Rattle.sigstore_crypto_parts.specs.Good.{Judge, is_good}
-use Rattle.sigstore_crypto_parts.specs.Key.{spki_key_of}
-use Rattle.sigstore_crypto_parts.specs.Keyring.{Ring, keys_meant, lesser, least_signer_of}
+use Rattle.sigstore_keys.specs.declared.error.Error.{Error as CryptoError}
+use Rattle.sigstore_keys.specs.declared.error.Error.TheVariants as crypto
+use Rattle.sigstore_keys.specs.declared.error.CheckpointFault.TheVariants as fault
+use Rattle.sigstore_keys.specs.declared.key.VerificationKey.{VerificationKey}
+use Rattle.sigstore_keys.specs.Good.{Judge, is_good}
+use Rattle.sigstore_keys.specs.Key.{spki_key_of}
+use Rattle.sigstore_keys.specs.Keyring.{Ring, keys_meant, lesser, least_signer_of}
 use Rattle.sigstore_entries.specs.declared.checkpoint.Checkpoint.{Checkpoint}
 use Rattle.sigstore_entries.specs.declared.inclusion_proof.InclusionProof.{InclusionProof}
 use Rattle.sigstore_entries.specs.declared.kind_version.KindVersion.{KindVersion}

@@ -1,21 +1,21 @@
 // Whose signatures a checkpoint has.
 ghost use Rattle.std.specs.Prelude.{◌≡◌, ◌≢◌, Some, None, is_some, Ok, Err, IfOk, IfErr, OnOk, Result, ⊤, List, ℕ};
 ghost use Rattle.std.specs.List.{list_any};
-ghost use Rattle.sigstore_crypto_parts.specs.Good.{Judge, is_good};
-ghost use Rattle.sigstore_crypto_parts.specs.Keyring.{lesser, least_signer_of};
-ghost use Rattle.sigstore_crypto_parts.specs.declared.error.Error.{Error as CryptoError};
-ghost use Rattle.sigstore_crypto_parts.specs.declared.error.Error.TheVariants as crypto;
+ghost use Rattle.sigstore_keys.specs.Good.{Judge, is_good};
+ghost use Rattle.sigstore_keys.specs.Keyring.{lesser, least_signer_of};
+ghost use Rattle.sigstore_keys.specs.declared.error.Error.{Error as CryptoError};
+ghost use Rattle.sigstore_keys.specs.declared.error.Error.TheVariants as crypto;
 ghost use Rattle.sigstore_entries.specs.Checkpoint.{signed_data_of};
 ghost use Rattle.sigstore_log.specs.Signed.{looked_at, is_signed_by, line_signer, least_signer_in, signer_of, proof_signer, is_of_tree, checkpoint_judged};
 ghost use Rattle.sigstore_log.specs.Signed.{has_hint, is_line_good, hinted_of, verified_of};
 
 use crate::error::LogError;
 use jiff::Timestamp;
-use sigstore_crypto_parts::{
+use sigstore_entries::{Checkpoint, CheckpointSignature, InclusionProof, KindVersion};
+use sigstore_keys::{
     CheckpointFault, CryptoProvider, Error, HashedMessage, Keyring, VerificationKey,
     compute_key_hint,
 };
-use sigstore_entries::{Checkpoint, CheckpointSignature, InclusionProof, KindVersion};
 use sigstore_types_parts::{DerPublicKey, KeyHint, Sha256Hash};
 use std::alloc::Global;
 

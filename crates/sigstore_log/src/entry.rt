@@ -7,8 +7,8 @@ use crate::error::LogError;
 use crate::inclusion::check_inclusion;
 use crate::promise::judge_promise;
 use jiff::Timestamp;
-use sigstore_crypto_parts::{CryptoProvider, Keyring};
 use sigstore_entries::{InclusionProof, TransparencyLogEntry};
+use sigstore_keys::{CryptoProvider, Keyring};
 use sigstore_types_parts::Sha256Hash;
 use std::alloc::Global;
 

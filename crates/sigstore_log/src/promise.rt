@@ -5,8 +5,8 @@ ghost use Rattle.sigstore_log.specs.Promise.{id_of, key_of, is_promised, promise
 
 use crate::error::LogError;
 use jiff::Timestamp;
-use sigstore_crypto_parts::{CryptoProvider, Keyring, VerificationKey};
 use sigstore_entries::{KindVersion, TransparencyLogEntry, promise_payload};
+use sigstore_keys::{CryptoProvider, Keyring, VerificationKey};
 use sigstore_types_parts::{LogKeyId, Sha256Hash, SignatureBytes, SignedTimestamp, at_second};
 use std::alloc::Global;
 

@@ -3,7 +3,7 @@ use Rattle.std.proofs.Common.{◌≡◌, Bool, true, false, ◌||◌, List, ◌�
 use Rattle.std.specs.Prelude.{⊤}
 use Rattle.std.specs.List.{list_any}
 use Rattle.sigstore_types.specs.declared.authority.TsaAuthority.{TsaAuthority}
-use Rattle.sigstore_crypto_parts.specs.Good.{Judge}
+use Rattle.sigstore_keys.specs.Good.{Judge}
 use Rattle.sigstore_tsa_parts.specs.declared.error.Error.{Error}
 use Rattle.sigstore_tsa.specs.declared.stamp.Stamp.{Stamp}
 use Rattle.sigstore_tsa.specs.Authorities.{is_accepted, is_of_window, is_outside, answered}

@@ -5,11 +5,11 @@ use Rattle.std.proofs.lemmas.Slice.Eq.{bytes_eq-Decides}
 use Rattle.foundation.specs.Steps.{◌>>=◌}
 use Rattle.foundation.specs.Results.{step_ok, ok_same, err_same, refused_at, and_true}
 use Rattle.jiff_core.specs.declared.timestamp.Timestamp.{Timestamp}
-use Rattle.der_core_parts.specs.Grammar.{read_all}
-use Rattle.der_core_parts.specs.Octets.{octet_string_type}
-use Rattle.der_core_parts.specs.Outcome.{Outcome}
+use Rattle.der_grammar.specs.Grammar.{read_all}
+use Rattle.der_grammar.specs.Octets.{octet_string_type}
+use Rattle.der_grammar.specs.Outcome.{Outcome}
 use Rattle.x509_core.specs.declared.attribute.Attribute.{Attribute}
-use Rattle.x509_core_parts.specs.Certificates.{Certificate, certificate_of}
+use Rattle.x509_views.specs.Certificates.{Certificate, certificate_of}
 use Rattle.cms_parts.specs.declared.content_info.ContentInfo.{ContentInfo}
 use Rattle.cms_parts.specs.declared.signed_data.EncapsulatedContentInfo.{EncapsulatedContentInfo}
 use Rattle.cms_parts.specs.declared.signed_data.SignedData.{SignedData}
@@ -21,16 +21,16 @@ use Rattle.sigstore_types_parts.specs.declared.hash_algorithm.HashAlgorithm.{Has
 use Rattle.sigstore_types_parts.specs.declared.time_range.TimeRange.{TimeRange}
 use Rattle.sigstore_types_parts.specs.TimeRange.{has_started, ends_by, contains}
 use Rattle.sigstore_types.specs.declared.authority.TsaAuthority.{TsaAuthority}
-use Rattle.sigstore_crypto_parts.specs.declared.error.Error.{Error as CryptoError}
-use Rattle.sigstore_crypto_parts.specs.declared.key.VerificationKey.{VerificationKey}
-use Rattle.sigstore_crypto_parts.specs.declared.scheme.KeyAlgorithm.{KeyAlgorithm}
-use Rattle.sigstore_crypto_parts.specs.declared.scheme.KeyAlgorithm.TheVariants as sort
-use Rattle.sigstore_crypto_parts.specs.Key.{spki_key_under}
-use Rattle.sigstore_crypto_parts.specs.KeyAlgorithm.{algorithm_of_spki}
-use Rattle.sigstore_crypto_parts.specs.Scheme.{resolved_of}
-use Rattle.sigstore_crypto_parts.specs.Digest.{digest_by}
-use Rattle.sigstore_crypto_parts.specs.Good.{Judge}
-use Rattle.sigstore_crypto_parts.specs.Keyring.{is_used_at}
+use Rattle.sigstore_keys.specs.declared.error.Error.{Error as CryptoError}
+use Rattle.sigstore_keys.specs.declared.key.VerificationKey.{VerificationKey}
+use Rattle.sigstore_keys.specs.declared.scheme.KeyAlgorithm.{KeyAlgorithm}
+use Rattle.sigstore_keys.specs.declared.scheme.KeyAlgorithm.TheVariants as sort
+use Rattle.sigstore_keys.specs.Key.{spki_key_under}
+use Rattle.sigstore_keys.specs.KeyAlgorithm.{algorithm_of_spki}
+use Rattle.sigstore_keys.specs.Scheme.{resolved_of}
+use Rattle.sigstore_keys.specs.Digest.{digest_by}
+use Rattle.sigstore_keys.specs.Good.{Judge}
+use Rattle.sigstore_keys.specs.Keyring.{is_used_at}
 use Rattle.path_core.specs.declared.route.FoundPath.{FoundPath}
 use Rattle.path_core.specs.Anchors.{may_anchor, is_since_1970}
 use Rattle.path_core.specs.Path.{path_of}

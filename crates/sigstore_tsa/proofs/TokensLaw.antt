@@ -6,7 +6,7 @@ use Rattle.foundation.specs.Steps.{◌>>=◌}
 use Rattle.foundation.specs.Results.{step_ok, ok_same, err_same}
 use Rattle.jiff_core.specs.declared.timestamp.Timestamp.{Timestamp}
 use Rattle.sigstore_types.specs.declared.authority.TsaAuthority.{TsaAuthority}
-use Rattle.sigstore_crypto_parts.specs.Good.{Judge}
+use Rattle.sigstore_keys.specs.Good.{Judge}
 use Rattle.sigstore_tsa_parts.specs.declared.content.TokenContent.{TokenContent}
 use Rattle.sigstore_tsa_parts.specs.declared.error.Error.{Error}
 use Rattle.sigstore_tsa_parts.specs.declared.error.Error.TheVariants as refusal

@@ -3,7 +3,7 @@ use Rattle.std.specs.Prelude.{◌≡◌, ◌↔◌, ℕ, List, Contains, Bool, t
 use Rattle.std.specs.List.{list_any}
 use Rattle.jiff_core.specs.declared.timestamp.Timestamp.{Timestamp}
 use Rattle.sigstore_types.specs.declared.authority.TsaAuthority.{TsaAuthority}
-use Rattle.sigstore_crypto_parts.specs.Good.{Judge}
+use Rattle.sigstore_keys.specs.Good.{Judge}
 use Rattle.sigstore_tsa_parts.specs.declared.error.Error.{Error}
 use Rattle.sigstore_tsa_parts.specs.declared.error.Error.TheVariants.{TimestampOutsideValidity}
 use Rattle.sigstore_tsa_parts.specs.Error.{Judged}

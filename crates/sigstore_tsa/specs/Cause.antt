@@ -1,8 +1,8 @@
 -- What each refusal of a token under an authority tells, without any order of checks (RFC 3161; RFC 5652; RFC 5280).
 use Rattle.std.specs.Prelude.{◌≡◌, ℕ, List, [], ◌∷◌, false, bytes_eq, Some, None, Result, Ok, Err}
-use Rattle.der_core_parts.specs.Grammar.{read_all}
+use Rattle.der_grammar.specs.Grammar.{read_all}
 use Rattle.x509_core.specs.declared.attribute.Attribute.{Attribute}
-use Rattle.x509_core_parts.specs.Certificates.{Certificate, certificate_of}
+use Rattle.x509_views.specs.Certificates.{Certificate, certificate_of}
 use Rattle.cms_parts.specs.declared.content_info.ContentInfo.{ContentInfo}
 use Rattle.cms_parts.specs.declared.signed_data.SignedData.{SignedData}
 use Rattle.cms_parts.specs.declared.signed_data.SignerInfo.{SignerInfo}
@@ -12,9 +12,9 @@ use Rattle.cms_parts.specs.SignedData.{signed_data_type}
 use Rattle.sigstore_types_parts.specs.declared.hash_algorithm.HashAlgorithm.{HashAlgorithm}
 use Rattle.sigstore_types_parts.specs.TimeRange.{has_started, ends_by}
 use Rattle.sigstore_types.specs.declared.authority.TsaAuthority.{TsaAuthority}
-use Rattle.sigstore_crypto_parts.specs.declared.key.VerificationKey.{VerificationKey}
-use Rattle.sigstore_crypto_parts.specs.Digest.{digest_by}
-use Rattle.sigstore_crypto_parts.specs.Good.{Judge}
+use Rattle.sigstore_keys.specs.declared.key.VerificationKey.{VerificationKey}
+use Rattle.sigstore_keys.specs.Digest.{digest_by}
+use Rattle.sigstore_keys.specs.Good.{Judge}
 use Rattle.path_core.specs.Anchors.{may_anchor, is_since_1970}
 use Rattle.path_core.specs.Path.{path_of}
 use Rattle.path_core.specs.Traits.{window_of}

@@ -1,30 +1,30 @@
 -- The signer of a token under an authority's certificate (RFC 5652, 5.3, 5.4 and 5.6; RFC 3161, 2.4.2).
 use Rattle.std.specs.Prelude.{ℕ, List, [], ◌∷◌, Bool, false, ◌&&◌, bytes_eq, ⊤, Option, Some, None, Result, Ok, Err, if◌then◌else◌}
 use Rattle.foundation.specs.Steps.{◌>>=◌}
-use Rattle.der_core_parts.specs.Grammar.{write}
-use Rattle.der_core_parts.specs.Octets.{octet_string_type}
-use Rattle.der_core_parts.specs.Outcome.{Outcome}
-use Rattle.der_core_parts.specs.Types.{set_of_type}
+use Rattle.der_grammar.specs.Grammar.{write}
+use Rattle.der_grammar.specs.Octets.{octet_string_type}
+use Rattle.der_grammar.specs.Outcome.{Outcome}
+use Rattle.der_grammar.specs.Types.{set_of_type}
 use Rattle.spki_core.specs.Reading.{Reading}
 use Rattle.x509_core.specs.declared.attribute.Attribute.{Attribute}
 use Rattle.x509_core.specs.Kinds.{name_type, subject_key_identifier_type}
 use Rattle.x509_core.specs.Types.{attribute_type}
-use Rattle.x509_core_parts.specs.Certificates.{Certificate, certificate_of}
-use Rattle.x509_core_parts.specs.Extensions.{Found, found_in}
+use Rattle.x509_views.specs.Certificates.{Certificate, certificate_of}
+use Rattle.x509_views.specs.Extensions.{Found, found_in}
 use Rattle.cms_parts.specs.declared.signed_data.SignerIdentifier.{SignerIdentifier}
 use Rattle.cms_parts.specs.declared.signed_data.SignerIdentifier.TheVariants.{IssuerAndSerialNumber, SubjectKeyIdentifier}
 use Rattle.cms_parts.specs.declared.signed_data.SignerInfo.{SignerInfo}
 use Rattle.cms_parts.specs.Identifiers.{message_digest_oid}
 use Rattle.sigstore_types_parts.specs.declared.hash_algorithm.HashAlgorithm.{HashAlgorithm}
-use Rattle.sigstore_crypto_parts.specs.declared.error.Error.{Error as CryptoError}
-use Rattle.sigstore_crypto_parts.specs.declared.key.VerificationKey.{VerificationKey}
-use Rattle.sigstore_crypto_parts.specs.declared.scheme.KeyAlgorithm.{KeyAlgorithm}
-use Rattle.sigstore_crypto_parts.specs.declared.scheme.KeyAlgorithm.TheVariants as sort
-use Rattle.sigstore_crypto_parts.specs.Digest.{digest_by}
-use Rattle.sigstore_crypto_parts.specs.Good.{Judge, is_good}
-use Rattle.sigstore_crypto_parts.specs.Key.{spki_key_under}
-use Rattle.sigstore_crypto_parts.specs.KeyAlgorithm.{algorithm_of_spki}
-use Rattle.sigstore_crypto_parts.specs.Scheme.{resolved_of}
+use Rattle.sigstore_keys.specs.declared.error.Error.{Error as CryptoError}
+use Rattle.sigstore_keys.specs.declared.key.VerificationKey.{VerificationKey}
+use Rattle.sigstore_keys.specs.declared.scheme.KeyAlgorithm.{KeyAlgorithm}
+use Rattle.sigstore_keys.specs.declared.scheme.KeyAlgorithm.TheVariants as sort
+use Rattle.sigstore_keys.specs.Digest.{digest_by}
+use Rattle.sigstore_keys.specs.Good.{Judge, is_good}
+use Rattle.sigstore_keys.specs.Key.{spki_key_under}
+use Rattle.sigstore_keys.specs.KeyAlgorithm.{algorithm_of_spki}
+use Rattle.sigstore_keys.specs.Scheme.{resolved_of}
 use Rattle.sigstore_tsa_parts.specs.declared.error.Error.TheVariants.{SignatureVerificationError}
 use Rattle.sigstore_tsa_parts.specs.declared.error.ParseRule.TheVariants as parse
 use Rattle.sigstore_tsa_parts.specs.declared.error.SignatureRule.{SignatureRule}

@@ -2,13 +2,13 @@
 use Rattle.std.specs.Prelude.{ℕ, List, pos, bytes_eq, ⊤, Ok, Err, if◌then◌else◌}
 use Rattle.foundation.specs.Steps.{◌>>=◌}
 use Rattle.jiff_core.specs.declared.timestamp.Timestamp.{Timestamp}
-use Rattle.der_core_parts.specs.Outcome.{Outcome}
+use Rattle.der_grammar.specs.Outcome.{Outcome}
 use Rattle.der_core.specs.declared.civil.Civil.{Civil}
 use Rattle.der_core.specs.Times.{generalized_of}
 use Rattle.sigstore_types_parts.specs.declared.hash_algorithm.HashAlgorithm.{HashAlgorithm}
 use Rattle.sigstore_types_parts.specs.Instant.{at_nanosecond}
-use Rattle.sigstore_crypto.specs.Info.{moment_of}
-use Rattle.sigstore_crypto_parts.specs.Digest.{digest_by}
+use Rattle.certificate_claims.specs.Info.{moment_of}
+use Rattle.sigstore_keys.specs.Digest.{digest_by}
 use Rattle.path_core.specs.Anchors.{is_since_1970}
 use Rattle.sigstore_tsa_parts.specs.declared.content.TokenContent.{TokenContent}
 use Rattle.sigstore_tsa_parts.specs.declared.error.Error.TheVariants.{HashMismatch, Parse}

@@ -3,15 +3,15 @@ use Rattle.std.specs.Prelude.{◌≡◌, ◌↔◌, ℕ, List, ◌∷◌, false,
 use Rattle.foundation.specs.Steps.{◌>>=◌}
 use Rattle.jiff_core.specs.declared.timestamp.Timestamp.{Timestamp}
 use Rattle.x509_core.specs.declared.attribute.Attribute.{Attribute}
-use Rattle.x509_core_parts.specs.Certificates.{Certificate, certificate_of}
+use Rattle.x509_views.specs.Certificates.{Certificate, certificate_of}
 use Rattle.cms_parts.specs.declared.signed_data.SignerInfo.{SignerInfo}
 use Rattle.sigstore_types_parts.specs.declared.hash_algorithm.HashAlgorithm.{HashAlgorithm}
 use Rattle.sigstore_types_parts.specs.TimeRange.{contains}
 use Rattle.sigstore_types.specs.declared.authority.TsaAuthority.{TsaAuthority}
-use Rattle.sigstore_crypto_parts.specs.declared.key.VerificationKey.{VerificationKey}
-use Rattle.sigstore_crypto_parts.specs.Digest.{digest_by}
-use Rattle.sigstore_crypto_parts.specs.Good.{Judge}
-use Rattle.sigstore_crypto_parts.specs.Keyring.{is_used_at}
+use Rattle.sigstore_keys.specs.declared.key.VerificationKey.{VerificationKey}
+use Rattle.sigstore_keys.specs.Digest.{digest_by}
+use Rattle.sigstore_keys.specs.Good.{Judge}
+use Rattle.sigstore_keys.specs.Keyring.{is_used_at}
 use Rattle.path_core.specs.declared.route.FoundPath.{FoundPath}
 use Rattle.path_core.specs.Anchors.{may_anchor, is_since_1970}
 use Rattle.path_core.specs.Paths.{IsFound}

@@ -2,12 +2,12 @@
 use Rattle.std.specs.Prelude.{[], ◌∷◌, ⊤, Option, None, Result, Ok, Err, if◌then◌else◌}
 use Rattle.foundation.specs.Steps.{◌>>=◌}
 use Rattle.jiff_core.specs.declared.timestamp.Timestamp.{Timestamp}
-use Rattle.x509_core_parts.specs.Certificates.{Certificate}
+use Rattle.x509_views.specs.Certificates.{Certificate}
 use Rattle.sigstore_types_parts.specs.declared.time_range.TimeRange.{TimeRange}
 use Rattle.sigstore_types_parts.specs.TimeRange.{has_started, ends_by}
 use Rattle.sigstore_types.specs.declared.authority.TsaAuthority.{TsaAuthority}
-use Rattle.sigstore_crypto_parts.specs.Good.{Judge}
-use Rattle.sigstore_crypto_parts.specs.Keyring.{is_used_at}
+use Rattle.sigstore_keys.specs.Good.{Judge}
+use Rattle.sigstore_keys.specs.Keyring.{is_used_at}
 use Rattle.path_core.specs.declared.purpose.Purpose.TheVariants.{TimeStamping}
 use Rattle.path_core.specs.Anchors.{TrustAnchor, may_anchor}
 use Rattle.path_core.specs.Path.{path_of}

@@ -6,7 +6,7 @@ ghost use Rattle.sigstore_tsa.specs.declared.authorities.TokenFault.TheVariants 
 use crate::stamp::{Stamp, read_stamp};
 use crate::verify::judge_stamp;
 use jiff::Timestamp;
-use sigstore_crypto_parts::CryptoProvider;
+use sigstore_keys::CryptoProvider;
 use sigstore_tsa_parts::Error;
 use sigstore_types::TsaAuthority;
 use sigstore_types_parts::{SignatureBytes, TimestampToken};

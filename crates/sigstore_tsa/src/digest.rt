@@ -1,12 +1,12 @@
 // Digests that a token tells.
 ghost use Rattle.std.specs.Prelude.{◌≡◌, ◌≢◌, Ok, Err, IfOk, IfErr};
-ghost use Rattle.sigstore_crypto_parts.specs.Digest.{digest_by};
+ghost use Rattle.sigstore_keys.specs.Digest.{digest_by};
 ghost use Rattle.sigstore_tsa_parts.specs.declared.error.Error.TheVariants.{HashMismatch};
 ghost use Rattle.sigstore_tsa.specs.Stamp.{known, same_digest};
 
 use der_core::ObjectIdentifier;
 use foundation::NoMemory;
-use sigstore_crypto_parts::{sha256, sha384, sha512};
+use sigstore_keys::{sha256, sha384, sha512};
 use sigstore_tsa_parts::{Error, ParseRule, digest_named};
 use sigstore_types_parts::{Bytes, HashAlgorithm};
 use std::alloc::Global;

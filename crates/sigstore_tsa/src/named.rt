@@ -1,9 +1,9 @@
 // Whom a token names as its signer.
 ghost use Rattle.std.specs.Prelude.{◌≡◌, ◌≢◌, ◌∷◌, [], Ok, Err, IfOk, IfErr, option_copied};
-ghost use Rattle.der_core_parts.specs.Grammar.{write};
-ghost use Rattle.x509_core_parts.specs.Certificates.{certificate_of};
-ghost use Rattle.x509_core_parts.specs.Extensions.{found_in};
-ghost use Rattle.x509_core_parts.specs.Views.{certificate_parts};
+ghost use Rattle.der_grammar.specs.Grammar.{write};
+ghost use Rattle.x509_views.specs.Certificates.{certificate_of};
+ghost use Rattle.x509_views.specs.Extensions.{found_in};
+ghost use Rattle.x509_views.specs.Views.{certificate_parts};
 ghost use Rattle.sigstore_tsa.specs.Signer.{is_written, has_identifier, is_named, leaf_read, first_signer, named_of};
 
 use cms_parts::signed_data::{SignerIdentifier, SignerInfo};
@@ -12,7 +12,7 @@ use foundation::NoMemory;
 use sigstore_tsa_parts::{Error, SignatureRule};
 use std::alloc::Global;
 use x509_core::SubjectKeyIdentifier;
-use x509_core_parts::{CertView, X509Error};
+use x509_views::{CertView, X509Error};
 
 // Whether octets are what a value is written as.
 fn is_written<T: Der>(alloc: Global, value: &T, octets: &[u8]) -> Result<bool, NoMemory>

@@ -1,7 +1,7 @@
 // What a token's signer signed.
 ghost use Rattle.std.specs.Prelude.{◌≡◌, ◌≢◌, Ok, Err, IfOk, IfErr, option_copied};
 ghost use Rattle.cms_parts.specs.Identifiers.{message_digest_oid};
-ghost use Rattle.sigstore_crypto_parts.specs.KeyAlgorithm.{algorithm_of_spki};
+ghost use Rattle.sigstore_keys.specs.KeyAlgorithm.{algorithm_of_spki};
 ghost use Rattle.sigstore_tsa.specs.Signer.{some_or_rule, only_from, only_value, digest_in, values_in, digest_told_of, of_curve, curve_read, key_of, is_signed, signed_of};
 ghost use Rattle.sigstore_tsa_parts.specs.declared.error.SignatureRule.TheVariants as rule;
 
@@ -9,7 +9,7 @@ use crate::digest::{check_digest, known};
 use cms_parts::signed_data::{SignedAttributes, SignerInfo};
 use der_core::{Any, Der, DerError, OctetString};
 use foundation::NoMemory;
-use sigstore_crypto_parts::{CryptoProvider, KeyAlgorithm, VerificationKey};
+use sigstore_keys::{CryptoProvider, KeyAlgorithm, VerificationKey};
 use sigstore_tsa_parts::{Error, ParseRule, SignatureRule, value_in};
 use sigstore_types_parts::{DerPublicKey, HashAlgorithm, SignatureBytes};
 use std::alloc::Global;
@@ -104,7 +104,7 @@ fn key_of(
     };
     match VerificationKey::from_spki_with_scheme(alloc, spki, scheme) {
         Ok(key) => Ok(key),
-        Err(sigstore_crypto_parts::Error::NoMemory) => Err(Error::NoMemory),
+        Err(sigstore_keys::Error::NoMemory) => Err(Error::NoMemory),
         Err(_) => Err(Error::SignatureVerificationError(SignatureRule::Key)),
     }
 }

@@ -7,7 +7,7 @@ use crate::signed::check_signer;
 use crate::stamp::{Stamp, read_stamp};
 use crate::vouched::check_authority;
 use jiff::Timestamp;
-use sigstore_crypto_parts::CryptoProvider;
+use sigstore_keys::CryptoProvider;
 use sigstore_tsa_parts::Error;
 use sigstore_types::TsaAuthority;
 use sigstore_types_parts::{SignatureBytes, TimestampToken};

@@ -1,6 +1,6 @@
 // Whether an authority's certificates vouch for its leaf.
 ghost use Rattle.std.specs.Prelude.{◌≡◌, ◌≢◌, Ok, Err, IfOk, IfErr};
-ghost use Rattle.x509_core_parts.specs.Views.{certificate_parts};
+ghost use Rattle.x509_views.specs.Views.{certificate_parts};
 ghost use Rattle.path_core.specs.declared.route.FoundPath.{FoundPath as Found};
 ghost use Rattle.path_core.specs.Anchors.{may_anchor};
 ghost use Rattle.path_core.specs.Path.{path_of};
@@ -12,12 +12,12 @@ use crate::moment::moment;
 use foundation::Sequence;
 use jiff::Timestamp;
 use path_core::{Anchor, PathError, Purpose, Steps, find_path};
-use sigstore_crypto_parts::CryptoProvider;
+use sigstore_keys::CryptoProvider;
 use sigstore_tsa_parts::{CertificateFault, Error};
 use sigstore_types::TsaAuthority;
 use sigstore_types_parts::TimeRange;
 use std::alloc::Global;
-use x509_core_parts::CertView;
+use x509_views::CertView;
 
 fn root(alloc: Global, authority: &TsaAuthority) -> Result<Anchor, Error>
     ensures ok { IfOk result (λ anchor. (or_fault fault.Root (may_anchor authority.now.root) ≡ Ok tt) × (anchor ≡ root_anchor authority.now)) }

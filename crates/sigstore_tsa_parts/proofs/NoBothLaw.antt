@@ -2,11 +2,11 @@
 use Rattle.std.proofs.Common.{◌≡◌, ℕ, List, true, eqb, Ok, refl, sym, subst, ◌∙◌}
 use Rattle.std.proofs.lemmas.Bool.{eqb-true}
 use Rattle.foundation.specs.Steps.{◌>>=◌}
-use Rattle.der_core_parts.specs.declared.error.DerError.TheVariants.{Tag}
-use Rattle.der_core_parts.specs.Tlv.{tlv_at}
-use Rattle.der_core_parts.specs.TlvLaws.{bind_ok, ok_is, passed}
-use Rattle.der_core_parts.specs.Grammar.{Grammar, Fields, sequence, both, mapped_fields, one, read, read_body, read_all, ended}
-use Rattle.der_core_parts.specs.Types.{optional_component, required_component, any_type, explicit_type}
+use Rattle.der_grammar.specs.declared.error.DerError.TheVariants.{Tag}
+use Rattle.der_grammar.specs.Tlv.{tlv_at}
+use Rattle.der_grammar.specs.TlvLaws.{bind_ok, ok_is, passed}
+use Rattle.der_grammar.specs.Grammar.{Grammar, Fields, sequence, both, mapped_fields, one, read, read_body, read_all, ended}
+use Rattle.der_grammar.specs.Types.{optional_component, required_component, any_type, explicit_type}
 use Rattle.der_core.specs.Oid.{oid_type}
 use Rattle.cms_parts.specs.declared.content_info.ContentInfo.{ContentInfo}
 use Rattle.cms_parts.specs.ContentInfo.{content_info_type}

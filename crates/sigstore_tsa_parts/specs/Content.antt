@@ -1,9 +1,9 @@
 -- What a token says: the response that holds it, its signed data, and the information that is signed (RFC 3161, 2.4.2; RFC 5652, 3 and 5).
 use Rattle.std.specs.Prelude.{ℕ, List, Bool, nat_lt, bytes_eq, Option, Some, None, Ok, Err, if◌then◌else◌}
 use Rattle.foundation.specs.Steps.{◌>>=◌}
-use Rattle.der_core_parts.specs.declared.error.DerError.TheVariants.{Tag}
-use Rattle.der_core_parts.specs.Grammar.{Grammar, read_all}
-use Rattle.der_core_parts.specs.Outcome.{Outcome}
+use Rattle.der_grammar.specs.declared.error.DerError.TheVariants.{Tag}
+use Rattle.der_grammar.specs.Grammar.{Grammar, read_all}
+use Rattle.der_grammar.specs.Outcome.{Outcome}
 use Rattle.cms_parts.specs.declared.content_info.ContentInfo.{ContentInfo}
 use Rattle.cms_parts.specs.declared.signed_data.EncapsulatedContentInfo.{EncapsulatedContentInfo}
 use Rattle.cms_parts.specs.declared.signed_data.SignedData.{SignedData}

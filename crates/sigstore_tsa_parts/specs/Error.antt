@@ -1,8 +1,8 @@
 -- The refusals: their numbers, and what a refusal of DER is here.
 use Rattle.std.specs.Prelude.{ℕ, Option, Some, None, Result, Ok, Err}
-use Rattle.der_core_parts.specs.declared.error.DerError.{DerError}
-use Rattle.der_core_parts.specs.declared.error.DerError.TheVariants as der
-use Rattle.der_core_parts.specs.Outcome.{Outcome}
+use Rattle.der_grammar.specs.declared.error.DerError.{DerError}
+use Rattle.der_grammar.specs.declared.error.DerError.TheVariants as der
+use Rattle.der_grammar.specs.Outcome.{Outcome}
 use Rattle.sigstore_tsa_parts.specs.declared.error.Error.{Error}
 use Rattle.sigstore_tsa_parts.specs.declared.error.Error.TheVariants.{Asn1, InvalidResponse, SignatureVerificationError}
 use Rattle.sigstore_tsa_parts.specs.declared.error.Error.TheVariants.{HashMismatch, NoTstInfo, CertificateValidationError, Parse}

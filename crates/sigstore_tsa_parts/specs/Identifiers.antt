@@ -1,6 +1,6 @@
 -- Object identifiers, each as its contents, and the digests that they name.
 use Rattle.std.specs.Prelude.{ℕ, List, [], ◌∷◌, bytes_eq, Option, Some, None, Result, Ok, Err, if◌then◌else◌}
-use Rattle.der_core_parts.specs.declared.error.DerError.TheVariants.{Oid}
+use Rattle.der_grammar.specs.declared.error.DerError.TheVariants.{Oid}
 use Rattle.sigstore_types_parts.specs.declared.hash_algorithm.HashAlgorithm.{HashAlgorithm}
 use Rattle.sigstore_types_parts.specs.declared.hash_algorithm.HashAlgorithm.TheVariants.{Sha2256, Sha2384, Sha2512, Sha3256, Sha3384}
 use Rattle.sigstore_tsa_parts.specs.declared.algorithm.AlgorithmIdentifier.{AlgorithmIdentifier}

@@ -1,6 +1,6 @@
 -- No bytes are both a response and a token, so that the two readings of a bundle's token can't disagree.
 use Rattle.std.specs.Prelude.{◌≡◌, ℕ, List, Ok}
-use Rattle.der_core_parts.specs.Grammar.{read_all}
+use Rattle.der_grammar.specs.Grammar.{read_all}
 use Rattle.cms_parts.specs.declared.content_info.ContentInfo.{ContentInfo}
 use Rattle.cms_parts.specs.ContentInfo.{content_info_type}
 use Rattle.sigstore_tsa_parts.specs.declared.response.TimeStampResp.{TimeStampResp}

@@ -1,7 +1,7 @@
 -- Requests of a time stamp (RFC 3161, 2.4.1).
 use Rattle.std.specs.Prelude.{ℕ, List, true, Some, None, nat_lt, length, Ok, Err, if◌then◌else◌}
 use Rattle.foundation.specs.Steps.{◌>>=◌}
-use Rattle.der_core_parts.specs.declared.error.DerError.TheVariants.{TooLong}
+use Rattle.der_grammar.specs.declared.error.DerError.TheVariants.{TooLong}
 use Rattle.der_numbers.specs.Numbers.{contents_of}
 use Rattle.sigstore_types_parts.specs.declared.hash_algorithm.HashAlgorithm.{HashAlgorithm}
 use Rattle.sigstore_tsa_parts.specs.declared.algorithm.AlgorithmIdentifier.{AlgorithmIdentifier}

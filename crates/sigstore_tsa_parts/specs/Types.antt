@@ -1,10 +1,10 @@
 -- What each type of the Time-Stamp Protocol looks like in DER (RFC 3161).
 use Rattle.std.specs.Prelude.{ℕ, Bool, List, Option, refl}
-use Rattle.der_core_parts.specs.Types.{AsnType, Components, sequence_type, sequence_of_type, implicit_type, explicit_type, any_type, components_as}
-use Rattle.der_core_parts.specs.Types.{followed_by, required_component, optional_component}
-use Rattle.der_core_parts.specs.Booleans.{false_by_default}
-use Rattle.der_core_parts.specs.Octets.{octet_string_type}
-use Rattle.der_core_parts.specs.Tags.{constructed_0_tag, primitive_1_tag, integer_tag, sequence_tag}
+use Rattle.der_grammar.specs.Types.{AsnType, Components, sequence_type, sequence_of_type, implicit_type, explicit_type, any_type, components_as}
+use Rattle.der_grammar.specs.Types.{followed_by, required_component, optional_component}
+use Rattle.der_grammar.specs.Booleans.{false_by_default}
+use Rattle.der_grammar.specs.Octets.{octet_string_type}
+use Rattle.der_grammar.specs.Tags.{constructed_0_tag, primitive_1_tag, integer_tag, sequence_tag}
 use Rattle.der_core.specs.Oid.{oid_type}
 use Rattle.der_core.specs.Strings.{int_type, bit_string_type, utf8_type}
 use Rattle.der_core.specs.Times.{generalized_time_type}

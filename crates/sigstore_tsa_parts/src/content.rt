@@ -1,6 +1,6 @@
 // What a token says, from its bytes.
 ghost use Rattle.std.specs.Prelude.{◌≡◌, ◌≢◌, [], Ok, Err, IfOk, IfErr};
-ghost use Rattle.der_core_parts.specs.Grammar.{read_all};
+ghost use Rattle.der_grammar.specs.Grammar.{read_all};
 ghost use Rattle.sigstore_tsa_parts.specs.Content.{value_in, token_of, content_info_by, content_info_of, signed_data_of, octets_of, content_of, tst_info_of, said_of, content_in, token_content_of};
 ghost use Rattle.sigstore_tsa_parts.specs.Error.{or_parse};
 

@@ -1,7 +1,7 @@
 // What a token says.
 ghost use Rattle.std.specs.Prelude.{◌≡◌, ◌≢◌, IfOk, IfErr, OnOk, OnErr, Ok, Err};
-ghost use Rattle.der_core_parts.specs.Outcome.{IsTooLong};
-ghost use Rattle.der_core_parts.specs.Grammar.{Appended, KeepsFront};
+ghost use Rattle.der_grammar.specs.Outcome.{IsTooLong};
+ghost use Rattle.der_grammar.specs.Grammar.{Appended, KeepsFront};
 ghost use Rattle.sigstore_tsa_parts.specs.Types.{tst_info_head, head_of, tst_info_tail, tail_of, tst_info_type};
 
 use crate::accuracy::Accuracy;

@@ -1,7 +1,7 @@
 -- A call that carries the floor carries it too where memory was then wanting.
 use Rattle.std.proofs.Common.{Result, Ok, Err, refl}
 use Rattle.std.specs.Prelude.{⊤}
-use Rattle.sigstore_crypto_parts.specs.Crypto.{Crypto}
+use Rattle.sigstore_keys.specs.Crypto.{Crypto}
 use Rattle.sigstore_tuf_text.specs.declared.error.Error.{Error}
 use Rattle.sigstore_tuf_text.specs.declared.error.Error.TheVariants as tuf
 use Rattle.sigstore_tuf_runs.specs.State.{State}

@@ -8,7 +8,7 @@ ghost use Rattle.sigstore_tuf_runs.specs.Promises.{Attached, Refreshed, Informed
 
 use crate::trusted::TrustedMetadataSet;
 use foundation::Duplicate;
-use sigstore_crypto_parts::CryptoProvider;
+use sigstore_keys::CryptoProvider;
 use sigstore_tuf_client::{attach, find_chain, find_info, run_steps};
 use sigstore_tuf_outside::{MetadataStore, Repository};
 use sigstore_tuf_parts::{Error, TargetFile};

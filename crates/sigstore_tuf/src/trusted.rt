@@ -1,7 +1,7 @@
 // The documents in force, with who judges their signatures.
 ghost use Rattle.std.specs.Prelude.{◌≡◌, ◌≢◌, Ok, Err, IfOk, IfErr, OnOk, None, Some, codes, option_copied, option_map};
 ghost use Rattle.std.specs.List.{last_or};
-ghost use Rattle.sigstore_crypto_parts.specs.Crypto.{crypto_by};
+ghost use Rattle.sigstore_keys.specs.Crypto.{crypto_by};
 ghost use Rattle.sigstore_tuf_parts.specs.Document.{content_in};
 ghost use Rattle.sigstore_types_parts.specs.Entries.{at_name};
 ghost use Rattle.sigstore_tuf_rules.specs.Documents.{content_of};
@@ -12,7 +12,7 @@ ghost use Rattle.sigstore_tuf_rules.specs.SearchServing.{fresh_timestamp_of, fre
 ghost use Rattle.sigstore_tuf_parts.specs.Integrity.{fresh_of};
 ghost use Rattle.sigstore_tuf_rules.specs.Authorised.{IsAuthorised, crypto_in, SameJudges, UpdatesSet};
 
-use sigstore_crypto_parts::CryptoProvider;
+use sigstore_keys::CryptoProvider;
 use sigstore_tuf_parts::{Error, Role, Root, Snapshot, Targets, Timestamp};
 use sigstore_tuf_rules::{
     InForce, Kind, check_fresh_snapshot, check_fresh_timestamp, first_root, serving_role,
@@ -32,7 +32,7 @@ pub struct TrustedMetadataSet<'p, C: CryptoProvider, M: Armor> {
 }
 
 impl<'p, C: CryptoProvider, M: Armor> Model for TrustedMetadataSet<'p, C, M> {
-    ghost use Rattle.sigstore_crypto_parts.specs.Crypto.{crypto_by};
+    ghost use Rattle.sigstore_keys.specs.Crypto.{crypto_by};
     ghost use Rattle.sigstore_tuf_rules.specs.Authorised.{IsAuthorised, TrustedSet};
     ghost use Rattle.sigstore_types_parts.specs.contracts.json_value.Json as json;
     ghost use Rattle.std.specs.Coded.{codes as coded_types};

@@ -1,7 +1,7 @@
 // The client over a lent repository.
 ghost use Rattle.std.specs.Prelude.{◌≡◌, ◌≢◌, Some, None, Ok, Err, IfOk, IfErr, OnOk, OnErr, option_map, option_copied};
 ghost use Rattle.foundation.specs.Watched.{Watched};
-ghost use Rattle.sigstore_crypto_parts.specs.Crypto.{crypto_by};
+ghost use Rattle.sigstore_keys.specs.Crypto.{crypto_by};
 ghost use Rattle.sigstore_tuf_rules.specs.Config.{default_config};
 ghost use Rattle.sigstore_tuf_outside.specs.Repository.{Folders};
 ghost use Rattle.sigstore_tuf_rules.specs.Update.{first_root_of};
@@ -17,7 +17,7 @@ ghost use Rattle.sigstore_tuf.specs.Updater.{SameOption, option_seen, GivesFile}
 use crate::parts::{attach_parts, get_target_parts, refresh_parts, target_info};
 use crate::trusted::TrustedMetadataSet;
 use foundation::{Duplicate, NoMemory};
-use sigstore_crypto_parts::CryptoProvider;
+use sigstore_keys::CryptoProvider;
 use sigstore_tuf_client::{download, recall_target};
 use sigstore_tuf_outside::{MetadataStore, NoStore, Repository};
 use sigstore_tuf_parts::{Error, TargetFile};

@@ -4,7 +4,7 @@ use Rattle.std.specs.Prelude.{⊤, option_map, is_some, IfSome}
 use Rattle.jiff_core.specs.declared.timestamp.Timestamp as jiff
 use Rattle.foundation.specs.Results.{some_same, ok_same}
 use Rattle.foundation.specs.Watched.{Watched, IfTold}
-use Rattle.sigstore_crypto_parts.specs.Crypto.{Crypto}
+use Rattle.sigstore_keys.specs.Crypto.{Crypto}
 use Rattle.sigstore_tuf_text.specs.declared.error.Error.{Error}
 use Rattle.sigstore_tuf_text.specs.declared.error.Error.TheVariants as tuf
 use Rattle.sigstore_tuf_text.specs.declared.error.TransportFault.TheVariants as transport

@@ -1,7 +1,7 @@
 -- The calls keep the documents authorised.
 use Rattle.std.proofs.Common.{Result, subst, sym}
 use Rattle.std.specs.Prelude.{⊤}
-use Rattle.sigstore_crypto_parts.specs.Crypto.{Crypto}
+use Rattle.sigstore_keys.specs.Crypto.{Crypto}
 use Rattle.sigstore_tuf_text.specs.declared.error.Error.{Error}
 use Rattle.sigstore_tuf_rules.specs.declared.documents.InForce.{InForce}
 use Rattle.sigstore_tuf_runs.specs.State.{Session, State}

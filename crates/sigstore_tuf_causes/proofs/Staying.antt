@@ -2,7 +2,7 @@
 use Rattle.std.proofs.Common.{List, Bool, Option, Some, None, Result, Ok}
 use Rattle.std.specs.Prelude.{⊤}
 use Rattle.jiff_core.specs.declared.timestamp.Timestamp as jiff
-use Rattle.sigstore_crypto_parts.specs.Crypto.{Crypto}
+use Rattle.sigstore_keys.specs.Crypto.{Crypto}
 use Rattle.sigstore_tuf_text.specs.declared.error.Error.{Error}
 use Rattle.sigstore_tuf_rules.specs.declared.kind.Kind.{Kind}
 use Rattle.sigstore_tuf_runs.specs.State.{Session, State}

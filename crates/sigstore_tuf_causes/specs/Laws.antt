@@ -2,7 +2,7 @@
 use Rattle.std.specs.Prelude.{◌≡◌, ℕ, List, Option, Some, Result, Ok, true, codes}
 use Rattle.jiff_core.specs.declared.timestamp.Timestamp as jiff
 use Rattle.foundation.specs.Watched.{Watched}
-use Rattle.sigstore_crypto_parts.specs.Crypto.{Crypto}
+use Rattle.sigstore_keys.specs.Crypto.{Crypto}
 use Rattle.sigstore_tuf_text.specs.declared.error.Error.{Error}
 use Rattle.sigstore_tuf_parts.specs.declared.root.Root as declared
 use Rattle.sigstore_tuf_parts.specs.declared.targets.TargetFile.{TargetFile}

@@ -1,7 +1,7 @@
 // The adoption of one document, from the repository or from the store.
 ghost use Rattle.std.specs.Prelude.{◌≡◌, [], ◌∷◌, option_copied};
 ghost use Rattle.foundation.specs.Watched.{Watched};
-ghost use Rattle.sigstore_crypto_parts.specs.Crypto.{crypto_by};
+ghost use Rattle.sigstore_keys.specs.Crypto.{crypto_by};
 ghost use Rattle.sigstore_tuf_outside.specs.Repository.{Folders, metadata_files};
 ghost use Rattle.sigstore_tuf_runs.specs.State.{state_of, session_by};
 ghost use Rattle.sigstore_tuf_rules.specs.Names.{kept_name, history_name, pinned_name, both_names, kept_names};
@@ -9,7 +9,7 @@ ghost use Rattle.sigstore_tuf_rules.specs.declared.kind.Kind.TheVariants as kind
 ghost use Rattle.sigstore_tuf_rules.specs.Taking.{bytes_in};
 ghost use Rattle.sigstore_tuf_runs.specs.Adopt.{transport_of, FetchesNamed, FetchesDocument, LoadsNamed, Saves, SavesAll, Keeps, KeepsWhere, absence_of, Adopts, passed_over, Seeds};
 
-use sigstore_crypto_parts::CryptoProvider;
+use sigstore_keys::CryptoProvider;
 use sigstore_tuf_outside::{FetchFault, MetadataStore, Repository, StoreFault};
 use sigstore_tuf_parts::{
     Error, MetaFile, SNAPSHOT_NAME, TARGETS_NAME, TIMESTAMP_NAME, TransportFault, root_name,

@@ -1,13 +1,13 @@
 // The calls of the client as lists of steps: over an owned set of documents, and a lent repository and store.
 ghost use Rattle.std.specs.Prelude.{◌≡◌, ◌<◌, ◌^◌, IfSome};
 ghost use Rattle.foundation.specs.Watched.{Watched};
-ghost use Rattle.sigstore_crypto_parts.specs.Crypto.{crypto_by};
+ghost use Rattle.sigstore_keys.specs.Crypto.{crypto_by};
 ghost use Rattle.sigstore_tuf_runs.specs.State.{state_of, session_by};
 ghost use Rattle.sigstore_tuf_outside.specs.Repository.{Folders};
 ghost use Rattle.sigstore_tuf_runs.specs.Run.{next_root, roots_left, WalksRoots, RecallsRoots, SavesRoot, Attaches, Refetches, moment_of, Reseeds, Does, RunsSteps};
 
 use crate::adopt::{adopt, save_in_force, seed};
-use sigstore_crypto_parts::CryptoProvider;
+use sigstore_keys::CryptoProvider;
 use sigstore_tuf_outside::{MetadataStore, Repository};
 use sigstore_tuf_parts::{Error, TransportFault};
 use sigstore_tuf_rules::{

@@ -1,7 +1,7 @@
 // The search for a target over delegated roles, whose documents are fetched on the way.
 ghost use Rattle.std.specs.Prelude.{◌≡◌, ◌≢◌, ◌<◌, ◌≤◌, [], ◌∷◌, Some, None, Ok, Err, IfOk, IfErr, OnOk, option_map, reverse, codes};
 ghost use Rattle.sigstore_types_parts.specs.Entries.{at_name};
-ghost use Rattle.sigstore_crypto_parts.specs.Crypto.{crypto_by};
+ghost use Rattle.sigstore_keys.specs.Crypto.{crypto_by};
 ghost use Rattle.sigstore_tuf_outside.specs.Repository.{metadata_files};
 ghost use Rattle.sigstore_tuf_rules.specs.Names.{role_name_in, role_file};
 ghost use Rattle.sigstore_tuf_runs.specs.State.{state_of, session_by};
@@ -14,7 +14,7 @@ ghost use Rattle.sigstore_tuf_parts.specs.declared.snapshot.Snapshot.{Snapshot};
 
 use crate::adopt::{fetch_named, save_alone};
 use foundation::{Duplicate, NoMemory, Sequence};
-use sigstore_crypto_parts::CryptoProvider;
+use sigstore_keys::CryptoProvider;
 use sigstore_tuf_outside::{MetadataStore, Repository};
 use sigstore_tuf_parts::{DelegatedRole, Error, Rule, Targets, TransportFault};
 use sigstore_tuf_rules::{

@@ -11,7 +11,7 @@ ghost use Rattle.sigstore_tuf_runs.specs.Chain.{role_doc_in, chain_in, chain_of,
 use crate::adopt::{load_named, save, transport};
 use crate::search::find_visits;
 use foundation::{Duplicate, NoMemory, Sequence};
-use sigstore_crypto_parts::CryptoProvider;
+use sigstore_keys::CryptoProvider;
 use sigstore_tuf_outside::{MetadataStore, Repository};
 use sigstore_tuf_parts::{
     Error, Mismatch, Snapshot, TargetFile, Timestamp, TransportFault, check_integrity,

@@ -5,7 +5,7 @@ use Rattle.std.specs.List.{AllByRecursion, AllZip, last_or}
 use Rattle.jiff_core.specs.declared.timestamp.Timestamp as jiff
 use Rattle.foundation.specs.Results.{some_same}
 use Rattle.sigstore_types_parts.specs.Entries.{at_name}
-use Rattle.sigstore_crypto_parts.specs.Crypto.{Crypto}
+use Rattle.sigstore_keys.specs.Crypto.{Crypto}
 use Rattle.sigstore_tuf_parts.specs.declared.keys.RoleKeys.{RoleKeys}
 use Rattle.sigstore_tuf_parts.specs.declared.root.Root as declared
 use Rattle.sigstore_tuf_parts.specs.declared.snapshot.Snapshot.{Snapshot}

@@ -7,7 +7,7 @@ use Rattle.std.proofs.lemmas.Slice.Eq.{bytes_eq-Decides}
 use Rattle.jiff_core.specs.declared.timestamp.Timestamp as jiff
 use Rattle.foundation.specs.Watched.{Watched, Since}
 use Rattle.foundation.specs.Results.{ok_same, err_same, some_same, no_both}
-use Rattle.sigstore_crypto_parts.specs.Crypto.{Crypto}
+use Rattle.sigstore_keys.specs.Crypto.{Crypto}
 use Rattle.sigstore_tuf_text.specs.declared.error.Error.{Error}
 use Rattle.sigstore_tuf_text.specs.declared.error.Error.TheVariants as tuf
 use Rattle.sigstore_tuf_parts.specs.declared.root.Root as declared

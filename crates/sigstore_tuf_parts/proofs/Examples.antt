@@ -17,9 +17,9 @@ use Rattle.jiff_core.specs.declared.timestamp.Timestamp as jiff
 use Rattle.foundation.specs.Steps.{◌>>=◌}
 use Rattle.sigstore_types_parts.specs.Parse.{parsed_of}
 use Rattle.sigstore_types_parts.specs.Instant.{at_nanosecond}
-use Rattle.sigstore_crypto_parts.specs.Crypto.{Crypto}
-use Rattle.sigstore_crypto_parts.specs.declared.scheme.SigningScheme.TheVariants.{Ed25519}
-use Rattle.sigstore_crypto_parts.specs.declared.key.VerificationKey.{VerificationKey}
+use Rattle.sigstore_keys.specs.Crypto.{Crypto}
+use Rattle.sigstore_keys.specs.declared.scheme.SigningScheme.TheVariants.{Ed25519}
+use Rattle.sigstore_keys.specs.declared.key.VerificationKey.{VerificationKey}
 use Rattle.sigstore_tuf_parts.specs.declared.verification.KeyFault.{KeyFault}
 use Rattle.sigstore_tuf_text.specs.declared.error.Error.{Error}
 use Rattle.sigstore_tuf_text.specs.declared.error.Error.TheVariants.{Malformed, DuplicateSignature, ThresholdNotMet, Expired}

@@ -1,7 +1,7 @@
 -- What a declared key gives by an armour.
 use Rattle.std.specs.Prelude.{Result}
 use Rattle.sigstore_types_parts.specs.declared.armor.Armor as armor
-use Rattle.sigstore_crypto_parts.specs.declared.key.VerificationKey.{VerificationKey}
+use Rattle.sigstore_keys.specs.declared.key.VerificationKey.{VerificationKey}
 use Rattle.sigstore_tuf_parts.specs.declared.keys.Key.{Key}
 use Rattle.sigstore_tuf_parts.specs.declared.verification.KeyFault.{KeyFault}
 use Rattle.sigstore_tuf_parts.specs.Crypto.{key_of}

@@ -6,14 +6,14 @@ use Rattle.sha2.specs.Sha512.{sha512}
 use Rattle.hex.specs.Hex.{decode_of}
 use Rattle.hex.specs.declared.error.FromHexError.{FromHexError}
 use Rattle.foundation.specs.Steps.{◌>>=◌}
-use Rattle.sigstore_crypto_parts.specs.declared.scheme.SigningScheme.{SigningScheme}
-use Rattle.sigstore_crypto_parts.specs.declared.scheme.SigningScheme.TheVariants.{EcdsaP256Sha256, EcdsaP384Sha384, Ed25519}
-use Rattle.sigstore_crypto_parts.specs.declared.scheme.SigningScheme.TheVariants.{RsaPssSha256, RsaPssSha384, RsaPssSha512}
-use Rattle.sigstore_crypto_parts.specs.declared.scheme.SigningScheme.TheVariants.{MlDsa44, MlDsa65, MlDsa87}
-use Rattle.sigstore_crypto_parts.specs.declared.key.VerificationKey.{VerificationKey}
-use Rattle.sigstore_crypto_parts.specs.declared.error.Error.TheVariants as crypto
-use Rattle.sigstore_crypto_parts.specs.declared.error.Error as crypto_error
-use Rattle.sigstore_crypto_parts.specs.Key.{key_with, spki_key_under}
+use Rattle.sigstore_keys.specs.declared.scheme.SigningScheme.{SigningScheme}
+use Rattle.sigstore_keys.specs.declared.scheme.SigningScheme.TheVariants.{EcdsaP256Sha256, EcdsaP384Sha384, Ed25519}
+use Rattle.sigstore_keys.specs.declared.scheme.SigningScheme.TheVariants.{RsaPssSha256, RsaPssSha384, RsaPssSha512}
+use Rattle.sigstore_keys.specs.declared.scheme.SigningScheme.TheVariants.{MlDsa44, MlDsa65, MlDsa87}
+use Rattle.sigstore_keys.specs.declared.key.VerificationKey.{VerificationKey}
+use Rattle.sigstore_keys.specs.declared.error.Error.TheVariants as crypto
+use Rattle.sigstore_keys.specs.declared.error.Error as crypto_error
+use Rattle.sigstore_keys.specs.Key.{key_with, spki_key_under}
 use Rattle.sigstore_tuf_parts.specs.declared.keys.Key.{Key}
 use Rattle.sigstore_tuf_parts.specs.declared.verification.KeyFault.{KeyFault}
 use Rattle.sigstore_tuf_parts.specs.declared.verification.KeyFault.TheVariants.{Unusable, Unsupported, Refused, NoMemory}

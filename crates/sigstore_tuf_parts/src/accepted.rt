@@ -2,9 +2,9 @@
 ghost use Rattle.std.specs.Prelude.{◌≡◌, IsTrue, IfOk, length};
 ghost use Rattle.std.specs.Result.{result_ok};
 ghost use Rattle.hex.specs.Hex.{decode_of};
-ghost use Rattle.sigstore_crypto_parts.specs.Good.{is_good, is_good_over};
-ghost use Rattle.sigstore_crypto_parts.specs.Scheme.{has_digest, digest_size_of};
-ghost use Rattle.sigstore_crypto_parts.specs.Crypto.{crypto_by};
+ghost use Rattle.sigstore_keys.specs.Good.{is_good, is_good_over};
+ghost use Rattle.sigstore_keys.specs.Scheme.{has_digest, digest_size_of};
+ghost use Rattle.sigstore_keys.specs.Crypto.{crypto_by};
 ghost use Rattle.sigstore_tuf_parts.specs.Crypto.{signed_text};
 ghost use Rattle.sigstore_tuf_parts.specs.By.{key_by};
 ghost use Rattle.sigstore_tuf_parts.specs.Threshold.{is_accepted, is_accepted_raw, is_accepted_under};
@@ -15,7 +15,7 @@ use crate::signed_text::SignedText;
 use crate::verification::KeyFault;
 use foundation::NoMemory;
 use hex::FromHexError;
-use sigstore_crypto_parts::{CryptoProvider, VerificationKey};
+use sigstore_keys::{CryptoProvider, VerificationKey};
 use sigstore_types_parts::{Armor, Bytes, SignatureBytes, Text, TextMap};
 use std::alloc::Global;
 

@@ -1,6 +1,6 @@
 // What a declared key says of itself, and signatures under it.
 ghost use Rattle.std.specs.Prelude.{◌≡◌, ◌≢◌, ◌++◌, ◌∷◌, Ok, Err, IfOk, OnOk, IfErr};
-ghost use Rattle.sigstore_crypto_parts.specs.Crypto.{crypto_by};
+ghost use Rattle.sigstore_keys.specs.Crypto.{crypto_by};
 ghost use Rattle.sigstore_tuf_parts.specs.By.{key_by};
 ghost use Rattle.sigstore_tuf_text.specs.Canon.{canon, quoted, comma_if};
 ghost use Rattle.sigstore_tuf_parts.specs.DeclaredKeys.{key_object_of, key_id_of, signing_scheme_of, key_error, or_key_error, key_verified_of};
@@ -10,7 +10,7 @@ use crate::keys::Key;
 use crate::signed_text::SignedText;
 use crate::verification::{KeyFault, declared_scheme};
 use foundation::{Duplicate, NoMemory};
-use sigstore_crypto_parts::{CryptoProvider, SigningScheme, VerificationKey, sha256};
+use sigstore_keys::{CryptoProvider, SigningScheme, VerificationKey, sha256};
 use sigstore_tuf_text::{Error, write_member};
 use sigstore_types_parts::{Armor, Bytes, SignatureBytes, Text};
 use std::alloc::Global;

@@ -6,7 +6,7 @@ ghost use Rattle.sigstore_tuf_parts.specs.Targets.{role_keys_in};
 use crate::keys::RoleKeys;
 use crate::targets::DelegatedRole;
 use foundation::{Duplicate, NoMemory};
-use sigstore_crypto_parts::sha256;
+use sigstore_keys::sha256;
 use sigstore_tuf_text::{Error, matches};
 use sigstore_types_parts::{Text, TextMap};
 use std::alloc::Global;

@@ -1,11 +1,11 @@
 // Whether a document meets a role of a root.
 ghost use Rattle.std.specs.Prelude.{◌≡◌, ◌≢◌, Ok, Err, IfErr, OnOk};
-ghost use Rattle.sigstore_crypto_parts.specs.Crypto.{crypto_by};
+ghost use Rattle.sigstore_keys.specs.Crypto.{crypto_by};
 ghost use Rattle.sigstore_tuf_parts.specs.RootRoles.{meets_role_of};
 
 use crate::document::Metadata;
 use crate::root::Root;
-use sigstore_crypto_parts::CryptoProvider;
+use sigstore_keys::CryptoProvider;
 use sigstore_tuf_text::Error;
 use sigstore_types_parts::{Armor, Text};
 use std::alloc::Global;

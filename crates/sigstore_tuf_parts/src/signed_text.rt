@@ -1,11 +1,11 @@
 // A text, and what signatures of it are judged over.
 ghost use Rattle.std.specs.Prelude.{◌≡◌, ◌++◌, ◌∷◌, codes, length, IsTrue};
 ghost use Rattle.sha2.specs.Sha512.{sha512};
-ghost use Rattle.sigstore_crypto_parts.specs.Good.{subject_of};
-ghost use Rattle.sigstore_crypto_parts.specs.Scheme.{has_digest, digest_size_of};
+ghost use Rattle.sigstore_keys.specs.Good.{subject_of};
+ghost use Rattle.sigstore_keys.specs.Scheme.{has_digest, digest_size_of};
 ghost use Rattle.sigstore_tuf_parts.specs.Crypto.{signed_text};
 
-use sigstore_crypto_parts::{HashedMessage, SigningScheme};
+use sigstore_keys::{HashedMessage, SigningScheme};
 use std::marker::Model;
 
 /// A text that was signed, with each of its digests and with what ML-DSA signs in its place: they are made

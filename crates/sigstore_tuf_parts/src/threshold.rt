@@ -1,6 +1,6 @@
 // Whether a document meets a role.
 ghost use Rattle.std.specs.Prelude.{◌≡◌, ◌≢◌, [], Ok, Err, IfOk, IfErr, map, count_by};
-ghost use Rattle.sigstore_crypto_parts.specs.Crypto.{crypto_by};
+ghost use Rattle.sigstore_keys.specs.Crypto.{crypto_by};
 ghost use Rattle.sigstore_tuf_parts.specs.Threshold.{ids_of, second_after, is_accepted, threshold_of, no_second, enough_of, meets_of};
 
 use crate::accepted::is_accepted;
@@ -9,7 +9,7 @@ use crate::document::{Metadata, Signature};
 use crate::keys::{Key, RoleKeys};
 use crate::signed_text::SignedText;
 use foundation::NoMemory;
-use sigstore_crypto_parts::CryptoProvider;
+use sigstore_keys::CryptoProvider;
 use sigstore_tuf_text::{Error, Rule};
 use sigstore_types_parts::{Armor, Text, TextMap};
 use std::alloc::Global;

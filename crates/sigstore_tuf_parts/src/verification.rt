@@ -9,7 +9,7 @@ ghost use Rattle.sigstore_tuf_parts.specs.declared.verification.KeyFault.TheVari
 use crate::keys::Key;
 use foundation::NoMemory;
 use hex::FromHexError;
-use sigstore_crypto_parts::{Error as CryptoError, SigningScheme, VerificationKey};
+use sigstore_keys::{Error as CryptoError, SigningScheme, VerificationKey};
 use sigstore_types_parts::{Armor, Bytes, DerPublicKey};
 use std::alloc::Global;
 

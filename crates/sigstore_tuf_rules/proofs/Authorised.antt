@@ -6,7 +6,7 @@ use Rattle.jiff_core.specs.declared.timestamp.Timestamp as jiff
 use Rattle.std.specs.BTreeMap.{insert_entry}
 use Rattle.foundation.specs.Results.{step_ok, ok_same}
 use Rattle.sigstore_types_parts.specs.Entries.{text_cmp, at_name}
-use Rattle.sigstore_crypto_parts.specs.Crypto.{Crypto}
+use Rattle.sigstore_keys.specs.Crypto.{Crypto}
 use Rattle.sigstore_tuf_parts.specs.declared.targets.Targets as declared_targets
 use Rattle.sigstore_tuf_text.specs.declared.error.Error.{Error}
 use Rattle.sigstore_tuf_parts.specs.declared.root.Root as declared

@@ -11,8 +11,8 @@ use Rattle.sigstore_tuf_parts.specs.declared.targets.Targets.{Targets}
 use Rattle.sigstore_tuf_parts.specs.Document.{Document, content_in}
 use Rattle.sigstore_types_parts.specs.Entries.{at_name}
 use Rattle.sigstore_types_parts.specs.declared.armor.Armor as armor
-use Rattle.sigstore_crypto_parts.specs.declared.provider.CryptoProvider as provider
-use Rattle.sigstore_crypto_parts.specs.Crypto.{Crypto, crypto_by}
+use Rattle.sigstore_keys.specs.declared.provider.CryptoProvider as provider
+use Rattle.sigstore_keys.specs.Crypto.{Crypto, crypto_by}
 use Rattle.sigstore_tuf_parts.specs.RootRoles.{MeetsRole}
 use Rattle.sigstore_tuf_text.specs.Names.{pin_name}
 use Rattle.sigstore_tuf_parts.specs.Pinned.{Pinned, Fresh}

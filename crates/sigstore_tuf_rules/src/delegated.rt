@@ -1,14 +1,14 @@
 // The rules of delegated roles: who signs for one, its update, and whether the one in force serves.
 ghost use Rattle.std.specs.Prelude.{◌≡◌, ◌≢◌, Some, Ok, Err, IfOk, IfErr, OnOk, OnErr, find, bytes_eq, option_copied};
 ghost use Rattle.sigstore_types_parts.specs.Entries.{at_name};
-ghost use Rattle.sigstore_crypto_parts.specs.Crypto.{crypto_by};
+ghost use Rattle.sigstore_keys.specs.Crypto.{crypto_by};
 ghost use Rattle.sigstore_tuf_rules.specs.Order.{by, is_top_level};
 ghost use Rattle.sigstore_tuf_rules.specs.Update.{fresh_at_of, Updates};
 ghost use Rattle.sigstore_tuf_rules.specs.Delegated.{authority_by, not_top_level_of, delegation_of, meets_delegation_of, with_role, role_pin_of, role_checks_of, role_document_of, update_role_of, role_serves_of};
 
 use crate::documents::{Held, InForce};
 use crate::update::check_fresh_at;
-use sigstore_crypto_parts::CryptoProvider;
+use sigstore_keys::CryptoProvider;
 use sigstore_tuf_parts::{
     DelegatedRole, Delegations, Error, Key, MetaFile, Metadata, Rule, Targets, check_fresh,
     check_integrity, check_version, pin_name,

@@ -1,13 +1,13 @@
 // One document of any kind: its update, and whether it was taken in. Nothing is fetched or kept here.
 ghost use Rattle.std.specs.Prelude.{◌≡◌, option_copied};
-ghost use Rattle.sigstore_crypto_parts.specs.Crypto.{crypto_by};
+ghost use Rattle.sigstore_keys.specs.Crypto.{crypto_by};
 ghost use Rattle.sigstore_tuf_rules.specs.Update.{Updates};
 ghost use Rattle.sigstore_tuf_rules.specs.Taking.{update_of, judged_of, Takes, bytes_in, there_of, there_unless_equal};
 
 use crate::documents::InForce;
 use crate::kind::Kind;
 use crate::update::{update_root, update_snapshot, update_targets, update_timestamp};
-use sigstore_crypto_parts::CryptoProvider;
+use sigstore_keys::CryptoProvider;
 use sigstore_tuf_parts::Error;
 use sigstore_types_parts::{Armor, Bytes};
 use std::alloc::Global;

@@ -1,14 +1,14 @@
 // The rules of the documents in force: each update, or the first check that fails. Nothing here reads or writes anything outside
 // its arguments, so that every rule can be tried by itself, on documents in memory.
 ghost use Rattle.std.specs.Prelude.{◌≡◌, ◌≢◌, [], ◌∷◌, ◌++◌, Ok, Err, IfOk, IfErr, OnOk, OnErr, codes, option_copied};
-ghost use Rattle.sigstore_crypto_parts.specs.Crypto.{crypto_by};
+ghost use Rattle.sigstore_keys.specs.Crypto.{crypto_by};
 ghost use Rattle.sigstore_tuf_parts.specs.Document.{content_in};
 ghost use Rattle.sigstore_tuf_parts.specs.RootRoles.{root_document, meets_role_of};
 ghost use Rattle.sigstore_tuf_rules.specs.Update.{first_root_of, next_number_of, root_checks_of, update_root_of, fresh_at_of, not_below_of, other_of, newer_than_of, newer_of, pins_not_below_of, timestamp_checks_of, update_timestamp_of, snapshot_pin_of, kept_pin_of, kept_pins_in, kept_pins_of, snapshot_checks_of, update_snapshot_of, targets_pin_of, targets_checks_of, update_targets_of, with_root, with_timestamp, with_snapshot, with_targets, Updates};
 
 use crate::documents::{Held, InForce};
 use foundation::Sequence;
-use sigstore_crypto_parts::CryptoProvider;
+use sigstore_keys::CryptoProvider;
 use sigstore_tuf_parts::{
     Error, MetaFile, Metadata, Mismatch, Role, Root, Rule, Snapshot, Targets, Timestamp,
     check_integrity, check_version,

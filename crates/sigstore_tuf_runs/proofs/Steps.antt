@@ -4,7 +4,7 @@ use Rattle.std.specs.Prelude.{⊤, is_some, option_copied, IfErr}
 use Rattle.std.specs.Borrow.{Bor}
 use Rattle.jiff_core.specs.declared.timestamp.Timestamp as jiff
 use Rattle.foundation.specs.Watched.{Watched}
-use Rattle.sigstore_crypto_parts.specs.Crypto.{Crypto}
+use Rattle.sigstore_keys.specs.Crypto.{Crypto}
 use Rattle.sigstore_tuf_parts.specs.declared.timestamp.MetaFile.{MetaFile}
 use Rattle.sigstore_tuf_text.specs.Names.{versioned_name}
 use Rattle.sigstore_tuf_text.specs.declared.error.Error.{Error}

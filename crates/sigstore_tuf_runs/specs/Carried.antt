@@ -2,7 +2,7 @@
 -- in a later run either).
 use Rattle.std.specs.Prelude.{◌≡◌, ◌≢◌, ◌⊎◌, ℕ, ◌<◌, ◌≤◌, List, Option, Some, None, option_map, Result, Ok, Err, IfSome, codes, ⊤}
 use Rattle.foundation.specs.Watched.{Watched, IfTold}
-use Rattle.sigstore_crypto_parts.specs.Crypto.{Crypto}
+use Rattle.sigstore_keys.specs.Crypto.{Crypto}
 use Rattle.sigstore_tuf_text.specs.declared.error.Error.{Error}
 use Rattle.sigstore_tuf_text.specs.declared.error.Error.TheVariants.{NoMemory}
 use Rattle.sigstore_tuf_text.specs.Names.{timestamp_name}

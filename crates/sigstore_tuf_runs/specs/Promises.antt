@@ -1,7 +1,7 @@
 -- What the client's calls promise.
 use Rattle.std.specs.Prelude.{◌≡◌, ℕ, List, Option, Result, IfOk, IfErr, OnOk, ⊤}
 use Rattle.foundation.specs.Watched.{IfTold}
-use Rattle.sigstore_crypto_parts.specs.Crypto.{Crypto}
+use Rattle.sigstore_keys.specs.Crypto.{Crypto}
 use Rattle.sigstore_tuf_text.specs.declared.error.Error.{Error}
 use Rattle.sigstore_tuf_text.specs.declared.error.Error.TheVariants as tuf
 use Rattle.sigstore_tuf_parts.specs.declared.targets.TargetFile.{TargetFile}

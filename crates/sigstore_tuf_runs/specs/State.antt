@@ -2,8 +2,8 @@
 use Rattle.jiff_core.specs.declared.timestamp.Timestamp as jiff
 use Rattle.foundation.specs.Watched.{Watched}
 use Rattle.sigstore_types_parts.specs.declared.armor.Armor as armor
-use Rattle.sigstore_crypto_parts.specs.declared.provider.CryptoProvider as provider
-use Rattle.sigstore_crypto_parts.specs.Crypto.{Crypto, crypto_by}
+use Rattle.sigstore_keys.specs.declared.provider.CryptoProvider as provider
+use Rattle.sigstore_keys.specs.Crypto.{Crypto, crypto_by}
 use Rattle.sigstore_tuf_rules.specs.declared.config.UpdaterConfig.{UpdaterConfig}
 use Rattle.sigstore_tuf_rules.specs.declared.documents.InForce.{InForce}
 use Rattle.sigstore_tuf_runs.specs.declared.session.Session as declared

@@ -1,6 +1,6 @@
 // What a client's call is given.
 
-use sigstore_crypto_parts::CryptoProvider;
+use sigstore_keys::CryptoProvider;
 use sigstore_tuf_rules::UpdaterConfig;
 use sigstore_types_parts::Armor;
 

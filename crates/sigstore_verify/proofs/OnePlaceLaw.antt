@@ -4,8 +4,8 @@ use Rattle.std.specs.Prelude.{MatchOption}
 use Rattle.std.specs.Option.{option_or}
 use Rattle.jiff_core.specs.declared.timestamp.Timestamp.{Timestamp}
 use Rattle.foundation.specs.Results.{some_same}
-use Rattle.sigstore_crypto_parts.specs.Good.{Judge}
-use Rattle.sigstore_crypto_parts.specs.Keyring.{Ring}
+use Rattle.sigstore_keys.specs.Good.{Judge}
+use Rattle.sigstore_keys.specs.Keyring.{Ring}
 use Rattle.sigstore_merkle.specs.Collision.{IsCollision, OneOrCollision}
 use Rattle.sigstore_merkle.specs.declared.collision.Inclusion.{Inclusion}
 use Rattle.sigstore_entries.specs.declared.entry.TransparencyLogEntry.{TransparencyLogEntry}

@@ -4,7 +4,7 @@ use Rattle.std.specs.Prelude.{⊤, ℕ}
 use Rattle.jiff_core.specs.declared.timestamp.Timestamp as jiff
 use Rattle.foundation.specs.Results.{step_ok, ok_same}
 use Rattle.sigstore_types_parts.specs.Entries.{at_name}
-use Rattle.sigstore_crypto_parts.specs.Crypto.{Crypto}
+use Rattle.sigstore_keys.specs.Crypto.{Crypto}
 use Rattle.sigstore_tuf_text.specs.declared.error.Error.{Error}
 use Rattle.sigstore_tuf_parts.specs.Document.{content_in}
 use Rattle.sigstore_tuf_parts.specs.RootRoles.{root_document, meets_role_of}

@@ -5,7 +5,7 @@ use Rattle.sigstore_types.specs.declared.bundle.Bundle.{Bundle}
 use Rattle.sigstore_types.specs.declared.trusted_root.TrustedRoot.{TrustedRoot}
 use Rattle.sigstore_types.specs.Bundle.{bundle_of_bytes}
 use Rattle.sigstore_types.specs.TrustedRoot.{trusted_root_of_bytes}
-use Rattle.sigstore_crypto_parts.specs.Digest.{digests_by}
+use Rattle.sigstore_keys.specs.Digest.{digests_by}
 use Rattle.sigstore_tuf_text.specs.declared.error.Error.{Error as TufError}
 use Rattle.sigstore_tuf_text.specs.declared.error.Error.TheVariants as tuf
 use Rattle.sigstore_tuf_outside.specs.Repository.{Files, Folders}

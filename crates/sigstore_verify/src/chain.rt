@@ -1,6 +1,6 @@
 // The chain of documents that authorises the trust file, from a pinned root.
 ghost use Rattle.std.specs.Prelude.{◌≡◌, ℕ, List, Ok};
-ghost use Rattle.sigstore_crypto_parts.specs.Crypto.{crypto_by};
+ghost use Rattle.sigstore_keys.specs.Crypto.{crypto_by};
 ghost use Rattle.sigstore_tuf_rules.specs.Update.{first_root_of};
 ghost use Rattle.sigstore_tuf_rules.specs.Authorised.{crypto_in};
 ghost use Rattle.sigstore_verify.specs.FromRoot.{GivesChain};
@@ -8,7 +8,7 @@ ghost use Rattle.sigstore_verify.specs.Given.{Anchor, Places};
 ghost use Rattle.sigstore_verify.specs.Promises.{PromisesChain};
 
 use jiff::Timestamp;
-use sigstore_crypto_parts::CryptoProvider;
+use sigstore_keys::CryptoProvider;
 use sigstore_tuf::{
     MetadataStore, Repository, TrustChain, TrustedMetadataSet, UpdaterConfig, attach_parts,
     get_target_parts, refresh_parts,

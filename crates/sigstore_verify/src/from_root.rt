@@ -1,6 +1,6 @@
 // The top call: from a pinned root down to one artifact.
 ghost use Rattle.std.specs.Prelude.{◌≡◌};
-ghost use Rattle.sigstore_crypto_parts.specs.Crypto.{crypto_by};
+ghost use Rattle.sigstore_keys.specs.Crypto.{crypto_by};
 ghost use Rattle.sigstore_verify.specs.FromRoot.{root_of_tuf, root_of_verify};
 ghost use Rattle.sigstore_verify.specs.Given.{Anchor, Given, Outside};
 ghost use Rattle.sigstore_verify.specs.Promises.{Promises};
@@ -8,8 +8,8 @@ ghost use Rattle.sigstore_verify.specs.Promises.{Promises};
 use crate::chain::chain_from_root;
 use foundation::{Duplicate, NoMemory, Sequence};
 use jiff::Timestamp;
-use sigstore_crypto_parts::{ArtifactSource, CryptoProvider};
 use sigstore_judgement::{Error, Kept, Policy, VerificationResult, judge_bundle};
+use sigstore_keys::{ArtifactSource, CryptoProvider};
 use sigstore_tuf::{MetadataStore, Repository, TrustChain, UpdaterConfig};
 use sigstore_types_parts::{Armor, ArtifactDigest};
 use std::alloc::Global;

@@ -3,10 +3,10 @@ use Rattle.std.proofs.Common.{◌≡◌, ℕ, List, [], ◌∷◌, ◌++◌, Boo
 use Rattle.std.proofs.Math.Seq.{take-suc}
 use Rattle.std.specs.List.{AllByRecursion}
 use Rattle.std.specs.Cmp.Lexicographic.{nat_list_eq_equiv}
-use Rattle.sigstore_crypto_parts.specs.Scheme.{scheme_name_of}
-use Rattle.sigstore_app_parts.specs.Rows.{AcceptRows, with_accept_row, accepts_of, is_row}
-use Rattle.sigstore_app_parts.specs.RowLaws.{AddsSignature}
-use Rattle.sigstore_app_parts.specs.declared.rows.AcceptRow.{AcceptRow}
+use Rattle.sigstore_keys.specs.Scheme.{scheme_name_of}
+use Rattle.command_files.specs.Rows.{AcceptRows, with_accept_row, accepts_of, is_row}
+use Rattle.command_files.specs.RowLaws.{AddsSignature}
+use Rattle.command_files.specs.declared.rows.AcceptRow.{AcceptRow}
 use Rattle.sigstore_workload_items.specs.Numbers.{has_row}
 use Rattle.sigstore_workload_items.specs.declared.drawn.Drawn.{Drawn}
 use Rattle.sigstore_workload_items.specs.declared.log.Log.{Log}

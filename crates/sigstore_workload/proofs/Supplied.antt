@@ -2,8 +2,8 @@
 use Rattle.std.proofs.Common.{◌≡◌, ℕ, List, [], length, true, Some, Ok, Err, IfOk, refl, ap, sym, subst, ◌∙◌}
 use Rattle.std.specs.Prelude.{Result}
 use Rattle.foundation.specs.declared.no_memory.NoMemory.{NoMemory}
-use Rattle.sigstore_app_parts.specs.RowLaws.{AddsSignature}
-use Rattle.sigstore_app_parts.specs.Tables.{is_armored_by, armor_content, crypto_of}
+use Rattle.command_files.specs.RowLaws.{AddsSignature}
+use Rattle.command_files.specs.Tables.{is_armored_by, armor_content, crypto_of}
 use Rattle.sigstore_workload_items.specs.Keys.{armored_key, spki, raw_key}
 use Rattle.sigstore_workload_items.specs.Drawn.{drawn_from}
 use Rattle.sigstore_workload_items.specs.declared.drawn.Drawn.{Drawn}

@@ -1,10 +1,10 @@
 -- The table of the signatures of a workload that are good.
 use Rattle.std.specs.Prelude.{ℕ, List, [], ◌∷◌, codes, if◌then◌else◌}
 use Rattle.sha2.specs.Sha256.{sha256}
-use Rattle.sigstore_crypto_parts.specs.declared.scheme.SigningScheme.TheVariants.{EcdsaP256Sha256}
-use Rattle.sigstore_app_parts.specs.Rows.{AcceptRows, with_accept_row}
-use Rattle.sigstore_app_parts.specs.declared.rows.AcceptRow.{AcceptRow}
-use Rattle.sigstore_app_parts.specs.declared.tables.Tables.{Tables}
+use Rattle.sigstore_keys.specs.declared.scheme.SigningScheme.TheVariants.{EcdsaP256Sha256}
+use Rattle.command_files.specs.Rows.{AcceptRows, with_accept_row}
+use Rattle.command_files.specs.declared.rows.AcceptRow.{AcceptRow}
+use Rattle.command_files.specs.declared.tables.Tables.{Tables}
 use Rattle.sigstore_workload_items.specs.Keys.{raw_key}
 use Rattle.sigstore_workload_items.specs.Numbers.{has_row}
 use Rattle.sigstore_workload_items.specs.Log.{signed_text_of}

@@ -2,9 +2,9 @@
 ghost use Rattle.std.specs.Prelude.{◌≡◌, ◌∷◌, [], IfOk, OnOk};
 ghost use Rattle.sigstore_workload.specs.Provider.{row_of, rows_with, row_added, rows_added, checkpoint_row_of, tables_of};
 
+use command_files::{AcceptRow, TableProvider, Tables};
 use foundation::{Duplicate, NoMemory, Sequence};
-use sigstore_app_parts::{AcceptRow, TableProvider, Tables};
-use sigstore_crypto_parts::{SigningScheme, sha256};
+use sigstore_keys::{SigningScheme, sha256};
 use sigstore_types_parts::{Bytes, Sha256Hash};
 use sigstore_workload_items::{Drawn, Log, raw_key, signed_text};
 use std::alloc::Global;

@@ -3,13 +3,13 @@ ghost use Rattle.std.specs.Prelude.{◌≡◌, ◌≤◌, ◌<◌, ◌+◌, ◌^
 ghost use Rattle.sigstore_merkle.specs.Whole.{IsTree};
 ghost use Rattle.sigstore_workload_items.specs.Drawn.{drawn_from};
 ghost use Rattle.sigstore_workload_items.specs.Log.{IsLog, bundle_of};
-ghost use Rattle.sigstore_app_parts.specs.Tables.{crypto_of};
+ghost use Rattle.command_files.specs.Tables.{crypto_of};
 ghost use Rattle.sigstore_workload.specs.Supplies.{leaves_of, item_of, items_from, AreSupplies, AreSupplied};
 ghost use Rattle.sigstore_workload_repository.specs.Law.{SignsDocuments};
 
 use crate::rows::tables;
+use command_files::{Tables, rows_are_found};
 use foundation::{Duplicate, NoMemory, Sequence};
-use sigstore_app_parts::{Tables, rows_are_found};
 use sigstore_entries::LogIndex;
 use sigstore_merkle::{Tree, build_tree, hash_leaf};
 use sigstore_tuf_outside::MemoryRepository;

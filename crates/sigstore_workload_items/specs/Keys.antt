@@ -2,7 +2,7 @@
 use Rattle.std.specs.Prelude.{ℕ, List, ◌∷◌, ◌++◌, replicate, codes}
 use Rattle.base64.specs.Engines.{standard}
 use Rattle.base64.specs.GeneralPurpose.{encode_of}
-use Rattle.sigstore_crypto_parts.specs.KeyAlgorithm.{ec_oid, p256_curve}
+use Rattle.sigstore_keys.specs.KeyAlgorithm.{ec_oid, p256_curve}
 
 -- a point that isn't compressed, of the curve's size
 unfoldable pub raw_key : List ℕ

@@ -6,8 +6,8 @@ ghost use Rattle.sigstore_workload_items.specs.Drawn.{message_of, envelope_of, c
 use crate::body::{artifact_of, body_of, signature_of, statement_of};
 use crate::kind::{Kind, kind_of, next_number};
 use foundation::{Duplicate, NoMemory, Sequence};
-use sigstore_crypto_parts::sha256;
 use sigstore_envelopes::{DsseEnvelope, DsseSignature, KeyId};
+use sigstore_keys::sha256;
 use sigstore_types::{MessageDigest, MessageSignature, SignatureContent};
 use sigstore_types_parts::{
     ByteString, Bytes, CanonicalizedBody, HashAlgorithm, Sha256Hash, SignatureBytes, Text,

@@ -1,14 +1,14 @@
 -- The key's DER is read as the raw key, and so is its declaration.
 use Rattle.std.proofs.Common.{◌≡◌, List, ℕ, true, Some, Ok, refl}
 use Rattle.std.specs.Prelude.{Result}
-use Rattle.der_core_parts.specs.Tlv.{tlv, length_bytes}
-use Rattle.sigstore_crypto_parts.specs.Crypto.{Crypto}
-use Rattle.sigstore_crypto_parts.specs.KeyAlgorithm.{algorithm_of_parts}
-use Rattle.sigstore_crypto_parts.specs.Key.{key_with, key_under, spki_key_under}
-use Rattle.sigstore_crypto_parts.specs.KeyPair.{public_key_of, spki_with, IsPublicKey}
-use Rattle.sigstore_crypto_parts.specs.declared.scheme.KeyAlgorithm.TheVariants.{EcdsaP256}
-use Rattle.sigstore_crypto_parts.specs.declared.scheme.SigningScheme.TheVariants.{EcdsaP256Sha256}
-use Rattle.sigstore_crypto_parts.proofs.PublicKeys.{is_read}
+use Rattle.der_grammar.specs.Tlv.{tlv, length_bytes}
+use Rattle.sigstore_keys.specs.Crypto.{Crypto}
+use Rattle.sigstore_keys.specs.KeyAlgorithm.{algorithm_of_parts}
+use Rattle.sigstore_keys.specs.Key.{key_with, key_under, spki_key_under}
+use Rattle.sigstore_keys.specs.KeyPair.{public_key_of, spki_with, IsPublicKey}
+use Rattle.sigstore_keys.specs.declared.scheme.KeyAlgorithm.TheVariants.{EcdsaP256}
+use Rattle.sigstore_keys.specs.declared.scheme.SigningScheme.TheVariants.{EcdsaP256Sha256}
+use Rattle.sigstore_keys.proofs.PublicKeys.{is_read}
 use Rattle.sigstore_tuf_parts.specs.Crypto.{key_of}
 use Rattle.sigstore_workload_items.specs.Keys.{raw_key, spki, armored_key}
 use Rattle.sigstore_workload_repository.specs.Law.{SignsDocuments}

@@ -7,8 +7,8 @@ use Rattle.sha2.specs.Sha256.{sha256}
 use Rattle.jiff_core.specs.declared.timestamp.Timestamp as jiff
 use Rattle.sigstore_types_parts.specs.Entries.{at_name}
 use Rattle.sigstore_types_parts.specs.Instant.{at_nanosecond}
-use Rattle.sigstore_crypto_parts.specs.Crypto.{Crypto}
-use Rattle.sigstore_crypto_parts.specs.declared.scheme.SigningScheme.TheVariants.{EcdsaP256Sha256}
+use Rattle.sigstore_keys.specs.Crypto.{Crypto}
+use Rattle.sigstore_keys.specs.declared.scheme.SigningScheme.TheVariants.{EcdsaP256Sha256}
 use Rattle.sigstore_tuf_text.specs.Canon.{canon}
 use Rattle.sigstore_tuf_text.specs.Names.{root_name, snapshot_name, timestamp_name, targets_name}
 use Rattle.sigstore_tuf_parts.specs.declared.targets.Targets.{Targets}

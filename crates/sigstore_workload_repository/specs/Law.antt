@@ -1,10 +1,10 @@
 -- That the fixed repository offers its chain, whoever judges signatures, as long as he accepts those of the documents.
 use Rattle.std.specs.Prelude.{◌≡◌, true, Some}
 use Rattle.std.specs.List.{AllByRecursion}
-use Rattle.sigstore_crypto_parts.specs.Crypto.{Crypto}
+use Rattle.sigstore_keys.specs.Crypto.{Crypto}
 use Rattle.sigstore_tuf_rules.specs.Config.{default_config}
 use Rattle.sigstore_tuf_offers.specs.Offer.{Offers}
-use Rattle.sigstore_app_parts.specs.declared.rows.AcceptRow.{AcceptRow}
+use Rattle.command_files.specs.declared.rows.AcceptRow.{AcceptRow}
 use Rattle.sigstore_workload_items.specs.Keys.{armored_key, spki}
 use Rattle.sigstore_workload_repository.specs.Documents.{root_bytes}
 use Rattle.sigstore_workload_repository.specs.Rows.{document_rows, moment}

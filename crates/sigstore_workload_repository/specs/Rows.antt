@@ -4,9 +4,9 @@ use Rattle.sha2.specs.Sha256.{sha256}
 use Rattle.serde_json.specs.Data.{Data}
 use Rattle.jiff_core.specs.declared.timestamp.Timestamp.{Timestamp}
 use Rattle.sigstore_types_parts.specs.Instant.{at_second}
-use Rattle.sigstore_crypto_parts.specs.declared.scheme.SigningScheme.TheVariants.{EcdsaP256Sha256}
+use Rattle.sigstore_keys.specs.declared.scheme.SigningScheme.TheVariants.{EcdsaP256Sha256}
 use Rattle.sigstore_tuf_text.specs.Canon.{canon}
-use Rattle.sigstore_app_parts.specs.declared.rows.AcceptRow.{AcceptRow}
+use Rattle.command_files.specs.declared.rows.AcceptRow.{AcceptRow}
 use Rattle.sigstore_workload_items.specs.Keys.{raw_key}
 use Rattle.sigstore_workload_repository.specs.Documents.{root_signed, timestamp_signed, snapshot_signed, targets_signed}
 

@@ -9,7 +9,7 @@ ghost use Rattle.sigstore_workload_repository.specs.Documents.{timestamp_signed,
 use crate::trust::trust_file;
 use foundation::NoMemory;
 use serde_json::{Map, Value, json};
-use sigstore_crypto_parts::sha256;
+use sigstore_keys::sha256;
 use sigstore_tuf_text::{SNAPSHOT_NAME, TARGETS_NAME};
 use sigstore_types_parts::Bytes;
 use sigstore_workload_items::armored_key;

@@ -12,11 +12,11 @@ use crate::documents::{
     document_text, root_signed, snapshot_signed, targets_signed, timestamp_signed,
 };
 use crate::trust::trust_file;
+use command_files::AcceptRow;
 use foundation::{NoMemory, Sequence};
 use jiff::Timestamp;
 use serde_json::Value;
-use sigstore_app_parts::AcceptRow;
-use sigstore_crypto_parts::{SigningScheme, sha256};
+use sigstore_keys::{SigningScheme, sha256};
 use sigstore_tuf_outside::MemoryRepository;
 use sigstore_tuf_text::{SNAPSHOT_NAME, TARGETS_NAME, TIMESTAMP_NAME, to_canonical_bytes};
 use sigstore_types_parts::{Bytes, FailList, at_second};

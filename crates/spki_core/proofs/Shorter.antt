@@ -1,7 +1,7 @@
 -- A value takes at least one octet.
 use Rattle.std.proofs.Common.{◌≡◌, ℕ, ◌<◌, List, ◌++◌, length, ap, arith}
 use Rattle.std.proofs.lemmas.List.{length-append}
-use Rattle.der_core_parts.specs.Tlv.{tlv}
+use Rattle.der_grammar.specs.Tlv.{tlv}
 
 pub some_tlv : (tag : ℕ) (value : List ℕ) → 0 < length (tlv tag value)
 unfolding tlv

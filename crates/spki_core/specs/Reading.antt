@@ -1,12 +1,12 @@
 -- Parts of bytes, or the first refusal in reading order.
 use Rattle.std.specs.Prelude.{ℕ, ◌-◌, ◌∷◌, [], List, Bool, false, Option, Some, None, Result, Ok, Err, ◌==◌, length, take, if◌then◌else◌}
 use Rattle.foundation.specs.Steps.{◌>>=◌}
-use Rattle.der_core_parts.specs.declared.error.DerError.{DerError}
-use Rattle.der_core_parts.specs.declared.error.DerError.TheVariants as der
-use Rattle.der_core_parts.specs.Outcome.{Outcome}
-use Rattle.der_core_parts.specs.Tlv.{tlv, tlv_at}
-use Rattle.der_core_parts.specs.Choices.{is_tag}
-use Rattle.der_core_parts.specs.Tags.{bit_string_tag, integer_tag, oid_tag}
+use Rattle.der_grammar.specs.declared.error.DerError.{DerError}
+use Rattle.der_grammar.specs.declared.error.DerError.TheVariants as der
+use Rattle.der_grammar.specs.Outcome.{Outcome}
+use Rattle.der_grammar.specs.Tlv.{tlv, tlv_at}
+use Rattle.der_grammar.specs.Choices.{is_tag}
+use Rattle.der_grammar.specs.Tags.{bit_string_tag, integer_tag, oid_tag}
 use Rattle.der_core.specs.Oid.{is_oid}
 use Rattle.der_core.specs.Strings.{is_int, is_bit_string}
 use Rattle.der_core.specs.Unsigned.{is_uint}

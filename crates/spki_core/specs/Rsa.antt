@@ -2,7 +2,7 @@
 use Rattle.std.specs.Prelude.{ℕ, ◌+◌, ◌-◌, ◌*◌, List, [], ◌∷◌, ◌==◌, length, min, ◌^◌, if◌then◌else◌}
 use Rattle.std.specs.Int.{leading_zeros, w8}
 use Rattle.foundation.specs.Steps.{◌>>=◌}
-use Rattle.der_core_parts.specs.Tags.{sequence_tag}
+use Rattle.der_grammar.specs.Tags.{sequence_tag}
 use Rattle.spki_core.specs.declared.rsa.RsaKeyView.{RsaKeyView}
 use Rattle.spki_core.specs.Reading.{Reading, contents_at, uint_at, at_end}
 

@@ -2,7 +2,7 @@
 use Rattle.std.specs.Prelude.{ℕ, List, Option, Ok}
 use Rattle.foundation.specs.Steps.{◌>>=◌}
 use Rattle.spki_core.specs.Reading.{Reading, contents_at, oid_at, any_at, bits_at, at_end}
-use Rattle.der_core_parts.specs.Tags.{sequence_tag}
+use Rattle.der_grammar.specs.Tags.{sequence_tag}
 
 -- AlgorithmIdentifier ::= SEQUENCE { algorithm OBJECT IDENTIFIER, parameters ANY OPTIONAL }
 pub record Algorithm : Type 0 where

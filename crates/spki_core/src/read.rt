@@ -1,6 +1,6 @@
 // Reading parts from the front of bytes; each part and what follows it are slices of them.
 ghost use Rattle.std.specs.Prelude.{◌≡◌, ◌<◌, IfOk, IfErr, Ok, Err, length, option_copied};
-ghost use Rattle.der_core_parts.specs.Tlv.{tlv, tlv_at};
+ghost use Rattle.der_grammar.specs.Tlv.{tlv, tlv_at};
 ghost use Rattle.spki_core.specs.Reading.{of_der, contents_at, encoded_at, oid_at, int_at, uint_at, any_at, bits_of, bits_at, at_end, begins_with, before};
 
 use crate::error::X509Error;

@@ -6,7 +6,7 @@ use Rattle.std.proofs.lemmas.Slice.Eq.{bytes_eq-Decides}
 use Rattle.jiff_core.specs.declared.timestamp.Timestamp as jiff
 use Rattle.foundation.specs.Results.{step_ok, ok_same, some_same}
 use Rattle.sigstore_types_parts.specs.Entries.{at_name}
-use Rattle.sigstore_crypto_parts.specs.Crypto.{Crypto}
+use Rattle.sigstore_keys.specs.Crypto.{Crypto}
 use Rattle.sigstore_tuf_text.specs.declared.error.Error.TheVariants as tuf
 use Rattle.sigstore_tuf_text.specs.declared.error.Mismatch.TheVariants as mismatch
 use Rattle.sigstore_tuf_text.specs.declared.error.Rule.TheVariants as rule

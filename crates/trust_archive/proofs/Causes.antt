@@ -3,10 +3,10 @@ use Rattle.std.proofs.Common.{◌≡◌, ◌≢◌, ℕ, ◌+◌, ◌-◌, List,
 use Rattle.std.specs.Prelude.{⊤, ok_or}
 use Rattle.std.proofs.lemmas.Slice.Eq.{bytes_eq-Decides}
 use Rattle.jiff_core.specs.declared.timestamp.Timestamp as jiff
-use Rattle.der_core_parts.specs.Tlv.{IsBytes}
+use Rattle.der_grammar.specs.Tlv.{IsBytes}
 use Rattle.foundation.specs.Results.{err_same, no_both, refused_at}
 use Rattle.foundation.specs.Steps.{◌>>=◌}
-use Rattle.sigstore_crypto_parts.specs.Crypto.{Crypto}
+use Rattle.sigstore_keys.specs.Crypto.{Crypto}
 use Rattle.sigstore_tuf_text.specs.declared.error.Error.{Error}
 use Rattle.sigstore_tuf_text.specs.declared.error.Error.TheVariants as tuf
 use Rattle.sigstore_tuf_text.specs.declared.error.Rule.TheVariants as rule

@@ -5,8 +5,8 @@ use Rattle.std.proofs.lemmas.List.{take-append-drop}
 use Rattle.std.proofs.lemmas.Slice.Eq.{bytes_eq-Decides}
 use Rattle.foundation.specs.Results.{step_ok, ok_same}
 use Rattle.foundation.specs.Steps.{◌>>=◌}
-use Rattle.der_core_parts.specs.Tlv.{IsBytes}
-use Rattle.der_core_parts.specs.TlvLaws.{IsBytes-drop}
+use Rattle.der_grammar.specs.Tlv.{IsBytes}
+use Rattle.der_grammar.specs.TlvLaws.{IsBytes-drop}
 use Rattle.sigstore_tuf_rules.specs.declared.chain.RoleDoc.{RoleDoc}
 use Rattle.sigstore_tuf_rules.specs.declared.chain.TrustChain.{TrustChain}
 use Rattle.sigstore_tuf_parts.specs.declared.targets.TargetFile.{TargetFile}

@@ -5,7 +5,7 @@ use Rattle.std.proofs.lemmas.Bool.Decides.{nat_tests}
 use Rattle.jiff_core.specs.declared.timestamp.Timestamp as jiff
 use Rattle.foundation.specs.Results.{step_ok, ok_same}
 use Rattle.foundation.specs.Steps.{◌>>=◌}
-use Rattle.sigstore_crypto_parts.specs.Crypto.{Crypto}
+use Rattle.sigstore_keys.specs.Crypto.{Crypto}
 use Rattle.sigstore_tuf_parts.specs.declared.targets.TargetFile.{TargetFile}
 use Rattle.sigstore_tuf_rules.specs.declared.chain.RoleDoc.{RoleDoc}
 use Rattle.sigstore_tuf_rules.specs.declared.documents.InForce.{InForce}

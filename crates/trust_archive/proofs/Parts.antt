@@ -10,8 +10,8 @@ use Rattle.std.proofs.lemmas.List.{take_at, drop_at, take-append-drop, length-ap
 use Rattle.std.proofs.lemmas.Nat.{be_bytes_4, from_be_bytes-to_be_bytes_4}
 use Rattle.foundation.specs.Results.{step_ok, ok_same}
 use Rattle.foundation.specs.Steps.{◌>>=◌}
-use Rattle.der_core_parts.specs.Tlv.{IsBytes}
-use Rattle.der_core_parts.specs.TlvLaws.{IsBytes-drop}
+use Rattle.der_grammar.specs.Tlv.{IsBytes}
+use Rattle.der_grammar.specs.TlvLaws.{IsBytes-drop}
 use Rattle.sigstore_tuf_rules.specs.declared.chain.RoleDoc.{RoleDoc}
 use Rattle.trust_archive.specs.declared.error.ArchiveError.TheVariants.{TooLong}
 use Rattle.trust_archive.specs.declared.error.Unread.TheVariants.{Left}

@@ -8,7 +8,7 @@ use Rattle.std.proofs.lemmas.List.{map-append, append_cancel_left}
 use Rattle.jiff_core.specs.declared.timestamp.Timestamp as jiff
 use Rattle.foundation.specs.Results.{ok_same, some_same}
 use Rattle.foundation.specs.Steps.{◌>>=◌}
-use Rattle.sigstore_crypto_parts.specs.Crypto.{Crypto}
+use Rattle.sigstore_keys.specs.Crypto.{Crypto}
 use Rattle.sigstore_tuf_parts.specs.declared.root.Root as declared
 use Rattle.sigstore_tuf_parts.specs.declared.snapshot.Snapshot.{Snapshot}
 use Rattle.sigstore_tuf_parts.specs.declared.targets.TargetFile.{TargetFile}

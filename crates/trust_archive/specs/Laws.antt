@@ -2,8 +2,8 @@
 use Rattle.std.specs.Prelude.{◌≡◌, ℕ, List, Ok}
 use Rattle.std.specs.List.{AllByRecursion}
 use Rattle.jiff_core.specs.declared.timestamp.Timestamp as jiff
-use Rattle.der_core_parts.specs.Tlv.{IsBytes}
-use Rattle.sigstore_crypto_parts.specs.Crypto.{Crypto}
+use Rattle.der_grammar.specs.Tlv.{IsBytes}
+use Rattle.sigstore_keys.specs.Crypto.{Crypto}
 use Rattle.sigstore_tuf_rules.specs.declared.chain.TrustChain.{TrustChain}
 use Rattle.sigstore_tuf_rules.specs.Trusted.{Trusted}
 use Rattle.trust_archive.specs.declared.archive.Archive.{Archive}

@@ -1,6 +1,6 @@
 // The judgement of an archive.
 ghost use Rattle.std.specs.Prelude.{◌≡◌, ◌≢◌, Ok, Err, IfOk, IfErr};
-ghost use Rattle.sigstore_crypto_parts.specs.Crypto.{crypto_by};
+ghost use Rattle.sigstore_keys.specs.Crypto.{crypto_by};
 ghost use Rattle.trust_archive.specs.Judgement.{roles_of, begun, file_of, with_file_of, judged_of, chain_of};
 ghost use Rattle.trust_archive.specs.Archive.{IsArchive};
 ghost use Rattle.trust_archive.specs.Cause.{ArchiveCause};
@@ -10,7 +10,7 @@ use crate::error::ArchiveError;
 use crate::reading::archive_in;
 use crate::roles::visits;
 use crate::top::top;
-use sigstore_crypto_parts::CryptoProvider;
+use sigstore_keys::CryptoProvider;
 use sigstore_tuf_parts::{TargetFile, check_integrity};
 use sigstore_tuf_rules::{InForce, TrustChain};
 use sigstore_types_parts::Armor;

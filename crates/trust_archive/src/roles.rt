@@ -1,13 +1,13 @@
 // The roles of an archive: each is the next visit of the search, and its document is judged as a client judges it.
 ghost use Rattle.std.specs.Prelude.{◌≡◌, ◌≢◌, Ok, Err, IfOk, IfErr, OnOk, length, ok_or, option_map, option_copied, reverse};
-ghost use Rattle.sigstore_crypto_parts.specs.Crypto.{crypto_by};
+ghost use Rattle.sigstore_keys.specs.Crypto.{crypto_by};
 ghost use Rattle.sigstore_tuf_rules.specs.Update.{Updates};
 ghost use Rattle.trust_archive.specs.Judgement.{next_in, is_there, due_of, adopted_of, delegated_by, document_in, listed_in, followed_of, read_of, made_of, next_judged_of, visited_of, entry_of, roles_of, begun};
 ghost use Rattle.trust_archive.specs.Searching.{going_of};
 
 use crate::error::ArchiveError;
 use foundation::{Duplicate, NoMemory, Sequence};
-use sigstore_crypto_parts::CryptoProvider;
+use sigstore_keys::CryptoProvider;
 use sigstore_tuf_parts::{DelegatedRole, Error, TargetFile, Targets};
 use sigstore_tuf_rules::{
     InForce, RoleDoc, Visit, matching, pop_unread, push_next, role_pin_in, update_role,

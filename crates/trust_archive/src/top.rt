@@ -1,13 +1,13 @@
 // The documents before the roles: the roots, the timestamp and the snapshot come into force one after another.
 ghost use Rattle.std.specs.Prelude.{◌≡◌, ◌≢◌, Ok, Err, IfOk, IfErr, OnOk};
-ghost use Rattle.sigstore_crypto_parts.specs.Crypto.{crypto_by};
+ghost use Rattle.sigstore_keys.specs.Crypto.{crypto_by};
 ghost use Rattle.sigstore_tuf_rules.specs.Update.{first_root_of, update_root_of, Updates};
 ghost use Rattle.trust_archive.specs.Judgement.{at_root, later_roots_of, fresh_root_of, followed_roots_of, roots_of, timed_of, snapshot_judged_of, snapshot_read_of, having_snapshot, snapped_of, both_of, top_of};
 
 use crate::archive::Archive;
 use crate::error::ArchiveError;
 use foundation::Duplicate;
-use sigstore_crypto_parts::CryptoProvider;
+use sigstore_keys::CryptoProvider;
 use sigstore_tuf_parts::{Error, MetaFile, Metadata, Role, Root, Rule, Snapshot, check_version};
 use sigstore_tuf_rules::{
     Held, InForce, check_root_serves, first_root, snapshot_pin_in, update_root, update_timestamp,

@@ -1,7 +1,7 @@
 // Tokens under authorities.
 use crate::data::TOKENS;
 use crate::words::{authority, displayed, good, halves, hold, printed, text};
-use sigstore_app_parts::Tables;
+use command_files::Tables;
 use sigstore_tsa::{
     Error, TokenFault, refusals_have_causes, stamped_exactly, token_time, tokens_exactly,
     verify_timestamp_for_authority,

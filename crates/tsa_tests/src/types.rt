@@ -4,7 +4,7 @@ use crate::words::{displayed, good, halves, hold, place, printed, text, there};
 use der_core::{Der, DerError};
 use foundation::Duplicate;
 use jiff::Timestamp;
-use sigstore_crypto_parts::{sha256, sha384, sha512};
+use sigstore_keys::{sha256, sha384, sha512};
 use sigstore_tsa::{
     Accuracy, AlgorithmIdentifier, Asn1MessageImprint, CertificateFault, Error, ParseRule,
     PkiStatus, PkiStatusInfo, ResponseFault, SignatureRule, TimeStampReq, TimeStampResp, TstInfo,

@@ -1,9 +1,9 @@
 // How tables of rows are tried, and what the rows mean.
 use crate::data::{CERTIFICATES, SIGNATURES};
 use crate::{tokens, types};
+use command_files::{Tables, read_provider};
 use foundation::Sequence;
 use jiff::Timestamp;
-use sigstore_app_parts::{Tables, read_provider};
 use sigstore_types::{Authority, DerCertificate, TimeRange, TsaAuthority};
 use std::fmt::{Debug, Display};
 use std::process::Abort;

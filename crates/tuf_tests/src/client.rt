@@ -4,7 +4,7 @@ use crate::searches;
 use crate::thresholds::signatures;
 use crate::words::{check, filled, good, halves, hold, printed, string, there, word};
 use jiff::Timestamp;
-use sigstore_crypto::CryptoProvider;
+use sigstore_keys::CryptoProvider;
 use sigstore_tuf::*;
 use sigstore_tuf_parts::{Role, TargetFile};
 use sigstore_types_parts::{Armor, FailList};

@@ -1,11 +1,11 @@
 // Providers that accept the signature 01 of everything, or what equals its subject; a key, and an armour that
 // holds it.
 ghost use Rattle.std.specs.Prelude.{[], ◌∷◌, Some, bytes_eq, true};
-ghost use Rattle.sigstore_crypto_parts.specs.Good.{subject_of};
+ghost use Rattle.sigstore_keys.specs.Good.{subject_of};
 
 use crate::words::key_bytes;
 use foundation::{Duplicate, NoMemory};
-use sigstore_crypto::{CryptoProvider, SigningScheme, sha256, sha384, sha512};
+use sigstore_keys::{CryptoProvider, SigningScheme, sha256, sha384, sha512};
 use sigstore_types_parts::{Armor, Bytes, HashAlgorithm};
 use std::alloc::Global;
 use std::process::Abort;

@@ -8,7 +8,7 @@ use crate::words::{
 };
 use foundation::{Duplicate, NoMemory};
 use serde_json::Value;
-use sigstore_crypto::{VerificationKey, sha256};
+use sigstore_keys::{VerificationKey, sha256};
 use sigstore_tuf_parts::*;
 use sigstore_types_parts::{Armor, Bytes, FromValue, SignatureBytes, Text};
 use std::alloc::Global;

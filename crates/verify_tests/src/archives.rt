@@ -1,11 +1,11 @@
 // Archives of the fixture's chain: how they are written, and what is said of them.
 use crate::fixture::{PARTS, inputs, measured, repository, root, store, targets};
 use crate::tables::{Change, bytes, change_in, failures, good, hold, text_of, there, words};
-use archive_commands::run_archive;
+use command_archive::run_archive;
+use command_files::MemorySink;
+use command_verify::Status;
 use jiff::Timestamp;
-use sigstore_app_parts::MemorySink;
-use sigstore_crypto::MemorySource;
-use sigstore_run::Status;
+use sigstore_keys::MemorySource;
 use std::num::NonZeroU32;
 use std::process::Abort;
 

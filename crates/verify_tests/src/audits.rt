@@ -1,10 +1,10 @@
 // Audits over the tiles of seven leaves, the hashes of which are their numbers 32 times over.
 use crate::tables::{bytes, failures, good, hold, string, text_of, there, words};
-use audit_commands::run_audit;
+use command_audit::run_audit;
+use command_files::{MemoryInputs, MemorySink, Which};
+use command_verify::Status;
 use log_tiles::MemoryTiles;
-use sigstore_app_parts::{MemoryInputs, MemorySink, Which};
-use sigstore_crypto::MemorySource;
-use sigstore_run::Status;
+use sigstore_keys::MemorySource;
 use sigstore_types_parts::{Hash, Sha256Hash};
 use std::num::NonZeroU32;
 use std::process::Abort;

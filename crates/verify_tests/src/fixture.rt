@@ -6,10 +6,10 @@ use crate::{
     archives, audits, delegated, enveloped, gate_runs, gates, hostile, keyless, keyless_data,
     logged, stamped,
 };
+use command_files::{MemoryInputs, MemorySink, Which};
+use command_verify::{Status, run};
 use jiff::Timestamp;
-use sigstore_app_parts::{MemoryInputs, MemorySink, Which};
-use sigstore_crypto::{MemorySource, sha256};
-use sigstore_run::{Status, run};
+use sigstore_keys::{MemorySource, sha256};
 use sigstore_tuf::{MemoryRepository, MemoryStore, MetadataStore};
 use sigstore_types_parts::{Bytes, DigestBytes, Text};
 use sigstore_verify::RootFault;

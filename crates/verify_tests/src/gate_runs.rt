@@ -2,10 +2,10 @@
 use crate::fixture::{PARTS, inputs, repository, root, store, targets};
 use crate::gates::folder;
 use crate::tables::{Change, change_in, failures, good, hold, text_of, there, words};
-use gate_commands::run_gate;
+use command_files::MemorySink;
+use command_gate::run_gate;
+use command_verify::Status;
 use jiff::Timestamp;
-use sigstore_app_parts::MemorySink;
-use sigstore_run::Status;
 use std::process::Abort;
 
 // How a run with these words ends, over the changed fixture and a folder with these files.

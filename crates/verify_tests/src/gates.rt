@@ -7,11 +7,11 @@ use crate::fixture::{PARTS, SPKI, bundle, given_root, provider, repository, root
 use crate::tables::{
     Change, change_in, check, failures, good, halves, hold, number, string, text, text_of, there,
 };
+use command_files::{Tables, read_provider};
 use jiff::Timestamp;
 use release_gate::{
     FileFolder, Folder, FolderFault, GateFault, GateLine, Gated, MemoryFolder, gate_from_root,
 };
-use sigstore_app_parts::{Tables, read_provider};
 use sigstore_tuf::{MemoryRepository, MemoryStore, UpdaterConfig};
 use sigstore_types_parts::{Bytes, DerPublicKey, Text};
 use sigstore_verify::PublicKeyVerificationPolicy;

@@ -3,8 +3,8 @@ use crate::fixture::{
     PARTS, SPKI, bundle, given_root, provider, repository, root, said_of, targets,
 };
 use crate::tables::{Change, change_in, failures, good, halves, hold, number, source, string};
+use command_files::{Tables, read_provider};
 use jiff::Timestamp;
-use sigstore_app_parts::{Tables, read_provider};
 use sigstore_tuf::{MemoryRepository, MemoryStore, UpdaterConfig};
 use sigstore_types_parts::{Bytes, DerPublicKey};
 use sigstore_verify::{PublicKeyVerificationPolicy, RootFault, Rooted, verify_from_root};

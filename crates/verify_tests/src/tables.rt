@@ -1,7 +1,7 @@
 // How tables of rows are tried, and the values that their rows name. A test ends the process where it
 // fails, so no helper hands a failure on.
 use crate::fixture;
-use sigstore_crypto::MemorySource;
+use sigstore_keys::MemorySource;
 use sigstore_types_parts::{Bytes, FailList, Text};
 use std::fmt::{Debug, Display};
 use std::num::NonZeroU32;

@@ -2,13 +2,13 @@
 use Rattle.std.proofs.Common.{◌≡◌, ℕ, Bool, true, false, cond, eqb, List, length, Ok, Err, refl}
 use Rattle.std.specs.Prelude.{is_ok}
 use Rattle.foundation.specs.Steps.{◌>>=◌}
-use Rattle.der_core_parts.specs.declared.error.DerError.TheVariants as der
-use Rattle.der_core_parts.specs.Outcome.{Outcome}
-use Rattle.der_core_parts.specs.Tlv.{tlv_at}
-use Rattle.der_core_parts.specs.Grammar.{read, read_body, read_all, ended}
+use Rattle.der_grammar.specs.declared.error.DerError.TheVariants as der
+use Rattle.der_grammar.specs.Outcome.{Outcome}
+use Rattle.der_grammar.specs.Tlv.{tlv_at}
+use Rattle.der_grammar.specs.Grammar.{read, read_body, read_all, ended}
 use Rattle.spki_core.specs.declared.error.X509Error.TheVariants.{Der}
 use Rattle.spki_core.specs.Reading.{Reading, of_der, with_tag, contents_at, at_end}
-use Rattle.x509_core_parts.specs.Certificates.{Certificate, parts_of, certificate_of}
+use Rattle.x509_views.specs.Certificates.{Certificate, parts_of, certificate_of}
 use Rattle.x509_core.specs.Kinds.{certificate_type}
 
 abbrev judged : Bool → List ℕ → Outcome (List ℕ)

@@ -5,21 +5,21 @@ use mathlib.Core.Bool.{beq}
 use Rattle.std.specs.Str.{bytes_eq}
 use Rattle.std.proofs.lemmas.Bool.{eqb-true}
 use Rattle.foundation.specs.Steps.{◌>>=◌}
-use Rattle.der_core_parts.specs.declared.error.DerError.TheVariants as der
-use Rattle.der_core_parts.specs.Outcome.{Outcome}
-use Rattle.der_core_parts.specs.Booleans.{boolean_type, boolean_of, false_by_default}
-use Rattle.der_core_parts.specs.Choices.{any, is_tag}
-use Rattle.der_core_parts.specs.Grammar.{read, read_body, read_option, ended, or_default}
-use Rattle.der_core_parts.specs.Octets.{octet_string_type}
-use Rattle.der_core_parts.specs.Tlv.{tlv, tlv_at, length_at, value_at}
-use Rattle.der_core_parts.specs.TlvLaws.{ok_is, bind_ok, passed, not_refused}
+use Rattle.der_grammar.specs.declared.error.DerError.TheVariants as der
+use Rattle.der_grammar.specs.Outcome.{Outcome}
+use Rattle.der_grammar.specs.Booleans.{boolean_type, boolean_of, false_by_default}
+use Rattle.der_grammar.specs.Choices.{any, is_tag}
+use Rattle.der_grammar.specs.Grammar.{read, read_body, read_option, ended, or_default}
+use Rattle.der_grammar.specs.Octets.{octet_string_type}
+use Rattle.der_grammar.specs.Tlv.{tlv, tlv_at, length_at, value_at}
+use Rattle.der_grammar.specs.TlvLaws.{ok_is, bind_ok, passed, not_refused}
 use Rattle.der_core.specs.declared.civil.Civil.{Civil}
 use Rattle.der_core.specs.Oid.{oid_type, is_oid}
 use Rattle.der_core.specs.Strings.{is_int}
 use Rattle.der_core.specs.Times.{utc_of, generalized_of}
 use Rattle.spki_core.specs.declared.error.X509Error.TheVariants.{Der, Time as TimeRefusal}
-use Rattle.x509_core_parts.specs.Certificates.{serial_at, time_at, time_of, time_or}
-use Rattle.x509_core_parts.specs.Extensions.{OneExtension, critical_at, extension_of, extension_at}
+use Rattle.x509_views.specs.Certificates.{serial_at, time_at, time_of, time_or}
+use Rattle.x509_views.specs.Extensions.{OneExtension, critical_at, extension_of, extension_at}
 use Rattle.spki_core.specs.Reading.{Reading, of_der, with_tag, contents_at, encoded_at, oid_at, int_at, any_at, checked, at_end}
 use Rattle.spki_core.specs.Spki.{Algorithm, algorithm_of, algorithm_at}
 use Rattle.x509_core.specs.declared.algorithm.AlgorithmIdentifierOwned.{AlgorithmIdentifierOwned}

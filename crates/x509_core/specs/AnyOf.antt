@@ -2,13 +2,13 @@
 use Rattle.std.specs.Prelude.{◌≡◌, ℕ, Bool, true, false, ◌&&◌, ◌||◌, List, [], ◌∷◌, length, Some, Ok, Err, if◌then◌else◌}
 use Rattle.std.proofs.Common.{refl, sym, ap, subst, eqb}
 use Rattle.std.proofs.lemmas.Bool.{eqb-true}
-use Rattle.der_core_parts.specs.declared.error.DerError.TheVariants.{Value}
-use Rattle.der_core_parts.specs.Tlv.{IsTag}
-use Rattle.der_core_parts.specs.Grammar.{Grammar}
-use Rattle.der_core_parts.specs.Law.{IsLawful}
-use Rattle.der_core_parts.specs.Choices.{is_tag}
-use Rattle.der_core_parts.specs.TlvLaws.{ok_is, passed}
-use Rattle.der_core_parts.specs.Types.{AsnType, is_in, valid}
+use Rattle.der_grammar.specs.declared.error.DerError.TheVariants.{Value}
+use Rattle.der_grammar.specs.Tlv.{IsTag}
+use Rattle.der_grammar.specs.Grammar.{Grammar}
+use Rattle.der_grammar.specs.Law.{IsLawful}
+use Rattle.der_grammar.specs.Choices.{is_tag}
+use Rattle.der_grammar.specs.TlvLaws.{ok_is, passed}
+use Rattle.der_grammar.specs.Types.{AsnType, is_in, valid}
 
 abbrev pub any_of : List ℕ → Grammar (ℕ × List ℕ)
 any_of tags = record {

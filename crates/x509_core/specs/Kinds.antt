@@ -1,13 +1,13 @@
 -- Types that are kept as their contents: which contents are in the grammar.
 use Rattle.std.specs.Prelude.{ℕ, List, Bool, true, ◌&&◌, nat_le, length, is_ok, refl}
 use Rattle.foundation.specs.Steps.{◌>>=◌}
-use Rattle.der_core_parts.specs.Outcome.{Outcome}
-use Rattle.der_core_parts.specs.Tlv.{tlv_at}
-use Rattle.der_core_parts.specs.Grammar.{ended}
-use Rattle.der_core_parts.specs.Types.{AsnType, primitive_type}
-use Rattle.der_core_parts.specs.Tags.{integer_tag, octet_string_tag, sequence_tag}
+use Rattle.der_grammar.specs.Outcome.{Outcome}
+use Rattle.der_grammar.specs.Tlv.{tlv_at}
+use Rattle.der_grammar.specs.Grammar.{ended}
+use Rattle.der_grammar.specs.Types.{AsnType, primitive_type}
+use Rattle.der_grammar.specs.Tags.{integer_tag, octet_string_tag, sequence_tag}
 use Rattle.der_core.specs.Strings.{is_int}
-use Rattle.x509_core_parts.specs.Certificates.{parts_of}
+use Rattle.x509_views.specs.Certificates.{parts_of}
 
 abbrev pub is_any : List ℕ → Bool
 is_any contents = true

@@ -1,11 +1,11 @@
 -- What each type looks like in DER.
 use Rattle.std.specs.Prelude.{◌≡◌, ◌⊎◌, ℕ, List, refl}
 use Rattle.std.proofs.Common.{inl, inr}
-use Rattle.der_core_parts.specs.Types.{AsnType, sequence_type, set_of_type, implicit_type, any_type, components_as}
-use Rattle.der_core_parts.specs.Types.{followed_by, required_component, optional_component, choice_type}
-use Rattle.der_core_parts.specs.Booleans.{false_by_default}
-use Rattle.der_core_parts.specs.Octets.{octet_string_type}
-use Rattle.der_core_parts.specs.Tags.{ia5_tag, primitive_1_tag, primitive_6_tag}
+use Rattle.der_grammar.specs.Types.{AsnType, sequence_type, set_of_type, implicit_type, any_type, components_as}
+use Rattle.der_grammar.specs.Types.{followed_by, required_component, optional_component, choice_type}
+use Rattle.der_grammar.specs.Booleans.{false_by_default}
+use Rattle.der_grammar.specs.Octets.{octet_string_type}
+use Rattle.der_grammar.specs.Tags.{ia5_tag, primitive_1_tag, primitive_6_tag}
 use Rattle.der_core.specs.Oid.{oid_type}
 use Rattle.der_core.specs.Strings.{ia5_type}
 use Rattle.der_core.specs.Times.{utc_time_type, generalized_time_type}

@@ -1,13 +1,13 @@
 -- The types that own their bytes, as a view of a certificate sees them.
 use Rattle.std.specs.Prelude.{ℕ, List, Option, Some, None, Ok}
 use Rattle.foundation.specs.Steps.{◌>>=◌}
-use Rattle.der_core_parts.specs.Outcome.{Outcome}
-use Rattle.der_core_parts.specs.Tlv.{tlv}
+use Rattle.der_grammar.specs.Outcome.{Outcome}
+use Rattle.der_grammar.specs.Tlv.{tlv}
 use Rattle.der_core.specs.declared.civil.Civil.{Civil}
 use Rattle.der_core.specs.Times.{utc_of, generalized_of}
-use Rattle.der_core_parts.specs.Grammar.{read}
-use Rattle.der_core_parts.specs.Tags.{sequence_tag}
-use Rattle.x509_core_parts.specs.Extensions.{OneExtension}
+use Rattle.der_grammar.specs.Grammar.{read}
+use Rattle.der_grammar.specs.Tags.{sequence_tag}
+use Rattle.x509_views.specs.Extensions.{OneExtension}
 use Rattle.spki_core.specs.Reading.{Reading, of_der}
 use Rattle.spki_core.specs.Spki.{algorithm_at}
 use Rattle.x509_core.specs.declared.algorithm.AlgorithmIdentifierOwned.{AlgorithmIdentifierOwned}

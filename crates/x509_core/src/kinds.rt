@@ -92,11 +92,11 @@ impl PrimitiveKind for CertificateKind {
     }
 
     fn allows(contents: &[u8]) -> bool {
-        x509_core_parts::is_certificate(contents)
+        x509_views::is_certificate(contents)
     }
 
     fn allows_in(alloc: Global, contents: &[u8]) -> Result<bool, NoMemory> {
-        x509_core_parts::is_certificate_in(alloc, contents)
+        x509_views::is_certificate_in(alloc, contents)
     }
 
     ghost is_number = { refl };

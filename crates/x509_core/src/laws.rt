@@ -1,10 +1,10 @@
 // What the readings of views and of the types that own their bytes have in common.
 ghost use Rattle.std.specs.Prelude.{◌≡◌, ℕ, List, Ok, is_ok};
-ghost use Rattle.der_core_parts.specs.Grammar.{read, read_all};
-ghost use Rattle.der_core_parts.specs.Tags.{sequence_tag};
+ghost use Rattle.der_grammar.specs.Grammar.{read, read_all};
+ghost use Rattle.der_grammar.specs.Tags.{sequence_tag};
 ghost use Rattle.der_core.specs.declared.civil.Civil.{Civil as CivilTime};
-ghost use Rattle.x509_core_parts.specs.Certificates.{certificate_of, serial_at, time_at};
-ghost use Rattle.x509_core_parts.specs.Extensions.{extension_at};
+ghost use Rattle.x509_views.specs.Certificates.{certificate_of, serial_at, time_at};
+ghost use Rattle.x509_views.specs.Extensions.{extension_at};
 ghost use Rattle.spki_core.specs.Reading.{of_der, encoded_at};
 ghost use Rattle.x509_core.specs.declared.time.Time.{Time as TimeType};
 ghost use Rattle.x509_core.specs.Kinds.{certificate_type, serial_number_type};

@@ -1,5 +1,5 @@
 //! The types of X.509 certificates (RFC 5280) that own their bytes, and the names of
-//! `x509_core_parts`.
+//! `x509_views`.
 #![tactic(auto)]
 
 mod algorithm;
@@ -25,7 +25,7 @@ pub use laws::{
 };
 pub use other_name::OtherName;
 pub use time::Time;
-pub use x509_core_parts::{
+pub use x509_views::{
     CertView, ExtensionView, Extensions, NamedExtension, RsaKeyView, Sct, SpkiView, X509Error,
     certificate_is_its_parts, extension_stands_once, is_certificate, is_certificate_in,
     key_is_its_parts, precert_tbs, precertificate_is_there, sct_list, sct_signed_bytes,

@@ -3,8 +3,8 @@ ghost use Rattle.std.specs.Prelude.{◌≡◌, ◌≢◌, true, false, IfOk, IfE
 ghost use Rattle.std.specs.Ordering.{on, eq_of_both};
 ghost use Rattle.std.specs.Cmp.Rules.{comparing};
 ghost use Rattle.std.proofs.Common.{rules};
-ghost use Rattle.der_core_parts.specs.declared.error.DerError.TheVariants.{Value as BadValue};
-ghost use Rattle.der_core_parts.specs.Types.{is_in};
+ghost use Rattle.der_grammar.specs.declared.error.DerError.TheVariants.{Value as BadValue};
+ghost use Rattle.der_grammar.specs.Types.{is_in};
 ghost use Rattle.x509_core.specs.OtherNames.{other_tags, other_name_type};
 
 use der_core::{Der, DerError, OctetString, Tag};
@@ -22,7 +22,7 @@ pub struct OtherName {
 
 impl Model for OtherName {
     ghost use Rattle.std.specs.Prelude.{◌≡◌, ℕ, List, true};
-    ghost use Rattle.der_core_parts.specs.Types.{is_in};
+    ghost use Rattle.der_grammar.specs.Types.{is_in};
     ghost use Rattle.x509_core.specs.OtherNames.{other_tags};
 
     ghost Value = { ℕ × List ℕ };

@@ -1,7 +1,7 @@
 use Rattle.std.proofs.Common.{◌≢◌, ◌∙◌, sym, ap}
 use Rattle.std.proofs.lemmas.Result.{err_from_is_err_and}
 use Rattle.foundation.specs.Results.{no_both}
-use Rattle.der_core_parts.specs.declared.error.DerError.TheVariants as der
+use Rattle.der_grammar.specs.declared.error.DerError.TheVariants as der
 use Rattle.cms.specs.Error.{error_of_der}
 use Rattle.cms.proofs.Timed.{time_there}
 use Rattle.cms.proofs.attributes.create_signing_time_attribute.Goals as goal

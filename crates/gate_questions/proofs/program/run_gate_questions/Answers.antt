@@ -1,6 +1,6 @@
 use Rattle.std.proofs.Common.{Ok, Err, refl, ◌∙◌, subst}
-use Rattle.sigstore_app_parts.specs.Sink.{WritesText}
-use Rattle.sigstore_app_parts.specs.declared.sink.SinkFault.{SinkFault}
+use Rattle.command_files.specs.Sink.{WritesText}
+use Rattle.command_files.specs.declared.sink.SinkFault.{SinkFault}
 use Rattle.gate_questions.specs.Means.{unwritten, cut, written}
 use Rattle.gate_questions.proofs.Meaning.{asked_rows}
 use Rattle.gate_questions.proofs.program.run_gate_questions.Goals as goal

@@ -1,6 +1,6 @@
 use Rattle.std.proofs.Common.{◌≡◌}
 use Rattle.std.specs.List.{list_any}
-use Rattle.x509_core_parts.specs.Walk.{coming}
+use Rattle.x509_views.specs.Walk.{coming}
 use Rattle.path_core.specs.Extensions.{is_unknown}
 use Rattle.path_core.proofs.extensions.has_unknown_critical.Given as goal
 

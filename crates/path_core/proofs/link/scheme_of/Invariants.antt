@@ -1,5 +1,5 @@
 use Rattle.std.proofs.Common.{◌≡◌}
-use Rattle.sigstore_crypto_parts.specs.Pairs.{known_pairs}
+use Rattle.sigstore_keys.specs.Pairs.{known_pairs}
 use Rattle.path_core.specs.Links.{scheme_among}
 use Rattle.path_core.proofs.Pairs.{scheme_from}
 use Rattle.path_core.proofs.link.scheme_of.Given as goal

@@ -1,7 +1,7 @@
 use Rattle.std.proofs.Common.{rules, arith, refl, ◌≡◌, ◌-◌, ◌++◌, [], length, take, length-append}
 use Rattle.std.proofs.lemmas.Grind.{common_steps}
 use Rattle.std.proofs.lemmas.List.{take-append-le}
-use Rattle.sigstore_crypto_parts.proofs.Feeding.{fed_nothing, fed_more}
+use Rattle.sigstore_keys.proofs.Feeding.{fed_nothing, fed_more}
 use Rattle.release_gate.proofs.Sources.{prepend_nothing, next_given}
 use Rattle.release_gate.proofs.Walking.{since_both}
 use Rattle.release_gate.proofs.hashing.hash_file.Goals as goal

@@ -1,6 +1,6 @@
 use Rattle.std.proofs.Common.{List, ℕ, length}
 use Rattle.foundation.specs.Watched.{Since}
-use Rattle.sigstore_crypto_parts.proofs.SoFar.{SoFar}
+use Rattle.sigstore_keys.proofs.SoFar.{SoFar}
 use Rattle.release_gate.specs.Folder.{source_of}
 use Rattle.release_gate.proofs.hashing.hash_file.Given as goal
 

@@ -1,6 +1,6 @@
 use Rattle.std.proofs.Common.{arith, ap, ◌∙◌, sym, drop, ◌+◌}
 use Rattle.std.proofs.lemmas.List.{drop-set-lt, drop-drop}
-use Rattle.sigstore_crypto_parts.proofs.Feeding.{fed_next}
+use Rattle.sigstore_keys.proofs.Feeding.{fed_next}
 use Rattle.release_gate.proofs.hashing.update_each.Goals as goal
 
 pub each-preserved : goal.each-preserved

@@ -1,5 +1,5 @@
 use Rattle.std.proofs.Common.{◌≡◌, take, drop}
-use Rattle.sigstore_crypto_parts.specs.Hasher.{Fed}
+use Rattle.sigstore_keys.specs.Hasher.{Fed}
 use Rattle.release_gate.proofs.hashing.update_each.Given as goal
 
 abbrev pub invariant-each : goal.invariant-each

@@ -1,6 +1,6 @@
 use Rattle.std.proofs.Common.{◌≡◌, length, ap, ◌∙◌, is_ok, sym}
 use Rattle.sigstore_types_parts.specs.HashAlgorithm.{digest_len_of}
-use Rattle.sigstore_crypto_parts.specs.Good.{prehashed_of}
+use Rattle.sigstore_keys.specs.Good.{prehashed_of}
 use Rattle.sigstore_judgement.proofs.Signed.{taken_signed}
 use Rattle.sigstore_judgement.proofs.content.is_artifact_signed.Goals as goal
 

@@ -1,6 +1,6 @@
 use Rattle.std.proofs.Common.{◌≡◌, length, sym, subst, ◌∙◌, arith}
 use Rattle.std.proofs.lemmas.List.{take_at}
-use Rattle.sigstore_crypto_parts.specs.Hasher.{Fed, Grows}
+use Rattle.sigstore_keys.specs.Hasher.{Fed, Grows}
 use Rattle.sigstore_judgement.specs.Taken.{Finalized}
 use Rattle.sigstore_judgement.proofs.Taken.{fed_are, fed_length, finalized_are}
 use Rattle.sigstore_judgement.proofs.taking.read_digests.Goals as goal

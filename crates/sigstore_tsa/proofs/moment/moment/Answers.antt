@@ -1,7 +1,7 @@
 use Rattle.std.proofs.Common.{sym, ap, ◌∙◌}
 use Rattle.sigstore_types_parts.specs.Instant.{at_nanosecond}
 use Rattle.sigstore_types_parts.proofs.Instants.{at_nanosecond-nanosecond}
-use Rattle.sigstore_crypto.specs.Info.{moment_of}
+use Rattle.certificate_claims.specs.Info.{moment_of}
 use Rattle.sigstore_tsa.proofs.moment.moment.Goals as goal
 
 pub returns : goal.returns

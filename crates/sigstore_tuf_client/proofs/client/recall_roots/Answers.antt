@@ -1,6 +1,6 @@
 use Rattle.std.proofs.Common.{Ok, None, ap, sym, arith}
 use Rattle.foundation.specs.Watched.{untold}
-use Rattle.sigstore_crypto_parts.specs.Crypto.{crypto_by}
+use Rattle.sigstore_keys.specs.Crypto.{crypto_by}
 use Rattle.sigstore_tuf_runs.specs.Adopt.{Seeds}
 use Rattle.sigstore_tuf_runs.specs.Run.{alone, root_loop}
 use Rattle.sigstore_tuf_runs.proofs.Steps.{seed_rises, one_less, some_left, turned, stopped}

@@ -1,7 +1,7 @@
 use Rattle.std.proofs.Common.{◌-◌, ◌^◌, Result}
 use Rattle.std.specs.Prelude.{⊤}
 use Rattle.foundation.specs.Watched.{Watched}
-use Rattle.sigstore_crypto_parts.specs.Crypto.{crypto_by}
+use Rattle.sigstore_keys.specs.Crypto.{crypto_by}
 use Rattle.sigstore_tuf_text.specs.declared.error.Error.{Error}
 use Rattle.sigstore_tuf_outside.specs.Repository.{Folders}
 use Rattle.sigstore_tuf_runs.specs.State.{State, state_of}

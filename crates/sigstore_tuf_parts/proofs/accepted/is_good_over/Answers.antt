@@ -1,6 +1,6 @@
 use Rattle.std.proofs.Common.{◌≡◌, ◌∙◌, true, sym, is_ok}
-use Rattle.sigstore_crypto_parts.specs.Scheme.{has_digest}
-use Rattle.sigstore_crypto_parts.specs.Good.{is_good_over}
+use Rattle.sigstore_keys.specs.Scheme.{has_digest}
+use Rattle.sigstore_keys.specs.Good.{is_good_over}
 use Rattle.sigstore_tuf_parts.proofs.SignedTexts.{same_test}
 use Rattle.sigstore_tuf_parts.proofs.accepted.is_good_over.Goals as goal
 

@@ -1,5 +1,5 @@
 use Rattle.std.proofs.Common.{◌≡◌, take, map, count_by}
-use Rattle.sigstore_crypto_parts.specs.Crypto.{crypto_by}
+use Rattle.sigstore_keys.specs.Crypto.{crypto_by}
 use Rattle.sigstore_tuf_parts.specs.Threshold.{is_accepted}
 use Rattle.sigstore_tuf_parts.proofs.threshold.count_accepted.Given as goal
 

@@ -1,8 +1,8 @@
 use Rattle.std.proofs.Common.{sym, ◌∙◌, arith}
 use Rattle.std.proofs.lemmas.Result.{IfOk-weaker, IfErr-weaker}
 use Rattle.foundation.specs.Results.{no_both}
-use Rattle.der_core_parts.specs.TlvLaws.{IsBytes-from_each}
-use Rattle.sigstore_crypto_parts.specs.Crypto.{crypto_by}
+use Rattle.der_grammar.specs.TlvLaws.{IsBytes-from_each}
+use Rattle.sigstore_keys.specs.Crypto.{crypto_by}
 use Rattle.trust_archive.proofs.Causes.{chain_cause}
 use Rattle.trust_archive.proofs.Whole.{chain_sound, chain_complete}
 use Rattle.trust_archive.proofs.judgement.read_archive.Goals as goal

@@ -1,5 +1,5 @@
 use Rattle.std.proofs.Common.{Some, subst, if◌then◌else◌}
-use Rattle.sigstore_crypto_parts.specs.Crypto.{crypto_by}
+use Rattle.sigstore_keys.specs.Crypto.{crypto_by}
 use Rattle.sigstore_tuf_rules.specs.Delegated.{update_role_of}
 use Rattle.sigstore_tuf_rules.specs.Update.{Updates, update_targets_of}
 use Rattle.trust_archive.proofs.roles.adopt_role.Goals as goal

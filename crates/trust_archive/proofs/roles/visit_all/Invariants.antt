@@ -1,5 +1,5 @@
 use Rattle.std.proofs.Common.{◌≡◌, drop}
-use Rattle.sigstore_crypto_parts.specs.Crypto.{crypto_by}
+use Rattle.sigstore_keys.specs.Crypto.{crypto_by}
 use Rattle.trust_archive.specs.Judgement.{roles_of}
 use Rattle.trust_archive.specs.Searching.{going_of}
 use Rattle.trust_archive.proofs.roles.visit_all.Given as goal

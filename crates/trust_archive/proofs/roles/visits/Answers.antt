@@ -1,6 +1,6 @@
 use Rattle.std.proofs.Common.{◌≡◌, Ok, Err, subst}
 use Rattle.std.proofs.lemmas.Result.{IfOk-weaker, IfErr-weaker}
-use Rattle.sigstore_crypto_parts.specs.Crypto.{crypto_by}
+use Rattle.sigstore_keys.specs.Crypto.{crypto_by}
 use Rattle.trust_archive.specs.Judgement.{roles_of}
 use Rattle.trust_archive.proofs.roles.visits.Goals as goal
 

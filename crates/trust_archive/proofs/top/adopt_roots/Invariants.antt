@@ -1,5 +1,5 @@
 use Rattle.std.proofs.Common.{◌≡◌, ◌+◌, drop}
-use Rattle.sigstore_crypto_parts.specs.Crypto.{crypto_by}
+use Rattle.sigstore_keys.specs.Crypto.{crypto_by}
 use Rattle.trust_archive.specs.Judgement.{later_roots_of}
 use Rattle.trust_archive.proofs.top.adopt_roots.Given as goal
 

@@ -1,5 +1,5 @@
 use Rattle.std.proofs.Common.{rules, ◌≡◌, subst}
-use Rattle.sigstore_crypto_parts.specs.Good.{subject_of}
+use Rattle.sigstore_keys.specs.Good.{subject_of}
 use Rattle.questions_tests.specs.Answered.{by_answers}
 use Rattle.questions_tests.proofs.answered.AnsweredCryptoProvider.verify_raw.Goals as goal
 

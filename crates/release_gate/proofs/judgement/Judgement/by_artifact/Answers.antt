@@ -1,6 +1,6 @@
 use Rattle.std.proofs.Common.{◌≡◌, Ok, Err, refl, true, ap, subst, ◌∙◌}
 use Rattle.std.specs.List.{list_all}
-use Rattle.sigstore_crypto_parts.specs.Digest.{is_hashed}
+use Rattle.sigstore_keys.specs.Digest.{is_hashed}
 use Rattle.sigstore_judgement.specs.Artifact.{read_kind}
 use Rattle.sigstore_judgement.specs.Judged.{ready_as}
 use Rattle.sigstore_judgement.specs.Taking.{Takes}

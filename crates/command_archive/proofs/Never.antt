@@ -1,0 +1,73 @@
+-- Nothing is said with a status that says that nothing was, or that a write failed.
+use Rattle.std.proofs.Common.{◌≡◌, ℕ, List, Some, Result, Ok, Err, sym, subst}
+use Rattle.std.specs.Prelude.{⊤}
+use Rattle.command_verify.specs.declared.answer.Answer.{Answer}
+use Rattle.command_verify.specs.declared.answer.Status.{Status}
+use Rattle.command_verify.specs.declared.answer.Status.TheVariants as status
+use Rattle.command_verify.specs.Run.{stop_answer, tuf_answer, Command, Environment}
+use Rattle.sigstore_verify.specs.Given.{Anchor, Places}
+use Rattle.command_files.specs.declared.gather.Stop.{Stop}
+use Rattle.command_files.specs.declared.gather.Stop.TheVariants.{Words, Malformed, Input, Memory}
+use Rattle.trust_archive.specs.declared.error.ArchiveError.{ArchiveError}
+use Rattle.trust_archive.specs.Spelling.{spelling_of}
+use Rattle.foundation.specs.Watched.{Watched}
+use Rattle.command_archive.specs.declared.output.Output.{Output}
+use Rattle.command_archive.specs.declared.output.Output.TheVariants.{Lines}
+use Rattle.command_archive.specs.Output.{status_of}
+use Rattle.command_archive.specs.Run.{spelled, Judges, is_trusted, is_refused, Checks, unread, judged, Walks, walk_refused, walked_to, checked, walked, stopped, commanded, Says, misworded, worded}
+
+-- a status with which something is said
+Told : Status → Type 0
+Told status.Accepted = ⊤
+Told status.Refused = ⊤
+Told status.Usage = ⊤
+Told status.Input = ⊤
+Told status.Output = ⊥
+Told status.Memory = ⊥
+
+of_stop : (stop : Stop) (line : Answer) → stop_answer stop ≡ Some line → Told line.status
+unfolding stop_answer Told
+of_stop Words line h = cc
+of_stop (Malformed which) line h = cc
+of_stop (Input which) line h = cc
+of_stop Memory line h = cc
+
+as_lines : (said : Output) (line : Answer) → said ≡ Lines line → Told line.status → Told (status_of said)
+as_lines said line e t = subst (λ (o : Output). Told (status_of o)) (sym e) t
+
+of_spelled : (r : Result (List ℕ) ArchiveError) → Told (status_of (spelled r))
+unfolding Told
+of_spelled (Ok bytes) = tt
+of_spelled (Err e) = tt
+
+as_answer : (line other : Answer) → line ≡ other → Told other.status → Told line.status
+as_answer line other e t = subst (λ (a : Answer). Told a.status) (sym e) t
+
+of_judges : (anchor : Anchor) (bytes : List ℕ) (line : Answer) → Judges anchor bytes line → Told line.status
+unfolding Told
+of_judges anchor bytes line (is_trusted chain text h i t e) = as_answer line _ e tt
+of_judges anchor bytes line (is_refused x n h y e) = as_answer line _ e tt
+
+of_checks : (anchor : Anchor) (old new : Watched (List ℕ)) (line : Answer) → Checks anchor old new line → Told line.status
+unfolding Told
+of_checks anchor old new line (unread u e) = as_answer line _ e tt
+of_checks anchor old new line (judged bytes w j) = of_judges anchor bytes line j
+
+of_walks : (anchor : Anchor) (before after : Places) (said : Output) → Walks anchor before after said → Told (status_of said)
+unfolding Told tuf_answer
+of_walks anchor before after said (walk_refused e n p s) = as_lines said (tuf_answer e) s tt
+of_walks anchor before after said (walked_to chain p s) = subst (λ (o : Output). Told (status_of o)) (sym s) (of_spelled (spelling_of chain))
+
+of_says : (command : Command) (before after : Environment) (said : Output) → Says command before after said → Told (status_of said)
+of_says command before after said (misworded line n s h e) = as_lines said line e (of_stop Words line h)
+of_says command before after said (worded layout l (stopped stop line r s h e)) = as_lines said line e (of_stop stop line h)
+of_says command before after said (worded layout l (commanded anchored r (checked line e p c s))) = as_lines said line s (of_checks _ _ _ line c)
+of_says command before after said (worded layout l (commanded anchored r (walked e s w))) = of_walks _ _ _ said w
+
+pub never_output : (command : Command) (before after : Environment) (said : Output) → Says command before after said → status_of said ≡ status.Output → ⊥
+unfolding Told
+never_output command before after said s e = subst Told e (of_says command before after said s)
+
+pub never_memory : (command : Command) (before after : Environment) (said : Output) → Says command before after said → status_of said ≡ status.Memory → ⊥
+unfolding Told
+never_memory command before after said s e = subst Told e (of_says command before after said s)

@@ -1,0 +1,113 @@
+-- A run of `audit`: what it says, and why.
+use Rattle.std.specs.Prelude.{◌≡◌, ◌≢◌, ℕ, ◌^◌, List, ◌∷◌, ◌++◌, codes, Some, None, Ok, Err}
+use Rattle.std.specs.Fmt.{decimal}
+use Rattle.foundation.specs.Watched.{Watched, Rose}
+use Rattle.sigstore_keys.specs.Good.{Judge}
+use Rattle.sigstore_entries.specs.declared.checkpoint.Checkpoint.{Checkpoint}
+use Rattle.log_tiles.specs.Source.{Leaves}
+use Rattle.log_tiles.specs.Auditing.{AuditCause, signed_pair, AreJoined}
+use Rattle.log_tiles.specs.Error as refusal
+use Rattle.log_tiles.specs.declared.error.TileError.{TileError}
+use Rattle.log_tiles.specs.declared.error.TileError.TheVariants.{TileFailed, NoMemory}
+use Rattle.command_files.specs.Inputs.{Supply}
+use Rattle.command_files.specs.Rows.{accepts_of}
+use Rattle.command_files.specs.Gather.{tables_in, ReadsAs}
+use Rattle.command_files.specs.Printed.{pair_line, refused_line}
+use Rattle.command_files.specs.Whole.{GivesWhole, Unread}
+use Rattle.command_files.specs.declared.gather.Stop.{Stop}
+use Rattle.command_files.specs.declared.gather.Stop.TheVariants.{Words}
+use Rattle.command_files.specs.declared.tables.Tables.{Tables}
+use Rattle.command_verify.specs.declared.answer.Answer.{Answer}
+use Rattle.command_verify.specs.declared.answer.Status.{Status}
+use Rattle.command_verify.specs.declared.answer.Status.TheVariants as status
+use Rattle.command_verify.specs.Run.{answer, stop_answer, TakesAll}
+use Rattle.command_audit.specs.declared.layout.AuditWords.{AuditWords}
+use Rattle.command_audit.specs.Layout.{audit_words_of, audit_layout_of}
+
+-- ---- what is found and left
+
+-- what an audit reads besides its inputs: the two checkpoints, and the log's tiles
+pub record Log : Type 0 where
+  pub first : Watched (List ℕ)
+  pub second : Watched (List ℕ)
+  pub tiles : Watched Leaves
+
+pub record Environment : Type 0 where
+  pub inputs : Supply
+  pub log : Log
+
+-- the greatest length of a checkpoint: 64 KiB
+abbrev pub max_checkpoint : ℕ
+max_checkpoint = 2 ^ 16
+
+-- the tables' provider
+abbrev pub judge_of : Tables → Judge
+judge_of tables = accepts_of tables.provider.rows
+
+-- ---- what is said
+
+-- an input can't be read, or is longer than its limit
+abbrev pub unread_answer : List ℕ → Answer
+unread_answer word = answer status.Input (pair_line (codes "input") word)
+
+-- `consistent M N`: the sizes of both trees
+abbrev pub consistent_answer : ℕ → ℕ → Answer
+consistent_answer m n = answer status.Accepted (pair_line (codes "consistent") (decimal m ++ 32 ∷ decimal n))
+
+-- the tiles can't be read, or the refusal
+abbrev pub refused_answer : TileError → Answer
+refused_answer TileFailed = unread_answer (codes "tiles")
+refused_answer e = answer status.Refused (refused_line (codes "audit") (refusal.number_of e) (refusal.name_of e))
+
+-- ---- why it is said
+
+-- The judgement of two checkpoints: they are signed under the key, and a proof of the tiles joins their trees; or why there is none.
+pub data Judges (accepts : Judge) (key first second : List ℕ) (old new : Watched Leaves) (said : Answer) : Type 0 where
+  is_joined : (older newer : Checkpoint) (hashes : Leaves) → signed_pair accepts key first second ≡ Ok (older, newer)
+      → AreJoined older newer old.told hashes → said ≡ consistent_answer older.tree_size newer.tree_size
+      → Judges accepts key first second old new said
+  is_refused : (e : TileError) → e ≢ NoMemory → AuditCause accepts key first second old new e
+      → said ≡ refused_answer e → Judges accepts key first second old new said
+
+-- The newer checkpoint is read to its end, and both are judged.
+pub data AuditsSecond (accepts : Judge) (key first : List ℕ) (old new : Watched (List ℕ)) (tiles tiles' : Watched Leaves) (said : Answer) : Type 0 where
+  second_unread : Unread max_checkpoint old new → tiles' ≡ tiles → said ≡ unread_answer (codes "second")
+      → AuditsSecond accepts key first old new tiles tiles' said
+  judged : (second : List ℕ) → GivesWhole old new max_checkpoint second → Judges accepts key first second tiles tiles' said
+      → AuditsSecond accepts key first old new tiles tiles' said
+
+-- The older one first. What comes after a refusal isn't called.
+pub data Audits (accepts : Judge) (key : List ℕ) (before after : Log) (said : Answer) : Type 0 where
+  first_unread : Unread max_checkpoint before.first after.first → after.second ≡ before.second → after.tiles ≡ before.tiles
+      → said ≡ unread_answer (codes "first") → Audits accepts key before after said
+  first_read : (first : List ℕ) → GivesWhole before.first after.first max_checkpoint first
+      → AuditsSecond accepts key first before.second after.second before.tiles after.tiles said → Audits accepts key before after said
+
+-- Once the words are read: the input provider, then the checkpoints. Where it is refused nothing else is called.
+pub data Proceeds (key : List ℕ) (before after : Environment) (said : Answer) : Type 0 where
+  stopped : (stop : Stop) → ReadsAs tables_in before.inputs after.inputs (Err stop) → after.log ≡ before.log
+      → stop_answer stop ≡ Some said → Proceeds key before after said
+  audited : (tables : Tables) → ReadsAs tables_in before.inputs after.inputs (Ok tables)
+      → Audits (judge_of tables) key before.log after.log said → Proceeds key before after said
+
+-- The words first. Where they are refused nothing is called.
+pub data Says (words : List (List ℕ)) (before after : Environment) (said : Answer) : Type 0 where
+  misworded : audit_layout_of words ≡ None → after ≡ before → stop_answer Words ≡ Some said → Says words before after said
+  worded : (asked : AuditWords) → audit_words_of words ≡ Ok asked → Proceeds asked.key before after said
+      → Says words before after said
+
+-- what is said was taken whole, and this is its status
+pub record SaysWhole (words : List (List ℕ)) (before after : Environment) (out out' : Watched (List ℕ)) (ended : Status) : Type 0 where
+  pub said : Answer
+  pub says : Says words before after said
+  pub written : TakesAll out out' said.text
+  pub ended_is : ended ≡ said.status
+
+-- What a status means: of 4 the count of the sink's faults rose, of 5 nothing was written, and of every other what is said was taken whole.
+abbrev pub Means : List (List ℕ) → Environment → Environment → Watched (List ℕ) → Watched (List ℕ) → Status → Type 0
+Means words before after out out' status.Output = Rose out.faults out'.faults
+Means words before after out out' status.Memory = out' ≡ out
+Means words before after out out' status.Accepted = SaysWhole words before after out out' status.Accepted
+Means words before after out out' status.Refused = SaysWhole words before after out out' status.Refused
+Means words before after out out' status.Usage = SaysWhole words before after out out' status.Usage
+Means words before after out out' status.Input = SaysWhole words before after out out' status.Input

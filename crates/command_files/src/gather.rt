@@ -1,0 +1,223 @@
+// The inputs of a run.
+ghost use Rattle.std.specs.Prelude.{◌≡◌, ◌≢◌, Ok, Err, IfOk, IfErr};
+ghost use Rattle.command_files.specs.declared.inputs.Which.TheVariants.{Policy, Provider};
+ghost use Rattle.command_files.specs.declared.gather.Stop.TheVariants.{Memory};
+ghost use Rattle.command_files.specs.Policy.{policy_of};
+ghost use Rattle.command_files.specs.Tables.{tables_of};
+ghost use Rattle.command_files.specs.Gather.{limit_of, word_of, stop_of, by_form, input_of, policy_in, tables_in, signed_in, gathered_of, anchored_of, governed_of, ReadsAs};
+
+use crate::inputs::{InputFault, Inputs, Which};
+use crate::policy::{PolicyFile, read_policy};
+use crate::tables::{Tables, read_provider};
+use crate::usage_fault::UsageFault;
+use sigstore_types_parts::Bytes;
+use std::alloc::Global;
+use std::{error, fmt};
+
+/// Why a run ends before the verification: its words are outside their grammar, an input is outside
+/// its own, an input isn't there, can't be read or is too long, or memory is wanting.
+#[derive(Clone, Copy, Debug, PartialEq, Eq, Drop)]
+pub enum Stop {
+    /// The words are outside their grammar.
+    Words,
+    /// The input is outside its grammar.
+    Malformed(Which),
+    /// The input isn't there, can't be read or is too long.
+    Input(Which),
+    /// An allocation was refused.
+    Memory,
+}
+
+/// The inputs of a run.
+#[derive(Drop)]
+pub struct Gathered {
+    pub policy: PolicyFile,
+    pub tables: Tables,
+    pub root: Bytes,
+    pub bundle: Bytes,
+}
+
+/// The inputs of a run that judges documents alone: who decides signatures, and the pinned root.
+#[derive(Drop)]
+pub struct Anchored {
+    pub tables: Tables,
+    pub root: Bytes,
+}
+
+/// The inputs of a run that judges many artifacts: the policy, and by what it is judged.
+#[derive(Drop)]
+pub struct Governed {
+    pub policy: PolicyFile,
+    pub anchored: Anchored,
+}
+
+impl Which {
+    /// The input's name.
+    pub fn word(self) -> &'static str
+        ensures { result.now ≡ word_of self }
+    {
+        match self {
+            Which::Root => "root",
+            Which::Bundle => "bundle",
+            Which::Policy => "policy",
+            Which::Provider => "provider",
+        }
+    }
+
+    /// The greatest length of the input in bytes.
+    pub fn limit(self) -> u64
+        ensures { result ≡ limit_of self }
+    {
+        match self {
+            Which::Root => 512_000,
+            Which::Bundle => 16_777_216,
+            Which::Policy => 65_536,
+            Which::Provider => 16_777_216,
+        }
+    }
+}
+
+// What a fault of an input stops the run with.
+fn stop_of(which: Which, fault: InputFault) -> Stop
+    ensures { result ≡ stop_of which fault }
+{
+    match fault {
+        InputFault::NoMemory => Stop::Memory,
+        _ => Stop::Input(which),
+    }
+}
+
+// An input within its limit.
+fn take_input<I: Inputs>(alloc: Global, inputs: &mut I, which: Which) -> Result<Bytes, Stop>
+    ensures { ReadsAs (input_of which) (I.seen inputs.old) (I.seen inputs.new) result }
+{
+    match inputs.read(alloc, which, which.limit()) {
+        Ok(bytes) => Ok(bytes),
+        Err(fault) => Err(stop_of(which, fault)),
+    }
+}
+
+fn formed_policy(alloc: Global, bytes: Bytes) -> Result<PolicyFile, Stop>
+    ensures ok { IfOk result (λ policy. by_form Policy (policy_of bytes) ≡ Ok policy) }
+    ensures err { IfErr result (λ e. e ≢ Memory → by_form Policy (policy_of bytes) ≡ Err e) }
+{
+    match read_policy(alloc, bytes.as_bytes()) {
+        Ok(policy) => Ok(policy),
+        Err(UsageFault::Usage) => Err(Stop::Malformed(Which::Policy)),
+        Err(UsageFault::NoMemory) => Err(Stop::Memory),
+    }
+}
+
+fn formed_tables(alloc: Global, bytes: Bytes) -> Result<Tables, Stop>
+    ensures ok { IfOk result (λ tables. by_form Provider (tables_of bytes) ≡ Ok tables) }
+    ensures err { IfErr result (λ e. e ≢ Memory → by_form Provider (tables_of bytes) ≡ Err e) }
+{
+    match read_provider(alloc, bytes.as_bytes()) {
+        Ok(tables) => Ok(tables),
+        Err(UsageFault::Usage) => Err(Stop::Malformed(Which::Provider)),
+        Err(UsageFault::NoMemory) => Err(Stop::Memory),
+    }
+}
+
+fn take_policy<I: Inputs>(alloc: Global, inputs: &mut I) -> Result<PolicyFile, Stop>
+    ensures { ReadsAs policy_in (I.seen inputs.old) (I.seen inputs.new) result }
+{
+    match take_input(alloc, inputs, Which::Policy) {
+        Ok(bytes) => match formed_policy(alloc, bytes) {
+            Ok(policy) => Ok(policy),
+            Err(e) => Err(e),
+        },
+        Err(e) => Err(e),
+    }
+}
+
+/// The tables of the input provider. Errors: `Malformed` or `Input` of it; `Memory`.
+pub fn take_tables<I: Inputs>(alloc: Global, inputs: &mut I) -> Result<Tables, Stop>
+    ensures { ReadsAs tables_in (I.seen inputs.old) (I.seen inputs.new) result }
+{
+    match take_input(alloc, inputs, Which::Provider) {
+        Ok(bytes) => match formed_tables(alloc, bytes) {
+            Ok(tables) => Ok(tables),
+            Err(e) => Err(e),
+        },
+        Err(e) => Err(e),
+    }
+}
+
+// The root and the bundle.
+fn take_signed<I: Inputs>(
+    alloc: Global,
+    inputs: &mut I,
+    policy: PolicyFile,
+    tables: Tables,
+) -> Result<Gathered, Stop>
+    ensures { ReadsAs (signed_in policy tables) (I.seen inputs.old) (I.seen inputs.new) result }
+{
+    match take_input(alloc, inputs, Which::Root) {
+        Ok(root) => match take_input(alloc, inputs, Which::Bundle) {
+            Ok(bundle) => Ok(Gathered {
+                policy,
+                tables,
+                root,
+                bundle,
+            }),
+            Err(e) => Err(e),
+        },
+        Err(e) => Err(e),
+    }
+}
+
+/// The inputs in their order: policy, provider, root, bundle. Errors: `Malformed` or `Input` of the first that is refused; `Memory`.
+pub fn gather_inputs<I: Inputs>(alloc: Global, inputs: &mut I) -> Result<Gathered, Stop>
+    ensures { ReadsAs gathered_of (I.seen inputs.old) (I.seen inputs.new) result }
+{
+    match take_policy(alloc, inputs) {
+        Ok(policy) => match take_tables(alloc, inputs) {
+            Ok(tables) => match take_signed(alloc, inputs, policy, tables) {
+                Ok(gathered) => Ok(gathered),
+                Err(e) => Err(e),
+            },
+            Err(e) => Err(e),
+        },
+        Err(e) => Err(e),
+    }
+}
+
+/// The inputs of a run that judges documents alone, in their order: provider, root. Errors as `gather_inputs`.
+pub fn gather_anchor<I: Inputs>(alloc: Global, inputs: &mut I) -> Result<Anchored, Stop>
+    ensures { ReadsAs anchored_of (I.seen inputs.old) (I.seen inputs.new) result }
+{
+    match take_tables(alloc, inputs) {
+        Ok(tables) => match take_input(alloc, inputs, Which::Root) {
+            Ok(root) => Ok(Anchored { tables, root }),
+            Err(e) => Err(e),
+        },
+        Err(e) => Err(e),
+    }
+}
+
+/// The inputs of a run that judges many artifacts, in their order: policy, provider, root. Errors as `gather_inputs`.
+pub fn gather_governed<I: Inputs>(alloc: Global, inputs: &mut I) -> Result<Governed, Stop>
+    ensures { ReadsAs governed_of (I.seen inputs.old) (I.seen inputs.new) result }
+{
+    match take_policy(alloc, inputs) {
+        Ok(policy) => match gather_anchor(alloc, inputs) {
+            Ok(anchored) => Ok(Governed { policy, anchored }),
+            Err(e) => Err(e),
+        },
+        Err(e) => Err(e),
+    }
+}
+
+impl fmt::Display for Stop {
+    fn fmt<W: fmt::Write>(&self, f: &mut fmt::Formatter<W>) -> fmt::Result {
+        f.write_str(match self {
+            Stop::Words => "Words",
+            Stop::Malformed(_) => "Malformed",
+            Stop::Input(_) => "Input",
+            Stop::Memory => "Memory",
+        })
+    }
+}
+
+impl error::Error for Stop {}

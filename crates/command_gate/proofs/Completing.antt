@@ -1,0 +1,94 @@
+-- Where nothing outside fails, the lines on the folder are said.
+use Rattle.std.proofs.Common.{◌≡◌, ◌⊎◌, inl, inr, ℕ, List, Some, None, Result, Ok, Err, sym, ap, ◌∙◌, subst}
+use Rattle.std.specs.Result.{result_ok}
+use Rattle.foundation.specs.Watched.{Watched}
+use Rattle.foundation.specs.Results.{ok_same, err_same, no_both, some_same}
+use Rattle.sigstore_tuf_rules.specs.declared.chain.TrustChain.{TrustChain}
+use Rattle.sigstore_verify.specs.Complete.{StaysWarm}
+use Rattle.release_gate.specs.Folder.{Contents}
+use Rattle.release_gate.specs.Gate.{Given, Outside, IsGated}
+use Rattle.release_gate.specs.Promises.{Promises, Favours, IsJudgedUnder}
+use Rattle.release_gate.specs.declared.gate.Gated.{Gated}
+use Rattle.release_gate.specs.declared.gate.GateFault.{GateFault}
+use Rattle.release_gate.specs.declared.gate.GateFault.TheVariants as gate
+use Rattle.command_files.specs.Gather.{governed_of}
+use Rattle.command_files.specs.declared.gather.Governed.{Governed}
+use Rattle.command_verify.proofs.Stopping.{never_stopped, read_same}
+use Rattle.command_verify.specs.declared.answer.Answer.{Answer}
+use Rattle.command_verify.specs.Run.{Command, TakesAll}
+use Rattle.command_gate.specs.declared.layout.GateLayout.{GateLayout}
+use Rattle.command_gate.specs.Lines.{lines_answer}
+use Rattle.command_gate.specs.Run.{given_by, moment_of, Environment, fault_answer, answer_of, Judges, Proceeds, stopped, judged, Says, misworded, worded}
+use Rattle.command_gate.specs.Complete.{Favoured, given_of, Completes}
+
+unsaid : (said : Answer) → fault_answer gate.NoMemory ≡ Some said → ⊥
+unfolding fault_answer
+unsaid said h = cc
+
+-- the lines on a folder under this chain are said
+record SaysLines (given : Given) (before after : Outside) (chain : TrustChain) (contents : Contents) (f : Favours given before after chain contents) (said : Answer) : Type 0 where
+  pub gated : Gated
+  pub same : gated.chain ≡ chain
+  pub judged : IsGated given before gated
+  pub is : said ≡ lines_answer gated.lines
+  pub warm : StaysWarm after.store f.offer
+
+module _ (given : Given) (before after : Outside) (chain : TrustChain) (contents : Contents) (f : Favours given before after chain contents) (said : Answer) where
+  lines_so : (gated : Gated) → Promises given before after (Ok gated) → answer_of (Ok gated) ≡ Some said → SaysLines given before after chain contents f said
+  lines_so gated p h = by (p.complete chain contents f)
+    where
+      by : (◌≡◌ {A = Result Gated GateFault} (Ok gated) (Err gate.NoMemory)) ⊎ (IsJudgedUnder chain (Ok gated) × StaysWarm after.store f.offer)
+          → SaysLines given before after chain contents f said
+      by (inl e) = no_both gated gate.NoMemory e
+      by (inr (i, w)) = record {
+        gated = gated;
+        same = subst (λ (g : Gated). g.chain ≡ chain) (sym (ok_same gated i.gated i.is)) i.same;
+        judged = p.accepted;
+        is = sym (some_same _ said h);
+        warm = w;
+      }
+
+  never_faulted : (fault : GateFault) → Promises given before after (Err fault) → fault_answer fault ≡ Some said → ⊥
+  never_faulted fault p h = by (p.complete chain contents f)
+    where
+      by : (◌≡◌ {A = Result Gated GateFault} (Err fault) (Err gate.NoMemory)) ⊎ (IsJudgedUnder chain (Err fault) × StaysWarm after.store f.offer) → ⊥
+      by (inl e) = unsaid said (ap fault_answer (sym (err_same fault gate.NoMemory e)) ∙ h)
+      by (inr (i, w)) = no_both i.gated fault (sym i.is)
+
+  judges_so : Judges given before after said → SaysLines given before after chain contents f said
+  judges_so j = by j.judged j.promises j.says
+    where
+      by : (r : Result Gated GateFault) → Promises given before after r → answer_of r ≡ Some said → SaysLines given before after chain contents f said
+      by (Ok gated) p h = lines_so gated p h
+      by (Err fault) p h = absurd (never_faulted fault p h)
+
+module _ (command : Command) (before after : Environment) (chain : TrustChain) (contents : Contents) (f : Favoured command before after chain contents) (said : Answer) where
+  abbrev S : Type 0
+  S = SaysLines (given_of f) before.outside after.outside chain contents f.outside said
+
+  proceeds_so : Proceeds (moment_of f.layout command.clock) before after said → S
+  proceeds_so (stopped stop r s h) = absurd (never_stopped governed_of before.inputs after.inputs f.held f.governed f.inputs.told f.inputs.quiet f.governed_is stop said r h)
+  proceeds_so (judged found r j) =
+      judges_so (given_of f) before.outside after.outside chain contents f.outside said
+      (subst (λ (g : Governed). Judges (given_by g (moment_of f.layout command.clock)) before.outside after.outside said)
+      (read_same governed_of before.inputs after.inputs f.held f.governed f.inputs.told f.inputs.quiet f.governed_is found r) j)
+
+  says_so : Says command before after said → S
+  says_so (misworded n s h) = let never : None ≡ Some f.layout = sym n ∙ ap result_ok f.worded in cc
+  says_so (worded layout l p) =
+      proceeds_so (subst (λ (x : GateLayout). Proceeds (moment_of x command.clock) before after said) (ok_same layout f.layout (sym l ∙ f.worded)) p)
+
+pub said_completes : (command : Command) (before after : Environment) (out out' : Watched (List ℕ)) (said : Answer)
+    → Says command before after said → TakesAll out out' said.text → Completes command before after out out' said.status
+said_completes command before after out out' said s w chain contents f =
+    let t = says_so command before after chain contents f said s in
+    inr (inr (
+      record {
+        gated = t.gated;
+        same = t.same;
+        judged = t.judged;
+        written = subst (λ (a : Answer). TakesAll out out' a.text) t.is w;
+        ended_is = ap (λ (a : Answer). a.status) t.is;
+      },
+      t.warm,
+    ))

@@ -1,0 +1,49 @@
+-- The lines that a gate writes, and the status that they have.
+use Rattle.std.specs.Prelude.{ℕ, List, [], ◌∷◌, ◌++◌, codes, Bool, true, false, if◌then◌else◌}
+use Rattle.std.specs.Fmt.{decimal}
+use Rattle.std.specs.List.{list_all}
+use Rattle.release_gate.specs.declared.line.GateLine.{GateLine}
+use Rattle.release_gate.specs.declared.line.Verdict.{Verdict}
+use Rattle.release_gate.specs.declared.line.Verdict.TheVariants.{Admitted, Unsigned, BundleTooLong, Denied}
+use Rattle.command_files.specs.Printed.{printed, pair_line, text_line}
+use Rattle.command_verify.specs.declared.answer.Answer.{Answer}
+use Rattle.command_verify.specs.declared.answer.Status.{Status}
+use Rattle.command_verify.specs.declared.answer.Status.TheVariants as status
+use Rattle.command_verify.specs.Run.{answer}
+use Rattle.command_gate.specs.Names.{refusal_name}
+
+-- `deny NAME REASON`
+abbrev pub denial_line : List ℕ → List ℕ → List ℕ
+denial_line name reason = pair_line (codes "deny") (printed name ++ 32 ∷ reason)
+
+-- `admit NAME`; `deny NAME unsigned`; `deny NAME toolong`; `deny NAME N Name`, by the refusal's number and name
+abbrev pub verdict_line : List ℕ → Verdict → List ℕ
+verdict_line name Admitted = text_line (codes "admit") name
+verdict_line name Unsigned = denial_line name (codes "unsigned")
+verdict_line name (BundleTooLong seen) = denial_line name (codes "toolong")
+verdict_line name (Denied number) = denial_line name (decimal number ++ 32 ∷ refusal_name number)
+
+-- one line for each artifact, in their order
+abbrev pub lines_text : List GateLine → List ℕ
+lines_text [] = []
+lines_text (line ∷ lines) = verdict_line line.name line.verdict ++ lines_text lines
+
+abbrev pub is_admitted : Verdict → Bool
+is_admitted Admitted = true
+is_admitted Unsigned = false
+is_admitted (BundleTooLong seen) = false
+is_admitted (Denied number) = false
+
+abbrev pub line_admits : GateLine → Bool
+line_admits line = is_admitted line.verdict
+
+abbrev pub all_admitted : List GateLine → Bool
+all_admitted lines = list_all line_admits lines
+
+-- accepted where all are admitted, of an empty folder too
+abbrev pub status_by : List GateLine → Status
+status_by lines = if all_admitted lines then status.Accepted else status.Refused
+
+-- what is said of a folder that was judged
+abbrev pub lines_answer : List GateLine → Answer
+lines_answer lines = answer (status_by lines) (lines_text lines)

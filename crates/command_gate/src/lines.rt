@@ -1,0 +1,97 @@
+// The lines that a gate writes, and the status that they have.
+ghost use Rattle.std.specs.Prelude.{◌≡◌, ◌++◌, IfOk, OnOk, string_bytes};
+ghost use Rattle.command_gate.specs.Lines.{denial_line, verdict_line, lines_text, is_admitted, all_admitted, status_by, lines_answer};
+ghost use Rattle.command_gate.specs.Names.{refusal_name};
+
+use crate::names::refusal_name;
+use command_files::{push_decimal, push_line, push_printed, push_text_line};
+use command_verify::{Answer, Status};
+use foundation::NoMemory;
+use release_gate::{GateLine, Verdict};
+use sigstore_types_parts::Text;
+use std::alloc::Global;
+
+// Adds the line of an artifact that is denied for a reason of one word.
+#[tactic(auto, unfolding(command_files::specs::Printed::line_of, command_files::specs::Printed::pair_line))]
+fn push_denial(text: &mut String, name: &[u8], reason: &str) -> Result<(), NoMemory>
+    ensures { OnOk result (string_bytes text.new ≡ string_bytes text.old ++ denial_line name.now reason.now) }
+{
+    text.push_str("deny ")?;
+    push_printed(text, name)?;
+    text.push(' ')?;
+    push_line(text, reason)
+}
+
+// Adds the line of an artifact that is denied by a refusal of the verification.
+#[tactic(auto, unfolding(command_files::specs::Printed::line_of, command_files::specs::Printed::pair_line))]
+fn push_refusal(text: &mut String, name: &[u8], number: u8) -> Result<(), NoMemory>
+    ensures { OnOk result (string_bytes text.new ≡ string_bytes text.old ++ verdict_line name.now (Verdict.Denied number)) }
+{
+    text.push_str("deny ")?;
+    push_printed(text, name)?;
+    text.push(' ')?;
+    push_decimal(text, u64::from(number))?;
+    text.push(' ')?;
+    push_line(text, refusal_name(number))
+}
+
+// Adds the line of an artifact.
+fn push_verdict(text: &mut String, name: &[u8], verdict: Verdict) -> Result<(), NoMemory>
+    ensures { OnOk result (string_bytes text.new ≡ string_bytes text.old ++ verdict_line name.now verdict) }
+{
+    match verdict {
+        Verdict::Admitted => push_text_line(text, "admit", name),
+        Verdict::Unsigned => push_denial(text, name, "unsigned"),
+        Verdict::BundleTooLong { .. } => push_denial(text, name, "toolong"),
+        Verdict::Denied { number } => push_refusal(text, name, number),
+    }
+}
+
+// Adds the lines of all.
+fn push_lines(text: &mut String, lines: &[GateLine]) -> Result<(), NoMemory>
+    ensures { OnOk result (string_bytes text.new ≡ string_bytes text.old ++ lines_text lines.now) }
+{
+    'lines: for line in lines {
+        push_verdict(text, line.name.as_str().as_bytes(), line.verdict)?;
+    }
+    Ok(())
+}
+
+fn is_admitted(verdict: Verdict) -> bool
+    ensures { result ≡ is_admitted verdict }
+{
+    matches!(verdict, Verdict::Admitted)
+}
+
+fn all_admitted(lines: &[GateLine]) -> bool
+    ensures { result ≡ all_admitted lines.now }
+{
+    for line in lines {
+        if !is_admitted(line.verdict) {
+            return false;
+        }
+    }
+    true
+}
+
+fn status_by(lines: &[GateLine]) -> Status
+    ensures { result ≡ status_by lines.now }
+{
+    if all_admitted(lines) {
+        Status::Accepted
+    } else {
+        Status::Refused
+    }
+}
+
+/// What is said of a folder that was judged: a line for each artifact, and whether all are admitted.
+pub(crate) fn lines_said(alloc: Global, lines: &[GateLine]) -> Result<Answer, NoMemory>
+    ensures { IfOk result (λ said. said ≡ lines_answer lines.now) }
+{
+    let mut text = String::new(alloc);
+    push_lines(&mut text, lines)?;
+    Ok(Answer {
+        status: status_by(lines),
+        text: Text::from_string(text),
+    })
+}

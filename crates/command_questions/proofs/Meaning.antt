@@ -1,0 +1,77 @@
+-- What status 0 means.
+use Rattle.std.proofs.Common.{◌≡◌, ℕ, List, Some, Ok, Err, sym, ap, ◌∙◌, subst, Result}
+use Rattle.std.specs.Result.{result_ok}
+use Rattle.foundation.specs.Watched.{Watched}
+use Rattle.foundation.specs.Results.{some_same}
+use Rattle.jiff_core.specs.declared.timestamp.Timestamp as jiff
+use Rattle.command_files.specs.declared.tables.TableProvider.{TableProvider}
+use Rattle.sigstore_verify.specs.declared.from_root.Rooted.{Rooted}
+use Rattle.sigstore_verify.specs.declared.from_root.RootFault.{RootFault}
+use Rattle.sigstore_verify.specs.Given.{Outside}
+use Rattle.sigstore_verify.specs.FromRoot.{Runs}
+use Rattle.sigstore_verify.specs.Promises.{Promises}
+use Rattle.question_notes.specs.Believing.{believing}
+use Rattle.command_files.specs.Layout.{asked_layout_of}
+use Rattle.command_files.specs.declared.layout.Layout.{Layout}
+use Rattle.command_files.specs.declared.gather.Stop.{Stop}
+use Rattle.command_files.specs.declared.gather.Stop.TheVariants as stop
+use Rattle.command_files.specs.declared.usage_fault.UsageFault.{UsageFault}
+use Rattle.command_verify.specs.declared.answer.Status.{Status}
+use Rattle.command_verify.specs.declared.answer.Status.TheVariants.{Accepted, Usage, Input}
+use Rattle.command_verify.specs.declared.answer.Answer.{Answer}
+use Rattle.command_verify.specs.declared.meant.Request.{Request}
+use Rattle.command_verify.specs.Run.{stop_answer, TakesAll, given_with, Command, Environment}
+use Rattle.command_questions.specs.Means.{Proceeds, rows, stopped, Decides, misworded, worded, RunsTo, unwritten, cut, written, WritesRows}
+
+-- what is said of a stop doesn't end as questions do
+abbrev status_of : Answer → Status
+status_of said = said.status
+
+not_asked : (why : Stop) (said : Answer) → stop_answer why ≡ Some said → said.status ≡ Accepted → ⊥
+unfolding stop_answer
+not_asked stop.Words said h e = let same : Usage ≡ said.status = ap status_of (some_same _ said h) in cc
+not_asked (stop.Malformed which) said h e = let same : Usage ≡ said.status = ap status_of (some_same _ said h) in cc
+not_asked (stop.Input which) said h e = let same : Input ≡ said.status = ap status_of (some_same _ said h) in cc
+not_asked stop.Memory said h e = cc
+
+pub found_layout : (words : List (List ℕ)) (layout : Layout) → Some layout ≡ result_ok (asked_layout_of words) → asked_layout_of words ≡ Ok layout
+found_layout words layout h = by (asked_layout_of words) h
+  where
+    by : (r : Result Layout UsageFault) → Some layout ≡ result_ok r → r ≡ Ok layout
+    by (Ok x) h = ap Ok (sym (some_same layout x h))
+    by (Err e) h = cc
+
+-- the provider that notes refuses the rows that it was made with
+pub ran_believing : (request : Request) (now : jiff.Timestamp) (before after : Outside) (result : Result Rooted RootFault)
+    (held given : TableProvider) → held ≡ given
+    → Promises (given_with (believing held.rows) request now) before after result
+    → Runs (given_with (believing given.rows) request now) before after result
+ran_believing request now before after result held given same promises =
+    subst (λ t. Runs (given_with (believing t.rows) request now) before after result) same promises.runs
+
+-- the moment, as it was taken
+pub at_moment : (taken now : jiff.Timestamp) (before after : Environment) (said : Answer) → taken ≡ now
+    → Proceeds taken before after said → Proceeds now before after said
+at_moment taken now before after said same proceeds = subst (λ t. Proceeds t before after said) same proceeds
+
+module _ (command : Command) (before after : Environment) (out out' : Watched (List ℕ)) where
+  wrote : (said : Answer) → Decides command before after said → TakesAll out out' said.text → said.status ≡ Accepted → WritesRows command before after out out'
+  wrote said (misworded none same line) takes e = absurd (not_asked stop.Words said line e)
+  wrote said (worded layout is (stopped why read same line)) takes e = absurd (not_asked why said line e)
+  wrote said (worded layout is (rows gathered tables read asks reads ended)) takes e = record {
+    layout = layout;
+    worded = is;
+    gathered = gathered;
+    inputs = read;
+    asks = asks;
+    tables = tables;
+    text = said.text;
+    rows = reads;
+    written = takes;
+  }
+
+  -- where questions are asked, the rows were written
+  pub asked_rows : (ended : Status) → RunsTo command before after out out' ended → ended ≡ Accepted → WritesRows command before after out out'
+  asked_rows ended (unwritten same is) e = cc
+  asked_rows ended (cut said fault d w is) e = cc
+  asked_rows ended (written said d takes is) e = wrote said d takes (sym is ∙ e)

@@ -1,0 +1,199 @@
+// A run that notes what a verification asks.
+ghost use Rattle.std.specs.Prelude.{◌≡◌, IfOk, string_bytes};
+ghost use Rattle.sigstore_verify.specs.Given.{Outside};
+ghost use Rattle.sigstore_verify.specs.FromRoot.{Runs};
+ghost use Rattle.question_notes.specs.Believing.{believing};
+ghost use Rattle.command_questions.specs.Means.{IsQuestions, Asks, Proceeds, Decides, RunsTo, WritesRows};
+ghost use Rattle.command_verify.specs.Run.{given_with, request_of, Environment};
+ghost use Rattle.command_verify.specs.declared.answer.Status.TheVariants.{Accepted};
+
+use crate::reading_store::ReadingStore;
+use command_files::{Gathered, Inputs, Sink, Stop, gather_inputs, read_asked_layout, write_all};
+use command_verify::{Answer, Request, Status, stopped, verify_request};
+use foundation::NoMemory;
+use jiff::Timestamp;
+use question_notes::{Noted, Notes, NotingArmor, NotingProvider};
+use sigstore_keys::ArtifactSource;
+use sigstore_tuf::{MetadataStore, Repository};
+use sigstore_types_parts::Text;
+use sigstore_verify::{RootFault, Rooted};
+use std::alloc::Global;
+
+// Runs the verification, refuses what the tables hold, and notes what else it asks.
+fn verify_noting<R: Repository, S: MetadataStore, A: ArtifactSource>(
+    alloc: Global,
+    notes: &Notes,
+    gathered: Gathered,
+    now: Timestamp,
+    repo: &mut R,
+    store: &mut S,
+    artifact: &mut A,
+) -> Result<Rooted, RootFault>
+    ensures { let before : Outside = record { repo = R.seen repo.old; store = S.seen store.old; source = A.seen artifact.old } in
+        let after : Outside = record { repo = R.seen repo.new; store = S.seen store.new; source = A.seen artifact.new } in
+        Runs (given_with (believing gathered.tables.provider.rows) (request_of gathered) now) before after result }
+{
+    let Gathered {
+        policy,
+        tables,
+        root,
+        bundle,
+    } = gathered;
+    let request = Request {
+        policy,
+        root,
+        bundle,
+    };
+    let provider = NotingProvider::new(notes, &tables.provider);
+    let judged = verify_request(
+        alloc,
+        request,
+        &provider,
+        &NotingArmor::new(notes),
+        now,
+        repo,
+        store,
+        artifact,
+    );
+    drop(tables);
+    judged
+}
+
+// What a verification asks; its verdict is thrown away.
+fn asked<R: Repository, S: MetadataStore, A: ArtifactSource>(
+    alloc: Global,
+    gathered: Gathered,
+    now: Timestamp,
+    repo: &mut R,
+    store: &mut S,
+    artifact: &mut A,
+) -> Result<Noted, NoMemory>
+    ensures { let before : Outside = record { repo = R.seen repo.old; store = S.seen store.old; source = A.seen artifact.old } in
+        let after : Outside = record { repo = R.seen repo.new; store = S.seen store.new; source = A.seen artifact.new } in
+        IfOk result (λ noted. Asks gathered now before after) }
+{
+    let notes = Notes::new(alloc);
+    let judged = verify_noting(alloc, &notes, gathered, now, repo, store, artifact);
+    let wants_memory = matches!(&judged, Err(RootFault::NoMemory));
+    drop(judged);
+    if wants_memory {
+        return Err(NoMemory);
+    }
+    match notes.into_noted() {
+        Some(noted) => Ok(noted),
+        None => Err(NoMemory),
+    }
+}
+
+/// What is said of the questions that were noted: the text of a provider file.
+pub fn questions_text(noted: Noted) -> Answer
+    ensures text { result.text ≡ string_bytes noted.text }
+    ensures status { result.status ≡ Accepted }
+    ensures rows { IsQuestions result.text noted.tables }
+{
+    let Noted { tables, text } = noted;
+    drop(tables);
+    Answer {
+        status: Status::Accepted,
+        text: Text::from_string(text),
+    }
+}
+
+// The inputs, then the questions.
+fn proceed<I: Inputs, R: Repository, S: MetadataStore, A: ArtifactSource>(
+    alloc: Global,
+    now: Timestamp,
+    inputs: &mut I,
+    repo: &mut R,
+    store: &mut S,
+    artifact: &mut A,
+) -> Result<Answer, NoMemory>
+    ensures { let outside : Outside = record { repo = R.seen repo.old; store = S.seen store.old; source = A.seen artifact.old } in
+        let outside' : Outside = record { repo = R.seen repo.new; store = S.seen store.new; source = A.seen artifact.new } in
+        let before : Environment = record { inputs = I.seen inputs.old; outside = outside } in
+        let after : Environment = record { inputs = I.seen inputs.new; outside = outside' } in
+        IfOk result (Proceeds now before after) }
+{
+    match gather_inputs(alloc, inputs) {
+        Ok(gathered) => match asked(alloc, gathered, now, repo, store, artifact) {
+            Ok(noted) => Ok(questions_text(noted)),
+            Err(e) => Err(e),
+        },
+        Err(stop) => match stopped(alloc, stop) {
+            Ok(said) => Ok(said),
+            Err(e) => Err(e),
+        },
+    }
+}
+
+// The words, then the inputs and the questions.
+fn decide<I: Inputs, R: Repository, S: MetadataStore, A: ArtifactSource>(
+    alloc: Global,
+    words: &[Text],
+    clock: Timestamp,
+    inputs: &mut I,
+    repo: &mut R,
+    store: &mut S,
+    artifact: &mut A,
+) -> Result<Answer, NoMemory>
+    ensures { let outside : Outside = record { repo = R.seen repo.old; store = S.seen store.old; source = A.seen artifact.old } in
+        let outside' : Outside = record { repo = R.seen repo.new; store = S.seen store.new; source = A.seen artifact.new } in
+        let before : Environment = record { inputs = I.seen inputs.old; outside = outside } in
+        let after : Environment = record { inputs = I.seen inputs.new; outside = outside' } in
+        IfOk result (Decides (record { words = words.now; clock = clock }) before after) }
+{
+    let found = match read_asked_layout(alloc, words) {
+        Ok(found) => found,
+        Err(e) => return Err(e),
+    };
+    match found {
+        Some(layout) => {
+            let now = layout.now.unwrap_or(clock);
+            drop(layout);
+            match proceed(alloc, now, inputs, repo, store, artifact) {
+                Ok(said) => Ok(said),
+                Err(e) => Err(e),
+            }
+        }
+        None => match stopped(alloc, Stop::Words) {
+            Ok(said) => Ok(said),
+            Err(e) => Err(e),
+        },
+    }
+}
+
+/// Notes what a verification over these words, inputs and objects of the outside asks where the signatures of the
+/// file `refused` aren't good and all others are, and writes it as a provider file: each question once, in the
+/// order in which they were asked. Nothing is judged: the status
+/// is never Refused, and Accepted says that the questions were written. Status 4 where a write failed, 5
+/// where memory was wanting; then nothing was written.
+pub fn run_questions<I: Inputs, R: Repository, S: MetadataStore, A: ArtifactSource, K: Sink>(
+    alloc: Global,
+    words: &[Text],
+    clock: Timestamp,
+    inputs: &mut I,
+    repo: &mut R,
+    store: &mut ReadingStore<S>,
+    artifact: &mut A,
+    out: &mut K,
+) -> Status
+    ensures runs { let outside : Outside = record { repo = R.seen repo.old; store = ⟦<ReadingStore<S> as MetadataStore>⟧.seen store.old; source = A.seen artifact.old } in
+        let outside' : Outside = record { repo = R.seen repo.new; store = ⟦<ReadingStore<S> as MetadataStore>⟧.seen store.new; source = A.seen artifact.new } in
+        let before : Environment = record { inputs = I.seen inputs.old; outside = outside } in
+        let after : Environment = record { inputs = I.seen inputs.new; outside = outside' } in
+        RunsTo (record { words = words.now; clock = clock }) before after (K.seen out.old) (K.seen out.new) result }
+    ensures rows { let outside : Outside = record { repo = R.seen repo.old; store = ⟦<ReadingStore<S> as MetadataStore>⟧.seen store.old; source = A.seen artifact.old } in
+        let outside' : Outside = record { repo = R.seen repo.new; store = ⟦<ReadingStore<S> as MetadataStore>⟧.seen store.new; source = A.seen artifact.new } in
+        let before : Environment = record { inputs = I.seen inputs.old; outside = outside } in
+        let after : Environment = record { inputs = I.seen inputs.new; outside = outside' } in
+        result ≡ Accepted → WritesRows (record { words = words.now; clock = clock }) before after (K.seen out.old) (K.seen out.new) }
+{
+    let said = match decide(alloc, words, clock, inputs, repo, store, artifact) {
+        Ok(said) => said,
+        Err(_) => return Status::Memory,
+    };
+    match write_all(out, said.text.as_str().as_bytes()) {
+        Ok(()) => said.status,
+        Err(_) => Status::Output,
+    }
+}

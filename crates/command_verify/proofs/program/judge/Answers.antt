@@ -1,0 +1,6 @@
+use Rattle.command_verify.proofs.RunFacts.{judged_answered}
+use Rattle.command_verify.proofs.program.judge.Goals as goal
+
+pub returns : goal.returns
+returns g c =
+    judged_answered c.args.gathered c.args.now _ _ c.verify_request-judged.result c.answered-said.result c.verify_request-judged.ensures c.answered-said.ensures

@@ -1,0 +1,56 @@
+-- When a run of the program has to accept, and what it says where it hasn't to: over an offered chain, where nothing outside fails.
+use Rattle.std.specs.Prelude.{◌≡◌, ◌⊎◌, ℕ, List, Some, Result, Ok, Err}
+use Rattle.foundation.specs.Watched.{Watched, Rose}
+use Rattle.sigstore_tuf_rules.specs.declared.chain.TrustChain.{TrustChain}
+use Rattle.sigstore_verify.specs.declared.from_root.Rooted.{Rooted}
+use Rattle.sigstore_verify.specs.declared.from_root.RootFault.{RootFault}
+use Rattle.sigstore_verify.specs.Given.{Given}
+use Rattle.sigstore_verify.specs.Complete.{verdict_of, rooted_of, TellsQuietly, Favours, StaysWarm}
+use Rattle.command_files.specs.Inputs.{Held, watched}
+use Rattle.command_files.specs.Layout.{layout_of}
+use Rattle.command_files.specs.Gather.{gathered_of}
+use Rattle.command_files.specs.declared.layout.Layout.{Layout}
+use Rattle.command_files.specs.declared.gather.Gathered.{Gathered}
+use Rattle.command_verify.specs.declared.answer.Status.{Status}
+use Rattle.command_verify.specs.declared.answer.Status.TheVariants as status
+use Rattle.command_verify.specs.declared.answer.Answer.{Answer}
+use Rattle.command_verify.specs.Run.{Command, Environment, given_by, now_of, refusal_answer, SaysReport, TakesAll}
+
+-- The words meet their grammar, told inputs are read without a fault and are these, and nothing fails of what the verification
+-- goes to.
+pub record Favoured (command : Command) (before after : Environment) (chain : TrustChain) (bytes : List ℕ) : Type 0 where
+  pub layout : Layout
+  pub worded : layout_of command.words ≡ Ok layout
+  pub held : Held
+  pub inputs : TellsQuietly (watched before.inputs) (watched after.inputs) held
+  pub gathered : Gathered
+  pub gathered_is : gathered_of held ≡ Ok gathered
+  pub outside : Favours (given_by gathered (now_of layout command.clock)) before.outside after.outside chain bytes
+
+-- what is said of an answer of the top call: the report of an acceptance, the line of a refusal
+abbrev pub Says : Result Rooted RootFault → Answer → Type 0
+Says (Ok rooted) said = SaysReport rooted said
+Says (Err fault) said = refusal_answer fault ≡ Some said
+
+abbrev pub given_in : {command : Command} {before after : Environment} {chain : TrustChain} {bytes : List ℕ}
+    → Favoured command before after chain bytes → Given
+given_in {command} f = given_by f.gathered (now_of f.layout command.clock)
+
+-- what the verdict makes the program say was written whole, and its status is the run's
+pub record SaysVerdict (given : Given) (chain : TrustChain) (bytes : List ℕ) (out out' : Watched (List ℕ))
+    (ended : Status) : Type 0 where
+  pub said : Answer
+  pub says : Says (rooted_of chain (verdict_of given chain.file bytes)) said
+  pub written : TakesAll out out' said.text
+  pub ended_is : ended ≡ said.status
+
+-- Memory was wanting, or the sink failed, or P.
+abbrev pub OrFails : Watched (List ℕ) → Watched (List ℕ) → Status → Type 0 → Type 0
+OrFails out out' ended P = (ended ≡ status.Memory) ⊎ (((ended ≡ status.Output) × Rose out.faults out'.faults) ⊎ P)
+
+-- Where a chain is offered and nothing outside fails, the run says the verdict over it, with status 0 for an acceptance and 1 for a
+-- refusal, and the store stays warm; or memory was wanting, with status 5; or the sink failed, with status 4.
+abbrev pub Completes : Command → Environment → Environment → Watched (List ℕ) → Watched (List ℕ) → Status → Type 0
+Completes command before after out out' ended =
+    (chain : TrustChain) (bytes : List ℕ) (f : Favoured command before after chain bytes)
+    → OrFails out out' ended (SaysVerdict (given_in f) chain bytes out out' ended × StaysWarm after.outside.store f.outside.offer)

@@ -1,0 +1,223 @@
+// A run of the program.
+ghost use Rattle.std.specs.Prelude.{◌≡◌, true, false, IfOk};
+ghost use Rattle.command_verify.specs.Generate.{is_generate, GenerateMeans};
+ghost use Rattle.command_files.specs.Sink.{WritesText};
+ghost use Rattle.sigstore_verify.specs.Given.{Outside};
+ghost use Rattle.command_verify.specs.Complete.{Completes};
+ghost use Rattle.command_verify.specs.Run.{Environment, Reports, Answers, Judges, Proceeds, Decides, RunsTo, Means};
+
+use crate::answer::{Answer, Status, refused, refused_tuf, stopped};
+use crate::generated::{is_generate, run_generate};
+use crate::meant::{Request, verify_request};
+use crate::report::report;
+use command_files::{Gathered, Inputs, Sink, Stop, gather_inputs, read_layout, write_all};
+use foundation::NoMemory;
+use jiff::Timestamp;
+use sigstore_keys::ArtifactSource;
+use sigstore_tuf::{MetadataStore, Repository};
+use sigstore_types_parts::Text;
+use sigstore_verify::{RootFault, Rooted};
+use std::alloc::Global;
+
+// The report of an acceptance, or the refusal of a document of its chain that isn't read.
+fn reported(alloc: Global, rooted: &Rooted) -> Result<Answer, NoMemory>
+    ensures { IfOk result (λ said. Reports rooted.now said) }
+{
+    match report(
+        alloc,
+        &rooted.chain,
+        rooted.digests.as_slice(),
+        &rooted.result,
+    ) {
+        Ok(text) => Ok(Answer {
+            status: Status::Accepted,
+            text: Text::from_string(text),
+        }),
+        Err(sigstore_tuf_parts::Error::NoMemory) => Err(NoMemory),
+        Err(e) => {
+            let said = refused_tuf(alloc, &e);
+            drop(e);
+            said
+        }
+    }
+}
+
+// What is said of an acceptance or a refusal.
+fn answered(alloc: Global, judged: &Result<Rooted, RootFault>) -> Result<Answer, NoMemory>
+    ensures { IfOk result (λ said. Answers judged.now said) }
+{
+    match judged {
+        Ok(rooted) => reported(alloc, rooted),
+        Err(fault) => refused(alloc, fault),
+    }
+}
+
+// The verification from the root, and what is said of it.
+fn judge<R: Repository, S: MetadataStore, A: ArtifactSource>(
+    alloc: Global,
+    gathered: Gathered,
+    now: Timestamp,
+    repo: &mut R,
+    store: &mut S,
+    artifact: &mut A,
+) -> Result<Answer, NoMemory>
+    ensures { let before : Outside = record { repo = R.seen repo.old; store = S.seen store.old; source = A.seen artifact.old } in
+        let after : Outside = record { repo = R.seen repo.new; store = S.seen store.new; source = A.seen artifact.new } in
+        Judges gathered now before after result }
+{
+    let Gathered {
+        policy,
+        tables,
+        root,
+        bundle,
+    } = gathered;
+    let request = Request {
+        policy,
+        root,
+        bundle,
+    };
+    let judged = verify_request(
+        alloc,
+        request,
+        &tables.provider,
+        &tables.armor,
+        now,
+        repo,
+        store,
+        artifact,
+    );
+    let said = answered(alloc, &judged);
+    drop(judged);
+    said
+}
+
+// The inputs, then the verification.
+fn proceed<I: Inputs, R: Repository, S: MetadataStore, A: ArtifactSource>(
+    alloc: Global,
+    now: Timestamp,
+    inputs: &mut I,
+    repo: &mut R,
+    store: &mut S,
+    artifact: &mut A,
+) -> Result<Answer, NoMemory>
+    ensures { let outside : Outside = record { repo = R.seen repo.old; store = S.seen store.old; source = A.seen artifact.old } in
+        let outside' : Outside = record { repo = R.seen repo.new; store = S.seen store.new; source = A.seen artifact.new } in
+        let before : Environment = record { inputs = I.seen inputs.old; outside = outside } in
+        let after : Environment = record { inputs = I.seen inputs.new; outside = outside' } in
+        Proceeds now before after result }
+{
+    match gather_inputs(alloc, inputs) {
+        Ok(gathered) => judge(alloc, gathered, now, repo, store, artifact),
+        Err(stop) => stopped(alloc, stop),
+    }
+}
+
+// The words, then the inputs and the verification.
+fn decide<I: Inputs, R: Repository, S: MetadataStore, A: ArtifactSource>(
+    alloc: Global,
+    words: &[Text],
+    clock: Timestamp,
+    inputs: &mut I,
+    repo: &mut R,
+    store: &mut S,
+    artifact: &mut A,
+) -> Result<Answer, NoMemory>
+    ensures { let outside : Outside = record { repo = R.seen repo.old; store = S.seen store.old; source = A.seen artifact.old } in
+        let outside' : Outside = record { repo = R.seen repo.new; store = S.seen store.new; source = A.seen artifact.new } in
+        let before : Environment = record { inputs = I.seen inputs.old; outside = outside } in
+        let after : Environment = record { inputs = I.seen inputs.new; outside = outside' } in
+        Decides (record { words = words.now; clock = clock }) before after result }
+{
+    let found = match read_layout(alloc, words) {
+        Ok(found) => found,
+        Err(e) => return Err(e),
+    };
+    match found {
+        Some(layout) => {
+            let now = layout.now.unwrap_or(clock);
+            drop(layout);
+            proceed(alloc, now, inputs, repo, store, artifact)
+        }
+        None => stopped(alloc, Stop::Words),
+    }
+}
+
+// Runs the command `verify`: reads the words, then the inputs policy, provider, root and bundle, verifies from the
+// root, and writes one text.
+fn run_verify<I: Inputs, R: Repository, S: MetadataStore, A: ArtifactSource, K: Sink>(
+    alloc: Global,
+    words: &[Text],
+    clock: Timestamp,
+    inputs: &mut I,
+    repo: &mut R,
+    store: &mut S,
+    artifact: &mut A,
+    out: &mut K,
+) -> Status
+    ensures means { let outside : Outside = record { repo = R.seen repo.old; store = S.seen store.old; source = A.seen artifact.old } in
+        let outside' : Outside = record { repo = R.seen repo.new; store = S.seen store.new; source = A.seen artifact.new } in
+        let before : Environment = record { inputs = I.seen inputs.old; outside = outside } in
+        let after : Environment = record { inputs = I.seen inputs.new; outside = outside' } in
+        Means (record { words = words.now; clock = clock }) before after (K.seen out.old) (K.seen out.new) result }
+    ensures runs { let outside : Outside = record { repo = R.seen repo.old; store = S.seen store.old; source = A.seen artifact.old } in
+        let outside' : Outside = record { repo = R.seen repo.new; store = S.seen store.new; source = A.seen artifact.new } in
+        let before : Environment = record { inputs = I.seen inputs.old; outside = outside } in
+        let after : Environment = record { inputs = I.seen inputs.new; outside = outside' } in
+        RunsTo (record { words = words.now; clock = clock }) before after (K.seen out.old) (K.seen out.new) result }
+    ensures complete { let outside : Outside = record { repo = R.seen repo.old; store = S.seen store.old; source = A.seen artifact.old } in
+        let outside' : Outside = record { repo = R.seen repo.new; store = S.seen store.new; source = A.seen artifact.new } in
+        let before : Environment = record { inputs = I.seen inputs.old; outside = outside } in
+        let after : Environment = record { inputs = I.seen inputs.new; outside = outside' } in
+        Completes (record { words = words.now; clock = clock }) before after (K.seen out.old) (K.seen out.new) result }
+{
+    let said = match decide(alloc, words, clock, inputs, repo, store, artifact) {
+        Ok(said) => said,
+        Err(_) => return Status::Memory,
+    };
+    match write_all(out, said.text.as_str().as_bytes()) {
+        Ok(()) => said.status,
+        Err(_) => Status::Output,
+    }
+}
+
+/// Runs the program over its words, its clock and the objects of the outside. Where the first word is
+/// `generate`, it verifies a workload and writes its summary, and calls nothing but the sink. Else it reads the
+/// words, then the inputs policy, provider, root and bundle, verifies from the root, and writes one text. Status
+/// 4 where a write failed, 5 where memory was wanting; then nothing was written.
+pub fn run<I: Inputs, R: Repository, S: MetadataStore, A: ArtifactSource, K: Sink>(
+    alloc: Global,
+    words: &[Text],
+    clock: Timestamp,
+    inputs: &mut I,
+    repo: &mut R,
+    store: &mut S,
+    artifact: &mut A,
+    out: &mut K,
+) -> Status
+    ensures means { is_generate words.now ≡ false → (let outside : Outside = record { repo = R.seen repo.old; store = S.seen store.old; source = A.seen artifact.old } in
+        let outside' : Outside = record { repo = R.seen repo.new; store = S.seen store.new; source = A.seen artifact.new } in
+        let before : Environment = record { inputs = I.seen inputs.old; outside = outside } in
+        let after : Environment = record { inputs = I.seen inputs.new; outside = outside' } in
+        Means (record { words = words.now; clock = clock }) before after (K.seen out.old) (K.seen out.new) result) }
+    ensures runs { is_generate words.now ≡ false → (let outside : Outside = record { repo = R.seen repo.old; store = S.seen store.old; source = A.seen artifact.old } in
+        let outside' : Outside = record { repo = R.seen repo.new; store = S.seen store.new; source = A.seen artifact.new } in
+        let before : Environment = record { inputs = I.seen inputs.old; outside = outside } in
+        let after : Environment = record { inputs = I.seen inputs.new; outside = outside' } in
+        RunsTo (record { words = words.now; clock = clock }) before after (K.seen out.old) (K.seen out.new) result) }
+    ensures complete { is_generate words.now ≡ false → (let outside : Outside = record { repo = R.seen repo.old; store = S.seen store.old; source = A.seen artifact.old } in
+        let outside' : Outside = record { repo = R.seen repo.new; store = S.seen store.new; source = A.seen artifact.new } in
+        let before : Environment = record { inputs = I.seen inputs.old; outside = outside } in
+        let after : Environment = record { inputs = I.seen inputs.new; outside = outside' } in
+        Completes (record { words = words.now; clock = clock }) before after (K.seen out.old) (K.seen out.new) result) }
+    ensures generates { is_generate words.now ≡ true → GenerateMeans words.now (K.seen out.old) (K.seen out.new) result }
+    ensures alone { is_generate words.now ≡ true → (let outside : Outside = record { repo = R.seen repo.old; store = S.seen store.old; source = A.seen artifact.old } in
+        let outside' : Outside = record { repo = R.seen repo.new; store = S.seen store.new; source = A.seen artifact.new } in
+        let before : Environment = record { inputs = I.seen inputs.old; outside = outside } in
+        let after : Environment = record { inputs = I.seen inputs.new; outside = outside' } in
+        after ≡ before) }
+{
+    if is_generate(words) {
+        return run_generate(alloc, words, out);
+    }
+    run_verify(alloc, words, clock, inputs, repo, store, artifact, out)
+}

@@ -1,6 +1,0 @@
-use Rattle.std.proofs.Common.{length}
-use Rattle.der_core_parts.proofs.Members.{KeyedOn}
-use Rattle.der_core_parts.proofs.keyed.with_encodings.Given as goal
-
-abbrev pub invariant-members : goal.invariant-members
-invariant-members g l = KeyedOn g.T.Der.grammar l.keys.items (length l.yielded) l.fn.members.items

@@ -1,5 +1,0 @@
-use Rattle.der_core_parts.specs.SetLaws.{set_from-members}
-use Rattle.der_core_parts.proofs.laws.set_has_members.Goals as goal
-
-pub returns : goal.returns
-returns g c = λ members a e. set_from-members g.T.Der.grammar members a e

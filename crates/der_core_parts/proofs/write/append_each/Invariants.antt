@@ -1,5 +1,0 @@
-use Rattle.der_core_parts.proofs.Loops.{WritesOn}
-use Rattle.der_core_parts.proofs.write.append_each.Given as goal
-
-abbrev pub invariant-items : goal.invariant-items
-invariant-items g l = WritesOn g.T.Der.grammar l.fn.out l.out l.items l.item-index

@@ -1,6 +1,0 @@
-use Rattle.std.proofs.Common.{◌≡◌, drop}
-use Rattle.gate_commands.specs.Lines.{all_admitted}
-use Rattle.gate_commands.proofs.lines.all_admitted.Given as goal
-
-abbrev pub invariant-loop-line : goal.invariant-loop-line
-invariant-loop-line l = all_admitted (drop l.line-index l.lines) ≡ all_admitted l.lines

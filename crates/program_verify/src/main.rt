@@ -1,0 +1,113 @@
+//! Verifies a bundle over an artifact from a pinned TUF root: `verify` and eight options. `gate` judges each artifact
+//! of a folder by its own bundle. `archive` writes the chain of documents to one file, and `check` judges such a file;
+//! `audit` judges whether a log grew. The report, the lines or the refusal go to standard output; the exit status says
+//! which.
+#![tactic(auto)]
+
+use command_archive::{ArchiveLayout, archive_layout, run_archive};
+use command_audit::{AuditLayout, AuditObjects, audit_layout, audit_objects_at, run_audit};
+use command_files::read_layout;
+use command_gate::{GateLayout, GateObjects, gate_layout, gate_objects_at, run_gate};
+use command_verify::{Status, exit_code, run};
+use foundation::NoMemory;
+use program_objects::{Objects, clock_of, objects_at, words_of};
+use sigstore_types_parts::Text;
+use std::process::ExitCode;
+use std::rt::Runtime;
+
+// Runs `archive` or `check` over the real objects that its words name.
+fn archived<X: Runtime + AllocGlobal>(rt: &X, words: &[Text], layout: ArchiveLayout) -> Status {
+    let Objects {
+        mut inputs,
+        mut repository,
+        mut store,
+        mut artifact,
+        mut out,
+    } = objects_at(rt, Some(layout.into_layout(rt.alloc())));
+    run_archive(
+        rt.alloc(),
+        words,
+        clock_of(rt),
+        &mut inputs,
+        &mut repository,
+        &mut store,
+        &mut artifact,
+        &mut out,
+    )
+}
+
+// Runs `audit` over the real objects that its words name.
+fn audited<X: Runtime + AllocGlobal>(rt: &X, words: &[Text], layout: AuditLayout) -> Status {
+    let AuditObjects {
+        mut inputs,
+        mut first,
+        mut second,
+        mut tiles,
+        mut out,
+    } = audit_objects_at(rt, layout);
+    run_audit(
+        rt.alloc(),
+        words,
+        &mut inputs,
+        &mut first,
+        &mut second,
+        &mut tiles,
+        &mut out,
+    )
+}
+
+// Runs `gate` over the real objects that its words name.
+fn gated<X: Runtime + AllocGlobal>(rt: &X, words: &[Text], layout: GateLayout) -> Status {
+    let GateObjects {
+        mut inputs,
+        mut repository,
+        mut store,
+        mut folder,
+        mut out,
+    } = gate_objects_at(rt, layout);
+    run_gate(
+        rt.alloc(),
+        words,
+        clock_of(rt),
+        &mut inputs,
+        &mut repository,
+        &mut store,
+        &mut folder,
+        &mut out,
+    )
+}
+
+// Runs the program over the real objects that its words name.
+fn status_of<X: Runtime + AllocGlobal>(rt: &X) -> Result<Status, NoMemory> {
+    let words = words_of(rt)?;
+    if let Some(layout) = archive_layout(rt.alloc(), &words)? {
+        return Ok(archived(rt, &words, layout));
+    }
+    if let Some(layout) = audit_layout(rt.alloc(), &words)? {
+        return Ok(audited(rt, &words, layout));
+    }
+    if let Some(layout) = gate_layout(rt.alloc(), &words)? {
+        return Ok(gated(rt, &words, layout));
+    }
+    let Objects {
+        mut inputs,
+        mut repository,
+        mut store,
+        mut artifact,
+        mut out,
+    } = objects_at(rt, read_layout(rt.alloc(), &words)?);
+    Ok(run(
+        rt.alloc(),
+        &words,
+        clock_of(rt),
+        &mut inputs,
+        &mut repository,
+        &mut store,
+        &mut artifact,
+        &mut out,
+    ))
+}
+
+fn main(rt: HostRuntime) -> ExitCode {
+    ExitCode::from(exit_code(status_of(&rt)))
+}

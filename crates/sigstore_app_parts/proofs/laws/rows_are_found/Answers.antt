@@ -1,8 +1,0 @@
-use Rattle.sigstore_app_parts.proofs.RowFacts.{adds_signature, adds_text}
-use Rattle.sigstore_app_parts.proofs.laws.rows_are_found.Goals as goal
-
-pub returns-clause-signatures : goal.returns-clause-signatures
-returns-clause-signatures c = adds_signature
-
-pub returns-clause-texts : goal.returns-clause-texts
-returns-clause-texts c = adds_text

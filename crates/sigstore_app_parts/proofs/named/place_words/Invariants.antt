@@ -1,6 +1,0 @@
-use Rattle.std.proofs.Common.{◌≡◌, drop}
-use Rattle.sigstore_app_parts.specs.Named.{known_by, words_placed}
-use Rattle.sigstore_app_parts.proofs.named.place_words.Given as goal
-
-abbrev pub invariant-words : goal.invariant-words
-invariant-words l = words_placed (known_by l.names) l.fn.found l.words ≡ words_placed (known_by l.names) l.found (drop l.word-index l.words)

@@ -1,5 +1,0 @@
-use Rattle.sigstore_crypto_parts.proofs.PublicKeys.{is_read}
-use Rattle.sigstore_crypto_parts.proofs.key_pair.public_key_is_read.Goals as goal
-
-pub returns : goal.returns
-returns c = is_read

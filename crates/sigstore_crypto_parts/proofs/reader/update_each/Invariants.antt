@@ -1,9 +1,0 @@
-use Rattle.std.proofs.Common.{◌≡◌, take, drop}
-use Rattle.sigstore_crypto_parts.specs.Hasher.{Fed}
-use Rattle.sigstore_crypto_parts.proofs.reader.update_each.Given as goal
-
-abbrev pub invariant-each : goal.invariant-each
-invariant-each g l = record {
-  fed : Fed g.H.HashUpdate.grows (take l.hasher-index l.fn.hashers) (take l.hasher-index l.hashers) l.piece;
-  rest : drop l.hasher-index l.hashers ≡ drop l.hasher-index l.fn.hashers;
-}

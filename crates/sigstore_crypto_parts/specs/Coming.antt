@@ -1,8 +1,0 @@
--- The keys of a ring that a hint has still to give.
-use Rattle.std.specs.Prelude.{List}
-use Rattle.sigstore_crypto_parts.specs.declared.key.VerificationKey.{VerificationKey}
-use Rattle.sigstore_crypto_parts.specs.declared.keyring.KeysByHint.{KeysByHint}
-use Rattle.sigstore_crypto_parts.specs.Keyring.{keys_meant}
-
-abbrev pub coming : KeysByHint → List VerificationKey
-coming keys = keys_meant keys.hint keys.time keys.entries

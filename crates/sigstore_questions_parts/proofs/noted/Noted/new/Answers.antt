@@ -1,5 +1,0 @@
-use Rattle.sigstore_questions_parts.proofs.AddFacts.{nothing_read, none_asked}
-use Rattle.sigstore_questions_parts.proofs.noted.Noted.new.Goals as goal
-
-pub invariant_of-result : goal.invariant_of-result
-invariant_of-result c = record { read = nothing_read _ _ c.new-2.ensures.bytes c.new.ensures; asked = ∣ none_asked _ _ c.new-2.ensures.bytes c.new.ensures ∣₁ }

@@ -1,8 +1,0 @@
--- What contracts see of what was noted.
-use Rattle.std.specs.Prelude.{string_bytes}
-use Rattle.sigstore_questions_parts.specs.Notes.{Seen}
-use Rattle.sigstore_questions_parts.specs.declared.noted.Noted.{Noted}
-
--- the rows, and the bytes of their lines
-abbrev pub seen_of : Noted → Seen
-seen_of noted = record { tables = noted.tables; text = string_bytes noted.text }

@@ -1,6 +1,0 @@
-use Rattle.sigstore_run.proofs.RunFacts.{judged_answered}
-use Rattle.sigstore_run.proofs.program.judge.Goals as goal
-
-pub returns : goal.returns
-returns g c =
-    judged_answered c.args.gathered c.args.now _ _ c.verify_request-judged.result c.answered-said.result c.verify_request-judged.ensures c.answered-said.ensures

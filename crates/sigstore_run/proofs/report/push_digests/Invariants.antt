@@ -1,6 +1,0 @@
-use Rattle.std.proofs.Common.{◌≡◌, drop, string_bytes}
-use Rattle.sigstore_run.specs.Report.{digests_added}
-use Rattle.sigstore_run.proofs.report.push_digests.Given as goal
-
-abbrev pub invariant-digests : goal.invariant-digests
-invariant-digests l = digests_added (string_bytes l.fn.text) l.digests ≡ digests_added (string_bytes l.text) (drop l.digest-index l.digests)

@@ -1,6 +1,0 @@
-use Rattle.std.proofs.Common.{◌≡◌, ◌≤◌, take}
-use Rattle.sigstore_run.specs.Judged.{counted_of}
-use Rattle.sigstore_run.proofs.summary.counted.Given as goal
-
-abbrev pub invariant-outcomes : goal.invariant-outcomes
-invariant-outcomes l = (l.count ≡ counted_of l.number (take l.outcome-index l.outcomes)) × (l.count ≤ l.outcome-index)

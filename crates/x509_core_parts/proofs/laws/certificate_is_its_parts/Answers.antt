@@ -1,5 +1,0 @@
-use Rattle.x509_core_parts.proofs.Made.{is-its-parts}
-use Rattle.x509_core_parts.proofs.laws.certificate_is_its_parts.Goals as goal
-
-pub returns : goal.returns
-returns c = is-its-parts

@@ -1,6 +1,0 @@
-use Rattle.x509_core_parts.proofs.Made.{extension-facts}
-use Rattle.x509_core_parts.proofs.Once.{once}
-use Rattle.x509_core_parts.proofs.laws.extension_stands_once.Goals as goal
-
-pub returns : goal.returns
-returns c = λ bytes certificate list oid found fits read some found_so. once oid list found (extension-facts bytes certificate list fits read some).list_facts.once found_so
