@@ -4,7 +4,7 @@ ghost use Rattle.x509_views.specs.Views.{certificate_parts};
 ghost use Rattle.certificate_claims.specs.Info.{moment_of};
 ghost use Rattle.path_core.specs.Traits.{window_of, constrains_names, traits_of, of_third_version, without_unknown, of_no_ca, for_purpose, leaf_judged, issues};
 
-use crate::authority::{Authority, read_authority};
+use crate::authority::{CaConstraint, read_authority};
 use crate::error::LeafFault;
 use crate::extensions::has_unknown_critical;
 use crate::purpose::Purpose;
@@ -24,7 +24,7 @@ pub(crate) struct Traits {
     pub(crate) version: u8,
     pub(crate) window: TimeRange,
     pub(crate) unknown_critical: bool,
-    pub(crate) authority: Authority,
+    pub(crate) authority: CaConstraint,
     pub(crate) usage: Usage,
     pub(crate) name_constraints: bool,
 }
@@ -95,7 +95,7 @@ fn check_extensions(unknown_critical: bool) -> Result<(), LeafFault>
 }
 
 // Else an issuer's key, which is kept for issuing, would sign artifacts and tokens too.
-fn check_no_ca(authority: &Authority) -> Result<(), LeafFault>
+fn check_no_ca(authority: &CaConstraint) -> Result<(), LeafFault>
     ensures { result ≡ of_no_ca authority.now }
 {
     if authority.is_no_ca() {
