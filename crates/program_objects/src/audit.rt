@@ -29,6 +29,8 @@ pub fn audit_objects_at<X: Runtime + AllocGlobal>(
     layout: AuditLayout,
 ) -> AuditObjects<'_, X>
     ensures provider { result.inputs.provider ≡ layout.provider }
+    ensures first { result.first.path ≡ layout.first }
+    ensures second { result.second.path ≡ layout.second }
     ensures tiles { result.tiles.dir ≡ layout.tiles }
 {
     let AuditLayout {
