@@ -4,8 +4,9 @@ ghost use Rattle.der_grammar.specs.Grammar.{read_all};
 ghost use Rattle.der_core.specs.Strings.{utf8_type};
 ghost use Rattle.x509_views.specs.Walk.{coming};
 ghost use Rattle.sigstore_keys.specs.declared.error.Error.TheVariants.{NoMemory as NoRoom};
-ghost use Rattle.certificate_claims.specs.Claims.{value_of, fulcio_value, utf8_string_of, old_text_of, new_claim, old_claim, claim_of, old_claim_of, old_claims_of, claims_of, no_old_claims, no_claims, or_issuer, issuer_of};
+ghost use Rattle.certificate_claims.specs.Claims.{fulcio_value, utf8_string_of, old_text_of, new_claim, old_claim, claim_of, old_claim_of, old_claims_of, claims_of, no_old_claims, no_claims, or_issuer, issuer_of};
 
+use certificate_fields::extension_value;
 use der_core::{DerError, Reader, tag};
 use foundation::{Duplicate, NoMemory};
 use sigstore_keys::{CertificateFault, Error};
@@ -146,18 +147,6 @@ impl DeprecatedGitHubClaims {
     {
         *self == DeprecatedGitHubClaims::none()
     }
-}
-
-/// The value of the extension with this identifier, of which a certificate has at most one; no memory is taken.
-pub fn extension_value<'a>(extensions: Extensions<'a>, oid: &[u8]) -> Option<&'a [u8]>
-    ensures { option_copied result ≡ value_of oid.now (coming extensions.entry) }
-{
-    'extensions: for extension in extensions {
-        if extension.oid == oid {
-            return Some(extension.value);
-        }
-    }
-    None
 }
 
 // The value of Fulcio's extension of that number, 1.3.6.1.4.1.57264.1.number.

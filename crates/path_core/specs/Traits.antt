@@ -6,8 +6,7 @@ use Rattle.x509_views.specs.Certificates.{Certificate, certificate_of}
 use Rattle.spki_core.specs.Reading.{Reading}
 use Rattle.sigstore_types_parts.specs.declared.time_range.TimeRange.{TimeRange}
 use Rattle.sigstore_types_parts.specs.TimeRange.{contains}
-use Rattle.certificate_claims.specs.Claims.{value_of}
-use Rattle.certificate_claims.specs.Info.{extensions_of, moment_of}
+use Rattle.certificate_fields.specs.Fields.{value_of, extensions_of, moment_of}
 use Rattle.path_core.specs.declared.authority.CaConstraint.{CaConstraint}
 use Rattle.path_core.specs.declared.error.LeafFault.{LeafFault}
 use Rattle.path_core.specs.declared.error.LeafFault.TheVariants as fault

@@ -1,7 +1,6 @@
 // What a certificate says of its use.
 ghost use Rattle.std.specs.Prelude.{◌≡◌, Ok, Err, IfOk, is_some, option_copied};
 ghost use Rattle.x509_views.specs.Views.{certificate_parts};
-ghost use Rattle.certificate_claims.specs.Info.{moment_of};
 ghost use Rattle.path_core.specs.Traits.{window_of, constrains_names, traits_of, of_third_version, without_unknown, of_no_ca, for_purpose, leaf_judged, issues};
 
 use crate::authority::{CaConstraint, read_authority};
@@ -9,10 +8,8 @@ use crate::error::LeafFault;
 use crate::extensions::has_unknown_critical;
 use crate::purpose::Purpose;
 use crate::usage::{Usage, read_usage};
-use certificate_claims::extension_value;
-use der_core::Civil;
+use certificate_fields::{extension_value, moment};
 use foundation::NoMemory;
-use jiff::Timestamp;
 use sigstore_types_parts::TimeRange;
 use std::alloc::Global;
 use x509_views::CertView;
@@ -27,13 +24,6 @@ pub(crate) struct Traits {
     pub(crate) authority: CaConstraint,
     pub(crate) usage: Usage,
     pub(crate) name_constraints: bool,
-}
-
-#[tactic(auto, unfolding(certificate_claims::specs::Info::moment_of))]
-fn moment(civil: &Civil) -> Timestamp
-    ensures { result ≡ moment_of civil.now }
-{
-    civil.moment()
 }
 
 fn window(certificate: &CertView) -> TimeRange

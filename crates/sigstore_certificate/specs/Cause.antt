@@ -12,8 +12,7 @@ use Rattle.sigstore_keys.specs.declared.log_ids.LogThreshold.{LogThreshold}
 use Rattle.sigstore_keys.specs.declared.scheme.SigningScheme.{SigningScheme}
 use Rattle.certificate_claims.specs.declared.certificate_info.CertificateInfo.{CertificateInfo}
 use Rattle.certificate_claims.specs.declared.certificate_info.SubjectAltName.{SubjectAltName}
-use Rattle.certificate_claims.specs.Claims.{value_of}
-use Rattle.certificate_claims.specs.Info.{extensions_of}
+use Rattle.certificate_fields.specs.Fields.{value_of, extensions_of}
 use Rattle.path_core.specs.declared.error.LeafFault.{LeafFault}
 use Rattle.path_core.specs.declared.error.PathError.TheVariants.{Leaf}
 use Rattle.path_core.specs.declared.purpose.Purpose.TheVariants.{CodeSigning}

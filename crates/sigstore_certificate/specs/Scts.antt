@@ -19,8 +19,7 @@ use Rattle.sigstore_keys.specs.Key.{key_with, same_sort}
 use Rattle.sigstore_keys.specs.Keyring.{Ring, key_at, has_key_of}
 use Rattle.sigstore_keys.specs.LogIds.{count_distinct, is_enough}
 use Rattle.sigstore_keys.specs.Scheme.{key_algorithm_of}
-use Rattle.certificate_claims.specs.Claims.{value_of}
-use Rattle.certificate_claims.specs.Info.{extensions_of}
+use Rattle.certificate_fields.specs.Fields.{value_of, extensions_of}
 use Rattle.sigstore_certificate.specs.declared.error.SctRule.{SctRule}
 use Rattle.sigstore_certificate.specs.declared.error.SctRule.TheVariants as rule
 use Rattle.sigstore_certificate.specs.declared.error.CertificateRefusal.{CertificateRefusal}

@@ -14,7 +14,7 @@ ghost use Rattle.sigstore_certificate.specs.Scts.{key_under, log_key, good_over,
 
 use crate::digitally_signed::signed_part;
 use crate::error::{CertificateRefusal, SctRule};
-use certificate_claims::extension_value;
+use certificate_fields::extension_value;
 use der_core::OctetString;
 use foundation::{NoMemory, Sequence};
 use sigstore_keys::{

@@ -1,7 +1,7 @@
 use Rattle.std.proofs.Common.{◌≡◌}
 use Rattle.x509_views.specs.Walk.{coming}
-use Rattle.certificate_claims.specs.Claims.{value_of}
-use Rattle.certificate_claims.proofs.claims.extension_value.Given as goal
+use Rattle.certificate_fields.specs.Fields.{value_of}
+use Rattle.certificate_fields.proofs.extension.extension_value.Given as goal
 
 -- no extension that was passed has the identifier
 abbrev pub invariant-extensions : goal.invariant-extensions
