@@ -2,7 +2,7 @@
 #![tactic(auto)]
 
 mod extension;
-mod moment;
+mod times;
 
 pub use extension::extension_value;
-pub use moment::moment;
+pub use times::moment;
