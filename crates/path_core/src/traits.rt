@@ -10,6 +10,7 @@ use crate::purpose::Purpose;
 use crate::usage::{Usage, read_usage};
 use certificate_fields::{extension_value, moment};
 use foundation::NoMemory;
+use jiff::Timestamp;
 use sigstore_types_parts::TimeRange;
 use std::alloc::Global;
 use x509_views::CertView;
