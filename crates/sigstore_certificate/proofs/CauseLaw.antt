@@ -23,7 +23,7 @@ use Rattle.path_core.specs.declared.purpose.Purpose.TheVariants.{CodeSigning}
 use Rattle.path_core.specs.declared.route.FoundPath.{FoundPath}
 use Rattle.path_core.specs.Path.{path_of}
 use Rattle.path_core.specs.Paths.{Setting, setting}
-use Rattle.path_core.specs.CertificateRefusal.{Refuses}
+use Rattle.path_core.specs.Refusal.{Refuses}
 use Rattle.path_core.specs.Traits.{leaf_of, leaf_read}
 use Rattle.path_core.proofs.FirstPath.{refused_means}
 use Rattle.sigstore_certificate.specs.declared.policy.CertificatePolicy.{CertificatePolicy}

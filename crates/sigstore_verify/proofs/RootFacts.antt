@@ -11,7 +11,7 @@ use Rattle.sigstore_tuf_runs.specs.State.{state_of}
 use Rattle.sigstore_tuf_rules.specs.Trusted.{Trusted}
 use Rattle.sigstore_tuf_rules.specs.Authorised.{AreAuthorised, given_in}
 use Rattle.sigstore_tuf_runs.specs.Promises.{Refreshed, Got}
-use Rattle.sigstore_tuf_runs.specs.JudgedBundle.{HoldsAdopted, HoldsChain}
+use Rattle.sigstore_tuf_runs.specs.Kept.{HoldsAdopted, HoldsChain}
 use Rattle.sigstore_tuf_rules.proofs.Authorised.{first_root_given, first_root_is_authorised}
 use Rattle.sigstore_tuf_causes.proofs.Faults.{quiet_first, quiet_second}
 use Rattle.sigstore_tuf_causes.proofs.Keeping.{told_each, first_kept, attach_later, refresh_later}

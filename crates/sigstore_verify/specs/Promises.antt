@@ -4,7 +4,7 @@ use Rattle.foundation.specs.Watched.{IfTold}
 use Rattle.sigstore_tuf_text.specs.declared.error.Error.{Error as TufError}
 use Rattle.sigstore_tuf_outside.specs.Repository.{Quiet}
 use Rattle.sigstore_tuf_rules.specs.declared.chain.TrustChain.{TrustChain}
-use Rattle.sigstore_tuf_runs.specs.JudgedBundle.{HoldsChain}
+use Rattle.sigstore_tuf_runs.specs.Kept.{HoldsChain}
 use Rattle.sigstore_verify.specs.declared.from_root.Acceptance.{Acceptance}
 use Rattle.sigstore_verify.specs.declared.from_root.RootFault.{RootFault}
 use Rattle.sigstore_verify.specs.Inputs.{Anchor, VerifyInputs, Places, Outside, places_in}
