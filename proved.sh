@@ -1,16 +1,16 @@
 #!/bin/sh
-# Read by ./ratmanganese, ./example, ./verify-real and examples/real, which set `top`: the proved programs,
-# and whether they are current. The first verifies, the second writes the questions of a verification.
-# In a checkout they lie where they are built. What `./ratmanganese install` made has no crates: there they
-# lie in the folder programs.
+# Read by ./ratmanganese, ./example, ./verify-real and the scripts in examples/ and bench/ that run a proved program. They
+# set `top`, the folder of this file, and get the programs' names and places, and whether they are current.
+# In a checkout a program lies where it is built. What `./ratmanganese install` made has no crates: there it lies in the
+# folder programs. `./ratmanganese build` makes each of these programs, and `install` puts each.
 # shellcheck disable=SC2034,SC2154
-app=$top/crates/program_verify
-asking=$top/crates/program_questions
+programs="program_verify program_questions"
+# The first verifies, the second writes the questions of a verification.
 if [ -d "$top/crates" ]; then
-    program=$app/out/program_verify
-    questions=$asking/out/program_questions
+    program=$top/crates/program_verify/out/program_verify
+    questions=$top/crates/program_questions/out/program_questions
     me=./ratmanganese
-    unbuilt="the proved program isn't built, or a source is newer than it: run \`./ratmanganese build\`, which takes one to three hours the first time"
+    unbuilt="the proved program isn't built, or a source is newer than it: run \`./ratmanganese build\`, which proves all its crates the first time"
 else
     program=$top/programs/program_verify
     questions=$top/programs/program_questions
@@ -34,15 +34,14 @@ crates() {
     ' "$top/crates.txt"
 }
 
-# Whether a proved program is there, whole, and no source of its crates is newer. While a build makes it,
-# and where one was cut off so that it put nothing back, the file `building` stands beside it.
+# Whether a proved program is there and no source of its crates is newer. It is put there whole, by a renaming.
 is_current() {
     if [ ! -d "$top/crates" ]; then
         [ -x "$top/programs/$1" ]
         return
     fi
     built=$top/crates/$1/out/$1
-    [ -x "$built" ] && [ ! -e "$built.building" ] || return
+    [ -x "$built" ] || return
     sources=$(crates "$1" | sed "s|.*|$top/crates/&/src $top/crates/&/specs $top/crates/&/proofs|")
     # shellcheck disable=SC2086
     [ -z "$(find "$top/crates.txt" $sources -newer "$built" 2>/dev/null | head -n 1)" ]
