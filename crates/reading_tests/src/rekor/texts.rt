@@ -1,0 +1,174 @@
+// The Debug texts of bodies, entries, checkpoints and requests.
+use crate::shown::Shown;
+use sigstore_entries::{Checkpoint, TransparencyLogEntry};
+use sigstore_rekor::{LogEntry, RekorInclusionProof, Request};
+use sigstore_rekor_parts::{
+    DsseV001Body, DsseV002Body, HashedRekordV001Body, HashedRekordV002Body, IntotoV002Body,
+    PublicKeyRaw, RekorEntryBody, X509CertificateRaw,
+};
+use std::fmt;
+use std::fmt::Debug;
+
+impl fmt::Debug for Shown<&RekorEntryBody> {
+    fn fmt<W: fmt::Write>(&self, f: &mut fmt::Formatter<W>) -> fmt::Result {
+        match self.0 {
+            RekorEntryBody::HashedRekordV001(body) => Shown(body).fmt(f),
+            RekorEntryBody::HashedRekordV002(body) => Shown(body).fmt(f),
+            RekorEntryBody::DsseV001(body) => Shown(body).fmt(f),
+            RekorEntryBody::DsseV002(body) => Shown(body).fmt(f),
+            RekorEntryBody::IntotoV002(body) => Shown(body).fmt(f),
+        }
+    }
+}
+
+impl fmt::Debug for Shown<&HashedRekordV001Body> {
+    fn fmt<W: fmt::Write>(&self, f: &mut fmt::Formatter<W>) -> fmt::Result {
+        let (hash, signature) = (&self.0.spec.data_.hash, &self.0.spec.signature);
+        let (content, key) = (Shown(&signature.content), Shown(&signature.public_key.content));
+        (hash.algorithm, &hash.value, content, key).fmt(f)
+    }
+}
+
+impl fmt::Debug for Shown<&HashedRekordV002Body> {
+    fn fmt<W: fmt::Write>(&self, f: &mut fmt::Formatter<W>) -> fmt::Result {
+        let logged = &self.0.spec.hashed_rekord_v002;
+        let verifier = &logged.signature.verifier;
+        (
+            logged.data_.algorithm,
+            Shown(&logged.data_.digest),
+            Shown(&logged.signature.content),
+            verifier.key_details,
+            verifier.x509_certificate.as_ref().map(Shown),
+            verifier.public_key.as_ref().map(Shown),
+        )
+            .fmt(f)
+    }
+}
+
+impl fmt::Debug for Shown<&X509CertificateRaw> {
+    fn fmt<W: fmt::Write>(&self, f: &mut fmt::Formatter<W>) -> fmt::Result {
+        Shown(&self.0.raw_bytes).fmt(f)
+    }
+}
+
+impl fmt::Debug for Shown<&PublicKeyRaw> {
+    fn fmt<W: fmt::Write>(&self, f: &mut fmt::Formatter<W>) -> fmt::Result {
+        Shown(&self.0.raw_bytes).fmt(f)
+    }
+}
+
+impl fmt::Debug for Shown<&DsseV001Body> {
+    fn fmt<W: fmt::Write>(&self, f: &mut fmt::Formatter<W>) -> fmt::Result {
+        let spec = &self.0.spec;
+        let (envelope, payload) = (&spec.envelope_hash, &spec.payload_hash);
+        (envelope.algorithm, &envelope.value, payload.algorithm, &payload.value).fmt(f)?;
+        for signature in spec.signatures.as_slice() {
+            let parts = (Shown(&signature.signature), Shown(&signature.verifier));
+            write!(f, " {parts:?}")?;
+        }
+        Ok(())
+    }
+}
+
+impl fmt::Debug for Shown<&DsseV002Body> {
+    fn fmt<W: fmt::Write>(&self, f: &mut fmt::Formatter<W>) -> fmt::Result {
+        let logged = &self.0.spec.dsse_v002;
+        (logged.payload_hash.algorithm, Shown(&logged.payload_hash.digest)).fmt(f)?;
+        for signature in logged.signatures.as_slice() {
+            let verifier = &signature.verifier;
+            let parts = (
+                Shown(&signature.content),
+                &verifier.key_details,
+                verifier.x509_certificate.as_ref().map(Shown),
+                verifier.public_key.as_ref().map(Shown),
+            );
+            write!(f, " {parts:?}")?;
+        }
+        Ok(())
+    }
+}
+
+impl fmt::Debug for Shown<&IntotoV002Body> {
+    fn fmt<W: fmt::Write>(&self, f: &mut fmt::Formatter<W>) -> fmt::Result {
+        let logged = &self.0.spec.content;
+        let (hash, payload) = (&logged.hash, &logged.payload_hash);
+        let name = &logged.envelope.payload_type;
+        (name, hash.algorithm, &hash.value, payload.algorithm, &payload.value).fmt(f)?;
+        for signature in logged.envelope.signatures.as_slice() {
+            let (sig, key) = (Shown(&signature.sig), Shown(&signature.public_key));
+            let parts = (&signature.keyid, sig, key);
+            write!(f, " {parts:?}")?;
+        }
+        Ok(())
+    }
+}
+
+impl fmt::Debug for Shown<&LogEntry> {
+    fn fmt<W: fmt::Write>(&self, f: &mut fmt::Formatter<W>) -> fmt::Result {
+        let entry = self.0;
+        let (body, index) = (Shown(&entry.body), entry.log_index.get());
+        (entry.uuid.as_str(), body, entry.integrated_time, entry.log_id.as_str(), index).fmt(f)?;
+        let Some(shown) = &entry.verification else {
+            return f.write_str(" None");
+        };
+        let promise = shown.signed_entry_timestamp.as_ref().map(Shown);
+        write!(f, " {promise:?}")?;
+        match &shown.inclusion_proof {
+            Some(proof) => Shown(proof).fmt(f),
+            None => Ok(()),
+        }
+    }
+}
+
+impl fmt::Debug for Shown<&RekorInclusionProof> {
+    fn fmt<W: fmt::Write>(&self, f: &mut fmt::Formatter<W>) -> fmt::Result {
+        let proof = self.0;
+        let root = Shown(&proof.root_hash);
+        let parts = (&proof.checkpoint, proof.log_index.get(), root, proof.tree_size);
+        write!(f, " {parts:?}")?;
+        for hash in proof.hashes.as_slice() {
+            let hash = Shown(hash);
+            write!(f, " {hash:?}")?;
+        }
+        Ok(())
+    }
+}
+
+impl fmt::Debug for Shown<&TransparencyLogEntry> {
+    fn fmt<W: fmt::Write>(&self, f: &mut fmt::Formatter<W>) -> fmt::Result {
+        let entry = self.0;
+        let (index, log, kind) = (entry.log_index.get(), &entry.log_id.key_id, entry.kind_version);
+        let promise = entry.inclusion_promise.as_ref().map(Shown);
+        let body = Shown(&entry.canonicalized_body);
+        (index, log, kind, entry.integrated_time, promise, body).fmt(f)?;
+        let Some(proof) = &entry.inclusion_proof else {
+            return Ok(());
+        };
+        let (root, hashes) = (Shown(&proof.root_hash), proof.hashes.len());
+        let length = proof.checkpoint.envelope().len();
+        let parts = (proof.log_index.get(), root, proof.tree_size, hashes, length);
+        write!(f, " {parts:?}")
+    }
+}
+
+impl fmt::Debug for Shown<&Checkpoint> {
+    fn fmt<W: fmt::Write>(&self, f: &mut fmt::Formatter<W>) -> fmt::Result {
+        let checkpoint = self.0;
+        let root = Shown(checkpoint.root_hash());
+        let signatures = checkpoint.signatures().len();
+        (checkpoint.origin(), checkpoint.tree_size(), root, signatures).fmt(f)
+    }
+}
+
+// A body as its text, behind the path.
+impl fmt::Debug for Shown<&Request> {
+    fn fmt<W: fmt::Write>(&self, f: &mut fmt::Formatter<W>) -> fmt::Result {
+        let (method, path) = (self.0.method, self.0.path.as_str());
+        write!(f, "{method:?} {path}")?;
+        match str::from_utf8(self.0.body.as_bytes()) {
+            Ok("") => Ok(()),
+            Ok(body) => write!(f, " {body}"),
+            Err(_) => f.write_str(" no text"),
+        }
+    }
+}
