@@ -15,6 +15,10 @@ use tried::all_hold;
 fn main(rt: HostRuntime) -> ExitCode {
     match all_hold(&rt) {
         Ok(true) => ExitCode::SUCCESS,
-        _ => ExitCode::FAILURE,
+        Ok(false) => ExitCode::FAILURE,
+        Err(stop) => {
+            let _ = println!(rt; "{stop:?}");
+            ExitCode::FAILURE
+        }
     }
 }

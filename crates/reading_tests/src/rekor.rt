@@ -8,6 +8,8 @@ mod texts;
 
 use crate::row::{Row, place};
 use crate::stop::Stop;
+use sigstore_binding::{describes_exactly, refusals_have_causes};
+use sigstore_rekor::{bodies_are_read, paths_are_distinct};
 use std::alloc::Global;
 
 const CALLS: &str = "\
@@ -44,4 +46,12 @@ pub fn answer(alloc: Global, row: &Row) -> Result<String, Stop> {
         22 => answers::second_entry(alloc, row),
         _ => Err(Stop::Row),
     }
+}
+
+/// The laws of the calls; a call does nothing.
+pub fn laws() {
+    paths_are_distinct();
+    bodies_are_read();
+    describes_exactly();
+    refusals_have_causes();
 }

@@ -26,7 +26,11 @@ pub fn copied<T: Duplicate + PartialEq, E: Drop>(
 
 fn copy_of<T: Duplicate + PartialEq>(alloc: Global, value: T) -> Result<T, Stop> {
     let copy = value.duplicate(alloc)?;
-    if copy == value { Ok(copy) } else { Err(Stop::Copy) }
+    if copy == value {
+        Ok(copy)
+    } else {
+        Err(Stop::Copy)
+    }
 }
 
 /// A value whose Debug text is told here.
@@ -35,7 +39,11 @@ pub struct Shown<T>(pub T);
 
 impl<K: Drop> fmt::Debug for Shown<&ByteString<K>> {
     fn fmt<W: fmt::Write>(&self, f: &mut fmt::Formatter<W>) -> fmt::Result {
-        write!(f, "\"{}\"", Base64Display::new(self.0.as_bytes(), &STANDARD))
+        write!(
+            f,
+            "\"{}\"",
+            Base64Display::new(self.0.as_bytes(), &STANDARD)
+        )
     }
 }
 

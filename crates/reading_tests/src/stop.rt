@@ -30,8 +30,11 @@ impl From<NoMemory> for Stop {
 }
 
 impl From<TypesError> for Stop {
-    fn from(_: TypesError) -> Stop {
-        Stop::Row
+    fn from(refusal: TypesError) -> Stop {
+        match refusal {
+            TypesError::NoMemory => Stop::Memory,
+            _ => Stop::Row,
+        }
     }
 }
 

@@ -8,6 +8,7 @@ use std::{env, fs};
 
 /// Whether every row of the files that the arguments name has the answer that stands in it.
 pub fn all_hold<X: Runtime + AllocGlobal>(rt: &X) -> Result<bool, Stop> {
+    rekor::laws();
     let mut hold = true;
     for path in env::args(rt)?.skip(1) {
         hold &= file_holds(rt, path.as_str())?;

@@ -98,8 +98,10 @@ fn promise_of(alloc: Global, row: &Row) -> Result<Option<SignedTimestamp>, Stop>
 
 /// The envelope of a row.
 pub fn envelope_of(alloc: Global, row: &Row) -> Result<DsseEnvelope, Stop> {
-    let envelope: Result<DsseEnvelope, TypesError> =
-        FromValue::from_value(alloc, row.value("envelope")?);
+    let envelope: Result<DsseEnvelope, TypesError> = FromValue::from_value(
+        alloc,
+        row.value("envelope")?,
+    );
     Ok(envelope?)
 }
 
@@ -108,6 +110,9 @@ pub fn digests(alloc: Global, row: &Row) -> Result<String, Stop> {
     let envelope = envelope_of(alloc, row)?;
     let hashed = HashedEnvelope::new(alloc, &envelope)?;
     let is_kept = hashed.envelope() == &envelope;
-    let (payload, encoding) = (Shown(hashed.payload_digest()), Shown(hashed.encoding_digest()));
+    let (payload, encoding) = (
+        Shown(hashed.payload_digest()),
+        Shown(hashed.encoding_digest()),
+    );
     shown(alloc, (is_kept, payload, encoding, hashed.encoding().len()))
 }

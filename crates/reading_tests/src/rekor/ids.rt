@@ -50,8 +50,10 @@ pub fn refusal(alloc: Global, row: &Row) -> Result<String, Stop> {
 
 /// The name of a key's details.
 pub fn key_details(alloc: Global, row: &Row) -> Result<String, Stop> {
-    let details: Result<RekorV2KeyDetails, Error> =
-        FromValue::from_value(alloc, row.value("details")?);
+    let details: Result<RekorV2KeyDetails, Error> = FromValue::from_value(
+        alloc,
+        row.value("details")?,
+    );
     shown(alloc, details.map(RekorV2KeyDetails::as_str))
 }
 

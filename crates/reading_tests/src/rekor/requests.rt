@@ -17,10 +17,7 @@ use std::alloc::Global;
 
 /// The path of a tile.
 pub fn path(alloc: Global, row: &Row) -> Result<String, Stop> {
-    shown(
-        alloc,
-        tile_path(alloc, row.number("index")?, row.width()?),
-    )
+    shown(alloc, tile_path(alloc, row.number("index")?, row.width()?))
 }
 
 const REQUESTS: &str = "\
@@ -33,7 +30,12 @@ pub fn request(alloc: Global, row: &Row) -> Result<String, Stop> {
         0 => by_uuid(alloc, row)?,
         1 => get_entry_by_index(alloc, LogIndex::new(row.number("index")?)?),
         2 => get_checkpoint(alloc),
-        3 => get_tile(alloc, row.number("level")?, row.number("index")?, row.width()?),
+        3 => get_tile(
+            alloc,
+            row.number("level")?,
+            row.number("index")?,
+            row.width()?,
+        ),
         4 => get_entry_bundle(alloc, row.number("index")?, row.width()?),
         5 => search_by_hash(alloc, &digest(row)?),
         6 => searched(alloc, row)?,
@@ -109,7 +111,12 @@ pub fn sent(alloc: Global, row: &Row) -> Result<HashedRekordV2, Stop> {
         return Ok(sent?);
     }
     let certificate = certificate(alloc, row)?;
-    let sent =
-        HashedRekordV2::new_with_certificate(alloc, &digest, &signature, &certificate, details);
+    let sent = HashedRekordV2::new_with_certificate(
+        alloc,
+        &digest,
+        &signature,
+        &certificate,
+        details,
+    );
     Ok(sent?)
 }

@@ -24,7 +24,10 @@ impl fmt::Debug for Shown<&RekorEntryBody> {
 impl fmt::Debug for Shown<&HashedRekordV001Body> {
     fn fmt<W: fmt::Write>(&self, f: &mut fmt::Formatter<W>) -> fmt::Result {
         let (hash, signature) = (&self.0.spec.data_.hash, &self.0.spec.signature);
-        let (content, key) = (Shown(&signature.content), Shown(&signature.public_key.content));
+        let (content, key) = (
+            Shown(&signature.content),
+            Shown(&signature.public_key.content),
+        );
         (hash.algorithm, &hash.value, content, key).fmt(f)
     }
 }
@@ -61,7 +64,13 @@ impl fmt::Debug for Shown<&DsseV001Body> {
     fn fmt<W: fmt::Write>(&self, f: &mut fmt::Formatter<W>) -> fmt::Result {
         let spec = &self.0.spec;
         let (envelope, payload) = (&spec.envelope_hash, &spec.payload_hash);
-        (envelope.algorithm, &envelope.value, payload.algorithm, &payload.value).fmt(f)?;
+        (
+            envelope.algorithm,
+            &envelope.value,
+            payload.algorithm,
+            &payload.value,
+        )
+            .fmt(f)?;
         for signature in spec.signatures.as_slice() {
             let parts = (Shown(&signature.signature), Shown(&signature.verifier));
             write!(f, " {parts:?}")?;
@@ -73,7 +82,11 @@ impl fmt::Debug for Shown<&DsseV001Body> {
 impl fmt::Debug for Shown<&DsseV002Body> {
     fn fmt<W: fmt::Write>(&self, f: &mut fmt::Formatter<W>) -> fmt::Result {
         let logged = &self.0.spec.dsse_v002;
-        (logged.payload_hash.algorithm, Shown(&logged.payload_hash.digest)).fmt(f)?;
+        (
+            logged.payload_hash.algorithm,
+            Shown(&logged.payload_hash.digest),
+        )
+            .fmt(f)?;
         for signature in logged.signatures.as_slice() {
             let verifier = &signature.verifier;
             let parts = (
@@ -93,7 +106,14 @@ impl fmt::Debug for Shown<&IntotoV002Body> {
         let logged = &self.0.spec.content;
         let (hash, payload) = (&logged.hash, &logged.payload_hash);
         let name = &logged.envelope.payload_type;
-        (name, hash.algorithm, &hash.value, payload.algorithm, &payload.value).fmt(f)?;
+        (
+            name,
+            hash.algorithm,
+            &hash.value,
+            payload.algorithm,
+            &payload.value,
+        )
+            .fmt(f)?;
         for signature in logged.envelope.signatures.as_slice() {
             let (sig, key) = (Shown(&signature.sig), Shown(&signature.public_key));
             let parts = (&signature.keyid, sig, key);
@@ -107,7 +127,14 @@ impl fmt::Debug for Shown<&LogEntry> {
     fn fmt<W: fmt::Write>(&self, f: &mut fmt::Formatter<W>) -> fmt::Result {
         let entry = self.0;
         let (body, index) = (Shown(&entry.body), entry.log_index.get());
-        (entry.uuid.as_str(), body, entry.integrated_time, entry.log_id.as_str(), index).fmt(f)?;
+        (
+            entry.uuid.as_str(),
+            body,
+            entry.integrated_time,
+            entry.log_id.as_str(),
+            index,
+        )
+            .fmt(f)?;
         let Some(shown) = &entry.verification else {
             return f.write_str(" None");
         };
@@ -124,7 +151,12 @@ impl fmt::Debug for Shown<&RekorInclusionProof> {
     fn fmt<W: fmt::Write>(&self, f: &mut fmt::Formatter<W>) -> fmt::Result {
         let proof = self.0;
         let root = Shown(&proof.root_hash);
-        let parts = (&proof.checkpoint, proof.log_index.get(), root, proof.tree_size);
+        let parts = (
+            &proof.checkpoint,
+            proof.log_index.get(),
+            root,
+            proof.tree_size,
+        );
         write!(f, " {parts:?}")?;
         for hash in proof.hashes.as_slice() {
             let hash = Shown(hash);
@@ -137,10 +169,16 @@ impl fmt::Debug for Shown<&RekorInclusionProof> {
 impl fmt::Debug for Shown<&TransparencyLogEntry> {
     fn fmt<W: fmt::Write>(&self, f: &mut fmt::Formatter<W>) -> fmt::Result {
         let entry = self.0;
-        let (index, log, kind) = (entry.log_index.get(), &entry.log_id.key_id, entry.kind_version);
-        let promise = entry.inclusion_promise.as_ref().map(Shown);
-        let body = Shown(&entry.canonicalized_body);
-        (index, log, kind, entry.integrated_time, promise, body).fmt(f)?;
+        (
+            entry.log_index.get(),
+            &entry.log_id.key_id,
+            entry.kind_version.kind(),
+            entry.kind_version.version(),
+            entry.integrated_time,
+            entry.inclusion_promise.as_ref().map(Shown),
+            Shown(&entry.canonicalized_body),
+        )
+            .fmt(f)?;
         let Some(proof) = &entry.inclusion_proof else {
             return Ok(());
         };
@@ -156,7 +194,13 @@ impl fmt::Debug for Shown<&Checkpoint> {
         let checkpoint = self.0;
         let root = Shown(checkpoint.root_hash());
         let signatures = checkpoint.signatures().len();
-        (checkpoint.origin(), checkpoint.tree_size(), root, signatures).fmt(f)
+        (
+            checkpoint.origin(),
+            checkpoint.tree_size(),
+            root,
+            signatures,
+        )
+            .fmt(f)
     }
 }
 
