@@ -1,7 +1,7 @@
 // What is read of a log's answers: a status, and a text or octets.
 use crate::rekor::requests::sent;
 use crate::row::Row;
-use crate::shown::{Shown, copied, shown};
+use crate::shown::{Shown, copied, printed};
 use crate::stop::Stop;
 use serde_json::Value;
 use sigstore_entries::{KindVersion, TransparencyLogEntry};
@@ -14,7 +14,7 @@ use std::alloc::Global;
 
 fn entry_shown(alloc: Global, read: Result<LogEntry, Error>) -> Result<String, Stop> {
     let read = copied(alloc, read)?;
-    shown(alloc, read.as_ref().map(Shown))
+    printed(alloc, read.as_ref().map(Shown))
 }
 
 /// An answer to a request for an entry.
@@ -48,21 +48,21 @@ pub fn bundle_entry(alloc: Global, row: &Row) -> Result<String, Stop> {
 fn bundled(alloc: Global, entry: LogEntry, kind: KindVersion) -> Result<String, Stop> {
     let bundled = entry.to_bundle_entry(alloc, kind);
     drop(entry);
-    shown(alloc, bundled.as_ref().map(Shown))
+    printed(alloc, bundled.as_ref().map(Shown))
 }
 
 /// An answer to a search.
 pub fn search(alloc: Global, row: &Row) -> Result<String, Stop> {
     let (status, text) = (row.number("status")?, row.text("text")?);
     let read = read_search(alloc, status, text.as_bytes());
-    shown(alloc, read.as_ref().map(|names| names.as_slice()))
+    printed(alloc, read.as_ref().map(|names| names.as_slice()))
 }
 
 /// An answer to a request for a checkpoint.
 pub fn checkpoint(alloc: Global, row: &Row) -> Result<String, Stop> {
     let (status, text) = (row.number("status")?, row.text("text")?);
     let read = read_checkpoint(alloc, status, text.as_bytes());
-    shown(alloc, read.as_ref().map(Shown))
+    printed(alloc, read.as_ref().map(Shown))
 }
 
 /// An answer to a request for a tile.
@@ -71,7 +71,7 @@ pub fn tile(alloc: Global, row: &Row) -> Result<String, Stop> {
     let (index, width) = (row.number("index")?, row.width()?);
     let octets = row.hexadecimal(alloc, "octets_hex")?;
     let read = read_tile(alloc, status, octets.as_slice(), level, index, width);
-    shown(alloc, copied(alloc, read)?)
+    printed(alloc, copied(alloc, read)?)
 }
 
 /// An answer to a request for a bundle of entries.
@@ -79,7 +79,7 @@ pub fn entry_bundle(alloc: Global, row: &Row) -> Result<String, Stop> {
     let (status, index, width) = (row.number("status")?, row.number("index")?, row.width()?);
     let octets = row.hexadecimal(alloc, "octets_hex")?;
     let read = read_entry_bundle(alloc, status, octets.as_slice(), index, width);
-    shown(alloc, copied(alloc, read)?)
+    printed(alloc, copied(alloc, read)?)
 }
 
 /// Whether an entry of a log of the second version is of what was sent.
@@ -90,7 +90,7 @@ pub fn validated(alloc: Global, row: &Row) -> Result<String, Stop> {
     };
     let entry: Result<TransparencyLogEntry, TypesError> = FromValue::from_value(alloc, &value);
     let answer = validate_v2_entry(alloc, &entry?, &request);
-    shown(alloc, answer)
+    printed(alloc, answer)
 }
 
 /// An answer of a log of the second version.
@@ -99,5 +99,5 @@ pub fn second_entry(alloc: Global, row: &Row) -> Result<String, Stop> {
     let request = sent(alloc, row)?;
     let read = read_v2_entry(alloc, status, text.as_bytes(), &request);
     drop(request);
-    shown(alloc, read.map(drop))
+    printed(alloc, read.map(drop))
 }

@@ -1,6 +1,6 @@
 // What is read of bodies, and of the armoured texts in them.
 use crate::row::{Row, place};
-use crate::shown::{Shown, copied, shown};
+use crate::shown::{Shown, copied, printed};
 use crate::stop::Stop;
 use sigstore_entries::KindVersion;
 use sigstore_pem::PemArmor;
@@ -12,7 +12,7 @@ use std::alloc::Global;
 
 fn body_shown(alloc: Global, read: Result<RekorEntryBody, Error>) -> Result<String, Stop> {
     let read = copied(alloc, read)?;
-    shown(alloc, read.as_ref().map(Shown))
+    printed(alloc, read.as_ref().map(Shown))
 }
 
 /// A body of a kind and a version by their names.
@@ -49,7 +49,7 @@ pub fn armored_key(alloc: Global, row: &Row) -> Result<String, Stop> {
         1 => of_intoto2(sig, content).parse_public_key(alloc, &PemArmor),
         _ => return Err(Stop::Row),
     };
-    shown(alloc, key.as_ref().map(Shown))
+    printed(alloc, key.as_ref().map(Shown))
 }
 
 /// The certificate that such a text holds.
@@ -66,7 +66,7 @@ pub fn armored_certificate(alloc: Global, row: &Row) -> Result<String, Stop> {
         2 => of_intoto2(signature, content).parse_certificate(alloc, &PemArmor),
         _ => return Err(Stop::Row),
     };
-    shown(alloc, certificate.as_ref().map(Shown))
+    printed(alloc, certificate.as_ref().map(Shown))
 }
 
 fn of_intoto2(sig: SignatureBytes, public_key: PemContent) -> IntotoSignature {

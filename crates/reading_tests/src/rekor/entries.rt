@@ -1,6 +1,6 @@
 // Whether entries are of signatures, and the digests by which entries name an envelope.
 use crate::row::Row;
-use crate::shown::{Shown, shown};
+use crate::shown::{Shown, printed};
 use crate::stop::Stop;
 use sigstore_binding::{HashedEnvelope, Signed, SignedBy, describe_entry};
 use sigstore_entries::{KindVersion, LogId, LogIndex, TransparencyLogEntry};
@@ -69,7 +69,7 @@ fn described(
     let entry = entry_of(alloc, row)?;
     let answer = describe_entry(alloc, &PemArmor, who, signed, &entry);
     drop(entry);
-    shown(alloc, answer)
+    printed(alloc, answer)
 }
 
 fn entry_of(alloc: Global, row: &Row) -> Result<TransparencyLogEntry, Stop> {
@@ -114,5 +114,5 @@ pub fn digests(alloc: Global, row: &Row) -> Result<String, Stop> {
         Shown(hashed.payload_digest()),
         Shown(hashed.encoding_digest()),
     );
-    shown(alloc, (is_kept, payload, encoding, hashed.encoding().len()))
+    printed(alloc, (is_kept, payload, encoding, hashed.encoding().len()))
 }

@@ -1,6 +1,6 @@
 // Ids of logs, hashes, and the names of refusals, of details of keys and of versions.
 use crate::row::{Row, place};
-use crate::shown::{Shown, copied, shown};
+use crate::shown::{Shown, copied, printed};
 use crate::stop::Stop;
 use sigstore_rekor::RekorApiVersion;
 use sigstore_rekor_parts::{
@@ -14,13 +14,13 @@ pub fn encode_id(alloc: Global, row: &Row) -> Result<String, Stop> {
     let octets = row.hexadecimal(alloc, "octets_hex")?;
     let id = copied(alloc, HexLogId::encode(alloc, octets.as_slice()))??;
     let back = id.decode(alloc);
-    shown(alloc, (id, back))
+    printed(alloc, (id, back))
 }
 
 /// The octets of an id, by both calls.
 pub fn decode_id(alloc: Global, row: &Row) -> Result<String, Stop> {
     let id = HexLogId::new(Text::new(alloc, row.text("id")?)?);
-    shown(alloc, (id.decode(alloc), id.to_log_key_id(alloc)))
+    printed(alloc, (id.decode(alloc), id.to_log_key_id(alloc)))
 }
 
 /// The SHA-256 value that a text spells, by both calls, and the text that the second one is of.
@@ -30,7 +30,7 @@ pub fn sha256(alloc: Global, row: &Row) -> Result<String, Stop> {
     let is_kept = hash.as_str() == text;
     let (own, of_hash) = (sha256_from_hex(text), hash.to_sha256());
     let (own, of_hash) = (own.as_ref().map(Shown), of_hash.as_ref().map(Shown));
-    shown(alloc, (own, of_hash, is_kept, hash.into_string()))
+    printed(alloc, (own, of_hash, is_kept, hash.into_string()))
 }
 
 /// A refusal: its number, its name and what it holds.
@@ -54,12 +54,12 @@ pub fn key_details(alloc: Global, row: &Row) -> Result<String, Stop> {
         alloc,
         row.value("details")?,
     );
-    shown(alloc, details.map(RekorV2KeyDetails::as_str))
+    printed(alloc, details.map(RekorV2KeyDetails::as_str))
 }
 
 /// The version of a number, its number, and the version where none is told.
 pub fn api_version(alloc: Global, row: &Row) -> Result<String, Stop> {
     let version = RekorApiVersion::from_major(row.number("major")?);
     let major = version.map(RekorApiVersion::major);
-    shown(alloc, (version, major, RekorApiVersion::default()))
+    printed(alloc, (version, major, RekorApiVersion::default()))
 }

@@ -1,7 +1,7 @@
 // What is asked of a log and sent to it.
 use crate::rekor::entries::envelope_of;
 use crate::row::{Row, place};
-use crate::shown::{Shown, copied, shown};
+use crate::shown::{Shown, copied, printed};
 use crate::stop::Stop;
 use foundation::NoMemory;
 use sigstore_entries::LogIndex;
@@ -17,7 +17,7 @@ use std::alloc::Global;
 
 /// The path of a tile.
 pub fn path(alloc: Global, row: &Row) -> Result<String, Stop> {
-    shown(alloc, tile_path(alloc, row.number("index")?, row.width()?))
+    printed(alloc, tile_path(alloc, row.number("index")?, row.width()?))
 }
 
 const REQUESTS: &str = "\
@@ -45,7 +45,7 @@ pub fn request(alloc: Global, row: &Row) -> Result<String, Stop> {
         _ => return Err(Stop::Row),
     };
     let made = copied(alloc, made)?;
-    shown(alloc, made.as_ref().map(Shown))
+    printed(alloc, made.as_ref().map(Shown))
 }
 
 fn digest(row: &Row) -> Result<Sha256Hash, Stop> {
