@@ -9,7 +9,7 @@ use std::fmt;
 use std::fmt::Debug;
 
 /// The Debug text of an answer, which is let go.
-pub fn shown<D: Debug + Drop>(alloc: Global, answer: D) -> Result<String, Stop> {
+pub fn printed<D: Debug + Drop>(alloc: Global, answer: D) -> Result<String, Stop> {
     Ok(format!(in alloc; "{answer:?}")?)
 }
 

@@ -135,12 +135,12 @@ impl fmt::Debug for Shown<&LogEntry> {
             index,
         )
             .fmt(f)?;
-        let Some(shown) = &entry.verification else {
+        let Some(verification) = &entry.verification else {
             return f.write_str(" None");
         };
-        let promise = shown.signed_entry_timestamp.as_ref().map(Shown);
+        let promise = verification.signed_entry_timestamp.as_ref().map(Shown);
         write!(f, " {promise:?}")?;
-        match &shown.inclusion_proof {
+        match &verification.inclusion_proof {
             Some(proof) => Shown(proof).fmt(f),
             None => Ok(()),
         }
