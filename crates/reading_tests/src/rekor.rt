@@ -7,15 +7,16 @@ mod requests;
 mod texts;
 
 use crate::row::{Row, place};
+use crate::shown::printed;
 use crate::stop::Stop;
 use sigstore_binding::{describes_exactly, refusals_have_causes};
-use sigstore_rekor::{bodies_are_read, paths_are_distinct};
+use sigstore_rekor::{bodies_are_read, paths_are_distinct, tile_path};
 use std::alloc::Global;
 
 const CALLS: &str = "\
 read_body parse_body armored_key armored_certificate describe digests \
 encode_id decode_id sha256 refusal key_details api_version tile_path request \
-read_entry entry_value to_bundle_entry read_search read_checkpoint read_tile read_entry_bundle \
+read_entry to_bundle_entry read_search read_checkpoint read_tile read_entry_bundle \
 validate_v2_entry read_v2_entry";
 
 /// The answer of a row's call.
@@ -33,17 +34,16 @@ pub fn answer(alloc: Global, row: &Row) -> Result<String, Stop> {
         9 => ids::refusal(alloc, row),
         10 => ids::key_details(alloc, row),
         11 => ids::api_version(alloc, row),
-        12 => requests::path(alloc, row),
+        12 => printed(alloc, tile_path(alloc, row.number("index")?, row.width()?)),
         13 => requests::request(alloc, row),
         14 => answers::entry(alloc, row),
-        15 => answers::entry_alone(alloc, row),
-        16 => answers::bundle_entry(alloc, row),
-        17 => answers::search(alloc, row),
-        18 => answers::checkpoint(alloc, row),
-        19 => answers::tile(alloc, row),
-        20 => answers::entry_bundle(alloc, row),
-        21 => answers::validated(alloc, row),
-        22 => answers::second_entry(alloc, row),
+        15 => answers::bundle_entry(alloc, row),
+        16 => answers::search(alloc, row),
+        17 => answers::checkpoint(alloc, row),
+        18 => answers::tile(alloc, row),
+        19 => answers::entry_bundle(alloc, row),
+        20 => answers::validated(alloc, row),
+        21 => answers::second_entry(alloc, row),
         _ => Err(Stop::Row),
     }
 }

@@ -24,11 +24,6 @@ impl Row {
         self.members.get(name)
     }
 
-    /// A member that is an object or a list.
-    pub fn value(&self, name: &str) -> Result<&Value, Stop> {
-        self.find(name).ok_or(Stop::Row)
-    }
-
     /// A text, where it is there.
     pub fn find_text(&self, name: &str) -> Option<&str> {
         self.find(name).and_then(Value::as_str)
@@ -61,21 +56,13 @@ impl Row {
         }
     }
 
-    /// The octets of a text, or those that stand in hexadecimal under the second name.
-    pub fn octets(&self, alloc: Global, name: &str, hex_name: &str) -> Result<Vec<u8>, Stop> {
-        match self.find_text(name) {
-            Some(text) => {
-                let mut octets = Vec::new(alloc);
-                octets.extend_from_slice(text.as_bytes())?;
-                Ok(octets)
-            }
-            None => self.hexadecimal(alloc, hex_name),
+    /// The octets of a text, or those that stand in hexadecimal under its name with `_hex` behind it.
+    pub fn octets(&self, alloc: Global, name: &str) -> Result<Vec<u8>, Stop> {
+        if let Some(text) = self.find_text(name) {
+            return Ok(String::from_str(alloc, text)?.into_bytes());
         }
-    }
-
-    /// The octets that stand in hexadecimal.
-    pub fn hexadecimal(&self, alloc: Global, name: &str) -> Result<Vec<u8>, Stop> {
-        hex::decode(alloc, self.text(name)?).map_err(|_| Stop::Row)
+        let name = format!(in alloc; "{name}_hex")?;
+        hex::decode(alloc, self.text(name.as_str())?).map_err(|_| Stop::Row)
     }
 }
 

@@ -18,16 +18,13 @@ pub fn copied<T: Duplicate + PartialEq, E: Drop>(
     alloc: Global,
     answer: Result<T, E>,
 ) -> Result<Result<T, E>, Stop> {
-    match answer {
-        Ok(value) => Ok(Ok(copy_of(alloc, value)?)),
-        Err(refusal) => Ok(Err(refusal)),
-    }
-}
-
-fn copy_of<T: Duplicate + PartialEq>(alloc: Global, value: T) -> Result<T, Stop> {
+    let value = match answer {
+        Ok(value) => value,
+        Err(refusal) => return Ok(Err(refusal)),
+    };
     let copy = value.duplicate(alloc)?;
     if copy == value {
-        Ok(copy)
+        Ok(Ok(copy))
     } else {
         Err(Stop::Copy)
     }

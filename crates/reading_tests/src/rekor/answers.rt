@@ -12,15 +12,15 @@ use sigstore_rekor::{
 use sigstore_types_parts::{FromValue, TypesError};
 use std::alloc::Global;
 
-fn entry_shown(alloc: Global, read: Result<LogEntry, Error>) -> Result<String, Stop> {
+/// An answer to a request for an entry; without a status an entry alone, which has no name.
+pub fn entry(alloc: Global, row: &Row) -> Result<String, Stop> {
+    let read = if row.find("status").is_some() {
+        read_entry(alloc, row.number("status")?, row.text("text")?.as_bytes())
+    } else {
+        alone(alloc, row)?
+    };
     let read = copied(alloc, read)?;
     printed(alloc, read.as_ref().map(Shown))
-}
-
-/// An answer to a request for an entry.
-pub fn entry(alloc: Global, row: &Row) -> Result<String, Stop> {
-    let (status, text) = (row.number("status")?, row.text("text")?);
-    entry_shown(alloc, read_entry(alloc, status, text.as_bytes()))
 }
 
 fn alone(alloc: Global, row: &Row) -> Result<Result<LogEntry, Error>, Stop> {
@@ -30,22 +30,12 @@ fn alone(alloc: Global, row: &Row) -> Result<Result<LogEntry, Error>, Stop> {
     }
 }
 
-/// An entry alone, which has no name.
-pub fn entry_alone(alloc: Global, row: &Row) -> Result<String, Stop> {
-    let read = alone(alloc, row)?;
-    entry_shown(alloc, read)
-}
-
 /// An entry as bundles have it.
 pub fn bundle_entry(alloc: Global, row: &Row) -> Result<String, Stop> {
     let kind = KindVersion::named(row.text("kind")?, row.text("version")?)?;
-    match alone(alloc, row)? {
-        Ok(entry) => bundled(alloc, entry, kind),
-        Err(_) => Err(Stop::Row),
-    }
-}
-
-fn bundled(alloc: Global, entry: LogEntry, kind: KindVersion) -> Result<String, Stop> {
+    let Ok(entry) = alone(alloc, row)? else {
+        return Err(Stop::Row);
+    };
     let bundled = entry.to_bundle_entry(alloc, kind);
     drop(entry);
     printed(alloc, bundled.as_ref().map(Shown))
@@ -69,7 +59,7 @@ pub fn checkpoint(alloc: Global, row: &Row) -> Result<String, Stop> {
 pub fn tile(alloc: Global, row: &Row) -> Result<String, Stop> {
     let (status, level) = (row.number("status")?, row.number("level")?);
     let (index, width) = (row.number("index")?, row.width()?);
-    let octets = row.hexadecimal(alloc, "octets_hex")?;
+    let octets = row.octets(alloc, "octets")?;
     let read = read_tile(alloc, status, octets.as_slice(), level, index, width);
     printed(alloc, copied(alloc, read)?)
 }
@@ -77,7 +67,7 @@ pub fn tile(alloc: Global, row: &Row) -> Result<String, Stop> {
 /// An answer to a request for a bundle of entries.
 pub fn entry_bundle(alloc: Global, row: &Row) -> Result<String, Stop> {
     let (status, index, width) = (row.number("status")?, row.number("index")?, row.width()?);
-    let octets = row.hexadecimal(alloc, "octets_hex")?;
+    let octets = row.octets(alloc, "octets")?;
     let read = read_entry_bundle(alloc, status, octets.as_slice(), index, width);
     printed(alloc, copied(alloc, read)?)
 }

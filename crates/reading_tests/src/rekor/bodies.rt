@@ -17,7 +17,7 @@ fn body_shown(alloc: Global, read: Result<RekorEntryBody, Error>) -> Result<Stri
 
 /// A body of a kind and a version by their names.
 pub fn read_body(alloc: Global, row: &Row) -> Result<String, Stop> {
-    let body = row.octets(alloc, "body", "body_hex")?;
+    let body = row.octets(alloc, "body")?;
     let (kind, version) = (row.text("kind")?, row.text("version")?);
     body_shown(
         alloc,
@@ -32,21 +32,18 @@ pub fn parse_body(alloc: Global, row: &Row) -> Result<String, Stop> {
     body_shown(alloc, RekorEntryBody::parse(alloc, &body, kind))
 }
 
-fn no_signature(alloc: Global) -> Result<SignatureBytes, Stop> {
-    Ok(SignatureBytes::from_bytes(alloc, &[])?)
-}
-
-fn armored(alloc: Global, row: &Row) -> Result<PemContent, Stop> {
-    Ok(PemContent::from_base64(alloc, row.text("armored_base64")?)?)
-}
-
 /// The key that an armoured text of a signature holds.
 pub fn armored_key(alloc: Global, row: &Row) -> Result<String, Stop> {
-    let sig = no_signature(alloc)?;
-    let content = armored(alloc, row)?;
+    let sig = SignatureBytes::from_bytes(alloc, &[])?;
+    let content = PemContent::from_base64(alloc, row.text("armored_base64")?)?;
     let key = match place(row.text("holder")?, "rekord1 intoto2") {
         0 => PublicKeyContent { content }.parse_public_key(alloc, &PemArmor),
-        1 => of_intoto2(sig, content).parse_public_key(alloc, &PemArmor),
+        1 => IntotoSignature {
+            keyid: None,
+            sig,
+            public_key: content,
+        }
+        .parse_public_key(alloc, &PemArmor),
         _ => return Err(Stop::Row),
     };
     printed(alloc, key.as_ref().map(Shown))
@@ -54,8 +51,8 @@ pub fn armored_key(alloc: Global, row: &Row) -> Result<String, Stop> {
 
 /// The certificate that such a text holds.
 pub fn armored_certificate(alloc: Global, row: &Row) -> Result<String, Stop> {
-    let signature = no_signature(alloc)?;
-    let content = armored(alloc, row)?;
+    let signature = SignatureBytes::from_bytes(alloc, &[])?;
+    let content = PemContent::from_base64(alloc, row.text("armored_base64")?)?;
     let certificate = match place(row.text("holder")?, "rekord1 dsse1 intoto2") {
         0 => PublicKeyContent { content }.parse_certificate(alloc, &PemArmor),
         1 => DsseV001Signature {
@@ -63,16 +60,13 @@ pub fn armored_certificate(alloc: Global, row: &Row) -> Result<String, Stop> {
             verifier: content,
         }
         .parse_certificate(alloc, &PemArmor),
-        2 => of_intoto2(signature, content).parse_certificate(alloc, &PemArmor),
+        2 => IntotoSignature {
+            keyid: None,
+            sig: signature,
+            public_key: content,
+        }
+        .parse_certificate(alloc, &PemArmor),
         _ => return Err(Stop::Row),
     };
     printed(alloc, certificate.as_ref().map(Shown))
-}
-
-fn of_intoto2(sig: SignatureBytes, public_key: PemContent) -> IntotoSignature {
-    IntotoSignature {
-        keyid: None,
-        sig,
-        public_key,
-    }
 }

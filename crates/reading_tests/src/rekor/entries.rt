@@ -19,19 +19,15 @@ pub fn describe(alloc: Global, row: &Row) -> Result<String, Stop> {
         return signed_by(alloc, row, SignedBy::Key(&key));
     };
     let certificate = DerCertificate::from_base64(alloc, text)?;
-    let validity = validity(row)?;
+    let (from, to) = (row.time("valid_from"), row.time("valid_to"));
+    let from = at_second(from.ok_or(Stop::Row)?);
+    let validity = TimeRange::new(from, to.map(at_second));
     let who = SignedBy::Certificate {
         certificate: &certificate,
         key: &key,
         validity: &validity,
     };
     signed_by(alloc, row, who)
-}
-
-fn validity(row: &Row) -> Result<TimeRange, Stop> {
-    let from = row.time("valid_from").ok_or(Stop::Row)?;
-    let to = row.time("valid_to").ok_or(Stop::Row)?;
-    Ok(TimeRange::new(at_second(from), Some(at_second(to))))
 }
 
 // What was signed: an envelope, or a message, which may lack its digest.
@@ -77,7 +73,10 @@ fn entry_of(alloc: Global, row: &Row) -> Result<TransparencyLogEntry, Stop> {
     let log_index = LogIndex::new(7)?;
     let key_id = LogKeyId::from_bytes(alloc, &[1])?;
     let canonicalized_body = CanonicalizedBody::from_bytes(alloc, row.text("body")?.as_bytes())?;
-    let inclusion_promise = promise_of(alloc, row)?;
+    let inclusion_promise = match row.find_text("promise_base64") {
+        Some(text) => Some(SignedTimestamp::from_base64(alloc, text)?),
+        None => None,
+    };
     Ok(TransparencyLogEntry {
         log_index,
         log_id: LogId { key_id },
@@ -89,18 +88,11 @@ fn entry_of(alloc: Global, row: &Row) -> Result<TransparencyLogEntry, Stop> {
     })
 }
 
-fn promise_of(alloc: Global, row: &Row) -> Result<Option<SignedTimestamp>, Stop> {
-    match row.find_text("promise_base64") {
-        Some(text) => Ok(Some(SignedTimestamp::from_base64(alloc, text)?)),
-        None => Ok(None),
-    }
-}
-
 /// The envelope of a row.
 pub fn envelope_of(alloc: Global, row: &Row) -> Result<DsseEnvelope, Stop> {
     let envelope: Result<DsseEnvelope, TypesError> = FromValue::from_value(
         alloc,
-        row.value("envelope")?,
+        row.find("envelope").ok_or(Stop::Row)?,
     );
     Ok(envelope?)
 }

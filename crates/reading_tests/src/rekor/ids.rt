@@ -11,7 +11,7 @@ use std::alloc::Global;
 
 /// The id that octets are written as, and what is read of it.
 pub fn encode_id(alloc: Global, row: &Row) -> Result<String, Stop> {
-    let octets = row.hexadecimal(alloc, "octets_hex")?;
+    let octets = row.octets(alloc, "octets")?;
     let id = copied(alloc, HexLogId::encode(alloc, octets.as_slice()))??;
     let back = id.decode(alloc);
     printed(alloc, (id, back))
@@ -52,7 +52,7 @@ pub fn refusal(alloc: Global, row: &Row) -> Result<String, Stop> {
 pub fn key_details(alloc: Global, row: &Row) -> Result<String, Stop> {
     let details: Result<RekorV2KeyDetails, Error> = FromValue::from_value(
         alloc,
-        row.value("details")?,
+        row.find("details").ok_or(Stop::Row)?,
     );
     printed(alloc, details.map(RekorV2KeyDetails::as_str))
 }

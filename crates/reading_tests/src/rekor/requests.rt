@@ -9,16 +9,11 @@ use sigstore_pem::PemArmor;
 use sigstore_rekor::{
     DsseEntry, EntryUuid, HashedRekord, HashedRekordV2, RekorV2KeyDetails, Request, SearchIndex,
     create_dsse_entry, create_entry, create_entry_v2, get_checkpoint, get_entry_bundle,
-    get_entry_by_index, get_entry_by_uuid, get_tile, search_by_hash, search_index, tile_path,
+    get_entry_by_index, get_entry_by_uuid, get_tile, search_by_hash, search_index,
 };
 use sigstore_rekor_parts::sha256_from_hex;
-use sigstore_types_parts::{DerCertificate, DerPublicKey, Sha256Hash, SignatureBytes, Text};
+use sigstore_types_parts::{DerCertificate, DerPublicKey, SignatureBytes, Text};
 use std::alloc::Global;
-
-/// The path of a tile.
-pub fn path(alloc: Global, row: &Row) -> Result<String, Stop> {
-    printed(alloc, tile_path(alloc, row.number("index")?, row.width()?))
-}
 
 const REQUESTS: &str = "\
 get_entry_by_uuid get_entry_by_index get_checkpoint get_tile get_entry_bundle search_by_hash search_index \
@@ -37,7 +32,7 @@ pub fn request(alloc: Global, row: &Row) -> Result<String, Stop> {
             row.width()?,
         ),
         4 => get_entry_bundle(alloc, row.number("index")?, row.width()?),
-        5 => search_by_hash(alloc, &digest(row)?),
+        5 => search_by_hash(alloc, &sha256_from_hex(row.text("digest_hex")?)?),
         6 => searched(alloc, row)?,
         7 => rekord(alloc, row)?,
         8 => dsse(alloc, row)?,
@@ -46,18 +41,6 @@ pub fn request(alloc: Global, row: &Row) -> Result<String, Stop> {
     };
     let made = copied(alloc, made)?;
     printed(alloc, made.as_ref().map(Shown))
-}
-
-fn digest(row: &Row) -> Result<Sha256Hash, Stop> {
-    Ok(sha256_from_hex(row.text("digest_hex")?)?)
-}
-
-fn signature(alloc: Global, row: &Row) -> Result<SignatureBytes, Stop> {
-    Ok(SignatureBytes::from_base64(alloc, row.text("signature_base64")?)?)
-}
-
-fn certificate(alloc: Global, row: &Row) -> Result<DerCertificate, Stop> {
-    Ok(DerCertificate::from_base64(alloc, row.text("certificate_base64")?)?)
 }
 
 fn by_uuid(alloc: Global, row: &Row) -> Result<Result<Request, NoMemory>, Stop> {
@@ -69,15 +52,16 @@ fn by_uuid(alloc: Global, row: &Row) -> Result<Result<Request, NoMemory>, Stop> 
 fn searched(alloc: Global, row: &Row) -> Result<Result<Request, NoMemory>, Stop> {
     let query = match row.find_text("email") {
         Some(email) => Ok(SearchIndex::email(Text::new(alloc, email)?)),
-        None => SearchIndex::sha256(alloc, &digest(row)?),
+        None => SearchIndex::sha256(alloc, &sha256_from_hex(row.text("digest_hex")?)?),
     };
     let query = copied(alloc, query)??;
     Ok(search_index(alloc, &query))
 }
 
 fn rekord(alloc: Global, row: &Row) -> Result<Result<Request, NoMemory>, Stop> {
-    let (digest, signature) = (digest(row)?, signature(alloc, row)?);
-    let certificate = certificate(alloc, row)?;
+    let digest = sha256_from_hex(row.text("digest_hex")?)?;
+    let signature = SignatureBytes::from_base64(alloc, row.text("signature_base64")?)?;
+    let certificate = DerCertificate::from_base64(alloc, row.text("certificate_base64")?)?;
     let entry = HashedRekord::new(alloc, &PemArmor, &digest, &signature, &certificate);
     let entry = copied(alloc, entry)??;
     if entry.hash() != &digest || entry.signature() != &signature {
@@ -88,7 +72,7 @@ fn rekord(alloc: Global, row: &Row) -> Result<Result<Request, NoMemory>, Stop> {
 
 fn dsse(alloc: Global, row: &Row) -> Result<Result<Request, NoMemory>, Stop> {
     let envelope = envelope_of(alloc, row)?;
-    let certificate = certificate(alloc, row)?;
+    let certificate = DerCertificate::from_base64(alloc, row.text("certificate_base64")?)?;
     let entry = copied(
         alloc,
         DsseEntry::new(alloc, &PemArmor, &envelope, &certificate),
@@ -103,14 +87,15 @@ fn rekord_v2(alloc: Global, row: &Row) -> Result<Result<Request, NoMemory>, Stop
 
 /// What is sent to a log of the second version: a signature by a certificate's key, or by a key.
 pub fn sent(alloc: Global, row: &Row) -> Result<HashedRekordV2, Stop> {
-    let (digest, signature) = (digest(row)?, signature(alloc, row)?);
+    let digest = sha256_from_hex(row.text("digest_hex")?)?;
+    let signature = SignatureBytes::from_base64(alloc, row.text("signature_base64")?)?;
     let details = RekorV2KeyDetails::PkixEcdsaP256Sha256;
     if let Some(text) = row.find_text("key_base64") {
         let key = DerPublicKey::from_base64(alloc, text)?;
         let sent = HashedRekordV2::new_with_public_key(alloc, &digest, &signature, &key, details);
         return Ok(sent?);
     }
-    let certificate = certificate(alloc, row)?;
+    let certificate = DerCertificate::from_base64(alloc, row.text("certificate_base64")?)?;
     let sent = HashedRekordV2::new_with_certificate(
         alloc,
         &digest,

@@ -3,17 +3,33 @@ use crate::shown::Shown;
 use sigstore_entries::{Checkpoint, TransparencyLogEntry};
 use sigstore_rekor::{LogEntry, RekorInclusionProof, Request};
 use sigstore_rekor_parts::{
-    DsseV001Body, DsseV002Body, HashedRekordV001Body, HashedRekordV002Body, IntotoV002Body,
-    PublicKeyRaw, RekorEntryBody, X509CertificateRaw,
+    DsseV001Body, DsseV002Body, IntotoV002Body, PublicKeyRaw, RekorEntryBody, X509CertificateRaw,
 };
+use sigstore_types_parts::{DerCertificate, DerPublicKey};
 use std::fmt;
 use std::fmt::Debug;
 
 impl fmt::Debug for Shown<&RekorEntryBody> {
     fn fmt<W: fmt::Write>(&self, f: &mut fmt::Formatter<W>) -> fmt::Result {
         match self.0 {
-            RekorEntryBody::HashedRekordV001(body) => Shown(body).fmt(f),
-            RekorEntryBody::HashedRekordV002(body) => Shown(body).fmt(f),
+            RekorEntryBody::HashedRekordV001(body) => {
+                let (hash, signature) = (&body.spec.data_.hash, &body.spec.signature);
+                let key = Shown(&signature.public_key.content);
+                (hash.algorithm, &hash.value, Shown(&signature.content), key).fmt(f)
+            }
+            RekorEntryBody::HashedRekordV002(body) => {
+                let logged = &body.spec.hashed_rekord_v002;
+                let verifier = &logged.signature.verifier;
+                (
+                    logged.data_.algorithm,
+                    Shown(&logged.data_.digest),
+                    Shown(&logged.signature.content),
+                    verifier.key_details,
+                    certificate_of(&verifier.x509_certificate),
+                    key_of(&verifier.public_key),
+                )
+                    .fmt(f)
+            }
             RekorEntryBody::DsseV001(body) => Shown(body).fmt(f),
             RekorEntryBody::DsseV002(body) => Shown(body).fmt(f),
             RekorEntryBody::IntotoV002(body) => Shown(body).fmt(f),
@@ -21,43 +37,12 @@ impl fmt::Debug for Shown<&RekorEntryBody> {
     }
 }
 
-impl fmt::Debug for Shown<&HashedRekordV001Body> {
-    fn fmt<W: fmt::Write>(&self, f: &mut fmt::Formatter<W>) -> fmt::Result {
-        let (hash, signature) = (&self.0.spec.data_.hash, &self.0.spec.signature);
-        let (content, key) = (
-            Shown(&signature.content),
-            Shown(&signature.public_key.content),
-        );
-        (hash.algorithm, &hash.value, content, key).fmt(f)
-    }
+fn certificate_of(certificate: &Option<X509CertificateRaw>) -> Option<Shown<&DerCertificate>> {
+    certificate.as_ref().map(|it| Shown(&it.raw_bytes))
 }
 
-impl fmt::Debug for Shown<&HashedRekordV002Body> {
-    fn fmt<W: fmt::Write>(&self, f: &mut fmt::Formatter<W>) -> fmt::Result {
-        let logged = &self.0.spec.hashed_rekord_v002;
-        let verifier = &logged.signature.verifier;
-        (
-            logged.data_.algorithm,
-            Shown(&logged.data_.digest),
-            Shown(&logged.signature.content),
-            verifier.key_details,
-            verifier.x509_certificate.as_ref().map(Shown),
-            verifier.public_key.as_ref().map(Shown),
-        )
-            .fmt(f)
-    }
-}
-
-impl fmt::Debug for Shown<&X509CertificateRaw> {
-    fn fmt<W: fmt::Write>(&self, f: &mut fmt::Formatter<W>) -> fmt::Result {
-        Shown(&self.0.raw_bytes).fmt(f)
-    }
-}
-
-impl fmt::Debug for Shown<&PublicKeyRaw> {
-    fn fmt<W: fmt::Write>(&self, f: &mut fmt::Formatter<W>) -> fmt::Result {
-        Shown(&self.0.raw_bytes).fmt(f)
-    }
+fn key_of(key: &Option<PublicKeyRaw>) -> Option<Shown<&DerPublicKey>> {
+    key.as_ref().map(|it| Shown(&it.raw_bytes))
 }
 
 impl fmt::Debug for Shown<&DsseV001Body> {
@@ -92,8 +77,8 @@ impl fmt::Debug for Shown<&DsseV002Body> {
             let parts = (
                 Shown(&signature.content),
                 &verifier.key_details,
-                verifier.x509_certificate.as_ref().map(Shown),
-                verifier.public_key.as_ref().map(Shown),
+                certificate_of(&verifier.x509_certificate),
+                key_of(&verifier.public_key),
             );
             write!(f, " {parts:?}")?;
         }
