@@ -3,11 +3,13 @@
 //! wanted, their number is printed, else each row that differs; the status tells which.
 #![tactic(auto)]
 
+mod path;
 mod rekor;
 mod row;
 mod shown;
 mod stop;
 mod tried;
+mod tsa;
 
 use std::process::ExitCode;
 use tried::all_hold;

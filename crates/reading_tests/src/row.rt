@@ -1,6 +1,8 @@
 // Rows, and what their members hold.
 use crate::stop::Stop;
+use command_files::{Tables, read_provider};
 use serde_json::Value;
+use sigstore_types_parts::{FromValue, TypesError};
 use std::alloc::Global;
 use std::num::NonZeroU8;
 
@@ -63,6 +65,16 @@ impl Row {
         }
         let name = format!(in alloc; "{name}_hex")?;
         hex::decode(alloc, self.text(name.as_str())?).map_err(|_| Stop::Row)
+    }
+
+    /// What a member spells: a moment, octets in base64, an authority of a trust file, a list of these.
+    pub fn value<T: FromValue<TypesError>>(&self, alloc: Global, name: &str) -> Result<T, Stop> {
+        Ok(T::from_value(alloc, self.find(name).ok_or(Stop::Row)?)?)
+    }
+
+    /// The judge of signatures that the provider file in the row is.
+    pub fn tables(&self, alloc: Global) -> Result<Tables, Stop> {
+        read_provider(alloc, self.text("provider")?.as_bytes()).map_err(|_| Stop::Row)
     }
 }
 

@@ -1,7 +1,7 @@
 // Trying the rows of files.
-use crate::rekor;
 use crate::row::{Row, place};
 use crate::stop::Stop;
+use crate::{path, rekor, tsa};
 use std::alloc::Global;
 use std::rt::Runtime;
 use std::{env, fs};
@@ -9,6 +9,8 @@ use std::{env, fs};
 /// Whether every row of the files that the arguments name has the answer that stands in it.
 pub fn all_hold<X: Runtime + AllocGlobal>(rt: &X) -> Result<bool, Stop> {
     rekor::laws();
+    tsa::laws();
+    path::laws();
     let mut hold = true;
     for path in env::args(rt)?.skip(1) {
         hold &= file_holds(rt, path.as_str())?;
@@ -58,8 +60,10 @@ fn difference(alloc: Global, path: &str, line: &str) -> Result<Option<String>, S
 // A group's rows stand in the folder of its name, and its calls in the module of that name.
 fn answer(alloc: Global, path: &str, row: &Row) -> Result<String, Stop> {
     let (group, _) = path.split_once("/").ok_or(Stop::Row)?;
-    match place(group, "rekor") {
+    match place(group, "rekor tsa path") {
         0 => rekor::answer(alloc, row),
+        1 => tsa::answer(alloc, row),
+        2 => path::answer(alloc, row),
         _ => Err(Stop::Row),
     }
 }
