@@ -1,4 +1,4 @@
-// An authority and tokens of the data of tsa_tests, which `bench/token_vectors` makes: `leaf` and `root`, the token
+// An authority and tokens of the rows of reading_tests, which `bench/token_vectors` makes: `leaf` and `root`, the token
 // `good` over the octets `the signature of a bundle`, and `imprint_of_another`.
 
 /// Names and octets.
