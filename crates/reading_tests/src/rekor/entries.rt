@@ -38,22 +38,19 @@ fn signed_by(alloc: Global, row: &Row, who: SignedBy<'_>) -> Result<String, Stop
         return described(alloc, row, who, Signed::Envelope(&hashed));
     }
     let signature = SignatureBytes::from_base64(alloc, row.text("signature_base64")?)?;
-    message_of(alloc, row, who, &signature)
-}
-
-fn message_of(
-    alloc: Global,
-    row: &Row,
-    who: SignedBy<'_>,
-    signature: &SignatureBytes,
-) -> Result<String, Stop> {
     let Some(text) = row.find_text("digest_base64") else {
-        let digest = None;
-        return described(alloc, row, who, Signed::Message { digest, signature });
+        let signed = Signed::Message {
+            digest: None,
+            signature: &signature,
+        };
+        return described(alloc, row, who, signed);
     };
     let digest = DigestBytes::from_base64(alloc, text)?;
-    let digest = Some(digest.as_bytes());
-    described(alloc, row, who, Signed::Message { digest, signature })
+    let signed = Signed::Message {
+        digest: Some(digest.as_bytes()),
+        signature: &signature,
+    };
+    described(alloc, row, who, signed)
 }
 
 fn described(
