@@ -19,9 +19,10 @@ pub fn describe(alloc: Global, row: &Row) -> Result<String, Stop> {
         return signed_by(alloc, row, SignedBy::Key(&key));
     };
     let certificate = DerCertificate::from_base64(alloc, text)?;
-    let (from, to) = (row.time("valid_from"), row.time("valid_to"));
-    let from = at_second(from.ok_or(Stop::Row)?);
-    let validity = TimeRange::new(from, to.map(at_second));
+    let (Some(from), Some(to)) = (row.time("valid_from"), row.time("valid_to")) else {
+        return Err(Stop::Row);
+    };
+    let validity = TimeRange::new(at_second(from), Some(at_second(to)));
     let who = SignedBy::Certificate {
         certificate: &certificate,
         key: &key,
