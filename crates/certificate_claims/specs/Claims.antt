@@ -5,16 +5,12 @@ use Rattle.der_grammar.specs.Outcome.{Outcome}
 use Rattle.der_grammar.specs.Grammar.{read_all}
 use Rattle.der_core.specs.Strings.{utf8_type}
 use Rattle.x509_views.specs.Extensions.{OneExtension}
+use Rattle.certificate_fields.specs.Fields.{value_of}
 use Rattle.sigstore_keys.specs.declared.error.Error.{Error}
 use Rattle.sigstore_keys.specs.declared.error.Error.TheVariants.{InvalidCertificate}
 use Rattle.sigstore_keys.specs.declared.error.CertificateFault.TheVariants as fault
 use Rattle.certificate_claims.specs.declared.claims.FulcioCiClaims.{FulcioCiClaims}
 use Rattle.certificate_claims.specs.declared.claims.DeprecatedGitHubClaims.{DeprecatedGitHubClaims}
-
--- the value of the extension with this identifier, of which a certificate has at most one (RFC 5280, 4.2)
-abbrev pub value_of : List ℕ → List OneExtension → Option (List ℕ)
-value_of oid [] = None
-value_of oid (x ∷ xs) = if bytes_eq x.oid oid then Some x.value else value_of oid xs
 
 -- 1.3.6.1.4.1.57264.1.number, as its contents (X.690, 8.19)
 abbrev pub fulcio_oid : ℕ → List ℕ

@@ -1,12 +1,9 @@
 -- What a certificate says of its owner: the identity of RFC 5280, 4.2.1.6, and Fulcio's extensions.
 use Rattle.std.specs.Prelude.{ℕ, List, [], ◌∷◌, Option, Some, None, Result, Ok, Err}
 use Rattle.foundation.specs.Steps.{◌>>=◌}
-use Rattle.jiff_core.specs.declared.timestamp.Timestamp.{Timestamp}
 use Rattle.der_grammar.specs.Outcome.{Outcome}
 use Rattle.der_grammar.specs.Grammar.{read_all}
 use Rattle.der_grammar.specs.Many.{sequence_of}
-use Rattle.der_core.specs.declared.civil.Civil.{Civil}
-use Rattle.der_core.specs.Times.{instant_of_civil}
 use Rattle.x509_core.specs.declared.general_name.GeneralName.{GeneralName}
 use Rattle.x509_core.specs.declared.general_name.GeneralName.TheVariants.{Rfc822Name, Other}
 use Rattle.x509_core.specs.declared.general_name.GeneralName.TheVariants as name
@@ -14,15 +11,14 @@ use Rattle.x509_core.specs.Types.{general_name_type}
 use Rattle.spki_core.specs.declared.error.X509Error.{X509Error}
 use Rattle.x509_views.specs.Certificates.{Certificate, certificate_of}
 use Rattle.x509_views.specs.Extensions.{OneExtension}
-use Rattle.x509_views.specs.Walk.{all_extensions, walk_of}
-use Rattle.sigstore_types_parts.specs.Instant.{at_nanosecond}
+use Rattle.certificate_fields.specs.Fields.{value_of, extensions_of, moment_of}
 use Rattle.certificate_claims.specs.declared.certificate_info.CertificateInfo.{CertificateInfo}
 use Rattle.certificate_claims.specs.declared.certificate_info.SubjectAltName.{SubjectAltName}
 use Rattle.certificate_claims.specs.declared.certificate_info.SubjectAltName.TheVariants.{Email, Uri}
 use Rattle.sigstore_keys.specs.declared.error.Error.{Error}
 use Rattle.sigstore_keys.specs.declared.error.Error.TheVariants.{InvalidCertificate}
 use Rattle.sigstore_keys.specs.declared.error.CertificateFault.TheVariants as fault
-use Rattle.certificate_claims.specs.Claims.{value_of, issuer_of, claims_of}
+use Rattle.certificate_claims.specs.Claims.{issuer_of, claims_of}
 use Rattle.sigstore_keys.specs.KeyAlgorithm.{algorithm_of_spki}
 
 abbrev pub text_of : SubjectAltName → List ℕ
@@ -55,13 +51,6 @@ identity_in (Some value) = name_in (names_of value)
 -- the identity by the subject alternative name (4.2.1.6); refused where that extension is unreadable
 unfoldable pub identity_of : List OneExtension → Result (Option SubjectAltName) Error
 identity_of extensions = identity_in (value_of san_oid extensions)
-
--- the moment of a civil time of UTC
-unfoldable pub moment_of : Civil → Timestamp
-moment_of civil = at_nanosecond (instant_of_civil civil)
-
-abbrev pub extensions_of : Certificate → List OneExtension
-extensions_of certificate = walk_of (all_extensions certificate.signed.tail.extensions)
 
 unfoldable pub info_of_parts : Certificate → Result CertificateInfo Error
 info_of_parts certificate = do

@@ -3,12 +3,12 @@ ghost use Rattle.std.specs.Prelude.{◌≡◌, ◌≢◌, IfOk, IfErr, Ok, Err, 
 ghost use Rattle.sigstore_keys.specs.declared.error.Error.TheVariants as errors;
 ghost use Rattle.x509_views.specs.Views.{certificate_parts};
 ghost use Rattle.x509_views.specs.Walk.{coming};
-ghost use Rattle.certificate_claims.specs.Info.{text_of, identity_in, identity_of, moment_of, info_of_parts, info_of};
+ghost use Rattle.certificate_claims.specs.Info.{text_of, identity_in, identity_of, info_of_parts, info_of};
 ghost use Rattle.certificate_claims.specs.Names.{said};
 
-use crate::claims::{FulcioCiClaims, extension_value, read_claims, read_issuer};
+use crate::claims::{FulcioCiClaims, read_claims, read_issuer};
 use crate::names::{FoundName, read_names};
-use der_core::Civil;
+use certificate_fields::{extension_value, moment};
 use foundation::{Duplicate, NoMemory};
 use jiff::Timestamp;
 use sigstore_keys::{CertificateFault, Error, KeyAlgorithm};
@@ -117,13 +117,6 @@ fn read_identity(alloc: Global, extensions: Extensions) -> Result<Option<Subject
         Ok(identity) => Ok(identity),
         Err(refusal) => Err(refusal),
     }
-}
-
-#[tactic(auto, unfolding(crate::specs::Info::moment_of))]
-fn moment(civil: &Civil) -> Timestamp
-    ensures { result ≡ moment_of civil.now }
-{
-    civil.moment()
 }
 
 #[tactic(auto, unfolding(crate::specs::Info::info_of_parts))]

@@ -4,8 +4,9 @@ ghost use Rattle.der_grammar.specs.Grammar.{read_all};
 ghost use Rattle.der_core.specs.Strings.{utf8_type};
 ghost use Rattle.x509_views.specs.Walk.{coming};
 ghost use Rattle.sigstore_keys.specs.declared.error.Error.TheVariants.{NoMemory as NoRoom};
-ghost use Rattle.certificate_claims.specs.Claims.{value_of, fulcio_value, utf8_string_of, old_text_of, new_claim, old_claim, claim_of, old_claim_of, old_claims_of, claims_of, no_old_claims, no_claims, or_issuer, issuer_of};
+ghost use Rattle.certificate_claims.specs.Claims.{fulcio_value, utf8_string_of, old_text_of, new_claim, old_claim, claim_of, old_claim_of, old_claims_of, claims_of, no_old_claims, no_claims, or_issuer, issuer_of};
 
+use certificate_fields::extension_value;
 use der_core::{DerError, Reader, tag};
 use foundation::{Duplicate, NoMemory};
 use sigstore_keys::{CertificateFault, Error};
@@ -45,30 +46,73 @@ pub struct DeprecatedGitHubClaims {
     pub workflow_ref: Option<Text>,
 }
 
+// Copies of four claims.
+fn copies(
+    alloc: Global,
+    first: &Option<Text>,
+    second: &Option<Text>,
+    third: &Option<Text>,
+    fourth: &Option<Text>,
+) -> Result<(Option<Text>, Option<Text>, Option<Text>, Option<Text>), NoMemory>
+    ensures { IfOk result (λ claims. claims ≡ (first.now, second.now, third.now, fourth.now)) }
+{
+    Ok((
+        first.duplicate(alloc)?,
+        second.duplicate(alloc)?,
+        third.duplicate(alloc)?,
+        fourth.duplicate(alloc)?,
+    ))
+}
+
 impl Duplicate for FulcioCiClaims {
     fn duplicate(&self, alloc: Global) -> Result<FulcioCiClaims, NoMemory> {
+        let signer = copies(
+            alloc,
+            &self.build_signer_uri,
+            &self.build_signer_digest,
+            &self.runner_environment,
+            &self.source_repository_uri,
+        )?;
+        let source = copies(
+            alloc,
+            &self.source_repository_digest,
+            &self.source_repository_ref,
+            &self.source_repository_identifier,
+            &self.source_repository_owner_uri,
+        )?;
+        let build = copies(
+            alloc,
+            &self.source_repository_owner_identifier,
+            &self.build_config_uri,
+            &self.build_config_digest,
+            &self.build_trigger,
+        )?;
+        let run = copies(
+            alloc,
+            &self.run_invocation_uri,
+            &self.source_repository_visibility_at_signing,
+            &self.deployment_environment,
+            &self.token_subject,
+        )?;
+        let deprecated_github = self.deprecated_github.duplicate(alloc)?;
         Ok(FulcioCiClaims {
-            build_signer_uri: self.build_signer_uri.duplicate(alloc)?,
-            build_signer_digest: self.build_signer_digest.duplicate(alloc)?,
-            runner_environment: self.runner_environment.duplicate(alloc)?,
-            source_repository_uri: self.source_repository_uri.duplicate(alloc)?,
-            source_repository_digest: self.source_repository_digest.duplicate(alloc)?,
-            source_repository_ref: self.source_repository_ref.duplicate(alloc)?,
-            source_repository_identifier: self.source_repository_identifier.duplicate(alloc)?,
-            source_repository_owner_uri: self.source_repository_owner_uri.duplicate(alloc)?,
-            source_repository_owner_identifier: self
-                .source_repository_owner_identifier
-                .duplicate(alloc)?,
-            build_config_uri: self.build_config_uri.duplicate(alloc)?,
-            build_config_digest: self.build_config_digest.duplicate(alloc)?,
-            build_trigger: self.build_trigger.duplicate(alloc)?,
-            run_invocation_uri: self.run_invocation_uri.duplicate(alloc)?,
-            source_repository_visibility_at_signing: self
-                .source_repository_visibility_at_signing
-                .duplicate(alloc)?,
-            deployment_environment: self.deployment_environment.duplicate(alloc)?,
-            token_subject: self.token_subject.duplicate(alloc)?,
-            deprecated_github: self.deprecated_github.duplicate(alloc)?,
+            build_signer_uri: signer.0,
+            build_signer_digest: signer.1,
+            runner_environment: signer.2,
+            source_repository_uri: signer.3,
+            source_repository_digest: source.0,
+            source_repository_ref: source.1,
+            source_repository_identifier: source.2,
+            source_repository_owner_uri: source.3,
+            source_repository_owner_identifier: build.0,
+            build_config_uri: build.1,
+            build_config_digest: build.2,
+            build_trigger: build.3,
+            run_invocation_uri: run.0,
+            source_repository_visibility_at_signing: run.1,
+            deployment_environment: run.2,
+            token_subject: run.3,
+            deprecated_github,
         })
     }
 }
@@ -146,18 +190,6 @@ impl DeprecatedGitHubClaims {
     {
         *self == DeprecatedGitHubClaims::none()
     }
-}
-
-/// The value of the extension with this identifier, of which a certificate has at most one; no memory is taken.
-pub fn extension_value<'a>(extensions: Extensions<'a>, oid: &[u8]) -> Option<&'a [u8]>
-    ensures { option_copied result ≡ value_of oid.now (coming extensions.entry) }
-{
-    'extensions: for extension in extensions {
-        if extension.oid == oid {
-            return Some(extension.value);
-        }
-    }
-    None
 }
 
 // The value of Fulcio's extension of that number, 1.3.6.1.4.1.57264.1.number.

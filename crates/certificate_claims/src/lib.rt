@@ -1,4 +1,4 @@
-//! What certificates of signers say, and the names of `sigstore_keys`: schemes, keys, digests and sources.
+//! What certificates of signers say of their owner: the identity, and Fulcio's claims.
 #![tactic(auto)]
 
 mod certificate_info;
@@ -6,4 +6,4 @@ mod claims;
 mod names;
 
 pub use certificate_info::{CertificateInfo, SubjectAltName, parse_certificate_info};
-pub use claims::{DeprecatedGitHubClaims, FulcioCiClaims, extension_value};
+pub use claims::{DeprecatedGitHubClaims, FulcioCiClaims};

@@ -5,7 +5,7 @@ use Rattle.foundation.specs.Results.{ok_same, err_same, no_both}
 use Rattle.sigstore_tuf_text.specs.declared.error.Error.{Error as TufError}
 use Rattle.sigstore_tuf_text.specs.declared.error.Error.TheVariants as tuf
 use Rattle.sigstore_tuf_rules.specs.declared.chain.TrustChain.{TrustChain}
-use Rattle.sigstore_verify.specs.Given.{Anchor, Outside, places_in}
+use Rattle.sigstore_verify.specs.Inputs.{Anchor, Outside, places_in}
 use Rattle.sigstore_verify.specs.FromRoot.{trust_path}
 use Rattle.sigstore_verify.specs.Complete.{TellsQuietly, OffersChain, StaysWarm}
 use Rattle.trust_archive.specs.Spelling.{spelling_of}

@@ -5,9 +5,9 @@ use Rattle.command_verify.specs.declared.answer.Answer.{Answer}
 use Rattle.command_verify.specs.declared.answer.Status.{Status}
 use Rattle.command_verify.specs.declared.answer.Status.TheVariants as status
 use Rattle.command_verify.specs.Run.{stop_answer, tuf_answer, Command, Environment}
-use Rattle.sigstore_verify.specs.Given.{Anchor, Places}
-use Rattle.command_files.specs.declared.gather.Stop.{Stop}
-use Rattle.command_files.specs.declared.gather.Stop.TheVariants.{Words, Malformed, Input, Memory}
+use Rattle.sigstore_verify.specs.Inputs.{Anchor, Places}
+use Rattle.command_files.specs.declared.gather.CommandStop.{CommandStop}
+use Rattle.command_files.specs.declared.gather.CommandStop.TheVariants.{Words, Malformed, Input, Memory}
 use Rattle.trust_archive.specs.declared.error.ArchiveError.{ArchiveError}
 use Rattle.trust_archive.specs.Spelling.{spelling_of}
 use Rattle.foundation.specs.Watched.{Watched}
@@ -25,7 +25,7 @@ Told status.Input = ⊤
 Told status.Output = ⊥
 Told status.Memory = ⊥
 
-of_stop : (stop : Stop) (line : Answer) → stop_answer stop ≡ Some line → Told line.status
+of_stop : (stop : CommandStop) (line : Answer) → stop_answer stop ≡ Some line → Told line.status
 unfolding stop_answer Told
 of_stop Words line h = cc
 of_stop (Malformed which) line h = cc

@@ -19,9 +19,9 @@ use Rattle.trust_archive.proofs.Parts.{IsShort, to, fits_so, fits_one, fits_each
 use Rattle.command_files.specs.Inputs.{Held}
 use Rattle.command_files.specs.Gather.{limit_of, within_limit, input_of, tables_in, anchored_of}
 use Rattle.command_files.specs.declared.gather.Anchored.{Anchored}
-use Rattle.command_files.specs.declared.gather.Stop.{Stop}
-use Rattle.command_files.specs.declared.gather.Stop.TheVariants.{Input}
-use Rattle.command_files.specs.declared.inputs.Which.TheVariants.{Root}
+use Rattle.command_files.specs.declared.gather.CommandStop.{CommandStop}
+use Rattle.command_files.specs.declared.gather.CommandStop.TheVariants.{Input}
+use Rattle.command_files.specs.declared.inputs.InputFile.TheVariants.{Root}
 use Rattle.command_archive.proofs.VisitNames.{IsShortVisit, IsShortRole, are_few, names_short}
 
 -- ---- the root that was read
@@ -33,7 +33,7 @@ root_short held anchored h =
     let r = step_ok (input_of Root held) _ anchored t.2 in
     subst (λ (a : Anchored). length a.root ≤ limit_of Root) (ok_same _ anchored r.2) (by_input (held Root) r.0 r.1)
   where
-    by_length : (bytes root : List ℕ) (b : Bool) → nat_lt (limit_of Root) (length bytes) ≡ b → ◌≡◌ {A = Result (List ℕ) Stop} (if b then Err (Input Root) else Ok bytes) (Ok root) → length root ≤ limit_of Root
+    by_length : (bytes root : List ℕ) (b : Bool) → nat_lt (limit_of Root) (length bytes) ≡ b → ◌≡◌ {A = Result (List ℕ) CommandStop} (if b then Err (Input Root) else Ok bytes) (Ok root) → length root ≤ limit_of Root
     by_length bytes root true e h = cc
     by_length bytes root false e h = subst (λ b. length b ≤ limit_of Root) (ok_same bytes root h) (ltb-false (limit_of Root) (length bytes) e)
 

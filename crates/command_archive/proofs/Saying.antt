@@ -7,7 +7,7 @@ use Rattle.foundation.specs.Watched.{Watched}
 use Rattle.foundation.specs.declared.no_memory.NoMemory.{NoMemory}
 use Rattle.sigstore_tuf_rules.specs.declared.chain.TrustChain.{TrustChain}
 use Rattle.sigstore_tuf_rules.specs.declared.config.UpdaterConfig.{UpdaterConfig}
-use Rattle.sigstore_verify.specs.Given.{Anchor, Places, Outside, places_in}
+use Rattle.sigstore_verify.specs.Inputs.{Anchor, Places, Outside, places_in}
 use Rattle.sigstore_verify.specs.Promises.{PromisesChain}
 use Rattle.trust_archive.specs.Spelling.{spelling_of}
 use Rattle.sigstore_verify.specs.FromRoot.{trust_path}

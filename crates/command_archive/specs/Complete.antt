@@ -2,7 +2,7 @@
 use Rattle.std.specs.Prelude.{◌≡◌, ℕ, ◌≤◌, List, length, codes, Bool, true, false, Ok}
 use Rattle.foundation.specs.Watched.{Watched}
 use Rattle.sigstore_tuf_rules.specs.declared.chain.TrustChain.{TrustChain}
-use Rattle.sigstore_verify.specs.Given.{Anchor, places_in}
+use Rattle.sigstore_verify.specs.Inputs.{Anchor, places_in}
 use Rattle.sigstore_verify.specs.Complete.{TellsQuietly, OffersChain, StaysWarm}
 use Rattle.trust_archive.specs.Spelling.{spelling_of}
 use Rattle.command_files.specs.Inputs.{Held, watched}

@@ -6,7 +6,7 @@ use Rattle.foundation.specs.Watched.{Watched, Rose}
 use Rattle.sigstore_tuf_text.specs.declared.error.Error.{Error as TufError}
 use Rattle.sigstore_tuf_text.specs.declared.error.Error.TheVariants as tuf
 use Rattle.sigstore_tuf_rules.specs.declared.chain.TrustChain.{TrustChain}
-use Rattle.sigstore_verify.specs.Given.{Anchor, Places, Outside, places_in}
+use Rattle.sigstore_verify.specs.Inputs.{Anchor, Places, Outside, places_in}
 use Rattle.sigstore_verify.specs.FromRoot.{trust_path}
 use Rattle.sigstore_verify.specs.Promises.{PromisesChain}
 use Rattle.trust_archive.specs.declared.error.ArchiveError.{ArchiveError}
@@ -20,8 +20,8 @@ use Rattle.command_files.specs.Gather.{anchored_of, ReadsAs}
 use Rattle.command_files.specs.Printed.{pair_line, refused_line}
 use Rattle.command_files.specs.Whole.{GivesWhole, Unread}
 use Rattle.command_files.specs.declared.gather.Anchored.{Anchored}
-use Rattle.command_files.specs.declared.gather.Stop.{Stop}
-use Rattle.command_files.specs.declared.gather.Stop.TheVariants.{Words}
+use Rattle.command_files.specs.declared.gather.CommandStop.{CommandStop}
+use Rattle.command_files.specs.declared.gather.CommandStop.TheVariants.{Words}
 use Rattle.command_verify.specs.declared.answer.Answer.{Answer}
 use Rattle.command_verify.specs.declared.answer.Status.{Status}
 use Rattle.command_verify.specs.declared.answer.Status.TheVariants as status
@@ -103,7 +103,7 @@ pub data Commands (check : Bool) (anchor : Anchor) (before after : Outside) (sai
 
 -- Once the words are read: the inputs first, then the command. Where an input is refused nothing else is called.
 pub data Proceeds (check : Bool) (now : jiff.Timestamp) (before after : Environment) (said : Output) : Type 0 where
-  stopped : (stop : Stop) (line : Answer) → ReadsAs anchored_of before.inputs after.inputs (Err stop)
+  stopped : (stop : CommandStop) (line : Answer) → ReadsAs anchored_of before.inputs after.inputs (Err stop)
       → after.outside ≡ before.outside → stop_answer stop ≡ Some line → said ≡ Lines line
       → Proceeds check now before after said
   commanded : (anchored : Anchored) → ReadsAs anchored_of before.inputs after.inputs (Ok anchored)

@@ -1,6 +1,6 @@
 // A run of `archive` or `check`.
 ghost use Rattle.std.specs.Prelude.{◌≡◌, ◌≢◌, Some, Ok, Err, IfOk, IfErr, codes};
-ghost use Rattle.sigstore_verify.specs.Given.{Outside, Places};
+ghost use Rattle.sigstore_verify.specs.Inputs.{Outside, Places};
 ghost use Rattle.sigstore_verify.specs.Promises.{PromisesChain};
 ghost use Rattle.command_verify.specs.Run.{Environment, said_of, anchor_of};
 ghost use Rattle.command_verify.specs.Report.{chain_text};
@@ -11,7 +11,7 @@ ghost use Rattle.trust_archive.specs.Spelling.{spelling_of};
 use crate::layout::archive_layout;
 use crate::output::Output;
 use command_files::{
-    Anchored, Inputs, Sink, Stop, WholeFault, gather_anchor, read_whole, write_all,
+    Anchored, CommandStop, Inputs, Sink, WholeFault, gather_anchor, read_whole, write_all,
 };
 use command_verify::{Answer, Status, pair, refusal, refused_tuf, report_chain, stopped};
 use foundation::NoMemory;
@@ -284,7 +284,7 @@ fn decide<I: Inputs, R: Repository, S: MetadataStore, A: ArtifactSource>(
             drop(layout);
             proceed(alloc, check, now, inputs, repo, store, archive)
         }
-        None => match stopped(alloc, Stop::Words) {
+        None => match stopped(alloc, CommandStop::Words) {
             Ok(line) => Ok(Output::Lines(line)),
             Err(e) => Err(e),
         },

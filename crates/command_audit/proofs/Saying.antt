@@ -12,7 +12,7 @@ use Rattle.log_tiles.specs.Auditing.{AuditCause, or_refusal, checkpoint_as, pair
 use Rattle.log_tiles.specs.Source.{Leaves}
 use Rattle.log_tiles.specs.declared.error.TileError.{TileError}
 use Rattle.log_tiles.specs.declared.error.TileError.TheVariants as refusal
-use Rattle.log_tiles.specs.declared.error.Which.TheVariants.{First, Second}
+use Rattle.log_tiles.specs.declared.error.WhichTree.TheVariants.{First, Second}
 use Rattle.command_verify.specs.declared.answer.Answer.{Answer}
 use Rattle.command_verify.specs.declared.answer.Status.{Status}
 use Rattle.command_verify.specs.declared.answer.Status.TheVariants as status
@@ -20,8 +20,8 @@ use Rattle.command_verify.specs.Run.{stop_answer, TakesAll}
 use Rattle.command_files.specs.Gather.{tables_in, ReadsAs}
 use Rattle.command_files.specs.Named.{Values}
 use Rattle.command_files.specs.Whole.{GivesWhole}
-use Rattle.command_files.specs.declared.gather.Stop.{Stop}
-use Rattle.command_files.specs.declared.gather.Stop.TheVariants.{Words, Malformed, Input, Memory}
+use Rattle.command_files.specs.declared.gather.CommandStop.{CommandStop}
+use Rattle.command_files.specs.declared.gather.CommandStop.TheVariants.{Words, Malformed, Input, Memory}
 use Rattle.command_files.specs.declared.tables.Tables.{Tables}
 use Rattle.command_files.specs.declared.usage_fault.UsageFault.{UsageFault}
 use Rattle.command_files.specs.declared.usage_fault.UsageFault.TheVariants as usage
@@ -100,7 +100,7 @@ pub proceeds_said : (key : List ℕ) (before after : Environment) (tables : Tabl
 proceeds_said key before after tables (Ok said) r a = audited tables r a
 proceeds_said key before after tables (Err e) r a = tt
 
-pub stopped_said : (key : List ℕ) (before after : Environment) (stop : Stop) (result : Result Answer NoMemory)
+pub stopped_said : (key : List ℕ) (before after : Environment) (stop : CommandStop) (result : Result Answer NoMemory)
     → ReadsAs tables_in before.inputs after.inputs (Err stop) → after.log ≡ before.log → IfOk result (λ said. stop_answer stop ≡ Some said) → IfOk result (Proceeds key before after)
 stopped_said key before after stop (Ok said) r s h = stopped stop r s h
 stopped_said key before after stop (Err e) r s h = tt
@@ -139,7 +139,7 @@ Told status.Memory = ⊥
 as_answer : (said other : Answer) → said ≡ other → Told other.status → Told said.status
 as_answer said other e t = subst (λ (a : Answer). Told a.status) (sym e) t
 
-of_stop : (stop : Stop) (said : Answer) → stop_answer stop ≡ Some said → Told said.status
+of_stop : (stop : CommandStop) (said : Answer) → stop_answer stop ≡ Some said → Told said.status
 unfolding stop_answer Told
 of_stop Words said h = cc
 of_stop (Malformed which) said h = cc

@@ -14,8 +14,8 @@ use Rattle.command_files.specs.Rows.{accepts_of}
 use Rattle.command_files.specs.Gather.{tables_in, ReadsAs}
 use Rattle.command_files.specs.Printed.{pair_line, refused_line}
 use Rattle.command_files.specs.Whole.{GivesWhole, Unread}
-use Rattle.command_files.specs.declared.gather.Stop.{Stop}
-use Rattle.command_files.specs.declared.gather.Stop.TheVariants.{Words}
+use Rattle.command_files.specs.declared.gather.CommandStop.{CommandStop}
+use Rattle.command_files.specs.declared.gather.CommandStop.TheVariants.{Words}
 use Rattle.command_files.specs.declared.tables.Tables.{Tables}
 use Rattle.command_verify.specs.declared.answer.Answer.{Answer}
 use Rattle.command_verify.specs.declared.answer.Status.{Status}
@@ -85,7 +85,7 @@ pub data Audits (accepts : Judge) (key : List ℕ) (before after : Log) (said : 
 
 -- Once the words are read: the input provider, then the checkpoints. Where it is refused nothing else is called.
 pub data Proceeds (key : List ℕ) (before after : Environment) (said : Answer) : Type 0 where
-  stopped : (stop : Stop) → ReadsAs tables_in before.inputs after.inputs (Err stop) → after.log ≡ before.log
+  stopped : (stop : CommandStop) → ReadsAs tables_in before.inputs after.inputs (Err stop) → after.log ≡ before.log
       → stop_answer stop ≡ Some said → Proceeds key before after said
   audited : (tables : Tables) → ReadsAs tables_in before.inputs after.inputs (Ok tables)
       → Audits (judge_of tables) key before.log after.log said → Proceeds key before after said

@@ -2,9 +2,7 @@
 #![tactic(auto)]
 
 mod layout;
-mod objects;
 mod program;
 
 pub use layout::{AuditLayout, audit_layout};
-pub use objects::{AuditObjects, audit_objects_at};
 pub use program::run_audit;

@@ -10,7 +10,7 @@ ghost use Rattle.command_audit.specs.Complete.{Completes};
 
 use crate::layout::read_words;
 use command_files::{
-    Inputs, Sink, Stop, TableProvider, UsageFault, WholeFault, push_decimal, read_whole,
+    CommandStop, Inputs, Sink, TableProvider, UsageFault, WholeFault, push_decimal, read_whole,
     take_tables, write_all,
 };
 use command_verify::{Answer, Status, pair, refusal, stopped};
@@ -209,7 +209,7 @@ fn decide<I: Inputs, A: ArtifactSource, B: ArtifactSource, T: TileSource>(
             drop(asked);
             said
         }
-        Err(UsageFault::Usage) => stopped(alloc, Stop::Words),
+        Err(UsageFault::Usage) => stopped(alloc, CommandStop::Words),
         Err(UsageFault::NoMemory) => Err(NoMemory),
     }
 }

@@ -1,14 +1,14 @@
 -- What a reading of an input promises.
 use Rattle.std.specs.Prelude.{◌≡◌, ℕ, ◌<◌, ◌≤◌, List, length, Option, Some, None, Result, Ok, Err, ⊤}
 use Rattle.foundation.specs.Watched.{Watched, Rose, IfTold}
-use Rattle.command_files.specs.declared.inputs.Which.{Which}
-use Rattle.command_files.specs.declared.inputs.Which.TheVariants.{Root, Bundle, Policy, Provider}
+use Rattle.command_files.specs.declared.inputs.InputFile.{InputFile}
+use Rattle.command_files.specs.declared.inputs.InputFile.TheVariants.{Root, Bundle, Policy, Provider}
 use Rattle.command_files.specs.declared.inputs.InputFault.{InputFault}
 use Rattle.command_files.specs.declared.inputs.InputFault.TheVariants.{Failed, Absent, TooLong, NoMemory}
 
 -- the bytes of each input that is there
 abbrev pub Held : Type 0
-Held = Which → Option (List ℕ)
+Held = InputFile → Option (List ℕ)
 
 -- four inputs, each of which may be there
 abbrev pub held_of : Option (List ℕ) → Option (List ℕ) → Option (List ℕ) → Option (List ℕ) → Held
@@ -22,23 +22,23 @@ held_of root bundle policy provider Provider = provider
 pub record Supply : Type 0 where
   pub told : Option Held
   pub faults : ℕ
-  pub missing : Option Which
+  pub missing : Option InputFile
 
 -- the same without the last
 abbrev pub watched : Supply → Watched Held
 watched supply = record { told = supply.told; faults = supply.faults }
 
 -- what four inputs in memory tell
-abbrev pub told_inputs : Option (List ℕ) → Option (List ℕ) → Option (List ℕ) → Option (List ℕ) → ℕ → Option Which → Supply
+abbrev pub told_inputs : Option (List ℕ) → Option (List ℕ) → Option (List ℕ) → Option (List ℕ) → ℕ → Option InputFile → Supply
 told_inputs root bundle policy provider faults missing =
     record { told = Some (held_of root bundle policy provider); faults = faults; missing = missing }
 
 -- inputs that tell nothing of what is there
-abbrev pub untold_inputs : ℕ → Option Which → Supply
+abbrev pub untold_inputs : ℕ → Option InputFile → Supply
 untold_inputs faults missing = record { told = None; faults = faults; missing = missing }
 
 -- the path of an input, of four paths
-abbrev pub path_of : List ℕ → List ℕ → List ℕ → List ℕ → Which → List ℕ
+abbrev pub path_of : List ℕ → List ℕ → List ℕ → List ℕ → InputFile → List ℕ
 path_of root bundle policy provider Root = root
 path_of root bundle policy provider Bundle = bundle
 path_of root bundle policy provider Policy = policy
@@ -68,12 +68,12 @@ FailsOnly P (Err (TooLong seen)) = ⊤
 FailsOnly P (Err NoMemory) = ⊤
 
 -- an input that isn't given is the last one that wasn't
-abbrev pub IsMissing : Which → Option Which → Option Which → Result (List ℕ) InputFault → Type 0
+abbrev pub IsMissing : InputFile → Option InputFile → Option InputFile → Result (List ℕ) InputFault → Type 0
 IsMissing which old new (Ok bytes) = new ≡ old
 IsMissing which old new (Err fault) = new ≡ Some which
 
 -- the promise of a reading of an input
-pub record Gives (which : Which) (old new : Supply) (max : ℕ) (result : Result (List ℕ) InputFault) : Type 0 where
+pub record Gives (which : InputFile) (old new : Supply) (max : ℕ) (result : Result (List ℕ) InputFault) : Type 0 where
   pub same : new.told ≡ old.told
   pub later : old.faults ≤ new.faults
   pub failed : FailsOnly (Rose old.faults new.faults) result

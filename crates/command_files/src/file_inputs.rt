@@ -3,7 +3,7 @@ ghost use Rattle.std.specs.Prelude.{◌≡◌, None, OnOk, OnErr};
 ghost use Rattle.foundation.specs.Watched.{Rose};
 ghost use Rattle.command_files.specs.Inputs.{Gives, WithinLimit, path_of, untold_inputs};
 
-use crate::inputs::{InputFault, Inputs, Which};
+use crate::inputs::{InputFault, InputFile, Inputs};
 use sigstore_types_parts::{Bytes, FileFault, Text, read_file};
 use std::alloc::Global;
 use std::rt::Files;
@@ -17,7 +17,7 @@ pub struct FileInputs<'r, X: Files> {
     policy: Text,
     provider: Text,
     faults: u64,
-    missing: Option<Which>,
+    missing: Option<InputFile>,
 }
 
 impl<'r, X: Files> FileInputs<'r, X> {
@@ -47,14 +47,14 @@ impl<'r, X: Files> FileInputs<'r, X> {
         }
     }
 
-    fn path(&self, which: Which) -> &str
+    fn path(&self, which: InputFile) -> &str
         ensures { result.now ≡ path_of self.now.root self.now.bundle self.now.policy self.now.provider which }
     {
         match which {
-            Which::Root => self.root.as_str(),
-            Which::Bundle => self.bundle.as_str(),
-            Which::Policy => self.policy.as_str(),
-            Which::Provider => self.provider.as_str(),
+            InputFile::Root => self.root.as_str(),
+            InputFile::Bundle => self.bundle.as_str(),
+            InputFile::Policy => self.policy.as_str(),
+            InputFile::Provider => self.provider.as_str(),
         }
     }
 }
@@ -74,7 +74,7 @@ fn read_input<X: Files>(rt: &X, alloc: Global, path: &str, max: u64) -> Result<B
 impl<X: Files> Inputs for FileInputs<'_, X> {
     ghost seen = { λ i. untold_inputs i.faults i.missing };
 
-    fn read(&mut self, alloc: Global, which: Which, max: u64) -> Result<Bytes, InputFault>
+    fn read(&mut self, alloc: Global, which: InputFile, max: u64) -> Result<Bytes, InputFault>
         ensures gives { Gives which (untold_inputs self.old.faults self.old.missing) (untold_inputs self.new.faults self.new.missing) max result }
         ensures fails { OnErr result (Rose self.old.faults self.new.faults) }
         ensures serves { OnOk result (self.new.faults ≡ self.old.faults) }

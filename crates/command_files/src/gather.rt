@@ -1,12 +1,12 @@
 // The inputs of a run.
 ghost use Rattle.std.specs.Prelude.{◌≡◌, ◌≢◌, Ok, Err, IfOk, IfErr};
-ghost use Rattle.command_files.specs.declared.inputs.Which.TheVariants.{Policy, Provider};
-ghost use Rattle.command_files.specs.declared.gather.Stop.TheVariants.{Memory};
+ghost use Rattle.command_files.specs.declared.inputs.InputFile.TheVariants.{Policy, Provider};
+ghost use Rattle.command_files.specs.declared.gather.CommandStop.TheVariants.{Memory};
 ghost use Rattle.command_files.specs.Policy.{policy_of};
 ghost use Rattle.command_files.specs.Tables.{tables_of};
 ghost use Rattle.command_files.specs.Gather.{limit_of, word_of, stop_of, by_form, input_of, policy_in, tables_in, signed_in, gathered_of, anchored_of, governed_of, ReadsAs};
 
-use crate::inputs::{InputFault, Inputs, Which};
+use crate::inputs::{InputFault, InputFile, Inputs};
 use crate::policy::{PolicyFile, read_policy};
 use crate::tables::{Tables, read_provider};
 use crate::usage_fault::UsageFault;
@@ -17,13 +17,13 @@ use std::{error, fmt};
 /// Why a run ends before the verification: its words are outside their grammar, an input is outside
 /// its own, an input isn't there, can't be read or is too long, or memory is wanting.
 #[derive(Clone, Copy, Debug, PartialEq, Eq, Drop)]
-pub enum Stop {
+pub enum CommandStop {
     /// The words are outside their grammar.
     Words,
     /// The input is outside its grammar.
-    Malformed(Which),
+    Malformed(InputFile),
     /// The input isn't there, can't be read or is too long.
-    Input(Which),
+    Input(InputFile),
     /// An allocation was refused.
     Memory,
 }
@@ -51,16 +51,16 @@ pub struct Governed {
     pub anchored: Anchored,
 }
 
-impl Which {
+impl InputFile {
     /// The input's name.
     pub fn word(self) -> &'static str
         ensures { result.now ≡ word_of self }
     {
         match self {
-            Which::Root => "root",
-            Which::Bundle => "bundle",
-            Which::Policy => "policy",
-            Which::Provider => "provider",
+            InputFile::Root => "root",
+            InputFile::Bundle => "bundle",
+            InputFile::Policy => "policy",
+            InputFile::Provider => "provider",
         }
     }
 
@@ -69,26 +69,30 @@ impl Which {
         ensures { result ≡ limit_of self }
     {
         match self {
-            Which::Root => 512_000,
-            Which::Bundle => 16_777_216,
-            Which::Policy => 65_536,
-            Which::Provider => 16_777_216,
+            InputFile::Root => 512_000,
+            InputFile::Bundle => 16_777_216,
+            InputFile::Policy => 65_536,
+            InputFile::Provider => 16_777_216,
         }
     }
 }
 
 // What a fault of an input stops the run with.
-fn stop_of(which: Which, fault: InputFault) -> Stop
+fn stop_of(which: InputFile, fault: InputFault) -> CommandStop
     ensures { result ≡ stop_of which fault }
 {
     match fault {
-        InputFault::NoMemory => Stop::Memory,
-        _ => Stop::Input(which),
+        InputFault::NoMemory => CommandStop::Memory,
+        _ => CommandStop::Input(which),
     }
 }
 
 // An input within its limit.
-fn take_input<I: Inputs>(alloc: Global, inputs: &mut I, which: Which) -> Result<Bytes, Stop>
+fn take_input<I: Inputs>(
+    alloc: Global,
+    inputs: &mut I,
+    which: InputFile,
+) -> Result<Bytes, CommandStop>
     ensures { ReadsAs (input_of which) (I.seen inputs.old) (I.seen inputs.new) result }
 {
     match inputs.read(alloc, which, which.limit()) {
@@ -97,32 +101,32 @@ fn take_input<I: Inputs>(alloc: Global, inputs: &mut I, which: Which) -> Result<
     }
 }
 
-fn formed_policy(alloc: Global, bytes: Bytes) -> Result<PolicyFile, Stop>
+fn formed_policy(alloc: Global, bytes: Bytes) -> Result<PolicyFile, CommandStop>
     ensures ok { IfOk result (λ policy. by_form Policy (policy_of bytes) ≡ Ok policy) }
     ensures err { IfErr result (λ e. e ≢ Memory → by_form Policy (policy_of bytes) ≡ Err e) }
 {
     match read_policy(alloc, bytes.as_bytes()) {
         Ok(policy) => Ok(policy),
-        Err(UsageFault::Usage) => Err(Stop::Malformed(Which::Policy)),
-        Err(UsageFault::NoMemory) => Err(Stop::Memory),
+        Err(UsageFault::Usage) => Err(CommandStop::Malformed(InputFile::Policy)),
+        Err(UsageFault::NoMemory) => Err(CommandStop::Memory),
     }
 }
 
-fn formed_tables(alloc: Global, bytes: Bytes) -> Result<Tables, Stop>
+fn formed_tables(alloc: Global, bytes: Bytes) -> Result<Tables, CommandStop>
     ensures ok { IfOk result (λ tables. by_form Provider (tables_of bytes) ≡ Ok tables) }
     ensures err { IfErr result (λ e. e ≢ Memory → by_form Provider (tables_of bytes) ≡ Err e) }
 {
     match read_provider(alloc, bytes.as_bytes()) {
         Ok(tables) => Ok(tables),
-        Err(UsageFault::Usage) => Err(Stop::Malformed(Which::Provider)),
-        Err(UsageFault::NoMemory) => Err(Stop::Memory),
+        Err(UsageFault::Usage) => Err(CommandStop::Malformed(InputFile::Provider)),
+        Err(UsageFault::NoMemory) => Err(CommandStop::Memory),
     }
 }
 
-fn take_policy<I: Inputs>(alloc: Global, inputs: &mut I) -> Result<PolicyFile, Stop>
+fn take_policy<I: Inputs>(alloc: Global, inputs: &mut I) -> Result<PolicyFile, CommandStop>
     ensures { ReadsAs policy_in (I.seen inputs.old) (I.seen inputs.new) result }
 {
-    match take_input(alloc, inputs, Which::Policy) {
+    match take_input(alloc, inputs, InputFile::Policy) {
         Ok(bytes) => match formed_policy(alloc, bytes) {
             Ok(policy) => Ok(policy),
             Err(e) => Err(e),
@@ -132,10 +136,10 @@ fn take_policy<I: Inputs>(alloc: Global, inputs: &mut I) -> Result<PolicyFile, S
 }
 
 /// The tables of the input provider. Errors: `Malformed` or `Input` of it; `Memory`.
-pub fn take_tables<I: Inputs>(alloc: Global, inputs: &mut I) -> Result<Tables, Stop>
+pub fn take_tables<I: Inputs>(alloc: Global, inputs: &mut I) -> Result<Tables, CommandStop>
     ensures { ReadsAs tables_in (I.seen inputs.old) (I.seen inputs.new) result }
 {
-    match take_input(alloc, inputs, Which::Provider) {
+    match take_input(alloc, inputs, InputFile::Provider) {
         Ok(bytes) => match formed_tables(alloc, bytes) {
             Ok(tables) => Ok(tables),
             Err(e) => Err(e),
@@ -150,11 +154,11 @@ fn take_signed<I: Inputs>(
     inputs: &mut I,
     policy: PolicyFile,
     tables: Tables,
-) -> Result<Gathered, Stop>
+) -> Result<Gathered, CommandStop>
     ensures { ReadsAs (signed_in policy tables) (I.seen inputs.old) (I.seen inputs.new) result }
 {
-    match take_input(alloc, inputs, Which::Root) {
-        Ok(root) => match take_input(alloc, inputs, Which::Bundle) {
+    match take_input(alloc, inputs, InputFile::Root) {
+        Ok(root) => match take_input(alloc, inputs, InputFile::Bundle) {
             Ok(bundle) => Ok(Gathered {
                 policy,
                 tables,
@@ -168,7 +172,7 @@ fn take_signed<I: Inputs>(
 }
 
 /// The inputs in their order: policy, provider, root, bundle. Errors: `Malformed` or `Input` of the first that is refused; `Memory`.
-pub fn gather_inputs<I: Inputs>(alloc: Global, inputs: &mut I) -> Result<Gathered, Stop>
+pub fn gather_inputs<I: Inputs>(alloc: Global, inputs: &mut I) -> Result<Gathered, CommandStop>
     ensures { ReadsAs gathered_of (I.seen inputs.old) (I.seen inputs.new) result }
 {
     match take_policy(alloc, inputs) {
@@ -184,11 +188,11 @@ pub fn gather_inputs<I: Inputs>(alloc: Global, inputs: &mut I) -> Result<Gathere
 }
 
 /// The inputs of a run that judges documents alone, in their order: provider, root. Errors as `gather_inputs`.
-pub fn gather_anchor<I: Inputs>(alloc: Global, inputs: &mut I) -> Result<Anchored, Stop>
+pub fn gather_anchor<I: Inputs>(alloc: Global, inputs: &mut I) -> Result<Anchored, CommandStop>
     ensures { ReadsAs anchored_of (I.seen inputs.old) (I.seen inputs.new) result }
 {
     match take_tables(alloc, inputs) {
-        Ok(tables) => match take_input(alloc, inputs, Which::Root) {
+        Ok(tables) => match take_input(alloc, inputs, InputFile::Root) {
             Ok(root) => Ok(Anchored { tables, root }),
             Err(e) => Err(e),
         },
@@ -197,7 +201,7 @@ pub fn gather_anchor<I: Inputs>(alloc: Global, inputs: &mut I) -> Result<Anchore
 }
 
 /// The inputs of a run that judges many artifacts, in their order: policy, provider, root. Errors as `gather_inputs`.
-pub fn gather_governed<I: Inputs>(alloc: Global, inputs: &mut I) -> Result<Governed, Stop>
+pub fn gather_governed<I: Inputs>(alloc: Global, inputs: &mut I) -> Result<Governed, CommandStop>
     ensures { ReadsAs governed_of (I.seen inputs.old) (I.seen inputs.new) result }
 {
     match take_policy(alloc, inputs) {
@@ -209,15 +213,15 @@ pub fn gather_governed<I: Inputs>(alloc: Global, inputs: &mut I) -> Result<Gover
     }
 }
 
-impl fmt::Display for Stop {
+impl fmt::Display for CommandStop {
     fn fmt<W: fmt::Write>(&self, f: &mut fmt::Formatter<W>) -> fmt::Result {
         f.write_str(match self {
-            Stop::Words => "Words",
-            Stop::Malformed(_) => "Malformed",
-            Stop::Input(_) => "Input",
-            Stop::Memory => "Memory",
+            CommandStop::Words => "Words",
+            CommandStop::Malformed(_) => "Malformed",
+            CommandStop::Input(_) => "Input",
+            CommandStop::Memory => "Memory",
         })
     }
 }
 
-impl error::Error for Stop {}
+impl error::Error for CommandStop {}

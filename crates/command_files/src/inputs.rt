@@ -10,7 +10,7 @@ use std::{error, fmt};
 
 /// The inputs of the program.
 #[derive(Clone, Copy, Debug, PartialEq, Eq, Drop)]
-pub enum Which {
+pub enum InputFile {
     Root,
     Bundle,
     Policy,
@@ -44,7 +44,7 @@ pub trait Inputs {
     ghost seen: { Self → Supply };
 
     /// An input of at most `max` bytes. Errors: `Failed`, `Absent`, `TooLong` above `max`, `NoMemory`.
-    fn read(&mut self, alloc: Global, which: Which, max: u64) -> Result<Bytes, InputFault>
+    fn read(&mut self, alloc: Global, which: InputFile, max: u64) -> Result<Bytes, InputFault>
         ensures { Gives which (seen self.old) (seen self.new) max result };
 }
 

@@ -27,9 +27,10 @@ mod writing;
 pub use byte_map::ByteMap;
 pub use file_inputs::FileInputs;
 pub use gather::{
-    Anchored, Gathered, Governed, Stop, gather_anchor, gather_governed, gather_inputs, take_tables,
+    Anchored, CommandStop, Gathered, Governed, gather_anchor, gather_governed, gather_inputs,
+    take_tables,
 };
-pub use inputs::{InputFault, Inputs, Which};
+pub use inputs::{InputFault, InputFile, Inputs};
 pub use laws::rows_are_found;
 pub use layout::{Layout, read_asked_layout, read_layout};
 pub use lines::{ByLine, take_file};

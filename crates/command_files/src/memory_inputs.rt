@@ -3,10 +3,10 @@ ghost use Rattle.std.specs.Prelude.{◌≡◌, ◌≢◌, ◌+◌, ◌-◌, ◌^
 ghost use Rattle.std.specs.Option.{option_copied};
 ghost use Rattle.foundation.specs.Watched.{Rose};
 ghost use Rattle.sigstore_types_parts.specs.Calls.{fails_next};
-ghost use Rattle.command_files.specs.declared.inputs.Which.{Which};
+ghost use Rattle.command_files.specs.declared.inputs.InputFile.{InputFile};
 ghost use Rattle.command_files.specs.Inputs.{Held, Gives, held_of, told_inputs};
 
-use crate::inputs::{InputFault, Inputs, Which};
+use crate::inputs::{InputFault, InputFile, Inputs};
 use foundation::Duplicate;
 use sigstore_types_parts::{Bytes, Calls, FailList};
 use std::alloc::Global;
@@ -19,7 +19,7 @@ pub struct MemoryInputs {
     policy: Option<Bytes>,
     provider: Option<Bytes>,
     calls: Calls,
-    missing: Option<Which>,
+    missing: Option<InputFile>,
 }
 
 impl MemoryInputs {
@@ -42,28 +42,28 @@ impl MemoryInputs {
     }
 
     /// Sets an input; the others stay.
-    pub fn put(&mut self, which: Which, bytes: Bytes)
+    pub fn put(&mut self, which: InputFile, bytes: Bytes)
         ensures calls { self.new.calls ≡ self.old.calls }
         ensures missing { self.new.missing ≡ self.old.missing }
         ensures put { held_of self.new.root self.new.bundle self.new.policy self.new.provider which ≡ Some bytes }
-        ensures others { (other : Which) → other ≢ which → held_of self.new.root self.new.bundle self.new.policy self.new.provider other ≡ held_of self.old.root self.old.bundle self.old.policy self.old.provider other }
+        ensures others { (other : InputFile) → other ≢ which → held_of self.new.root self.new.bundle self.new.policy self.new.provider other ≡ held_of self.old.root self.old.bundle self.old.policy self.old.provider other }
     {
         match which {
-            Which::Root => self.root = Some(bytes),
-            Which::Bundle => self.bundle = Some(bytes),
-            Which::Policy => self.policy = Some(bytes),
-            Which::Provider => self.provider = Some(bytes),
+            InputFile::Root => self.root = Some(bytes),
+            InputFile::Bundle => self.bundle = Some(bytes),
+            InputFile::Policy => self.policy = Some(bytes),
+            InputFile::Provider => self.provider = Some(bytes),
         }
     }
 
-    fn get(&self, which: Which) -> Option<&Bytes>
+    fn get(&self, which: InputFile) -> Option<&Bytes>
         ensures { option_copied result ≡ held_of self.now.root self.now.bundle self.now.policy self.now.provider which }
     {
         match which {
-            Which::Root => self.root.as_ref(),
-            Which::Bundle => self.bundle.as_ref(),
-            Which::Policy => self.policy.as_ref(),
-            Which::Provider => self.provider.as_ref(),
+            InputFile::Root => self.root.as_ref(),
+            InputFile::Bundle => self.bundle.as_ref(),
+            InputFile::Policy => self.policy.as_ref(),
+            InputFile::Provider => self.provider.as_ref(),
         }
     }
 }
@@ -71,7 +71,7 @@ impl MemoryInputs {
 impl Inputs for MemoryInputs {
     ghost seen = { λ i. told_inputs i.root i.bundle i.policy i.provider i.calls.faults i.missing };
 
-    fn read(&mut self, alloc: Global, which: Which, max: u64) -> Result<Bytes, InputFault>
+    fn read(&mut self, alloc: Global, which: InputFile, max: u64) -> Result<Bytes, InputFault>
         ensures gives { Gives which (told_inputs self.old.root self.old.bundle self.old.policy self.old.provider self.old.calls.faults self.old.missing) (told_inputs self.new.root self.new.bundle self.new.policy self.new.provider self.new.calls.faults self.new.missing) max result }
         ensures failures { self.new.calls.failures ≡ self.old.calls.failures }
         ensures made { self.new.calls.made ≡ min (self.old.calls.made + 1) (2 ^ 64 - 1) }

@@ -6,7 +6,7 @@ use Rattle.foundation.specs.Results.{ok_same, err_same, no_both, some_same}
 use Rattle.sigstore_tuf_rules.specs.declared.chain.TrustChain.{TrustChain}
 use Rattle.sigstore_verify.specs.Complete.{StaysWarm}
 use Rattle.release_gate.specs.Folder.{Contents}
-use Rattle.release_gate.specs.Gate.{Given, Outside, IsGated}
+use Rattle.release_gate.specs.Gate.{GateInputs, Outside, IsGated}
 use Rattle.release_gate.specs.Promises.{Promises, Favours, IsJudgedUnder}
 use Rattle.release_gate.specs.declared.gate.Gated.{Gated}
 use Rattle.release_gate.specs.declared.gate.GateFault.{GateFault}
@@ -26,14 +26,14 @@ unfolding fault_answer
 unsaid said h = cc
 
 -- the lines on a folder under this chain are said
-record SaysLines (given : Given) (before after : Outside) (chain : TrustChain) (contents : Contents) (f : Favours given before after chain contents) (said : Answer) : Type 0 where
+record SaysLines (given : GateInputs) (before after : Outside) (chain : TrustChain) (contents : Contents) (f : Favours given before after chain contents) (said : Answer) : Type 0 where
   pub gated : Gated
   pub same : gated.chain ≡ chain
   pub judged : IsGated given before gated
   pub is : said ≡ lines_answer gated.lines
   pub warm : StaysWarm after.store f.offer
 
-module _ (given : Given) (before after : Outside) (chain : TrustChain) (contents : Contents) (f : Favours given before after chain contents) (said : Answer) where
+module _ (given : GateInputs) (before after : Outside) (chain : TrustChain) (contents : Contents) (f : Favours given before after chain contents) (said : Answer) where
   lines_so : (gated : Gated) → Promises given before after (Ok gated) → answer_of (Ok gated) ≡ Some said → SaysLines given before after chain contents f said
   lines_so gated p h = by (p.complete chain contents f)
     where

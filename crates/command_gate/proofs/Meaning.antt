@@ -3,14 +3,14 @@ use Rattle.std.proofs.Common.{◌≡◌, inl, inr, ℕ, List, Bool, true, false,
 use Rattle.std.specs.Result.{result_ok}
 use Rattle.foundation.specs.Watched.{Watched}
 use Rattle.foundation.specs.Results.{some_same}
-use Rattle.release_gate.specs.Gate.{Given, IsGated, GateCause}
+use Rattle.release_gate.specs.Gate.{GateInputs, IsGated, GateCause}
 use Rattle.release_gate.specs.Promises.{Promises}
 use Rattle.release_gate.specs.declared.gate.Gated.{Gated}
 use Rattle.release_gate.specs.declared.gate.GateFault.{GateFault}
 use Rattle.release_gate.specs.declared.gate.GateFault.TheVariants as gate
 use Rattle.command_files.specs.Gather.{StopCause}
-use Rattle.command_files.specs.declared.gather.Stop.{Stop}
-use Rattle.command_files.specs.declared.gather.Stop.TheVariants.{Words, Malformed, Input, Memory}
+use Rattle.command_files.specs.declared.gather.CommandStop.{CommandStop}
+use Rattle.command_files.specs.declared.gather.CommandStop.TheVariants.{Words, Malformed, Input, Memory}
 use Rattle.command_verify.specs.declared.answer.Answer.{Answer}
 use Rattle.command_verify.specs.declared.answer.Status.{Status}
 use Rattle.command_verify.specs.declared.answer.Status.TheVariants as status
@@ -35,7 +35,7 @@ module _ (command : Command) (before after : Environment) (out out' : Watched (L
   unfolding stop_answer
   misworded_means said n s h = as_said _ said (some_same _ said h) (λ w. inl (n, s, w))
 
-  stopped_means : (stop : Stop) (said : Answer) → StopCause before.inputs after.inputs stop → after.outside ≡ before.outside → stop_answer stop ≡ Some said → W said.text → M said.status
+  stopped_means : (stop : CommandStop) (said : Answer) → StopCause before.inputs after.inputs stop → after.outside ≡ before.outside → stop_answer stop ≡ Some said → W said.text → M said.status
   unfolding stop_answer
   stopped_means Words said c s h = absurd c
   stopped_means (Malformed which) said c s h = as_said _ said (some_same _ said h) (λ w. inr (which, c, s, w))
@@ -43,7 +43,7 @@ module _ (command : Command) (before after : Environment) (out out' : Watched (L
   stopped_means Memory said c s h = cc
 
   module _ (asked : Asked command before after) where
-    abbrev given : Given
+    abbrev given : GateInputs
     given = given_in asked
 
     -- a folder that was judged: all are admitted, or some are denied

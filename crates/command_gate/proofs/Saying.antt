@@ -14,8 +14,8 @@ use Rattle.release_gate.specs.declared.gate.GateFault.{GateFault}
 use Rattle.command_files.specs.Gather.{governed_of, ReadsAs}
 use Rattle.command_files.specs.Tables.{crypto_of}
 use Rattle.command_files.specs.declared.gather.Governed.{Governed}
-use Rattle.command_files.specs.declared.gather.Stop.{Stop}
-use Rattle.command_files.specs.declared.gather.Stop.TheVariants.{Words}
+use Rattle.command_files.specs.declared.gather.CommandStop.{CommandStop}
+use Rattle.command_files.specs.declared.gather.CommandStop.TheVariants.{Words}
 use Rattle.command_files.specs.declared.policy.PolicyFile.{PolicyFile}
 use Rattle.command_files.specs.declared.usage_fault.UsageFault.{UsageFault}
 use Rattle.command_verify.specs.Meant.{policy_meant}
@@ -52,7 +52,7 @@ pub proceeds_said : (now : jiff.Timestamp) (before after : Environment) (governe
 proceeds_said now before after governed (Ok said) r j = judged governed r j
 proceeds_said now before after governed (Err e) r j = tt
 
-pub stopped_said : (now : jiff.Timestamp) (before after : Environment) (stop : Stop) (result : Result Answer NoMemory)
+pub stopped_said : (now : jiff.Timestamp) (before after : Environment) (stop : CommandStop) (result : Result Answer NoMemory)
     → ReadsAs governed_of before.inputs after.inputs (Err stop) → after.outside ≡ before.outside
     → IfOk result (λ said. stop_answer stop ≡ Some said) → IfOk result (Proceeds now before after)
 stopped_said now before after stop (Ok said) r s h = stopped stop r s h

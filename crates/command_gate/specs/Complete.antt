@@ -4,7 +4,7 @@ use Rattle.foundation.specs.Watched.{Watched}
 use Rattle.sigstore_tuf_rules.specs.declared.chain.TrustChain.{TrustChain}
 use Rattle.sigstore_verify.specs.Complete.{TellsQuietly, StaysWarm}
 use Rattle.release_gate.specs.Folder.{Contents}
-use Rattle.release_gate.specs.Gate.{Given, Outside, IsGated}
+use Rattle.release_gate.specs.Gate.{GateInputs, Outside, IsGated}
 use Rattle.release_gate.specs.Promises.{Favours}
 use Rattle.release_gate.specs.declared.gate.Gated.{Gated}
 use Rattle.command_files.specs.Inputs.{Held, watched}
@@ -30,11 +30,11 @@ pub record Favoured (command : Command) (before after : Environment) (chain : Tr
   pub outside : Favours (given_by governed (moment_of layout command.clock)) before.outside after.outside chain contents
 
 abbrev pub given_of : {command : Command} {before after : Environment} {chain : TrustChain} {contents : Contents}
-    → Favoured command before after chain contents → Given
+    → Favoured command before after chain contents → GateInputs
 given_of {command} f = given_by f.governed (moment_of f.layout command.clock)
 
 -- the folder was judged under the chain, its lines were taken whole, and the status is theirs
-pub record WritesLines (given : Given) (before : Outside) (chain : TrustChain) (out out' : Watched (List ℕ)) (ended : Status) : Type 0 where
+pub record WritesLines (given : GateInputs) (before : Outside) (chain : TrustChain) (out out' : Watched (List ℕ)) (ended : Status) : Type 0 where
   pub gated : Gated
   pub same : gated.chain ≡ chain
   pub judged : IsGated given before gated

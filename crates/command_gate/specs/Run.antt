@@ -5,7 +5,7 @@ use Rattle.jiff_core.specs.declared.timestamp.Timestamp as jiff
 use Rattle.foundation.specs.Watched.{Watched, Rose}
 use Rattle.sigstore_keys.specs.Crypto.{Crypto}
 use Rattle.sigstore_tuf_rules.specs.Config.{default_config}
-use Rattle.release_gate.specs.Gate.{Given, Outside, IsGated, GateCause}
+use Rattle.release_gate.specs.Gate.{GateInputs, Outside, IsGated, GateCause}
 use Rattle.release_gate.specs.Promises.{Promises}
 use Rattle.release_gate.specs.declared.gate.Gated.{Gated}
 use Rattle.release_gate.specs.declared.gate.GateFault.{GateFault}
@@ -15,9 +15,9 @@ use Rattle.command_files.specs.Gather.{word_of, governed_of, MalformedCause, Sto
 use Rattle.command_files.specs.Printed.{line_of, pair_line}
 use Rattle.command_files.specs.Tables.{crypto_of}
 use Rattle.command_files.specs.declared.gather.Governed.{Governed}
-use Rattle.command_files.specs.declared.gather.Stop.{Stop}
-use Rattle.command_files.specs.declared.gather.Stop.TheVariants.{Words, Input}
-use Rattle.command_files.specs.declared.inputs.Which.{Which}
+use Rattle.command_files.specs.declared.gather.CommandStop.{CommandStop}
+use Rattle.command_files.specs.declared.gather.CommandStop.TheVariants.{Words, Input}
+use Rattle.command_files.specs.declared.inputs.InputFile.{InputFile}
 use Rattle.command_files.specs.declared.policy.PolicyFile.{PolicyFile}
 use Rattle.command_verify.specs.Meant.{policy_meant}
 use Rattle.command_verify.specs.declared.answer.Answer.{Answer}
@@ -32,7 +32,7 @@ use Rattle.command_gate.specs.Lines.{lines_text, all_admitted, lines_answer}
 
 -- what the judgement of a folder is given: who decides signatures and reads armoured texts, the root, what the policy file asks for,
 -- the program's limits, and the moment
-abbrev pub given_with : Crypto → List ℕ → PolicyFile → jiff.Timestamp → Given
+abbrev pub given_with : Crypto → List ℕ → PolicyFile → jiff.Timestamp → GateInputs
 given_with crypto root policy now = record {
   anchor = record { crypto = crypto; root = root; config = default_config; now = now };
   policy = policy_meant policy;
@@ -40,7 +40,7 @@ given_with crypto root policy now = record {
 }
 
 -- the same of the inputs, whose tables decide
-abbrev pub given_by : Governed → jiff.Timestamp → Given
+abbrev pub given_by : Governed → jiff.Timestamp → GateInputs
 given_by governed now = given_with (crypto_of governed.anchored.tables) governed.anchored.root governed.policy now
 
 -- the instant of the words, else the clock's
@@ -76,14 +76,14 @@ answer_of (Err fault) = fault_answer fault
 -- ---- why it is said
 
 -- The folder is judged, and what is said is said of that.
-pub record Judges (given : Given) (before after : Outside) (said : Answer) : Type 0 where
+pub record Judges (given : GateInputs) (before after : Outside) (said : Answer) : Type 0 where
   pub judged : Result Gated GateFault
   pub promises : Promises given before after judged
   pub says : answer_of judged ≡ Some said
 
 -- Once the words are read: the inputs first, then the folder. Where an input is refused nothing else is called.
 pub data Proceeds (now : jiff.Timestamp) (before after : Environment) (said : Answer) : Type 0 where
-  stopped : (stop : Stop) → ReadsAs governed_of before.inputs after.inputs (Err stop) → after.outside ≡ before.outside
+  stopped : (stop : CommandStop) → ReadsAs governed_of before.inputs after.inputs (Err stop) → after.outside ≡ before.outside
       → stop_answer stop ≡ Some said → Proceeds now before after said
   judged : (governed : Governed) → ReadsAs governed_of before.inputs after.inputs (Ok governed)
       → Judges (given_by governed now) before.outside after.outside said → Proceeds now before after said
@@ -104,7 +104,7 @@ pub record Asked (command : Command) (before after : Environment) : Type 0 where
   pub governed : Governed
   pub read : ReadsAs governed_of before.inputs after.inputs (Ok governed)
 
-abbrev pub given_in : {command : Command} {before after : Environment} → Asked command before after → Given
+abbrev pub given_in : {command : Command} {before after : Environment} → Asked command before after → GateInputs
 given_in {command} asked = given_by asked.governed (moment_of asked.layout command.clock)
 
 -- the folder was judged, and the sink took exactly its lines
@@ -139,14 +139,14 @@ pub record Faults (command : Command) (before after : Environment) (out out' : W
 abbrev pub Misuses : Command → Environment → Environment → Watched (List ℕ) → Watched (List ℕ) → Type 0
 Misuses command before after out out' =
     ((result_ok (gate_layout_of command.words) ≡ None) × (after ≡ before) × TakesAll out out' (line_of (codes "usage")))
-    ⊎ ((which : Which) × MalformedCause which before.inputs × (after.outside ≡ before.outside)
+    ⊎ ((which : InputFile) × MalformedCause which before.inputs × (after.outside ≡ before.outside)
     × TakesAll out out' (pair_line (codes "usage") (word_of which)))
 
 -- This input is the last that wasn't given, and the count of the inputs' faults rose, or told inputs lack it or hold it longer than its
 -- limit; nothing but the inputs was called; and the sink took exactly the line that names it.
 abbrev pub LacksInput : Environment → Environment → Watched (List ℕ) → Watched (List ℕ) → Type 0
 LacksInput before after out out' =
-    (which : Which) × StopCause before.inputs after.inputs (Input which) × (after.outside ≡ before.outside)
+    (which : InputFile) × StopCause before.inputs after.inputs (Input which) × (after.outside ≡ before.outside)
     × TakesAll out out' (pair_line (codes "input") (word_of which))
 
 -- What each status means. 0: every line admits. 1: some line denies, or there are none, since no chain is trusted or its trust file

@@ -7,11 +7,9 @@ mod laws;
 mod layout;
 mod lines;
 mod names;
-mod objects;
 mod program;
 
 pub use judging::gate_folder;
 pub use laws::denials_are_named;
 pub use layout::{GateLayout, asked_gate_layout, gate_layout};
-pub use objects::{GateObjects, gate_objects_at};
 pub use program::run_gate;

@@ -7,7 +7,7 @@ ghost use Rattle.command_gate.specs.Complete.{Completes};
 use crate::judging::gate_folder;
 use crate::layout::gate_layout;
 use crate::lines::lines_said;
-use command_files::{Anchored, Governed, Inputs, Sink, Stop, gather_governed, write_all};
+use command_files::{Anchored, CommandStop, Governed, Inputs, Sink, gather_governed, write_all};
 use command_verify::{Answer, Status, pair, refused_tuf, refused_verify, stopped};
 use foundation::NoMemory;
 use jiff::Timestamp;
@@ -126,7 +126,7 @@ fn decide<I: Inputs, R: Repository, S: MetadataStore, D: Folder>(
             drop(layout);
             proceed(alloc, now, inputs, repo, store, folder)
         }
-        None => stopped(alloc, Stop::Words),
+        None => stopped(alloc, CommandStop::Words),
     }
 }
 

@@ -1,1 +1,2 @@
+mod GateMeaning
 mod Meaning

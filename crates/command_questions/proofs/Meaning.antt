@@ -5,21 +5,21 @@ use Rattle.foundation.specs.Watched.{Watched}
 use Rattle.foundation.specs.Results.{some_same}
 use Rattle.jiff_core.specs.declared.timestamp.Timestamp as jiff
 use Rattle.command_files.specs.declared.tables.TableProvider.{TableProvider}
-use Rattle.sigstore_verify.specs.declared.from_root.Rooted.{Rooted}
+use Rattle.sigstore_verify.specs.declared.from_root.Acceptance.{Acceptance}
 use Rattle.sigstore_verify.specs.declared.from_root.RootFault.{RootFault}
-use Rattle.sigstore_verify.specs.Given.{Outside}
+use Rattle.sigstore_verify.specs.Inputs.{Outside}
 use Rattle.sigstore_verify.specs.FromRoot.{Runs}
 use Rattle.sigstore_verify.specs.Promises.{Promises}
 use Rattle.question_notes.specs.Believing.{believing}
 use Rattle.command_files.specs.Layout.{asked_layout_of}
 use Rattle.command_files.specs.declared.layout.Layout.{Layout}
-use Rattle.command_files.specs.declared.gather.Stop.{Stop}
-use Rattle.command_files.specs.declared.gather.Stop.TheVariants as stop
+use Rattle.command_files.specs.declared.gather.CommandStop.{CommandStop}
+use Rattle.command_files.specs.declared.gather.CommandStop.TheVariants as stop
 use Rattle.command_files.specs.declared.usage_fault.UsageFault.{UsageFault}
 use Rattle.command_verify.specs.declared.answer.Status.{Status}
 use Rattle.command_verify.specs.declared.answer.Status.TheVariants.{Accepted, Usage, Input}
 use Rattle.command_verify.specs.declared.answer.Answer.{Answer}
-use Rattle.command_verify.specs.declared.meant.Request.{Request}
+use Rattle.command_verify.specs.declared.meant.VerifyRequest.{VerifyRequest}
 use Rattle.command_verify.specs.Run.{stop_answer, TakesAll, given_with, Command, Environment}
 use Rattle.command_questions.specs.Means.{Proceeds, rows, stopped, Decides, misworded, worded, RunsTo, unwritten, cut, written, WritesRows}
 
@@ -27,7 +27,7 @@ use Rattle.command_questions.specs.Means.{Proceeds, rows, stopped, Decides, misw
 abbrev status_of : Answer → Status
 status_of said = said.status
 
-not_asked : (why : Stop) (said : Answer) → stop_answer why ≡ Some said → said.status ≡ Accepted → ⊥
+not_asked : (why : CommandStop) (said : Answer) → stop_answer why ≡ Some said → said.status ≡ Accepted → ⊥
 unfolding stop_answer
 not_asked stop.Words said h e = let same : Usage ≡ said.status = ap status_of (some_same _ said h) in cc
 not_asked (stop.Malformed which) said h e = let same : Usage ≡ said.status = ap status_of (some_same _ said h) in cc
@@ -42,7 +42,7 @@ found_layout words layout h = by (asked_layout_of words) h
     by (Err e) h = cc
 
 -- the provider that notes refuses the rows that it was made with
-pub ran_believing : (request : Request) (now : jiff.Timestamp) (before after : Outside) (result : Result Rooted RootFault)
+pub ran_believing : (request : VerifyRequest) (now : jiff.Timestamp) (before after : Outside) (result : Result Acceptance RootFault)
     (held given : TableProvider) → held ≡ given
     → Promises (given_with (believing held.rows) request now) before after result
     → Runs (given_with (believing given.rows) request now) before after result

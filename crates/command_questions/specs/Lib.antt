@@ -1,1 +1,2 @@
+pub mod GateMeans
 pub mod Means

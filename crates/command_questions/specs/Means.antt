@@ -9,13 +9,13 @@ use Rattle.command_files.specs.Tables.{tables_of}
 use Rattle.command_files.specs.Gather.{gathered_of, ReadsAs}
 use Rattle.command_files.specs.declared.layout.Layout.{Layout}
 use Rattle.command_files.specs.declared.gather.Gathered.{Gathered}
-use Rattle.command_files.specs.declared.gather.Stop.{Stop}
-use Rattle.command_files.specs.declared.gather.Stop.TheVariants.{Words}
+use Rattle.command_files.specs.declared.gather.CommandStop.{CommandStop}
+use Rattle.command_files.specs.declared.gather.CommandStop.TheVariants.{Words}
 use Rattle.command_files.specs.declared.sink.SinkFault.{SinkFault}
 use Rattle.command_files.specs.declared.tables.Tables.{Tables}
-use Rattle.sigstore_verify.specs.declared.from_root.Rooted.{Rooted}
+use Rattle.sigstore_verify.specs.declared.from_root.Acceptance.{Acceptance}
 use Rattle.sigstore_verify.specs.declared.from_root.RootFault.{RootFault}
-use Rattle.sigstore_verify.specs.Given.{Outside}
+use Rattle.sigstore_verify.specs.Inputs.{Outside}
 use Rattle.sigstore_verify.specs.FromRoot.{Runs}
 use Rattle.question_notes.specs.Believing.{believing}
 use Rattle.question_notes.specs.Notes.{Asked}
@@ -36,7 +36,7 @@ pub record IsQuestions (text : List ℕ) (tables : Tables) : Type 0 where
 -- What was run is the verification of these inputs at the moment, in which the signatures of the file `refused` aren't good and
 -- all others are. What it came to is told to nobody.
 pub record Asks (gathered : Gathered) (now : jiff.Timestamp) (before after : Outside) : Type 0 where
-  pub judged : Result Rooted RootFault
+  pub judged : Result Acceptance RootFault
   pub runs : Runs (given_with (believing gathered.tables.provider.rows) (request_of gathered) now) before after judged
 
 -- what is said once the words are read: the rows that were noted, as a provider file; or the line of the input that is refused
@@ -44,7 +44,7 @@ pub data Proceeds (now : jiff.Timestamp) (before after : Environment) (said : An
   rows : (gathered : Gathered) (tables : Tables) → ReadsAs gathered_of before.inputs after.inputs (Ok gathered)
       → Asks gathered now before.outside after.outside → IsQuestions said.text tables → said.status ≡ Accepted
       → Proceeds now before after said
-  stopped : (stop : Stop) → ReadsAs gathered_of before.inputs after.inputs (Err stop) → after.outside ≡ before.outside
+  stopped : (stop : CommandStop) → ReadsAs gathered_of before.inputs after.inputs (Err stop) → after.outside ≡ before.outside
       → stop_answer stop ≡ Some said → Proceeds now before after said
 
 -- what is said: the words first, then the inputs and the questions

@@ -2,14 +2,14 @@
 use crate::last_asked::LastAsked;
 use crate::reading_store::ReadingStore;
 use command_files::{Gathered, Inputs, Sink, gather_inputs, read_layout, write_all};
-use command_verify::{Request, Status, verify_request};
+use command_verify::{Status, VerifyRequest, verify_request};
 use foundation::{Duplicate, NoMemory};
 use jiff::Timestamp;
 use sigstore_keys::ArtifactSource;
 use sigstore_tuf::{MetadataStore, Repository};
 use sigstore_types::{Bundle, TrustedRoot};
 use sigstore_types_parts::Text;
-use sigstore_verify::{Error, RootFault, Rooted};
+use sigstore_verify::{Acceptance, Error, RootFault};
 use std::alloc::Global;
 
 // The member of a bundle or of a trust file by which it isn't read, in a line of its own.
@@ -44,7 +44,7 @@ fn of_documents(
 
 fn details(
     alloc: Global,
-    judged: &Result<Rooted, RootFault>,
+    judged: &Result<Acceptance, RootFault>,
     bundle: &[u8],
     last: &str,
 ) -> Result<String, NoMemory> {
@@ -74,7 +74,7 @@ fn judged_details<R: Repository, S: MetadataStore, A: ArtifactSource>(
         bundle,
     } = gathered;
     let copy = bundle.duplicate(alloc)?;
-    let request = Request {
+    let request = VerifyRequest {
         policy,
         root,
         bundle,

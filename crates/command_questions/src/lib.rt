@@ -1,13 +1,16 @@
-//! The questions of a run: which signatures and armoured texts a verification from a root asks for, as
-//! lines of a provider file, for a signature library to answer; and what a refusal holds, for a reader's eye.
+//! The questions of a run: which signatures and armoured texts a verification from a root asks for, or the judgement of
+//! all artifacts of a folder, as lines of a provider file, for a signature library to answer; and what a refusal holds,
+//! for a reader's eye.
 #![tactic(auto)]
 
 mod details;
+mod gate;
 mod last_asked;
 mod program;
 mod reading_store;
 
 pub use details::run_details;
+pub use gate::run_gate_questions;
 pub use last_asked::LastAsked;
 pub use program::{questions_text, run_questions};
 pub use reading_store::ReadingStore;

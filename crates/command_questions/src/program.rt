@@ -1,6 +1,6 @@
 // A run that notes what a verification asks.
 ghost use Rattle.std.specs.Prelude.{◌≡◌, IfOk, string_bytes};
-ghost use Rattle.sigstore_verify.specs.Given.{Outside};
+ghost use Rattle.sigstore_verify.specs.Inputs.{Outside};
 ghost use Rattle.sigstore_verify.specs.FromRoot.{Runs};
 ghost use Rattle.question_notes.specs.Believing.{believing};
 ghost use Rattle.command_questions.specs.Means.{IsQuestions, Asks, Proceeds, Decides, RunsTo, WritesRows};
@@ -8,15 +8,17 @@ ghost use Rattle.command_verify.specs.Run.{given_with, request_of, Environment};
 ghost use Rattle.command_verify.specs.declared.answer.Status.TheVariants.{Accepted};
 
 use crate::reading_store::ReadingStore;
-use command_files::{Gathered, Inputs, Sink, Stop, gather_inputs, read_asked_layout, write_all};
-use command_verify::{Answer, Request, Status, stopped, verify_request};
+use command_files::{
+    CommandStop, Gathered, Inputs, Sink, gather_inputs, read_asked_layout, write_all,
+};
+use command_verify::{Answer, Status, VerifyRequest, stopped, verify_request};
 use foundation::NoMemory;
 use jiff::Timestamp;
 use question_notes::{Noted, Notes, NotingArmor, NotingProvider};
 use sigstore_keys::ArtifactSource;
 use sigstore_tuf::{MetadataStore, Repository};
 use sigstore_types_parts::Text;
-use sigstore_verify::{RootFault, Rooted};
+use sigstore_verify::{Acceptance, RootFault};
 use std::alloc::Global;
 
 // Runs the verification, refuses what the tables hold, and notes what else it asks.
@@ -28,7 +30,7 @@ fn verify_noting<R: Repository, S: MetadataStore, A: ArtifactSource>(
     repo: &mut R,
     store: &mut S,
     artifact: &mut A,
-) -> Result<Rooted, RootFault>
+) -> Result<Acceptance, RootFault>
     ensures { let before : Outside = record { repo = R.seen repo.old; store = S.seen store.old; source = A.seen artifact.old } in
         let after : Outside = record { repo = R.seen repo.new; store = S.seen store.new; source = A.seen artifact.new } in
         Runs (given_with (believing gathered.tables.provider.rows) (request_of gathered) now) before after result }
@@ -39,7 +41,7 @@ fn verify_noting<R: Repository, S: MetadataStore, A: ArtifactSource>(
         root,
         bundle,
     } = gathered;
-    let request = Request {
+    let request = VerifyRequest {
         policy,
         root,
         bundle,
@@ -155,7 +157,7 @@ fn decide<I: Inputs, R: Repository, S: MetadataStore, A: ArtifactSource>(
                 Err(e) => Err(e),
             }
         }
-        None => match stopped(alloc, Stop::Words) {
+        None => match stopped(alloc, CommandStop::Words) {
             Ok(said) => Ok(said),
             Err(e) => Err(e),
         },

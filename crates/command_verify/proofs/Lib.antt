@@ -4,5 +4,3 @@ pub mod ReportThere
 mod RunFacts
 pub mod Stopping
 mod RunCompleting
-mod Items
-mod Counting

@@ -5,7 +5,7 @@ use Rattle.foundation.specs.Watched.{Watched}
 use Rattle.foundation.specs.Results.{ok_same, some_same}
 use Rattle.sigstore_verify.specs.declared.from_root.RootFault.{RootFault}
 use Rattle.sigstore_verify.specs.declared.from_root.RootFault.TheVariants as root
-use Rattle.sigstore_verify.specs.Given.{Given}
+use Rattle.sigstore_verify.specs.Inputs.{VerifyInputs}
 use Rattle.sigstore_verify.specs.FromRoot.{Runs}
 use Rattle.sigstore_verify.specs.Cause.{RootCause}
 use Rattle.sigstore_verify.proofs.RootCauses.{runs_cause}
@@ -13,8 +13,8 @@ use Rattle.command_files.specs.Layout.{layout_of}
 use Rattle.command_files.specs.Gather.{gathered_of, StopCause, ReadsAs}
 use Rattle.command_files.specs.declared.layout.Layout.{Layout}
 use Rattle.command_files.specs.declared.gather.Gathered.{Gathered}
-use Rattle.command_files.specs.declared.gather.Stop.{Stop}
-use Rattle.command_files.specs.declared.gather.Stop.TheVariants.{Words, Malformed, Input, Memory}
+use Rattle.command_files.specs.declared.gather.CommandStop.{CommandStop}
+use Rattle.command_files.specs.declared.gather.CommandStop.TheVariants.{Words, Malformed, Input, Memory}
 use Rattle.command_verify.specs.declared.answer.Status.{Status}
 use Rattle.command_verify.specs.declared.answer.Status.TheVariants as status
 use Rattle.command_verify.specs.declared.answer.Answer.{Answer}
@@ -35,7 +35,7 @@ module _ (command : Command) (before after : Environment) (out out' : Watched (L
   unfolding stop_answer
   misworded_means said n s h = as_said _ said (some_same _ said h) (λ w. inl (n, s, w))
 
-  stopped_means : (stop : Stop) (said : Answer) → StopCause before.inputs after.inputs stop → after.outside ≡ before.outside → stop_answer stop ≡ Some said → W said.text → M said.status
+  stopped_means : (stop : CommandStop) (said : Answer) → StopCause before.inputs after.inputs stop → after.outside ≡ before.outside → stop_answer stop ≡ Some said → W said.text → M said.status
   unfolding stop_answer
   stopped_means Words said c s h = absurd c
   stopped_means (Malformed which) said c s h = as_said _ said (some_same _ said h) (λ w. inr (which, c, s, w))
@@ -43,7 +43,7 @@ module _ (command : Command) (before after : Environment) (out out' : Watched (L
   stopped_means Memory said c s h = cc
 
   module _ (layout : Layout) (worded_is : layout_of command.words ≡ Ok layout) (gathered : Gathered) (read : ReadsAs gathered_of before.inputs after.inputs (Ok gathered)) where
-    abbrev given : Given
+    abbrev given : VerifyInputs
     given = given_by gathered (now_of layout command.clock)
 
     caused : {fault : RootFault} → Runs given before.outside after.outside (Err fault) → RootCause given before.outside after.outside fault

@@ -4,10 +4,10 @@ use Rattle.std.specs.Result.{result_ok}
 use Rattle.foundation.specs.Watched.{Watched}
 use Rattle.foundation.specs.Results.{ok_same, err_same, no_both}
 use Rattle.sigstore_tuf_rules.specs.declared.chain.TrustChain.{TrustChain}
-use Rattle.sigstore_verify.specs.declared.from_root.Rooted.{Rooted}
+use Rattle.sigstore_verify.specs.declared.from_root.Acceptance.{Acceptance}
 use Rattle.sigstore_verify.specs.declared.from_root.RootFault.{RootFault}
 use Rattle.sigstore_verify.specs.declared.from_root.RootFault.TheVariants as root
-use Rattle.sigstore_verify.specs.Given.{Given, Outside}
+use Rattle.sigstore_verify.specs.Inputs.{VerifyInputs, Outside}
 use Rattle.sigstore_verify.specs.FromRoot.{Runs}
 use Rattle.sigstore_verify.specs.Complete.{verdict_of, rooted_of, Favours, StaysWarm}
 use Rattle.sigstore_verify.proofs.RootCompleting.{runs_complete}
@@ -24,21 +24,21 @@ no_answer : (said : Answer) → refusal_answer root.NoMemory ≡ Some said → �
 unfolding refusal_answer
 no_answer said h = cc
 
-module _ (given : Given) (before after : Outside) (chain : TrustChain) (bytes : List ℕ) (f : Favours given before after chain bytes) where
+module _ (given : VerifyInputs) (before after : Outside) (chain : TrustChain) (bytes : List ℕ) (f : Favours given before after chain bytes) where
   abbrev V : Answer → Type 0
   V said = Says (rooted_of chain (verdict_of given chain.file bytes)) said × StaysWarm after.store f.offer
 
   refused_says : (fault : RootFault) (said : Answer) → Runs given before after (Err fault) → refusal_answer fault ≡ Some said → V said
   refused_says fault said v h = by_complete (runs_complete given before after (Err fault) v chain bytes f)
     where
-      by_complete : (◌≡◌ {A = Result Rooted RootFault} (Err fault) (Err root.NoMemory)) ⊎ ((Err fault ≡ rooted_of chain (verdict_of given chain.file bytes)) × StaysWarm after.store f.offer) → V said
+      by_complete : (◌≡◌ {A = Result Acceptance RootFault} (Err fault) (Err root.NoMemory)) ⊎ ((Err fault ≡ rooted_of chain (verdict_of given chain.file bytes)) × StaysWarm after.store f.offer) → V said
       by_complete (inl w) = absurd (no_answer said (ap refusal_answer (sym (err_same fault root.NoMemory w)) ∙ h))
       by_complete (inr (e, w)) = (subst (λ r. Says r said) e h, w)
 
-  reported_says : (rooted : Rooted) (said : Answer) → Runs given before after (Ok rooted) → SaysReport rooted said → V said
+  reported_says : (rooted : Acceptance) (said : Answer) → Runs given before after (Ok rooted) → SaysReport rooted said → V said
   reported_says rooted said v h = by_complete (runs_complete given before after (Ok rooted) v chain bytes f)
     where
-      by_complete : (◌≡◌ {A = Result Rooted RootFault} (Ok rooted) (Err root.NoMemory)) ⊎ ((Ok rooted ≡ rooted_of chain (verdict_of given chain.file bytes)) × StaysWarm after.store f.offer) → V said
+      by_complete : (◌≡◌ {A = Result Acceptance RootFault} (Ok rooted) (Err root.NoMemory)) ⊎ ((Ok rooted ≡ rooted_of chain (verdict_of given chain.file bytes)) × StaysWarm after.store f.offer) → V said
       by_complete (inl w) = no_both rooted root.NoMemory w
       by_complete (inr (e, w)) = (subst (λ r. Says r said) e h, w)
 

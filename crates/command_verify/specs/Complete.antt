@@ -2,9 +2,9 @@
 use Rattle.std.specs.Prelude.{◌≡◌, ◌⊎◌, ℕ, List, Some, Result, Ok, Err}
 use Rattle.foundation.specs.Watched.{Watched, Rose}
 use Rattle.sigstore_tuf_rules.specs.declared.chain.TrustChain.{TrustChain}
-use Rattle.sigstore_verify.specs.declared.from_root.Rooted.{Rooted}
+use Rattle.sigstore_verify.specs.declared.from_root.Acceptance.{Acceptance}
 use Rattle.sigstore_verify.specs.declared.from_root.RootFault.{RootFault}
-use Rattle.sigstore_verify.specs.Given.{Given}
+use Rattle.sigstore_verify.specs.Inputs.{VerifyInputs}
 use Rattle.sigstore_verify.specs.Complete.{verdict_of, rooted_of, TellsQuietly, Favours, StaysWarm}
 use Rattle.command_files.specs.Inputs.{Held, watched}
 use Rattle.command_files.specs.Layout.{layout_of}
@@ -28,16 +28,16 @@ pub record Favoured (command : Command) (before after : Environment) (chain : Tr
   pub outside : Favours (given_by gathered (now_of layout command.clock)) before.outside after.outside chain bytes
 
 -- what is said of an answer of the top call: the report of an acceptance, the line of a refusal
-abbrev pub Says : Result Rooted RootFault → Answer → Type 0
+abbrev pub Says : Result Acceptance RootFault → Answer → Type 0
 Says (Ok rooted) said = SaysReport rooted said
 Says (Err fault) said = refusal_answer fault ≡ Some said
 
 abbrev pub given_in : {command : Command} {before after : Environment} {chain : TrustChain} {bytes : List ℕ}
-    → Favoured command before after chain bytes → Given
+    → Favoured command before after chain bytes → VerifyInputs
 given_in {command} f = given_by f.gathered (now_of f.layout command.clock)
 
 -- what the verdict makes the program say was written whole, and its status is the run's
-pub record SaysVerdict (given : Given) (chain : TrustChain) (bytes : List ℕ) (out out' : Watched (List ℕ))
+pub record SaysVerdict (given : VerifyInputs) (chain : TrustChain) (bytes : List ℕ) (out out' : Watched (List ℕ))
     (ended : Status) : Type 0 where
   pub said : Answer
   pub says : Says (rooted_of chain (verdict_of given chain.file bytes)) said

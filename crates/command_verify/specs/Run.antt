@@ -10,10 +10,10 @@ use Rattle.sigstore_tuf_text.specs.Error as tuf
 use Rattle.sigstore_tuf_rules.specs.Config.{default_config}
 use Rattle.sigstore_judgement.specs.declared.error.Error.{Error as VerifyError}
 use Rattle.sigstore_judgement.specs.Error as verify
-use Rattle.sigstore_verify.specs.declared.from_root.Rooted.{Rooted}
+use Rattle.sigstore_verify.specs.declared.from_root.Acceptance.{Acceptance}
 use Rattle.sigstore_verify.specs.declared.from_root.RootFault.{RootFault}
 use Rattle.sigstore_verify.specs.declared.from_root.RootFault.TheVariants as root
-use Rattle.sigstore_verify.specs.Given.{Anchor, Given, Outside}
+use Rattle.sigstore_verify.specs.Inputs.{Anchor, VerifyInputs, Outside}
 use Rattle.sigstore_verify.specs.FromRoot.{Runs, IsAccepted}
 use Rattle.sigstore_verify.specs.Cause.{RootCause}
 use Rattle.command_files.specs.Inputs.{Supply}
@@ -21,19 +21,19 @@ use Rattle.command_files.specs.Sink.{WritesText}
 use Rattle.command_files.specs.Tables.{crypto_of}
 use Rattle.command_files.specs.Layout.{layout_of}
 use Rattle.command_files.specs.Gather.{word_of, gathered_of, MalformedCause, StopCause, ReadsAs}
-use Rattle.command_files.specs.declared.inputs.Which.{Which}
+use Rattle.command_files.specs.declared.inputs.InputFile.{InputFile}
 use Rattle.command_files.specs.Printed.{line_of, pair_line, refused_line}
 use Rattle.command_files.specs.declared.layout.Layout.{Layout}
 use Rattle.command_files.specs.declared.gather.Anchored.{Anchored}
 use Rattle.command_files.specs.declared.gather.Gathered.{Gathered}
-use Rattle.command_files.specs.declared.gather.Stop.{Stop}
-use Rattle.command_files.specs.declared.gather.Stop.TheVariants.{Words, Malformed, Input, Memory}
+use Rattle.command_files.specs.declared.gather.CommandStop.{CommandStop}
+use Rattle.command_files.specs.declared.gather.CommandStop.TheVariants.{Words, Malformed, Input, Memory}
 use Rattle.command_files.specs.declared.sink.SinkFault.{SinkFault}
 use Rattle.command_verify.specs.Meant.{policy_meant}
 use Rattle.command_verify.specs.declared.answer.Status.{Status}
 use Rattle.command_verify.specs.declared.answer.Status.TheVariants as status
 use Rattle.command_verify.specs.declared.answer.Answer.{Answer}
-use Rattle.command_verify.specs.declared.meant.Request.{Request}
+use Rattle.command_verify.specs.declared.meant.VerifyRequest.{VerifyRequest}
 use Rattle.command_verify.specs.Report.{report_of}
 
 abbrev pub code_of : Status → ℕ
@@ -48,7 +48,7 @@ abbrev pub answer : Status → List ℕ → Answer
 answer status text = record { status = status; text = text }
 
 -- what is said where the run ends before the verification; nothing where memory is wanting
-unfoldable pub stop_answer : Stop → Option Answer
+unfoldable pub stop_answer : CommandStop → Option Answer
 stop_answer Words = Some (answer status.Usage (line_of (codes "usage")))
 stop_answer (Malformed which) = Some (answer status.Usage (pair_line (codes "usage") (word_of which)))
 stop_answer (Input which) = Some (answer status.Input (pair_line (codes "input") (word_of which)))
@@ -79,7 +79,7 @@ now_of layout clock = unwrap_or layout.now clock
 
 -- what the top call is given: who decides signatures and reads armoured texts, what is asked for, the program's limits, and the
 -- moment
-abbrev pub given_with : Crypto → Request → jiff.Timestamp → Given
+abbrev pub given_with : Crypto → VerifyRequest → jiff.Timestamp → VerifyInputs
 given_with crypto request now = record {
   anchor = record { crypto = crypto; root = request.root; config = default_config; now = now };
   policy = policy_meant request.policy;
@@ -88,11 +88,11 @@ given_with crypto request now = record {
 }
 
 -- the inputs without the tables
-abbrev pub request_of : Gathered → Request
+abbrev pub request_of : Gathered → VerifyRequest
 request_of gathered = record { policy = gathered.policy; root = gathered.root; bundle = gathered.bundle }
 
 -- the same of the inputs, whose tables decide
-abbrev pub given_by : Gathered → jiff.Timestamp → Given
+abbrev pub given_by : Gathered → jiff.Timestamp → VerifyInputs
 given_by gathered now = given_with (crypto_of gathered.tables) (request_of gathered) now
 
 -- what the program is told: its words, and the clock's instant
@@ -110,37 +110,37 @@ abbrev pub said_of : Result (List ℕ) TufError → Option Answer
 said_of (Ok text) = Some (answer status.Accepted text)
 said_of (Err e) = Some (tuf_answer e)
 
-abbrev pub Reports : Rooted → Answer → Type 0
+abbrev pub Reports : Acceptance → Answer → Type 0
 Reports rooted said = said_of (report_of rooted.chain rooted.digests rooted.result) ≡ Some said
 
 -- what is said of the verification's answer
-abbrev pub Answers : Result Rooted RootFault → Answer → Type 0
+abbrev pub Answers : Result Acceptance RootFault → Answer → Type 0
 Answers (Ok rooted) said = Reports rooted said
 Answers (Err fault) said = refusal_answer fault ≡ Some said
 
 -- the report is said
-pub record SaysReport (rooted : Rooted) (said : Answer) : Type 0 where
+pub record SaysReport (rooted : Acceptance) (said : Answer) : Type 0 where
   pub text : List ℕ
   pub reported : report_of rooted.chain rooted.digests rooted.result ≡ Ok text
   pub said_is : said ≡ answer status.Accepted text
 
 -- What the verification makes the program say: the report of what was accepted, or the refusal.
 pub data Judges (gathered : Gathered) (now : jiff.Timestamp) (before after : Outside) (result : Result Answer NoMemory) : Type 0 where
-  want_judging : (judged : Result Rooted RootFault) (e : NoMemory) → Runs (given_by gathered now) before after judged
+  want_judging : (judged : Result Acceptance RootFault) (e : NoMemory) → Runs (given_by gathered now) before after judged
       → result ≡ Err e → Judges gathered now before after result
   refused : (fault : RootFault) (said : Answer) → Runs (given_by gathered now) before after (Err fault)
       → refusal_answer fault ≡ Some said → result ≡ Ok said
       → Judges gathered now before after result
-  reported : (rooted : Rooted) (said : Answer) → Runs (given_by gathered now) before after (Ok rooted)
+  reported : (rooted : Acceptance) (said : Answer) → Runs (given_by gathered now) before after (Ok rooted)
       → IsAccepted (given_by gathered now) before after rooted
       → SaysReport rooted said → result ≡ Ok said → Judges gathered now before after result
 
 -- What the program says once its words are read: its inputs first, then the verification. Where an input is refused nothing else is called.
 pub data Proceeds (now : jiff.Timestamp) (before after : Environment) (result : Result Answer NoMemory) : Type 0 where
-  want_inputs : (stop : Stop) (e : NoMemory) → ReadsAs gathered_of before.inputs after.inputs (Err stop)
+  want_inputs : (stop : CommandStop) (e : NoMemory) → ReadsAs gathered_of before.inputs after.inputs (Err stop)
       → after.outside ≡ before.outside → result ≡ Err e
       → Proceeds now before after result
-  stopped : (stop : Stop) (said : Answer) → ReadsAs gathered_of before.inputs after.inputs (Err stop)
+  stopped : (stop : CommandStop) (said : Answer) → ReadsAs gathered_of before.inputs after.inputs (Err stop)
       → after.outside ≡ before.outside → stop_answer stop ≡ Some said
       → result ≡ Ok said → Proceeds now before after result
   judged : (gathered : Gathered) → ReadsAs gathered_of before.inputs after.inputs (Ok gathered)
@@ -178,7 +178,7 @@ pub record Accepts (command : Command) (before after : Environment) (out out' : 
   pub worded : layout_of command.words ≡ Ok layout
   pub gathered : Gathered
   pub read : ReadsAs gathered_of before.inputs after.inputs (Ok gathered)
-  pub rooted : Rooted
+  pub rooted : Acceptance
   pub verified : Runs (given_by gathered (now_of layout command.clock)) before.outside after.outside (Ok rooted)
   pub accepted : IsAccepted (given_by gathered (now_of layout command.clock)) before.outside after.outside rooted
   pub text : List ℕ
@@ -204,14 +204,14 @@ pub record Refuses (command : Command) (before after : Environment) (out out' : 
 abbrev pub Misuses : Command → Environment → Environment → Watched (List ℕ) → Watched (List ℕ) → Type 0
 Misuses command before after out out' =
     ((result_ok (layout_of command.words) ≡ None) × (after ≡ before) × TakesAll out out' (line_of (codes "usage")))
-    ⊎ ((which : Which) × MalformedCause which before.inputs × (after.outside ≡ before.outside)
+    ⊎ ((which : InputFile) × MalformedCause which before.inputs × (after.outside ≡ before.outside)
     × TakesAll out out' (pair_line (codes "usage") (word_of which)))
 
 -- What status 3 means: this input is the last that wasn't given, and the count of the inputs' faults rose, or told inputs lack it or
 -- hold it longer than its limit; nothing but the inputs was called; and the sink took exactly the line that names it.
 abbrev pub LacksInput : Environment → Environment → Watched (List ℕ) → Watched (List ℕ) → Type 0
 LacksInput before after out out' =
-    (which : Which) × StopCause before.inputs after.inputs (Input which) × (after.outside ≡ before.outside)
+    (which : InputFile) × StopCause before.inputs after.inputs (Input which) × (after.outside ≡ before.outside)
     × TakesAll out out' (pair_line (codes "input") (word_of which))
 
 -- What each status means. 4: the count of the sink's faults rose. 5: nothing was written.

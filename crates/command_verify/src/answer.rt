@@ -4,7 +4,7 @@ ghost use Rattle.command_verify.specs.Run.{code_of, stop_answer, refusal_answer,
 ghost use Rattle.command_verify.specs.declared.answer.Status.TheVariants.{Refused, Memory};
 ghost use Rattle.command_files.specs.Printed.{line_of, pair_line, refused_line};
 
-use command_files::{Stop, push_line, push_pair_line, push_refused_line};
+use command_files::{CommandStop, push_line, push_pair_line, push_refused_line};
 use foundation::NoMemory;
 use sigstore_types_parts::Text;
 use sigstore_verify::RootFault;
@@ -101,14 +101,14 @@ pub fn refusal(alloc: Global, layer: &str, number: u8, name: &str) -> Result<Ans
 
 /// What is said where the run ends before the verification.
 #[tactic(auto, unfolding(crate::specs::Run::stop_answer))]
-pub fn stopped(alloc: Global, stop: Stop) -> Result<Answer, NoMemory>
+pub fn stopped(alloc: Global, stop: CommandStop) -> Result<Answer, NoMemory>
     ensures { IfOk result (λ said. stop_answer stop ≡ Some said) }
 {
     match stop {
-        Stop::Words => Ok(line(alloc, Status::Usage, "usage")?),
-        Stop::Malformed(which) => Ok(pair(alloc, Status::Usage, "usage", which.word())?),
-        Stop::Input(which) => Ok(pair(alloc, Status::Input, "input", which.word())?),
-        Stop::Memory => Err(NoMemory),
+        CommandStop::Words => Ok(line(alloc, Status::Usage, "usage")?),
+        CommandStop::Malformed(which) => Ok(pair(alloc, Status::Usage, "usage", which.word())?),
+        CommandStop::Input(which) => Ok(pair(alloc, Status::Input, "input", which.word())?),
+        CommandStop::Memory => Err(NoMemory),
     }
 }
 

@@ -1,7 +1,7 @@
 // What the program means by its files: what is verified, and within which limits.
 ghost use Rattle.std.specs.Prelude.{◌≡◌};
 ghost use Rattle.sigstore_keys.specs.Crypto.{crypto_by};
-ghost use Rattle.sigstore_verify.specs.Given.{Outside};
+ghost use Rattle.sigstore_verify.specs.Inputs.{Outside};
 ghost use Rattle.sigstore_verify.specs.Promises.{Promises};
 ghost use Rattle.command_verify.specs.Meant.{matcher_of, matcher_in, certificate_asked, or_one, keyless_meant, policy_meant, meaning_asked};
 ghost use Rattle.command_verify.specs.Run.{given_with};
@@ -12,8 +12,8 @@ use sigstore_keys::{ArtifactSource, CryptoProvider, LogThreshold};
 use sigstore_tuf::{MetadataStore, Repository, UpdaterConfig};
 use sigstore_types_parts::{Armor, Bytes};
 use sigstore_verify::{
-    CertificatePolicy, IdentityMatcher, Policy, PolicyKind, PublicKeyVerificationPolicy, RootFault,
-    Rooted, VerificationPolicy, verify_from_root,
+    Acceptance, CertificatePolicy, IdentityMatcher, Policy, PolicyKind,
+    PublicKeyVerificationPolicy, RootFault, VerificationPolicy, verify_from_root,
 };
 use std::alloc::Global;
 
@@ -22,7 +22,7 @@ pub const MAX_ARTIFACT: u64 = 1_099_511_627_776;
 
 /// What the inputs ask for: that the bundle be verified from the root under the policy.
 #[derive(Drop)]
-pub struct Request {
+pub struct VerifyRequest {
     pub policy: PolicyFile,
     pub root: Bytes,
     pub bundle: Bytes,
@@ -139,20 +139,20 @@ pub fn verify_request<
     M: Armor,
 >(
     alloc: Global,
-    request: Request,
+    request: VerifyRequest,
     provider: &C,
     armor: &M,
     now: Timestamp,
     repo: &mut R,
     store: &mut S,
     artifact: &mut A,
-) -> Result<Rooted, RootFault>
+) -> Result<Acceptance, RootFault>
     ensures { let crypto = crypto_by C.CryptoProvider M.Armor provider.now armor.now in
         let before : Outside = record { repo = R.seen repo.old; store = S.seen store.old; source = A.seen artifact.old } in
         let after : Outside = record { repo = R.seen repo.new; store = S.seen store.new; source = A.seen artifact.new } in
         Promises (given_with crypto request now) before after result }
 {
-    let Request {
+    let VerifyRequest {
         policy,
         root,
         bundle,

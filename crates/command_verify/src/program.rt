@@ -1,26 +1,24 @@
 // A run of the program.
-ghost use Rattle.std.specs.Prelude.{◌≡◌, true, false, IfOk};
-ghost use Rattle.command_verify.specs.Generate.{is_generate, GenerateMeans};
+ghost use Rattle.std.specs.Prelude.{◌≡◌, IfOk};
 ghost use Rattle.command_files.specs.Sink.{WritesText};
-ghost use Rattle.sigstore_verify.specs.Given.{Outside};
+ghost use Rattle.sigstore_verify.specs.Inputs.{Outside};
 ghost use Rattle.command_verify.specs.Complete.{Completes};
 ghost use Rattle.command_verify.specs.Run.{Environment, Reports, Answers, Judges, Proceeds, Decides, RunsTo, Means};
 
 use crate::answer::{Answer, Status, refused, refused_tuf, stopped};
-use crate::generated::{is_generate, run_generate};
-use crate::meant::{Request, verify_request};
+use crate::meant::{VerifyRequest, verify_request};
 use crate::report::report;
-use command_files::{Gathered, Inputs, Sink, Stop, gather_inputs, read_layout, write_all};
+use command_files::{CommandStop, Gathered, Inputs, Sink, gather_inputs, read_layout, write_all};
 use foundation::NoMemory;
 use jiff::Timestamp;
 use sigstore_keys::ArtifactSource;
 use sigstore_tuf::{MetadataStore, Repository};
 use sigstore_types_parts::Text;
-use sigstore_verify::{RootFault, Rooted};
+use sigstore_verify::{Acceptance, RootFault};
 use std::alloc::Global;
 
 // The report of an acceptance, or the refusal of a document of its chain that isn't read.
-fn reported(alloc: Global, rooted: &Rooted) -> Result<Answer, NoMemory>
+fn reported(alloc: Global, rooted: &Acceptance) -> Result<Answer, NoMemory>
     ensures { IfOk result (λ said. Reports rooted.now said) }
 {
     match report(
@@ -43,7 +41,7 @@ fn reported(alloc: Global, rooted: &Rooted) -> Result<Answer, NoMemory>
 }
 
 // What is said of an acceptance or a refusal.
-fn answered(alloc: Global, judged: &Result<Rooted, RootFault>) -> Result<Answer, NoMemory>
+fn answered(alloc: Global, judged: &Result<Acceptance, RootFault>) -> Result<Answer, NoMemory>
     ensures { IfOk result (λ said. Answers judged.now said) }
 {
     match judged {
@@ -71,7 +69,7 @@ fn judge<R: Repository, S: MetadataStore, A: ArtifactSource>(
         root,
         bundle,
     } = gathered;
-    let request = Request {
+    let request = VerifyRequest {
         policy,
         root,
         bundle,
@@ -138,13 +136,14 @@ fn decide<I: Inputs, R: Repository, S: MetadataStore, A: ArtifactSource>(
             drop(layout);
             proceed(alloc, now, inputs, repo, store, artifact)
         }
-        None => stopped(alloc, Stop::Words),
+        None => stopped(alloc, CommandStop::Words),
     }
 }
 
-// Runs the command `verify`: reads the words, then the inputs policy, provider, root and bundle, verifies from the
-// root, and writes one text.
-fn run_verify<I: Inputs, R: Repository, S: MetadataStore, A: ArtifactSource, K: Sink>(
+/// Runs the command `verify` over its words, its clock and the objects of the outside: reads the words, then the inputs
+/// policy, provider, root and bundle, verifies from the root, and writes one text. Status 4 where a write failed, 5 where
+/// memory was wanting; then nothing was written.
+pub fn run<I: Inputs, R: Repository, S: MetadataStore, A: ArtifactSource, K: Sink>(
     alloc: Global,
     words: &[Text],
     clock: Timestamp,
@@ -178,46 +177,4 @@ fn run_verify<I: Inputs, R: Repository, S: MetadataStore, A: ArtifactSource, K: 
         Ok(()) => said.status,
         Err(_) => Status::Output,
     }
-}
-
-/// Runs the program over its words, its clock and the objects of the outside. Where the first word is
-/// `generate`, it verifies a workload and writes its summary, and calls nothing but the sink. Else it reads the
-/// words, then the inputs policy, provider, root and bundle, verifies from the root, and writes one text. Status
-/// 4 where a write failed, 5 where memory was wanting; then nothing was written.
-pub fn run<I: Inputs, R: Repository, S: MetadataStore, A: ArtifactSource, K: Sink>(
-    alloc: Global,
-    words: &[Text],
-    clock: Timestamp,
-    inputs: &mut I,
-    repo: &mut R,
-    store: &mut S,
-    artifact: &mut A,
-    out: &mut K,
-) -> Status
-    ensures means { is_generate words.now ≡ false → (let outside : Outside = record { repo = R.seen repo.old; store = S.seen store.old; source = A.seen artifact.old } in
-        let outside' : Outside = record { repo = R.seen repo.new; store = S.seen store.new; source = A.seen artifact.new } in
-        let before : Environment = record { inputs = I.seen inputs.old; outside = outside } in
-        let after : Environment = record { inputs = I.seen inputs.new; outside = outside' } in
-        Means (record { words = words.now; clock = clock }) before after (K.seen out.old) (K.seen out.new) result) }
-    ensures runs { is_generate words.now ≡ false → (let outside : Outside = record { repo = R.seen repo.old; store = S.seen store.old; source = A.seen artifact.old } in
-        let outside' : Outside = record { repo = R.seen repo.new; store = S.seen store.new; source = A.seen artifact.new } in
-        let before : Environment = record { inputs = I.seen inputs.old; outside = outside } in
-        let after : Environment = record { inputs = I.seen inputs.new; outside = outside' } in
-        RunsTo (record { words = words.now; clock = clock }) before after (K.seen out.old) (K.seen out.new) result) }
-    ensures complete { is_generate words.now ≡ false → (let outside : Outside = record { repo = R.seen repo.old; store = S.seen store.old; source = A.seen artifact.old } in
-        let outside' : Outside = record { repo = R.seen repo.new; store = S.seen store.new; source = A.seen artifact.new } in
-        let before : Environment = record { inputs = I.seen inputs.old; outside = outside } in
-        let after : Environment = record { inputs = I.seen inputs.new; outside = outside' } in
-        Completes (record { words = words.now; clock = clock }) before after (K.seen out.old) (K.seen out.new) result) }
-    ensures generates { is_generate words.now ≡ true → GenerateMeans words.now (K.seen out.old) (K.seen out.new) result }
-    ensures alone { is_generate words.now ≡ true → (let outside : Outside = record { repo = R.seen repo.old; store = S.seen store.old; source = A.seen artifact.old } in
-        let outside' : Outside = record { repo = R.seen repo.new; store = S.seen store.new; source = A.seen artifact.new } in
-        let before : Environment = record { inputs = I.seen inputs.old; outside = outside } in
-        let after : Environment = record { inputs = I.seen inputs.new; outside = outside' } in
-        after ≡ before) }
-{
-    if is_generate(words) {
-        return run_generate(alloc, words, out);
-    }
-    run_verify(alloc, words, clock, inputs, repo, store, artifact, out)
 }

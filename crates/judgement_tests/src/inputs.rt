@@ -39,10 +39,10 @@ fn name<X: AllocGlobal + Abort>(rt: &X, fault: &str) -> String {
 
 fn name_of_stop<X: AllocGlobal + Abort>(rt: &X, fault: &str) -> String {
     match fault {
-        "Stop::Words" => display(rt, Stop::Words),
-        "Stop::Malformed" => display(rt, Stop::Malformed(Which::Policy)),
-        "Stop::Input" => display(rt, Stop::Input(Which::Root)),
-        "Stop::Memory" => display(rt, Stop::Memory),
+        "CommandStop::Words" => display(rt, CommandStop::Words),
+        "CommandStop::Malformed" => display(rt, CommandStop::Malformed(InputFile::Policy)),
+        "CommandStop::Input" => display(rt, CommandStop::Input(InputFile::Root)),
+        "CommandStop::Memory" => display(rt, CommandStop::Memory),
         _ => display(rt, SinkFault::Failed),
     }
 }
@@ -53,10 +53,10 @@ InputFault::TooLong | TooLong
 InputFault::NoMemory | NoMemory
 UsageFault::Usage | Usage
 UsageFault::NoMemory | NoMemory
-Stop::Words | Words
-Stop::Malformed | Malformed
-Stop::Input | Input
-Stop::Memory | Memory
+CommandStop::Words | Words
+CommandStop::Malformed | Malformed
+CommandStop::Input | Input
+CommandStop::Memory | Memory
 SinkFault::Failed | Failed";
 
 const WHOLE: &str =
@@ -465,12 +465,12 @@ fn taken<X: AllocGlobal + Abort>(rt: &X, row: &str) -> String {
 const TAKEN: &str = r#"hello hello |  | Ok(()) Err(Failed) "hellohe"
 hello | 1 | Err(Failed) """#;
 
-fn which(name: &str) -> Which {
+fn which(name: &str) -> InputFile {
     match name {
-        "Root" => Which::Root,
-        "Bundle" => Which::Bundle,
-        "Policy" => Which::Policy,
-        _ => Which::Provider,
+        "Root" => InputFile::Root,
+        "Bundle" => InputFile::Bundle,
+        "Policy" => InputFile::Policy,
+        _ => InputFile::Provider,
     }
 }
 
@@ -589,7 +589,7 @@ fn parts_of_the_program(rt: HostRuntime) {
 #[test]
 fn inputs_in_memory(rt: HostRuntime) {
     let mut inputs = MemoryInputs::new(failures(&rt, "4"));
-    inputs.put(Which::Root, bytes(&rt, b"hello"));
+    inputs.put(InputFile::Root, bytes(&rt, b"hello"));
     read_all(&rt, &mut inputs, MEMORY);
     drop(inputs);
     let mut gathered = MemoryInputs::new(failures(&rt, ""));

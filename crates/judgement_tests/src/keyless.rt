@@ -120,7 +120,7 @@ fn read<X: AllocGlobal + Abort, P: Policy>(
     drop(source);
     match kept {
         Ok(kept) => {
-            let Kept { result, digests } = kept;
+            let JudgedBundle { result, digests } = kept;
             drop(digests);
             Ok(result)
         }

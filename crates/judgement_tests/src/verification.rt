@@ -352,7 +352,7 @@ const UNCHANGED: Change = Change {
     text: "",
 };
 
-fn kept<X: AllocGlobal + Abort>(rt: &X) -> Kept {
+fn kept<X: AllocGlobal + Abort>(rt: &X) -> JudgedBundle {
     let mut source = source(rt, "hello", 2, "");
     let (policy, bundle) = (policy(rt, UNCHANGED), bundle(rt, UNCHANGED));
     let trust = no_trust(rt);
@@ -368,7 +368,7 @@ fn kept<X: AllocGlobal + Abort>(rt: &X) -> Kept {
 
 // The number of digests, the algorithm of the first one, whether its bytes are those of `hello`, and
 // whether a copy equals it.
-fn digests_shown<X: AllocGlobal + Abort>(rt: &X, kept: &Kept) -> String {
+fn digests_shown<X: AllocGlobal + Abort>(rt: &X, kept: &JudgedBundle) -> String {
     let digests = kept.digests.as_slice();
     let digest = there(rt, digests.first());
     let (count, algorithm) = (digests.len(), digest.algorithm());

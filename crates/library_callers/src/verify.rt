@@ -3,7 +3,7 @@ use jiff::Timestamp;
 use sigstore_keys::{ArtifactSource, CryptoProvider};
 use sigstore_tuf::{MetadataStore, Repository, UpdaterConfig};
 use sigstore_types_parts::{Armor, DerPublicKey};
-use sigstore_verify::{PublicKeyVerificationPolicy, RootFault, Rooted, verify_from_root};
+use sigstore_verify::{Acceptance, PublicKeyVerificationPolicy, RootFault, verify_from_root};
 use std::alloc::Global;
 
 /// Verifies a release's bundle from a pinned root, under the key of the one who releases.
@@ -24,7 +24,7 @@ pub fn verify_release<
     bundle: &[u8],
     artifact: &mut A,
     key: DerPublicKey,
-) -> Result<Rooted, RootFault> {
+) -> Result<Acceptance, RootFault> {
     let policy = PublicKeyVerificationPolicy::new(key).skip_tlog_unsafe();
     let limits = UpdaterConfig::default();
     let longest = 1_000_000_000;

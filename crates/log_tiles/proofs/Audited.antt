@@ -16,8 +16,8 @@ use Rattle.log_tiles.specs.Proving.{IsProof, Serves, Gives}
 use Rattle.log_tiles.specs.Auditing.{or_refusal, checkpoint_as, pair_of, pair_signed, signed_pair, IsOfTiles, AreJoined}
 use Rattle.log_tiles.specs.Auditing.{GrowthCause, AuditCause, OfSigned, Audits, AreOfTree}
 use Rattle.log_tiles.specs.Joining.{SignedCause}
-use Rattle.log_tiles.specs.declared.error.Which.{Which}
-use Rattle.log_tiles.specs.declared.error.Which.TheVariants.{First, Second}
+use Rattle.log_tiles.specs.declared.error.WhichTree.{WhichTree}
+use Rattle.log_tiles.specs.declared.error.WhichTree.TheVariants.{First, Second}
 use Rattle.log_tiles.specs.declared.error.TileError.{TileError}
 use Rattle.log_tiles.specs.declared.error.TileError.TheVariants as refusal
 
@@ -102,7 +102,7 @@ of_tree older newer leaves hashes old new of s tiles =
     let is = told_is old.told leaves _ s.told tiles s.held in
     rw (of.older_root, of.newer_root) is.accepted.roots
 
-root_fault : (given : Roots) (a b computed : List ℕ) (which : Which) → Some given ≡ Some (a, b) → RootFault a b given which computed → ⊥
+root_fault : (given : Roots) (a b computed : List ℕ) (which : WhichTree) → Some given ≡ Some (a, b) → RootFault a b given which computed → ⊥
 root_fault given a b computed First e fault =
     let parts = some_pair_parts given.0 a given.1 b e in
     fault.1 (fault.0 ∙ parts.0)

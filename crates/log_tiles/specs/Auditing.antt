@@ -12,8 +12,8 @@ use Rattle.log_tiles.specs.Whole.{tree_hash}
 use Rattle.log_tiles.specs.Fault.{ConsistencyFault}
 use Rattle.log_tiles.specs.Source.{Leaves}
 use Rattle.log_tiles.specs.Proving.{IsProof, ProofCause}
-use Rattle.log_tiles.specs.declared.error.Which.{Which}
-use Rattle.log_tiles.specs.declared.error.Which.TheVariants.{First, Second}
+use Rattle.log_tiles.specs.declared.error.WhichTree.{WhichTree}
+use Rattle.log_tiles.specs.declared.error.WhichTree.TheVariants.{First, Second}
 use Rattle.log_tiles.specs.declared.error.TileError.{TileError}
 use Rattle.log_tiles.specs.declared.error.TileError.TheVariants as refusal
 
@@ -25,7 +25,7 @@ or_refusal (Ok value) e = Ok value
 or_refusal (Err cause) e = Err e
 
 -- the checkpoint that a text is
-abbrev pub checkpoint_as : Which → List ℕ → Result Checkpoint TileError
+abbrev pub checkpoint_as : WhichTree → List ℕ → Result Checkpoint TileError
 checkpoint_as which text = or_refusal (checkpoint_of text) (refusal.Checkpoint which)
 
 -- both checkpoints
@@ -36,7 +36,7 @@ pair_of first second = do
   Ok (older, newer)
 
 -- a checkpoint is signed under the key
-abbrev pub signed_as : Judge → List ℕ → Which → Checkpoint → Result ⊤ TileError
+abbrev pub signed_as : Judge → List ℕ → WhichTree → Checkpoint → Result ⊤ TileError
 signed_as accepts key which checkpoint = or_refusal (verified_of accepts key checkpoint) (refusal.Signature which)
 
 -- the key is read, and both checkpoints are signed under it

@@ -3,8 +3,8 @@ use Rattle.std.specs.Prelude.{◌≡◌, ◌≢◌, ℕ, true, List, Some, None}
 use Rattle.log_tiles.specs.Consistency.{AreSizes, roots_from}
 use Rattle.log_tiles.specs.declared.error.TileError.{TileError}
 use Rattle.log_tiles.specs.declared.error.TileError.TheVariants.{Sizes, PathLength, RootMismatch}
-use Rattle.log_tiles.specs.declared.error.Which.{Which}
-use Rattle.log_tiles.specs.declared.error.Which.TheVariants.{First, Second}
+use Rattle.log_tiles.specs.declared.error.WhichTree.{WhichTree}
+use Rattle.log_tiles.specs.declared.error.WhichTree.TheVariants.{First, Second}
 
 -- between these sizes there is no proof; the error tells both
 pub record SizesFault (first second a b : ℕ) : Type 0 where
@@ -13,7 +13,7 @@ pub record SizesFault (first second a b : ℕ) : Type 0 where
   pub second_told : b ≡ second
 
 -- the proof gives another root for one of the trees; the older tree is judged first
-abbrev pub RootFault : List ℕ → List ℕ → List ℕ × List ℕ → Which → List ℕ → Type 0
+abbrev pub RootFault : List ℕ → List ℕ → List ℕ × List ℕ → WhichTree → List ℕ → Type 0
 RootFault first_root second_root given First computed = (computed ≡ given.0) × (computed ≢ first_root)
 RootFault first_root second_root given Second computed = (given.0 ≡ first_root) × (computed ≡ given.1) × (computed ≢ second_root)
 

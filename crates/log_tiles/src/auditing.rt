@@ -8,7 +8,7 @@ ghost use Rattle.log_tiles.specs.Auditing.{or_refusal, checkpoint_as, pair_of, s
 ghost use Rattle.log_tiles.specs.Joining.{Joins, JoinsSigned};
 ghost use Rattle.log_tiles.specs.declared.error.TileError.TheVariants as refusal;
 
-use crate::error::{TileError, Which};
+use crate::error::{TileError, WhichTree};
 use crate::judge::verify_consistency;
 use crate::proving::consistency;
 use crate::source::TileSource;
@@ -19,7 +19,7 @@ use sigstore_types_parts::{DerPublicKey, Sha256Hash, TypesError};
 use std::alloc::Global;
 
 // The checkpoint that a text is.
-fn read_as(alloc: Global, which: Which, text: &[u8]) -> Result<Checkpoint, TileError>
+fn read_as(alloc: Global, which: WhichTree, text: &[u8]) -> Result<Checkpoint, TileError>
     ensures ok { IfOk result (λ checkpoint. checkpoint_as which text.now ≡ Ok checkpoint) }
     ensures err { IfErr result (λ e. e ≢ refusal.NoMemory → checkpoint_as which text.now ≡ Err e) }
 {
@@ -40,8 +40,8 @@ fn read_pair(
     ensures ok { IfOk result (λ pair. pair_of first.now second.now ≡ Ok (pair.0, pair.1)) }
     ensures err { IfErr result (λ e. e ≢ refusal.NoMemory → pair_of first.now second.now ≡ Err e) }
 {
-    let older = read_as(alloc, Which::First, first)?;
-    let newer = read_as(alloc, Which::Second, second)?;
+    let older = read_as(alloc, WhichTree::First, first)?;
+    let newer = read_as(alloc, WhichTree::Second, second)?;
     Ok((older, newer))
 }
 
@@ -62,7 +62,7 @@ fn check_signed<C: CryptoProvider>(
     alloc: Global,
     provider: &C,
     key: &DerPublicKey,
-    which: Which,
+    which: WhichTree,
     checkpoint: &Checkpoint,
 ) -> Result<(), TileError>
     ensures ok { IfOk result (λ x. signed_as (C.accepts provider.now) key.now which checkpoint.now ≡ Ok x) }
@@ -88,8 +88,8 @@ fn check_pair<C: CryptoProvider>(
     ensures err { IfErr result (λ e. e ≢ refusal.NoMemory → pair_signed (C.accepts provider.now) key.now older.now newer.now ≡ Err e) }
 {
     let _ = read_key(alloc, key)?;
-    check_signed(alloc, provider, key, Which::First, older)?;
-    check_signed(alloc, provider, key, Which::Second, newer)?;
+    check_signed(alloc, provider, key, WhichTree::First, older)?;
+    check_signed(alloc, provider, key, WhichTree::Second, newer)?;
     Ok(())
 }
 

@@ -9,7 +9,7 @@ use std::{error, fmt};
 
 /// One of two trees, or of two checkpoints.
 #[derive(Clone, Copy, Debug, PartialEq, Eq, Drop)]
-pub enum Which {
+pub enum WhichTree {
     /// The older one.
     First,
     /// The newer one.
@@ -20,23 +20,39 @@ pub enum Which {
 #[derive(Debug, PartialEq, Eq, Drop)]
 pub enum TileError {
     /// Between these sizes there is no proof.
-    Sizes { first: u64, second: u64 },
+    Sizes {
+        first: u64,
+        second: u64,
+    },
     /// The source hasn't this tile, whose leaves are in the tree.
-    TileAbsent { level: u32, index: u64 },
+    TileAbsent {
+        level: u32,
+        index: u64,
+    },
     /// A tile couldn't be read.
     TileFailed,
     /// A tile has another number of octets than 32 for each of its hashes.
-    TileLength { expected: u64, actual: u64 },
+    TileLength {
+        expected: u64,
+        actual: u64,
+    },
     /// A text is no checkpoint.
-    Checkpoint { which: Which },
+    Checkpoint {
+        which: WhichTree,
+    },
     /// A checkpoint isn't signed under the key.
-    Signature { which: Which },
+    Signature {
+        which: WhichTree,
+    },
     /// The key isn't read.
     Key,
     /// Between these sizes a proof has another number of hashes.
     PathLength,
     /// The proof gives another root for this tree, namely this one.
-    RootMismatch { which: Which, computed: Sha256Hash },
+    RootMismatch {
+        which: WhichTree,
+        computed: Sha256Hash,
+    },
     /// An allocation was refused.
     NoMemory,
 }

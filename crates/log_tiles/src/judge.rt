@@ -3,7 +3,7 @@ ghost use Rattle.std.specs.Prelude.{◌≡◌, ◌<◌, ◌≤◌, ◌↔◌, Is
 ghost use Rattle.log_tiles.specs.Consistency.{roots_from, roots_alike, with_left, with_right, AreConsistent, AreSizes};
 ghost use Rattle.log_tiles.specs.Fault.{ConsistencyFault};
 
-use crate::error::{TileError, Which};
+use crate::error::{TileError, WhichTree};
 use crate::split::split;
 use crate::whole::copied;
 use sigstore_merkle::hash_node;
@@ -98,13 +98,13 @@ pub fn verify_consistency(
     };
     if older != *first_root {
         return Err(TileError::RootMismatch {
-            which: Which::First,
+            which: WhichTree::First,
             computed: older,
         });
     }
     if newer != *second_root {
         return Err(TileError::RootMismatch {
-            which: Which::Second,
+            which: WhichTree::Second,
             computed: newer,
         });
     }

@@ -20,7 +20,7 @@ mod whole;
 
 pub use auditing::audit;
 pub use compare::{Compared, compare_trees};
-pub use error::{TileError, Which};
+pub use error::{TileError, WhichTree};
 pub use file_tiles::FileTiles;
 pub use judge::verify_consistency;
 pub use memory_tiles::MemoryTiles;

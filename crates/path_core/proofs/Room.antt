@@ -5,7 +5,7 @@ use Rattle.std.proofs.lemmas.Bool.{eqb-true, le-leb}
 use Rattle.std.proofs.lemmas.Bool.Decides.{nat_tests}
 use Rattle.der_core.specs.Unsigned.{without_zeros}
 use Rattle.der_numbers.specs.Numbers.{number_from}
-use Rattle.path_core.specs.Authority.{is_room}
+use Rattle.path_core.specs.CaConstraint.{is_room}
 
 first_again : (a b : ℕ) (more : List ℕ) (t : Bool) → eqb a 0 ≡ t → number_from 0 (without_zeros (b ∷ more)) ≡ number_from 0 (b ∷ more)
     → number_from 0 (cond t (without_zeros (b ∷ more)) (a ∷ b ∷ more)) ≡ number_from 0 (a ∷ b ∷ more)

@@ -1,5 +1,5 @@
 pub mod Anchors
-pub mod Authority
+pub mod CaConstraint
 pub mod Error
 pub mod Extensions
 pub mod Judged

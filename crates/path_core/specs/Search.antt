@@ -4,7 +4,7 @@ use Rattle.std.specs.Prelude.{List, [], ◌∷◌, ◌++◌, length, slice_get, 
 use Rattle.std.specs.List.{list_any}
 use Rattle.std.specs.Option.{option_map, option_or, option_map_or}
 use Rattle.sigstore_keys.specs.Good.{Judge}
-use Rattle.path_core.specs.declared.given.Given.{Given}
+use Rattle.path_core.specs.declared.given.PathInputs.{PathInputs}
 use Rattle.path_core.specs.declared.route.Route.{Route}
 use Rattle.path_core.specs.declared.way.Way.{Way}
 use Rattle.path_core.specs.Anchors.{opens}
@@ -12,7 +12,7 @@ use Rattle.path_core.specs.Links.{links}
 use Rattle.path_core.specs.Paths.{Encoding, Setting}
 use Rattle.path_core.specs.Traits.{fits}
 
-abbrev pub setting_of : {C : Type 0} → (C → Judge) → Given C → Setting
+abbrev pub setting_of : {C : Type 0} → (C → Judge) → PathInputs C → Setting
 setting_of accepts given = record {
   accepts = accepts given.provider.now;
   purpose = given.purpose;

@@ -6,15 +6,14 @@ use Rattle.x509_views.specs.Certificates.{Certificate, certificate_of}
 use Rattle.spki_core.specs.Reading.{Reading}
 use Rattle.sigstore_types_parts.specs.declared.time_range.TimeRange.{TimeRange}
 use Rattle.sigstore_types_parts.specs.TimeRange.{contains}
-use Rattle.certificate_claims.specs.Claims.{value_of}
-use Rattle.certificate_claims.specs.Info.{extensions_of, moment_of}
-use Rattle.path_core.specs.declared.authority.Authority.{Authority}
+use Rattle.certificate_fields.specs.Fields.{value_of, extensions_of, moment_of}
+use Rattle.path_core.specs.declared.authority.CaConstraint.{CaConstraint}
 use Rattle.path_core.specs.declared.error.LeafFault.{LeafFault}
 use Rattle.path_core.specs.declared.error.LeafFault.TheVariants as fault
 use Rattle.path_core.specs.declared.purpose.Purpose.{Purpose}
 use Rattle.path_core.specs.declared.traits.Traits.{Traits}
 use Rattle.path_core.specs.declared.usage.Usage.{Usage}
-use Rattle.path_core.specs.Authority.{authority_in, stands_above, is_no_ca}
+use Rattle.path_core.specs.CaConstraint.{authority_in, stands_above, is_no_ca}
 use Rattle.path_core.specs.Extensions.{extension_oid, has_unknown_critical}
 use Rattle.path_core.specs.Usage.{usage_in, has_purpose, allows_purpose}
 
@@ -29,7 +28,7 @@ unfoldable pub constrains_names : Certificate → Bool
 constrains_names c = is_some (value_of (extension_oid 30) (extensions_of c))
 
 -- id-ce-basicConstraints, 2.5.29.19
-unfoldable pub authority_by : Certificate → Authority
+unfoldable pub authority_by : Certificate → CaConstraint
 authority_by c = authority_in (value_of (extension_oid 19) (extensions_of c))
 
 -- id-ce-extKeyUsage, 2.5.29.37
@@ -55,7 +54,7 @@ of_third_version version = if version == 2 then Ok tt else Err fault.Version
 abbrev pub without_unknown : Bool → Result ⊤ LeafFault
 without_unknown unknown = if unknown then Err fault.CriticalExtension else Ok tt
 
-abbrev pub of_no_ca : Authority → Result ⊤ LeafFault
+abbrev pub of_no_ca : CaConstraint → Result ⊤ LeafFault
 of_no_ca authority = if is_no_ca authority then Ok tt else Err fault.IsCa
 
 abbrev pub for_purpose : Purpose → Usage → Result ⊤ LeafFault

@@ -1,6 +1,6 @@
 // Whether a certificate may issue others.
 ghost use Rattle.std.specs.Prelude.{◌≡◌, IfOk, option_copied};
-ghost use Rattle.path_core.specs.Authority.{authority_of, authority_in, is_room, stands_above, is_no_ca};
+ghost use Rattle.path_core.specs.CaConstraint.{authority_of, authority_in, is_room, stands_above, is_no_ca};
 
 use crate::basic_constraints::BasicConstraints;
 use der_core::{Der, DerError, Uint};
@@ -9,7 +9,7 @@ use std::alloc::Global;
 
 /// What basic constraints (RFC 5280, 4.2.1.9) say of a certificate.
 #[derive(Drop)]
-pub(crate) enum Authority {
+pub(crate) enum CaConstraint {
     /// It may not issue certificates: they say so, or are left out.
     NotCa,
     /// It may, with so many intermediates below it, or any number.
@@ -18,28 +18,28 @@ pub(crate) enum Authority {
     Unreadable,
 }
 
-fn said(constraints: BasicConstraints) -> Authority
+fn said(constraints: BasicConstraints) -> CaConstraint
     ensures { result ≡ authority_of constraints }
 {
     let BasicConstraints { ca, path_length } = constraints;
     if ca {
-        Authority::Ca(path_length)
+        CaConstraint::Ca(path_length)
     } else {
-        Authority::NotCa
+        CaConstraint::NotCa
     }
 }
 
 /// What the value of the extension says, where it is there.
-pub(crate) fn read_authority(alloc: Global, value: Option<&[u8]>) -> Result<Authority, NoMemory>
+pub(crate) fn read_authority(alloc: Global, value: Option<&[u8]>) -> Result<CaConstraint, NoMemory>
     ensures { IfOk result (λ authority. authority ≡ authority_in (option_copied value.entry)) }
 {
     let Some(value) = value else {
-        return Ok(Authority::NotCa);
+        return Ok(CaConstraint::NotCa);
     };
     match BasicConstraints::from_der(alloc, value) {
         Ok(constraints) => Ok(said(constraints)),
         Err(DerError::NoMemory) => Err(NoMemory),
-        Err(_) => Ok(Authority::Unreadable),
+        Err(_) => Ok(CaConstraint::Unreadable),
     }
 }
 
@@ -55,17 +55,17 @@ fn is_room(below: u8, path_length: &Uint) -> bool
     }
 }
 
-impl Authority {
+impl CaConstraint {
     /// Whether it may issue certificates above so many intermediates. Without this check whoever holds
     /// a leaf could issue others, and an issuer could hand on more than it was given.
     pub(crate) fn stands_above(&self, below: u8) -> bool
         ensures { result ≡ stands_above below self.now }
     {
         match self {
-            Authority::NotCa => false,
-            Authority::Ca(None) => true,
-            Authority::Ca(Some(path_length)) => is_room(below, path_length),
-            Authority::Unreadable => false,
+            CaConstraint::NotCa => false,
+            CaConstraint::Ca(None) => true,
+            CaConstraint::Ca(Some(path_length)) => is_room(below, path_length),
+            CaConstraint::Unreadable => false,
         }
     }
 
@@ -74,9 +74,9 @@ impl Authority {
         ensures { result ≡ is_no_ca self.now }
     {
         match self {
-            Authority::NotCa => true,
-            Authority::Ca(_) => false,
-            Authority::Unreadable => false,
+            CaConstraint::NotCa => true,
+            CaConstraint::Ca(_) => false,
+            CaConstraint::Unreadable => false,
         }
     }
 }

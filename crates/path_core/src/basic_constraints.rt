@@ -1,5 +1,5 @@
 // Basic constraints.
-ghost use Rattle.path_core.specs.Authority.{basic_constraints_type};
+ghost use Rattle.path_core.specs.CaConstraint.{basic_constraints_type};
 
 use der_core::{
     Der, DerError, OctetString, Reader, Tag, Uint, append_default, append_optional, read_default,

@@ -13,7 +13,7 @@ ghost use Rattle.path_core.specs.Traits.{leaf_of};
 
 use crate::anchor::Anchor;
 use crate::error::PathError;
-use crate::given::Given;
+use crate::given::PathInputs;
 use crate::judgements::Judgements;
 use crate::level::{Level, first_end, next_level};
 use crate::purpose::Purpose;
@@ -43,7 +43,7 @@ fn first_level(alloc: Global, positions: usize) -> Result<Level, NoMemory>
 // The search, over judgements that are kept.
 fn search<C: CryptoProvider>(
     alloc: Global,
-    given: &Given<C>,
+    given: &PathInputs<C>,
     made: &mut Judgements,
 ) -> Result<Route, PathError>
     requires right { AreRight (setting_of C.accepts given.now) made.old }
@@ -67,7 +67,7 @@ fn search<C: CryptoProvider>(
 }
 
 // The first intermediate of a route, or else its anchor.
-fn issuer<'a, C: CryptoProvider>(given: &Given<'a, C>, route: &Route) -> Option<&'a Seen<'a>>
+fn issuer<'a, C: CryptoProvider>(given: &PathInputs<'a, C>, route: &Route) -> Option<&'a Seen<'a>>
     ensures { option_copied result ≡ follows_leaf (setting_of C.accepts given.now) route.now.positions route.now.anchor }
 {
     match route.positions.as_slice() {
@@ -82,7 +82,7 @@ fn issuer<'a, C: CryptoProvider>(given: &Given<'a, C>, route: &Route) -> Option<
 // The key of the certificate that follows the leaf.
 fn issuer_spki<C: CryptoProvider>(
     alloc: Global,
-    given: &Given<C>,
+    given: &PathInputs<C>,
     route: &Route,
 ) -> Result<Bytes, NoMemory>
     ensures { IfOk result (λ key. key ≡ spki_at (follows_leaf (setting_of C.accepts given.now) route.now.positions route.now.anchor)) }
@@ -96,7 +96,7 @@ fn issuer_spki<C: CryptoProvider>(
 // The path of a route.
 fn found<C: CryptoProvider>(
     alloc: Global,
-    given: &Given<C>,
+    given: &PathInputs<C>,
     route: Route,
 ) -> Result<FoundPath, PathError>
     requires first { First (setting_of C.accepts given.now) route }
@@ -115,7 +115,7 @@ fn found<C: CryptoProvider>(
 // The search from no judgement on.
 fn search_anew<C: CryptoProvider>(
     alloc: Global,
-    given: &Given<C>,
+    given: &PathInputs<C>,
     steps: &mut Steps,
 ) -> Result<Route, PathError>
     requires leaf { leaf_of given.now.purpose given.now.leaf.now ≡ Ok tt }
@@ -161,7 +161,7 @@ fn seek<C: CryptoProvider>(
     check_leaf(&leaf, purpose)?;
     let intermediates = read_each(alloc, intermediates)?;
     let anchors = read_anchors(alloc, anchors)?;
-    let given = Given {
+    let given = PathInputs {
         provider,
         leaf: &leaf,
         intermediates: intermediates.as_slice(),

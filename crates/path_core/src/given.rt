@@ -9,7 +9,7 @@ use sigstore_keys::CryptoProvider;
 
 /// What a search is given, by reference.
 #[derive(Drop)]
-pub(crate) struct Given<'a, C> {
+pub(crate) struct PathInputs<'a, C> {
     pub(crate) provider: &'a C,
     pub(crate) leaf: &'a Seen<'a>,
     pub(crate) intermediates: &'a [Seen<'a>],
@@ -19,7 +19,10 @@ pub(crate) struct Given<'a, C> {
 }
 
 /// The certificate of a source: an intermediate by its position, or the leaf.
-pub(crate) fn source_of<'a, C: CryptoProvider>(given: &Given<'a, C>, place: usize) -> &'a Seen<'a>
+pub(crate) fn source_of<'a, C: CryptoProvider>(
+    given: &PathInputs<'a, C>,
+    place: usize,
+) -> &'a Seen<'a>
     ensures { result.now ≡ source_at (setting_of C.accepts given.now) place }
 {
     if place < given.intermediates.len() {
@@ -30,7 +33,10 @@ pub(crate) fn source_of<'a, C: CryptoProvider>(given: &Given<'a, C>, place: usiz
 }
 
 /// The certificate of a target: an intermediate by its position, and then an anchor.
-pub(crate) fn target_of<'a, C: CryptoProvider>(given: &Given<'a, C>, place: usize) -> &'a Seen<'a>
+pub(crate) fn target_of<'a, C: CryptoProvider>(
+    given: &PathInputs<'a, C>,
+    place: usize,
+) -> &'a Seen<'a>
     requires { place < length given.now.intermediates.now + length given.now.anchors.now }
     ensures { result.now ≡ target_at (setting_of C.accepts given.now) place }
 {

@@ -5,7 +5,7 @@ ghost use Rattle.std.specs.BTreeMap.{get, IsEmpty};
 ghost use Rattle.path_core.specs.Search.{setting_of, judgement};
 ghost use Rattle.path_core.specs.Judged.{width_of, AreRight, Keeps};
 
-use crate::given::{Given, source_of, target_of};
+use crate::given::{PathInputs, source_of, target_of};
 use crate::link::is_linked;
 use crate::steps::Steps;
 use foundation::NoMemory;
@@ -34,7 +34,7 @@ impl Judgements {
 }
 
 // The place of a pair in the table.
-fn place_of<C: CryptoProvider>(given: &Given<C>, source: usize, target: usize) -> u128
+fn place_of<C: CryptoProvider>(given: &PathInputs<C>, source: usize, target: usize) -> u128
     requires { source ≤ length given.now.intermediates.now }
     ensures { result ≡ source * width_of (setting_of C.accepts given.now) + target }
 {
@@ -45,7 +45,7 @@ fn place_of<C: CryptoProvider>(given: &Given<C>, source: usize, target: usize) -
 // Judges a pair for the first time: the one place where a link is judged, and one step each time.
 fn judge_pair<C: CryptoProvider>(
     made: &mut Judgements,
-    given: &Given<C>,
+    given: &PathInputs<C>,
     place: u128,
     source: usize,
     target: usize,
@@ -74,7 +74,7 @@ fn judge_pair<C: CryptoProvider>(
 /// Whether the target follows the source; each pair is judged once.
 pub(crate) fn is_link<C: CryptoProvider>(
     made: &mut Judgements,
-    given: &Given<C>,
+    given: &PathInputs<C>,
     source: usize,
     target: usize,
 ) -> Result<bool, NoMemory>

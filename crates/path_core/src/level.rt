@@ -5,7 +5,7 @@ ghost use Rattle.path_core.specs.Search.{setting_of, goes, ends, over, over_ways
 ghost use Rattle.path_core.specs.Judged.{AreRight, Keeps};
 ghost use Rattle.path_core.specs.Level.{IsLevel, Adds};
 
-use crate::given::Given;
+use crate::given::PathInputs;
 use crate::judgements::{Judgements, is_link};
 use crate::route::Route;
 use crate::way::Way;
@@ -36,7 +36,7 @@ impl Level {
 // Whether the anchor at a position is open and follows the source.
 fn is_end<C: CryptoProvider>(
     made: &mut Judgements,
-    given: &Given<C>,
+    given: &PathInputs<C>,
     source: usize,
     a: usize,
 ) -> Result<bool, NoMemory>
@@ -55,7 +55,7 @@ fn is_end<C: CryptoProvider>(
 // Whether the intermediate at a position follows the source and may stand above so many others.
 fn is_next<C: CryptoProvider>(
     made: &mut Judgements,
-    given: &Given<C>,
+    given: &PathInputs<C>,
     below: u8,
     source: usize,
     position: usize,
@@ -75,7 +75,7 @@ fn is_next<C: CryptoProvider>(
 // The path that ends the way at the first anchor that it can.
 fn first_anchor<C: CryptoProvider>(
     alloc: Global,
-    given: &Given<C>,
+    given: &PathInputs<C>,
     made: &mut Judgements,
     way: &Way,
 ) -> Result<Option<Route>, NoMemory>
@@ -98,7 +98,7 @@ fn first_anchor<C: CryptoProvider>(
 /// The path of the first way that can end at an anchor.
 pub(crate) fn first_end<C: CryptoProvider>(
     alloc: Global,
-    given: &Given<C>,
+    given: &PathInputs<C>,
     made: &mut Judgements,
     level: &Level,
 ) -> Result<Option<Route>, NoMemory>
@@ -130,7 +130,7 @@ pub(crate) fn longer(alloc: Global, way: &Way, position: usize) -> Result<Way, N
 // Adds the way over a position to the next level, if it leads there and no earlier one does.
 fn add_over<C: CryptoProvider>(
     alloc: Global,
-    given: &Given<C>,
+    given: &PathInputs<C>,
     made: &mut Judgements,
     next: &mut Level,
     below: u8,
@@ -158,7 +158,7 @@ fn add_over<C: CryptoProvider>(
 // Adds each way that is one longer to the next level, unless an earlier one ends there.
 fn add_all<C: CryptoProvider>(
     alloc: Global,
-    given: &Given<C>,
+    given: &PathInputs<C>,
     made: &mut Judgements,
     next: &mut Level,
     below: u8,
@@ -180,7 +180,7 @@ fn add_all<C: CryptoProvider>(
 /// The ways that are one longer, the first to each position.
 pub(crate) fn next_level<C: CryptoProvider>(
     alloc: Global,
-    given: &Given<C>,
+    given: &PathInputs<C>,
     made: &mut Judgements,
     below: u8,
     level: &Level,

@@ -1,16 +1,14 @@
 // What a certificate says of its use.
 ghost use Rattle.std.specs.Prelude.{◌≡◌, Ok, Err, IfOk, is_some, option_copied};
 ghost use Rattle.x509_views.specs.Views.{certificate_parts};
-ghost use Rattle.certificate_claims.specs.Info.{moment_of};
 ghost use Rattle.path_core.specs.Traits.{window_of, constrains_names, traits_of, of_third_version, without_unknown, of_no_ca, for_purpose, leaf_judged, issues};
 
-use crate::authority::{Authority, read_authority};
+use crate::authority::{CaConstraint, read_authority};
 use crate::error::LeafFault;
 use crate::extensions::has_unknown_critical;
 use crate::purpose::Purpose;
 use crate::usage::{Usage, read_usage};
-use certificate_claims::extension_value;
-use der_core::Civil;
+use certificate_fields::{extension_value, moment};
 use foundation::NoMemory;
 use jiff::Timestamp;
 use sigstore_types_parts::TimeRange;
@@ -24,16 +22,9 @@ pub(crate) struct Traits {
     pub(crate) version: u8,
     pub(crate) window: TimeRange,
     pub(crate) unknown_critical: bool,
-    pub(crate) authority: Authority,
+    pub(crate) authority: CaConstraint,
     pub(crate) usage: Usage,
     pub(crate) name_constraints: bool,
-}
-
-#[tactic(auto, unfolding(certificate_claims::specs::Info::moment_of))]
-fn moment(civil: &Civil) -> Timestamp
-    ensures { result ≡ moment_of civil.now }
-{
-    civil.moment()
 }
 
 fn window(certificate: &CertView) -> TimeRange
@@ -95,7 +86,7 @@ fn check_extensions(unknown_critical: bool) -> Result<(), LeafFault>
 }
 
 // Else an issuer's key, which is kept for issuing, would sign artifacts and tokens too.
-fn check_no_ca(authority: &Authority) -> Result<(), LeafFault>
+fn check_no_ca(authority: &CaConstraint) -> Result<(), LeafFault>
     ensures { result ≡ of_no_ca authority.now }
 {
     if authority.is_no_ca() {

@@ -1,8 +1,12 @@
 //! The real objects of a program: its words, its clock, and the files and folders that a layout names.
 #![tactic(auto)]
 
+mod audit;
 mod command;
+mod gate;
 mod objects;
 
+pub use audit::{AuditObjects, audit_objects_at};
 pub use command::{clock_of, told_or_latest, words_of};
+pub use gate::{GateObjects, gate_objects_at};
 pub use objects::{Objects, objects_at};

@@ -54,6 +54,7 @@ pub fn objects_at<X: Runtime + AllocGlobal>(rt: &X, layout: Option<Layout>) -> O
     ensures provider { IfSome layout (λ l. result.inputs.provider ≡ l.provider) }
     ensures repository { IfSome layout (λ l. result.repository.dir ≡ l.repository) }
     ensures store { IfSome layout (λ l. result.store.dir ≡ l.store) }
+    ensures artifact { IfSome layout (λ l. result.artifact.path ≡ l.artifact) }
 {
     let Layout {
         root,

@@ -4,12 +4,11 @@
 #![tactic(auto)]
 
 use command_files::{Layout, read_asked_layout, read_layout};
-use command_gate::{GateLayout, GateObjects, asked_gate_layout, gate_objects_at};
-use command_questions::{LastAsked, ReadingStore, run_details, run_questions};
+use command_gate::{GateLayout, asked_gate_layout};
+use command_questions::{LastAsked, ReadingStore, run_details, run_gate_questions, run_questions};
 use command_verify::{Status, exit_code};
 use foundation::NoMemory;
-use gate_questions::run_gate_questions;
-use program_objects::{Objects, clock_of, objects_at, words_of};
+use program_objects::{GateObjects, Objects, clock_of, gate_objects_at, objects_at, words_of};
 use sigstore_types_parts::Text;
 use std::process::ExitCode;
 use std::rt::Runtime;

@@ -1,16 +1,20 @@
 //! Verifies a bundle over an artifact from a pinned TUF root: `verify` and eight options. `gate` judges each artifact
 //! of a folder by its own bundle. `archive` writes the chain of documents to one file, and `check` judges such a file;
-//! `audit` judges whether a log grew. The report, the lines or the refusal go to standard output; the exit status says
-//! which.
+//! `audit` judges whether a log grew; `generate` verifies a workload and counts. The report, the lines or the refusal
+//! go to standard output; the exit status says which.
 #![tactic(auto)]
 
 use command_archive::{ArchiveLayout, archive_layout, run_archive};
-use command_audit::{AuditLayout, AuditObjects, audit_layout, audit_objects_at, run_audit};
-use command_files::read_layout;
-use command_gate::{GateLayout, GateObjects, gate_layout, gate_objects_at, run_gate};
+use command_audit::{AuditLayout, audit_layout, run_audit};
+use command_files::{StdoutSink, read_layout};
+use command_gate::{GateLayout, gate_layout, run_gate};
+use command_generate::{is_generate, run_generate};
 use command_verify::{Status, exit_code, run};
 use foundation::NoMemory;
-use program_objects::{Objects, clock_of, objects_at, words_of};
+use program_objects::{
+    AuditObjects, GateObjects, Objects, audit_objects_at, clock_of, gate_objects_at, objects_at,
+    words_of,
+};
 use sigstore_types_parts::Text;
 use std::process::ExitCode;
 use std::rt::Runtime;
@@ -77,9 +81,17 @@ fn gated<X: Runtime + AllocGlobal>(rt: &X, words: &[Text], layout: GateLayout) -
     )
 }
 
+// Runs `generate`, which goes to standard output alone.
+fn generated<X: Runtime + AllocGlobal>(rt: &X, words: &[Text]) -> Status {
+    run_generate(rt.alloc(), words, &mut StdoutSink::new(rt))
+}
+
 // Runs the program over the real objects that its words name.
 fn status_of<X: Runtime + AllocGlobal>(rt: &X) -> Result<Status, NoMemory> {
     let words = words_of(rt)?;
+    if is_generate(&words) {
+        return Ok(generated(rt, &words));
+    }
     if let Some(layout) = archive_layout(rt.alloc(), &words)? {
         return Ok(archived(rt, &words, layout));
     }

@@ -5,12 +5,12 @@ use Rattle.jiff_core.specs.declared.timestamp.Timestamp as jiff
 use Rattle.sigstore_keys.specs.Good.{Judge}
 use Rattle.command_files.specs.Rows.{AcceptRows, accepts_of}
 use Rattle.sigstore_keys.specs.Crypto.{Crypto}
-use Rattle.sigstore_verify.specs.declared.from_root.Rooted.{Rooted}
+use Rattle.sigstore_verify.specs.declared.from_root.Acceptance.{Acceptance}
 use Rattle.sigstore_verify.specs.declared.from_root.RootFault.{RootFault}
-use Rattle.sigstore_verify.specs.Given.{Outside}
+use Rattle.sigstore_verify.specs.Inputs.{Outside}
 use Rattle.sigstore_verify.specs.Promises.{Promises}
 use Rattle.command_verify.specs.Run.{given_with}
-use Rattle.command_verify.specs.declared.meant.Request.{Request}
+use Rattle.command_verify.specs.declared.meant.VerifyRequest.{VerifyRequest}
 use Rattle.questions_tests.specs.Answered.{AreAnswers, by_answers}
 
 by_cases : (good refused judged : Bool) → (good ≡ true → judged ≡ true) → (refused ≡ true → judged ≡ false)
@@ -30,8 +30,8 @@ module _ (armored : List ℕ → Bool) (key_in certificate_in : List ℕ → Opt
   crypto_with judge = record { accepts = judge; armored = armored; key_in = key_in; certificate_in = certificate_in }
 
   -- what is promised by answers alone is promised under each judge who agrees with them
-  pub promised : (judge : Judge) (good refused : AcceptRows) (request : Request) (now : jiff.Timestamp) (before after : Outside)
-      (result : Result Rooted RootFault)
+  pub promised : (judge : Judge) (good refused : AcceptRows) (request : VerifyRequest) (now : jiff.Timestamp) (before after : Outside)
+      (result : Result Acceptance RootFault)
       → Promises (given_with (crypto_with (by_answers good refused judge)) request now) before after result
       → AreAnswers judge good refused → Promises (given_with (crypto_with judge) request now) before after result
   promised judge good refused request now before after result promises are =

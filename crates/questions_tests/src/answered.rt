@@ -3,18 +3,18 @@
 ghost use Rattle.std.specs.Prelude.{◌≡◌, List, ℕ, Bool};
 ghost use Rattle.sigstore_keys.specs.declared.scheme.SigningScheme.{SigningScheme};
 ghost use Rattle.sigstore_keys.specs.Crypto.{Crypto};
-ghost use Rattle.sigstore_verify.specs.Given.{Outside};
+ghost use Rattle.sigstore_verify.specs.Inputs.{Outside};
 ghost use Rattle.sigstore_verify.specs.Promises.{Promises};
 ghost use Rattle.command_verify.specs.Run.{given_with};
 ghost use Rattle.questions_tests.specs.Answered.{AreAnswers, by_answers};
 
 use command_files::TableProvider;
-use command_verify::{Request, verify_request};
+use command_verify::{VerifyRequest, verify_request};
 use jiff::Timestamp;
 use sigstore_keys::{ArtifactSource, CryptoProvider, SigningScheme, sha256, sha384, sha512};
 use sigstore_tuf::{MetadataStore, Repository};
 use sigstore_types_parts::{Armor, HashAlgorithm};
-use sigstore_verify::{RootFault, Rooted};
+use sigstore_verify::{Acceptance, RootFault};
 use std::alloc::Global;
 use std::marker::PhantomData;
 use std::process::Abort;
@@ -94,7 +94,7 @@ pub(crate) fn verify_by_answers<
     rt: &X,
     judge: PhantomData<J>,
     alloc: Global,
-    request: Request,
+    request: VerifyRequest,
     good: &TableProvider,
     refused: &TableProvider,
     armor: &M,
@@ -102,7 +102,7 @@ pub(crate) fn verify_by_answers<
     repo: &mut R,
     store: &mut S,
     artifact: &mut A,
-) -> Result<Rooted, RootFault>
+) -> Result<Acceptance, RootFault>
     ensures { let crypto : Crypto = record { accepts = J.judges; armored = M.armored armor.now; key_in = M.key_in armor.now; certificate_in = M.certificate_in armor.now } in
         let before : Outside = record { repo = R.seen repo.old; store = S.seen store.old; source = A.seen artifact.old } in
         let after : Outside = record { repo = R.seen repo.new; store = S.seen store.new; source = A.seen artifact.new } in

@@ -2,10 +2,9 @@
 use crate::runs::{NONE, inputs, repository, sink, taken, words};
 use crate::tables::{bytes, check, good, no_failures};
 use crate::world::{BUNDLE, RELEASE, ROWS};
-use command_files::Which;
-use command_questions::ReadingStore;
+use command_files::InputFile;
+use command_questions::{ReadingStore, run_gate_questions};
 use command_verify::Status;
-use gate_questions::run_gate_questions;
 use jiff::Timestamp;
 use release_gate::MemoryFolder;
 use sigstore_tuf::MemoryStore;
@@ -36,7 +35,7 @@ fn folder<X: AllocGlobal + Abort>(rt: &X) -> MemoryFolder {
 fn asked<X: AllocGlobal + Abort>(rt: &X, line: &str) -> (Status, String) {
     let words = words(rt, line);
     let (mut inputs, mut repo) = (inputs(rt, NONE), repository(rt, NONE));
-    inputs.put(Which::Provider, bytes(rt, ""));
+    inputs.put(InputFile::Provider, bytes(rt, ""));
     let mut store = ReadingStore::new(MemoryStore::new(rt.alloc()));
     let mut folder = folder(rt);
     let mut sink = sink(rt);

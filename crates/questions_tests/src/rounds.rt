@@ -8,9 +8,9 @@ use crate::choices::{
     TRUST_NAME,
 };
 use crate::tables::{bytes, check, good, halves, no_failures, string, there};
-use command_files::{Gathered, MemoryInputs, MemorySink, Which, gather_inputs, read_provider};
+use command_files::{Gathered, InputFile, MemoryInputs, MemorySink, gather_inputs, read_provider};
 use command_questions::{ReadingStore, run_questions};
-use command_verify::{Request, Status, run};
+use command_verify::{Status, VerifyRequest, run};
 use jiff::Timestamp;
 use sigstore_keys::MemorySource;
 use sigstore_tuf::{MemoryRepository, MemoryStore};
@@ -75,10 +75,10 @@ fn policy<X: AllocGlobal + Abort>(rt: &X, case: Case) -> Bytes {
 // The inputs, of which the rows are either the good ones or the refused ones.
 fn inputs<X: AllocGlobal + Abort>(rt: &X, case: Case, rows: &str) -> MemoryInputs {
     let mut inputs = MemoryInputs::new(no_failures(rt));
-    inputs.put(Which::Root, bytes(rt, ROOT));
-    inputs.put(Which::Policy, policy(rt, case));
-    inputs.put(Which::Provider, bytes(rt, rows));
-    inputs.put(Which::Bundle, bundle(rt, case));
+    inputs.put(InputFile::Root, bytes(rt, ROOT));
+    inputs.put(InputFile::Policy, policy(rt, case));
+    inputs.put(InputFile::Provider, bytes(rt, rows));
+    inputs.put(InputFile::Bundle, bundle(rt, case));
     inputs
 }
 
@@ -237,7 +237,7 @@ fn accepted_by_answers<X: AllocGlobal + Abort>(rt: &X, case: Case, found: &Ended
         rt,
         PhantomData::<Somebody>,
         rt.alloc(),
-        Request {
+        VerifyRequest {
             policy,
             root,
             bundle,

@@ -4,7 +4,7 @@ use crate::world::{
     BUNDLE, POLICY, RELEASE, ROOT, ROWS, SECOND_ROOT, SNAPSHOT, TARGETS, TIMESTAMP, TRUST,
     TRUST_NAME,
 };
-use command_files::{MemoryInputs, MemorySink, Which};
+use command_files::{InputFile, MemoryInputs, MemorySink};
 use command_questions::{LastAsked, ReadingStore, run_details, run_questions};
 use command_verify::{Status, run};
 use jiff::Timestamp;
@@ -75,10 +75,10 @@ pub(crate) fn repository<X: AllocGlobal + Abort>(rt: &X, change: Change) -> Memo
 
 pub(crate) fn inputs<X: AllocGlobal + Abort>(rt: &X, change: Change) -> MemoryInputs {
     let mut inputs = MemoryInputs::new(no_failures(rt));
-    inputs.put(Which::Root, file(rt, change, "root.json", ROOT));
-    inputs.put(Which::Policy, file(rt, change, "policy", POLICY));
-    inputs.put(Which::Provider, file(rt, change, "provider", ROWS));
-    inputs.put(Which::Bundle, file(rt, change, "bundle.json", BUNDLE));
+    inputs.put(InputFile::Root, file(rt, change, "root.json", ROOT));
+    inputs.put(InputFile::Policy, file(rt, change, "policy", POLICY));
+    inputs.put(InputFile::Provider, file(rt, change, "provider", ROWS));
+    inputs.put(InputFile::Bundle, file(rt, change, "bundle.json", BUNDLE));
     inputs
 }
 
@@ -165,7 +165,7 @@ impl<S: MetadataStore> MetadataStore for CountedStore<'_, S> {
 fn asked<X: AllocGlobal + Abort>(rt: &X, line: &str, refused: &str) -> (Status, String) {
     let words = words(rt, line);
     let (mut inputs, mut repo) = (inputs(rt, NONE), repository(rt, NONE));
-    inputs.put(Which::Provider, bytes(rt, refused));
+    inputs.put(InputFile::Provider, bytes(rt, refused));
     let writes = Cell::new(0);
     let mut store = ReadingStore::new(CountedStore {
         inner: MemoryStore::new(rt.alloc()),

@@ -16,10 +16,10 @@ use Rattle.release_gate.specs.declared.gate.GateFault.{GateFault}
 use Rattle.release_gate.specs.declared.gate.GateFault.TheVariants as gate
 use Rattle.release_gate.specs.declared.gate.Gated.{Gated}
 use Rattle.release_gate.specs.declared.line.GateLine.{GateLine}
-use Rattle.release_gate.specs.declared.walk.Stop.{Stop}
-use Rattle.release_gate.specs.declared.walk.Stop.TheVariants as stop
+use Rattle.release_gate.specs.declared.walk.FolderStop.{FolderStop}
+use Rattle.release_gate.specs.declared.walk.FolderStop.TheVariants as stop
 use Rattle.release_gate.specs.Folder.{Contents}
-use Rattle.release_gate.specs.Gate.{Given, Outside, places_in, kept_of, terms_of, fault_of_tuf, fault_of_trust, fault_of_stop, HasTrust, GateCause, JudgesUnder}
+use Rattle.release_gate.specs.Gate.{GateInputs, Outside, places_in, kept_of, terms_of, fault_of_tuf, fault_of_trust, fault_of_stop, HasTrust, GateCause, JudgesUnder}
 use Rattle.release_gate.specs.Promises.{Favours, IsJudgedUnder, Promises}
 use Rattle.release_gate.specs.Walk.{StopCause}
 
@@ -33,7 +33,7 @@ want : (e : Error) → (e ≡ verify.NoMemory) ⊎ (e ≢ verify.NoMemory)
 want verify.NoMemory = inl refl
 want e = inr (λ h. cc)
 
-module _ (given : Given) (before after : Outside) where
+module _ (given : GateInputs) (before after : Outside) where
   abbrev Cause : GateFault → Type 0
   Cause fault = GateCause given before after fault
 
@@ -47,7 +47,7 @@ module _ (given : Given) (before after : Outside) where
   by_trust verify.NoMemory chain t h s = tt
   by_trust e chain t h s = (t, h (λ same. cc), s)
 
-  by_stop : (s : Stop) → HasTrust given.anchor → StopCause before.folder after.folder s → Cause (fault_of_stop s)
+  by_stop : (s : FolderStop) → HasTrust given.anchor → StopCause before.folder after.folder s → Cause (fault_of_stop s)
   by_stop stop.Failed t h = (t, h)
   by_stop (stop.TooMany count) t h = (t, h)
   by_stop (stop.Doubled name) t h = (t, h)
@@ -60,7 +60,7 @@ module _ (given : Given) (before after : Outside) where
   never : (told : Option Contents) (contents : Contents) (P : Contents → Type 0) → told ≡ Some contents → IfTold told P → P contents
   never told contents P e h = rw e at h
 
-  stops_never : (chain : TrustChain) (contents : Contents) → Favours given before after chain contents → (s : Stop) → StopCause before.folder after.folder s → s ≡ stop.NoMemory
+  stops_never : (chain : TrustChain) (contents : Contents) → Favours given before after chain contents → (s : FolderStop) → StopCause before.folder after.folder s → s ≡ stop.NoMemory
   stops_never chain contents f stop.Failed h = let quiet = f.folder.quiet in absurd (omega (arith, quiet, h))
   stops_never chain contents f (stop.TooMany count) h =
       let told = never before.folder.told contents _ f.folder.told h.1 in

@@ -20,8 +20,8 @@ use Rattle.sigstore_judgement.specs.Taking.{Takes}
 use Rattle.sigstore_judgement.proofs.Stages.{read_judged}
 use Rattle.release_gate.specs.declared.line.Verdict.{Verdict}
 use Rattle.release_gate.specs.declared.line.Verdict.TheVariants.{Admitted, Unsigned}
-use Rattle.release_gate.specs.declared.walk.Stop.{Stop}
-use Rattle.release_gate.specs.declared.walk.Stop.TheVariants as stop
+use Rattle.release_gate.specs.declared.walk.FolderStop.{FolderStop}
+use Rattle.release_gate.specs.declared.walk.FolderStop.TheVariants as stop
 use Rattle.release_gate.specs.Folder.{Contents, ListsFiles, source_of}
 use Rattle.release_gate.specs.Names.{bundle_name, AreOrdered}
 use Rattle.release_gate.specs.Judgement.{SaysUnread}
@@ -77,7 +77,7 @@ module _ (terms : Terms) (max : ℕ) (bundle : Bundle) (old new : Watched Conten
   is_admitted ready digests report p t j = record { since = since; given = said ready digests (Ok report) p t j; refused = tt }
 
   -- a refusal, or want of memory
-  pub is_denied : (ready : Ready) (digests : List (HashAlgorithm × List ℕ)) (e : Error) (result : Result Verdict Stop) → prepared_of read_kind terms.policy bundle ≡ Ok ready → Taken ready (Ok digests)
+  pub is_denied : (ready : Ready) (digests : List (HashAlgorithm × List ℕ)) (e : Error) (result : Result Verdict FolderStop) → prepared_of read_kind terms.policy bundle ≡ Ok ready → Taken ready (Ok digests)
       → (e ≢ verify.NoMemory → judged_had terms.grounds ready bundle (digest_among digests) None ≡ Err e)
       → IfOk result (λ verdict. (e ≢ verify.NoMemory) × (verdict ≡ denied e)) → IfErr result (λ s. s ≡ stop.NoMemory) → Judges judging old new name result
   is_denied ready digests e (Ok verdict) p t j ok err = record {
@@ -113,7 +113,7 @@ module _ (terms : Terms) (max : ℕ) (bundle : Bundle) (old new : Watched Conten
       let long : nat_lt max (length bytes) ≡ true = longer max (length bytes) (omega (arith, within, many)) in
       rw long refl)
 
-  pub is_unread : (ready : Ready) (e : Error) (result : Result Verdict Stop) → Taken ready (Err e) → SaysUnread e result → Judges judging old new name result
+  pub is_unread : (ready : Ready) (e : Error) (result : Result Verdict FolderStop) → Taken ready (Err e) → SaysUnread e result → Judges judging old new name result
   unfolding Why
   is_unread ready (verify.ArtifactRead Failed) result t is =
       subst (Judges judging old new name) (sym is) (record { since = since; given = tt; refused = rose t.refused })

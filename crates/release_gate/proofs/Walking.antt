@@ -13,8 +13,8 @@ use Rattle.foundation.specs.Watched.{Watched, IfTold, Since}
 use Rattle.sigstore_types_parts.specs.Entries.{text_cmp}
 use Rattle.release_gate.specs.declared.line.GateLine.{GateLine}
 use Rattle.release_gate.specs.declared.line.Verdict.{Verdict}
-use Rattle.release_gate.specs.declared.walk.Stop.{Stop}
-use Rattle.release_gate.specs.declared.walk.Stop.TheVariants as stop
+use Rattle.release_gate.specs.declared.walk.FolderStop.{FolderStop}
+use Rattle.release_gate.specs.declared.walk.FolderStop.TheVariants as stop
 use Rattle.release_gate.specs.Folder.{Contents, ListsFiles}
 use Rattle.release_gate.specs.Lines.{AreLines, line_of}
 use Rattle.release_gate.specs.Names.{is_bundle, max_names, times_in, IsFirstDoubled, AreOrdered}
@@ -76,7 +76,7 @@ told_before old new P since told = subst (λ t. IfTold t P) since.same told
 pub since_both : (old mid new : Watched Contents) → Since old mid → Since mid new → Since old new
 since_both old mid new a b = record { same = b.same ∙ a.same; later = le_trans a.later b.later }
 
-pub cause_before : (old mid new : Watched Contents) (e : Stop) → Since old mid → StopCause mid new e → StopCause old new e
+pub cause_before : (old mid new : Watched Contents) (e : FolderStop) → Since old mid → StopCause mid new e → StopCause old new e
 cause_before old mid new stop.Failed since cause = let later = since.later in omega (arith, cause)
 cause_before old mid new (stop.TooMany count) since cause = (cause.0, told_before old mid _ since cause.1)
 cause_before old mid new (stop.Doubled name) since cause = told_before old mid _ since cause
@@ -132,7 +132,7 @@ judged_told (Some contents) judging names lines law order is = record {
       (are_lines (judging contents.files) contents.files names order.ordered.ascend (λ name bytes f. (order.ordered.same name).0 (law.listed name bytes f)));
 }
 
-pub folder_judged : (old mid new : Watched Contents) (judging : JudgingBeside) (names : List (List ℕ)) (result : Result (List GateLine) Stop) → IfTold old.told ListsFiles → Since old mid → Since mid new
+pub folder_judged : (old mid new : Watched Contents) (judging : JudgingBeside) (names : List (List ℕ)) (result : Result (List GateLine) FolderStop) → IfTold old.told ListsFiles → Since old mid → Since mid new
     → IfTold old.told (λ contents. IsInOrder contents.names names)
     → IfOk result (λ lines. IfTold mid.told (λ contents. lines ≡ filter_map (line_of (judging contents.files) contents.files) names)) → IfErr result (StopCause mid new)
     → JudgesFolder judging old new result

@@ -15,13 +15,13 @@ use Rattle.sigstore_judgement.specs.Trust.{material_of}
 use Rattle.sigstore_judgement.specs.Under.{trust_of}
 use Rattle.sigstore_verify.specs.Cause.{ChainCause}
 use Rattle.sigstore_verify.specs.FromRoot.{TrustsChain}
-use Rattle.sigstore_verify.specs.Given.{Anchor, Places}
+use Rattle.sigstore_verify.specs.Inputs.{Anchor, Places}
 use Rattle.release_gate.specs.declared.gate.GateFault.{GateFault}
 use Rattle.release_gate.specs.declared.gate.GateFault.TheVariants as gate
 use Rattle.release_gate.specs.declared.gate.Gated.{Gated}
 use Rattle.release_gate.specs.declared.line.GateLine.{GateLine}
-use Rattle.release_gate.specs.declared.walk.Stop.{Stop}
-use Rattle.release_gate.specs.declared.walk.Stop.TheVariants as stop
+use Rattle.release_gate.specs.declared.walk.FolderStop.{FolderStop}
+use Rattle.release_gate.specs.declared.walk.FolderStop.TheVariants as stop
 use Rattle.release_gate.specs.Folder.{Contents}
 use Rattle.release_gate.specs.Verdict.{verdict_by}
 use Rattle.release_gate.specs.Walk.{StopCause, IsJudged}
@@ -29,7 +29,7 @@ use Rattle.release_gate.specs.Walk.{StopCause, IsJudged}
 -- ---- what is given
 
 -- from what a chain is trusted, the policy, and the greatest length of an artifact
-pub record Given : Type 0 where
+pub record GateInputs : Type 0 where
   pub anchor : Anchor
   pub policy : Meaning
   pub max : ℕ
@@ -50,7 +50,7 @@ abbrev pub kept_of : List ℕ → Result Material Error
 kept_of file = trust_of file >>= material_of
 
 -- the terms of every artifact, with what is kept of the trust file
-abbrev pub terms_of : Given → Material → Terms
+abbrev pub terms_of : GateInputs → Material → Terms
 terms_of given material = terms_with given.anchor.crypto material given.anchor.now given.policy
 
 -- ---- the answers
@@ -63,7 +63,7 @@ abbrev pub fault_of_trust : Error → TrustChain → GateFault
 fault_of_trust verify.NoMemory chain = gate.NoMemory
 fault_of_trust e chain = gate.Trust e chain
 
-abbrev pub fault_of_stop : Stop → GateFault
+abbrev pub fault_of_stop : FolderStop → GateFault
 fault_of_stop stop.Failed = gate.FolderFailed
 fault_of_stop (stop.TooMany count) = gate.TooManyNames count
 fault_of_stop (stop.Doubled name) = gate.DoubledName name
@@ -72,7 +72,7 @@ fault_of_stop stop.NoMemory = gate.NoMemory
 
 -- What Ok means: the chain that is handed back is trusted from the given root; its file is usable as the trust file, and this is kept of
 -- it; and a told folder lists few names, none twice, and has these lines under it, one on each of its artifacts.
-pub record IsGated (given : Given) (before : Outside) (gated : Gated) : Type 0 where
+pub record IsGated (given : GateInputs) (before : Outside) (gated : Gated) : Type 0 where
   pub trusted : TrustsChain given.anchor gated.chain
   pub material : Material
   pub usable : kept_of gated.chain.file ≡ Ok material
@@ -88,7 +88,7 @@ pub record HasTrust (anchor : Anchor) : Type 0 where
 -- What each refusal means. Tuf: its cause is in the root, the repository and the store. Trust: the chain that is handed back is trusted,
 -- and this is the first check that its file fails. Either leaves the folder as it was. Every other comes behind them, and has its cause in
 -- the folder. Want of memory is never told as another.
-abbrev pub GateCause : Given → Outside → Outside → GateFault → Type 0
+abbrev pub GateCause : GateInputs → Outside → Outside → GateFault → Type 0
 GateCause given before after (gate.Tuf tuf.NoMemory) = ⊥
 GateCause given before after (gate.Tuf e) =
     ChainCause given.anchor (places_in before) (places_in after) e × (after.folder ≡ before.folder)
@@ -105,7 +105,7 @@ GateCause given before after gate.NoMemory = ⊤
 
 -- why a folder isn't judged under a trust file
 abbrev pub FolderCause : Watched Contents → Watched Contents → GateFault → Type 0
-FolderCause old new fault = (stop : Stop) × (fault ≡ fault_of_stop stop) × StopCause old new stop
+FolderCause old new fault = (stop : FolderStop) × (fault ≡ fault_of_stop stop) × StopCause old new stop
 
 -- the promise of the judgement of a folder under what is kept of the trust file
 pub record JudgesUnder (terms : Terms) (max : ℕ) (old new : Watched Contents) (result : Result (List GateLine) GateFault) : Type 0 where

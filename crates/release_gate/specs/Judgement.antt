@@ -9,8 +9,8 @@ use Rattle.sigstore_judgement.specs.declared.policy.Policy as policy
 use Rattle.sigstore_judgement.specs.Grounds.{Terms, terms_by}
 use Rattle.release_gate.specs.declared.judgement.Judgement.{Judgement}
 use Rattle.release_gate.specs.declared.line.Verdict.{Verdict}
-use Rattle.release_gate.specs.declared.walk.Stop.{Stop}
-use Rattle.release_gate.specs.declared.walk.Stop.TheVariants as stop
+use Rattle.release_gate.specs.declared.walk.FolderStop.{FolderStop}
+use Rattle.release_gate.specs.declared.walk.FolderStop.TheVariants as stop
 use Rattle.release_gate.specs.Verdict.{denied}
 
 -- the terms under which it judges
@@ -18,7 +18,7 @@ abbrev pub terms_in : {C M P : Type 0} → provider.Ghosts C → armor.Ghosts M 
 terms_in c m p judgement = terms_by c m judgement.verifier.now (p.meant judgement.policy.now) judgement.moment
 
 -- one that is too long is denied; where a reading failed the folder isn't judged; and there is no other reason but want of memory
-abbrev pub SaysUnread : Error → Result Verdict Stop → Type 0
+abbrev pub SaysUnread : Error → Result Verdict FolderStop → Type 0
 SaysUnread (ArtifactRead (TooLong max)) result = result ≡ Ok (denied (ArtifactRead (TooLong max)))
 SaysUnread (ArtifactRead Failed) result = result ≡ Err stop.Failed
 SaysUnread e result = result ≡ Err stop.NoMemory

@@ -8,12 +8,12 @@ use Rattle.release_gate.specs.declared.gate.GateFault.{GateFault}
 use Rattle.release_gate.specs.declared.gate.GateFault.TheVariants as gate
 use Rattle.release_gate.specs.declared.gate.Gated.{Gated}
 use Rattle.release_gate.specs.Folder.{Contents}
-use Rattle.release_gate.specs.Gate.{Given, Outside, places_in, kept_of, IsGated, GateCause}
+use Rattle.release_gate.specs.Gate.{GateInputs, Outside, places_in, kept_of, IsGated, GateCause}
 use Rattle.release_gate.specs.Names.{max_names, AreOnce}
 
 -- Nothing outside fails: a chain is offered whose file is usable as the trust file, and the folder tells its files, of which it lists few,
 -- and none twice.
-pub record Favours (given : Given) (before after : Outside) (chain : TrustChain) (contents : Contents) : Type 0 where
+pub record Favours (given : GateInputs) (before after : Outside) (chain : TrustChain) (contents : Contents) : Type 0 where
   pub offer : OffersChain given.anchor (places_in before) (places_in after) chain
   pub material : Material
   pub usable : kept_of chain.file ≡ Ok material
@@ -28,13 +28,13 @@ pub record IsJudgedUnder (chain : TrustChain) (result : Result Gated GateFault) 
   pub same : gated.chain ≡ chain
 
 -- Then the folder is judged under that chain, or memory is wanting; and the store stays warm.
-abbrev pub Completes : Given → Outside → Outside → Result Gated GateFault → Type 0
+abbrev pub Completes : GateInputs → Outside → Outside → Result Gated GateFault → Type 0
 Completes given before after result =
     (chain : TrustChain) (contents : Contents) (favours : Favours given before after chain contents)
     → (result ≡ Err gate.NoMemory) ⊎ (IsJudgedUnder chain result × StaysWarm after.store favours.offer)
 
 -- what Ok means, what each refusal means, when the answer has to be Ok, and what the store then has
-pub record Promises (given : Given) (before after : Outside) (result : Result Gated GateFault) : Type 0 where
+pub record Promises (given : GateInputs) (before after : Outside) (result : Result Gated GateFault) : Type 0 where
   pub accepted : IfOk result (IsGated given before)
   pub refused : IfErr result (GateCause given before after)
   pub complete : Completes given before after result

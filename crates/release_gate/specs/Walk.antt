@@ -6,8 +6,8 @@ use Rattle.sigstore_types_parts.specs.Entries.{text_cmp}
 use Rattle.sigstore_tuf_outside.specs.Repository.{Files}
 use Rattle.release_gate.specs.declared.line.GateLine.{GateLine}
 use Rattle.release_gate.specs.declared.line.Verdict.{Verdict}
-use Rattle.release_gate.specs.declared.walk.Stop.{Stop}
-use Rattle.release_gate.specs.declared.walk.Stop.TheVariants as stop
+use Rattle.release_gate.specs.declared.walk.FolderStop.{FolderStop}
+use Rattle.release_gate.specs.declared.walk.FolderStop.TheVariants as stop
 use Rattle.release_gate.specs.Folder.{Contents}
 use Rattle.release_gate.specs.Lines.{Judging, AreLines}
 use Rattle.release_gate.specs.Names.{is_bundle, max_names, AreOnce, IsFirstDoubled, AreOrdered}
@@ -20,7 +20,7 @@ JudgingBeside = Files → Judging
 
 -- A call of the folder failed; it lists too many names, or one of them twice; or it has no file of a name that it listed, which no told
 -- folder does.
-abbrev pub StopCause : Watched Contents → Watched Contents → Stop → Type 0
+abbrev pub StopCause : Watched Contents → Watched Contents → FolderStop → Type 0
 StopCause old new stop.Failed = Rose old.faults new.faults
 StopCause old new (stop.TooMany count) = (max_names < count) × IfTold old.told (λ contents. count ≡ length contents.names)
 StopCause old new (stop.Doubled name) =
@@ -38,7 +38,7 @@ pub record IsInOrder (listed names : List (List ℕ)) : Type 0 where
   pub ordered : AreOrdered listed names
 
 -- there are too many, or one stands twice
-abbrev pub IsDisordered : List (List ℕ) → Stop → Type 0
+abbrev pub IsDisordered : List (List ℕ) → FolderStop → Type 0
 IsDisordered listed (stop.TooMany count) = (max_names < count) × (count ≡ length listed)
 IsDisordered listed (stop.Doubled name) = (length listed ≤ max_names) × IsFirstDoubled listed name
 IsDisordered listed stop.Failed = ⊥
@@ -48,7 +48,7 @@ IsDisordered listed stop.NoMemory = ⊥
 -- ---- one artifact
 
 -- the promise of a judgement of one artifact: over a told folder that has it, what is said of it is the definition's
-pub record Judges (judging : JudgingBeside) (old new : Watched Contents) (name : List ℕ) (result : Result Verdict Stop) : Type 0 where
+pub record Judges (judging : JudgingBeside) (old new : Watched Contents) (name : List ℕ) (result : Result Verdict FolderStop) : Type 0 where
   pub since : Since old new
   pub given : IfOk result (λ verdict. IfTold old.told (λ contents. (bytes : List ℕ) → contents.files name ≡ Some bytes
       → verdict ≡ judging contents.files name bytes))
@@ -62,7 +62,7 @@ pub record IsJudged (judging : JudgingBeside) (contents : Contents) (lines : Lis
   pub once : AreOnce contents.names
   pub are : AreLines (judging contents.files) contents.files lines
 
-pub record JudgesFolder (judging : JudgingBeside) (old new : Watched Contents) (result : Result (List GateLine) Stop) : Type 0 where
+pub record JudgesFolder (judging : JudgingBeside) (old new : Watched Contents) (result : Result (List GateLine) FolderStop) : Type 0 where
   pub since : Since old new
   pub given : IfOk result (λ lines. IfTold old.told (λ contents. IsJudged judging contents lines))
   pub refused : IfErr result (StopCause old new)

@@ -3,15 +3,15 @@ ghost use Rattle.std.specs.Prelude.{◌≡◌, ◌≢◌, Ok, Err, IfOk, IfErr};
 ghost use Rattle.sigstore_types_parts.specs.Entries.{text_cmp};
 ghost use Rattle.sigstore_keys.specs.Crypto.{crypto_by};
 ghost use Rattle.sigstore_judgement.specs.Grounds.{terms_by};
-ghost use Rattle.sigstore_verify.specs.Given.{Anchor};
+ghost use Rattle.sigstore_verify.specs.Inputs.{Anchor};
 ghost use Rattle.sigstore_judgement.specs.Under.{trust_of};
-ghost use Rattle.release_gate.specs.Gate.{Given, Outside, kept_of, fault_of_tuf, fault_of_trust, fault_of_stop, JudgesUnder};
+ghost use Rattle.release_gate.specs.Gate.{GateInputs, Outside, kept_of, fault_of_tuf, fault_of_trust, fault_of_stop, JudgesUnder};
 ghost use Rattle.release_gate.specs.Promises.{Promises};
 
 use crate::folder::Folder;
 use crate::judgement::Judgement;
 use crate::line::GateLine;
-use crate::walk::{Stop, judge_folder};
+use crate::walk::{FolderStop, judge_folder};
 use foundation::Sequence;
 use jiff::Timestamp;
 use sigstore_judgement::{Error, Policy, Verifier};
@@ -71,15 +71,15 @@ fn fault_of_trust(fault: Error, chain: TrustChain) -> GateFault
     }
 }
 
-fn fault_of_stop(stop: Stop) -> GateFault
+fn fault_of_stop(stop: FolderStop) -> GateFault
     ensures { result ≡ fault_of_stop stop }
 {
     match stop {
-        Stop::Failed => GateFault::FolderFailed,
-        Stop::TooMany { count } => GateFault::TooManyNames { count },
-        Stop::Doubled { name } => GateFault::DoubledName { name },
-        Stop::Vanished { name } => GateFault::Vanished { name },
-        Stop::NoMemory => GateFault::NoMemory,
+        FolderStop::Failed => GateFault::FolderFailed,
+        FolderStop::TooMany { count } => GateFault::TooManyNames { count },
+        FolderStop::Doubled { name } => GateFault::DoubledName { name },
+        FolderStop::Vanished { name } => GateFault::Vanished { name },
+        FolderStop::NoMemory => GateFault::NoMemory,
     }
 }
 
@@ -168,7 +168,7 @@ pub fn gate_from_root<
 ) -> Result<Gated, GateFault>
     ensures { let crypto = crypto_by C.CryptoProvider M.Armor provider.now armor.now in
         let anchor : Anchor = record { crypto = crypto; root = root_bytes.now; config = config; now = now } in
-        let given : Given = record { anchor = anchor; policy = P.meant policy.now; max = max_artifact } in
+        let given : GateInputs = record { anchor = anchor; policy = P.meant policy.now; max = max_artifact } in
         let before : Outside = record { repo = R.seen repo.old; store = S.seen store.old; folder = D.seen folder.old } in
         let after : Outside = record { repo = R.seen repo.new; store = S.seen store.new; folder = D.seen folder.new } in
         Promises given before after result }

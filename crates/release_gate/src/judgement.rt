@@ -13,7 +13,7 @@ use crate::folder::{Folder, FolderFault};
 use crate::line::Verdict;
 use crate::names::{bundle_name, is_listed};
 use crate::reading::take_digests;
-use crate::walk::{Judge, Stop};
+use crate::walk::{FolderStop, Judge};
 use jiff::Timestamp;
 use sigstore_judgement::{Error, Policy, Ready, Verifier, prepare_reader};
 use sigstore_keys::{CryptoProvider, ReadError};
@@ -34,27 +34,27 @@ pub(crate) struct Judgement<'j, 'p, C: CryptoProvider, M: Armor, P: Policy> {
 }
 
 // What is said of a bundle that is refused; want of memory says nothing.
-fn refused(e: Error) -> Result<Verdict, Stop>
+fn refused(e: Error) -> Result<Verdict, FolderStop>
     ensures ok { IfOk result (λ verdict. (e ≢ Error.NoMemory) × (verdict ≡ denied e)) }
-    ensures err { IfErr result (λ stop. stop ≡ Stop.NoMemory) }
+    ensures err { IfErr result (λ stop. stop ≡ FolderStop.NoMemory) }
 {
     match e {
-        Error::NoMemory => Err(Stop::NoMemory),
+        Error::NoMemory => Err(FolderStop::NoMemory),
         e => Ok(Verdict::Denied { number: e.number() }),
     }
 }
 
 // What is said of an artifact that wasn't read to its end.
-fn unread(e: Error) -> Result<Verdict, Stop>
+fn unread(e: Error) -> Result<Verdict, FolderStop>
     ensures { SaysUnread e result }
 {
     match e {
-        Error::ArtifactRead(ReadError::Failed) => Err(Stop::Failed),
+        Error::ArtifactRead(ReadError::Failed) => Err(FolderStop::Failed),
         Error::ArtifactRead(ReadError::TooLong { max }) => {
             let e = Error::ArtifactRead(ReadError::TooLong { max });
             Ok(Verdict::Denied { number: e.number() })
         }
-        _ => Err(Stop::NoMemory),
+        _ => Err(FolderStop::NoMemory),
     }
 }
 
@@ -67,7 +67,7 @@ impl<'j, 'p, C: CryptoProvider, M: Armor, P: Policy> Judgement<'j, 'p, C, M, P> 
         name: &str,
         ready: Ready<'_>,
         bundle: &Bundle,
-    ) -> Result<Verdict, Stop>
+    ) -> Result<Verdict, FolderStop>
         requires { prepared_of read_kind (P.meant self.now.policy.now) bundle.now ≡ Ok (ready_as ready) }
         ensures { Judges (λ files name bytes. by_length (terms_in C.CryptoProvider M.Armor P.Policy self.now) self.now.max bundle.now bytes)
             (D.seen folder.old) (D.seen folder.new) name.now result }
@@ -99,7 +99,7 @@ impl<'j, 'p, C: CryptoProvider, M: Armor, P: Policy> Judgement<'j, 'p, C, M, P> 
         folder: &mut D,
         name: &str,
         bundle: &Bundle,
-    ) -> Result<Verdict, Stop>
+    ) -> Result<Verdict, FolderStop>
         ensures { Judges (λ files name bytes. by_checks (terms_in C.CryptoProvider M.Armor P.Policy self.now) self.now.max bundle.now bytes
             (prepared_of read_kind (P.meant self.now.policy.now) bundle.now))
             (D.seen folder.old) (D.seen folder.new) name.now result }
@@ -117,7 +117,7 @@ impl<'j, 'p, C: CryptoProvider, M: Armor, P: Policy> Judgement<'j, 'p, C, M, P> 
         folder: &mut D,
         name: &str,
         file: &[u8],
-    ) -> Result<Verdict, Stop>
+    ) -> Result<Verdict, FolderStop>
         ensures { Judges (λ files name bytes. by_bundle (terms_in C.CryptoProvider M.Armor P.Policy self.now) self.now.max bytes (bundle_of_bytes file.now))
             (D.seen folder.old) (D.seen folder.new) name.now result }
     {
@@ -127,7 +127,7 @@ impl<'j, 'p, C: CryptoProvider, M: Armor, P: Policy> Judgement<'j, 'p, C, M, P> 
                 drop(bundle);
                 verdict
             }
-            Err(TypesError::NoMemory) => Err(Stop::NoMemory),
+            Err(TypesError::NoMemory) => Err(FolderStop::NoMemory),
             Err(_) => refused(Error::InvalidBundle),
         }
     }
@@ -139,7 +139,7 @@ impl<'j, 'p, C: CryptoProvider, M: Armor, P: Policy> Judgement<'j, 'p, C, M, P> 
         folder: &mut D,
         name: &str,
         bundle_name: Text,
-    ) -> Result<Verdict, Stop>
+    ) -> Result<Verdict, FolderStop>
         requires bundle { is_bundle bundle_name ≡ true }
         requires listed { IfTold (D.seen folder.old).told (λ contents. IsSome (contents.files bundle_name)) }
         ensures { Judges (λ files name bytes. by_file (terms_in C.CryptoProvider M.Armor P.Policy self.now) self.now.max bytes (files bundle_name))
@@ -152,10 +152,10 @@ impl<'j, 'p, C: CryptoProvider, M: Armor, P: Policy> Judgement<'j, 'p, C, M, P> 
                 drop(file);
                 verdict
             }
-            Ok(None) => Err(Stop::Vanished { name: bundle_name }),
+            Ok(None) => Err(FolderStop::Vanished { name: bundle_name }),
             Err(FolderFault::TooLong { seen }) => Ok(Verdict::BundleTooLong { seen }),
-            Err(FolderFault::Failed) => Err(Stop::Failed),
-            Err(FolderFault::NoMemory) => Err(Stop::NoMemory),
+            Err(FolderFault::Failed) => Err(FolderStop::Failed),
+            Err(FolderFault::NoMemory) => Err(FolderStop::NoMemory),
         }
     }
 }
@@ -169,7 +169,7 @@ impl<'j, 'p, C: CryptoProvider, M: Armor, P: Policy> Judge for Judgement<'j, 'p,
         folder: &mut D,
         names: &[Text],
         name: &str,
-    ) -> Result<Verdict, Stop> {
+    ) -> Result<Verdict, FolderStop> {
         let bundle_name = bundle_name(alloc, name)?;
         if is_listed(names, &bundle_name) {
             self.by_file(alloc, folder, name, bundle_name)

@@ -7,7 +7,7 @@ ghost use Rattle.sigstore_types_parts.specs.Entries.{text_cmp};
 ghost use Rattle.release_gate.specs.Lines.{line_of};
 ghost use Rattle.release_gate.specs.Names.{AreOrdered};
 ghost use Rattle.release_gate.specs.Walk.{JudgingBeside, StopCause, IsInOrder, IsDisordered, Judges, JudgesFolder};
-ghost use Rattle.release_gate.specs.declared.walk.Stop.TheVariants.{NoMemory};
+ghost use Rattle.release_gate.specs.declared.walk.FolderStop.TheVariants.{NoMemory};
 
 use crate::folder::{Folder, FolderFault};
 use crate::line::{GateLine, Verdict};
@@ -21,7 +21,7 @@ const MAX_NAMES: u64 = 100_000;
 
 /// Why a folder isn't judged.
 #[derive(Debug, PartialEq, Drop)]
-pub(crate) enum Stop {
+pub(crate) enum FolderStop {
     /// A call of the folder failed.
     Failed,
     /// It lists more than 100,000 names.
@@ -34,11 +34,11 @@ pub(crate) enum Stop {
     NoMemory,
 }
 
-impl From<NoMemory> for Stop {
+impl From<NoMemory> for FolderStop {
     ghost from_gives = { λ _ e. e ≡ NoMemory };
 
-    fn from(_: NoMemory) -> Stop {
-        Stop::NoMemory
+    fn from(_: NoMemory) -> FolderStop {
+        FolderStop::NoMemory
     }
 }
 
@@ -54,21 +54,21 @@ pub(crate) trait Judge {
         folder: &mut D,
         names: &[Text],
         name: &str,
-    ) -> Result<Verdict, Stop>
+    ) -> Result<Verdict, FolderStop>
         requires sorted { IsSorted text_cmp names.now }
         requires listed { IfTold (D.seen folder.old).told (λ contents. AreOrdered contents.names names.now) }
         ensures { Judges (judging self.now) (D.seen folder.old) (D.seen folder.new) name.now result };
 }
 
 // The names of a listing in order. Errors: `TooMany`, `Doubled`.
-fn put_in_order(names: Vec<Text>) -> Result<Vec<Text>, Stop>
+fn put_in_order(names: Vec<Text>) -> Result<Vec<Text>, FolderStop>
     ensures ok { IfOk result (λ sorted. IsInOrder names.items sorted.items) }
     ensures err { IfErr result (IsDisordered names.items) }
 {
     let count = names.len() as u64;
     if count > MAX_NAMES {
         drop(names);
-        return Err(Stop::TooMany { count });
+        return Err(FolderStop::TooMany { count });
     }
     let mut sorted = names;
     sorted.sort_unstable();
@@ -77,13 +77,13 @@ fn put_in_order(names: Vec<Text>) -> Result<Vec<Text>, Stop>
         Some(at) => {
             let name = sorted.remove(at);
             drop(sorted);
-            Err(Stop::Doubled { name })
+            Err(FolderStop::Doubled { name })
         }
     }
 }
 
 // The names that a folder lists, in order. Errors: `Failed`, `NoMemory`, `TooMany`, `Doubled`.
-fn ordered_names<D: Folder>(alloc: Global, folder: &mut D) -> Result<Vec<Text>, Stop>
+fn ordered_names<D: Folder>(alloc: Global, folder: &mut D) -> Result<Vec<Text>, FolderStop>
     ensures since { Since (D.seen folder.old) (D.seen folder.new) }
     ensures sorted { IfOk result (λ names. IsSorted text_cmp names.items) }
     ensures given { IfOk result (λ names. IfTold (D.seen folder.old).told (λ contents. IsInOrder contents.names names.items)) }
@@ -91,9 +91,9 @@ fn ordered_names<D: Folder>(alloc: Global, folder: &mut D) -> Result<Vec<Text>, 
 {
     match folder.names(alloc) {
         Ok(names) => put_in_order(names),
-        Err(FolderFault::NoMemory) => Err(Stop::NoMemory),
-        Err(FolderFault::Failed) => Err(Stop::Failed),
-        Err(FolderFault::TooLong { .. }) => Err(Stop::Failed),
+        Err(FolderFault::NoMemory) => Err(FolderStop::NoMemory),
+        Err(FolderFault::Failed) => Err(FolderStop::Failed),
+        Err(FolderFault::TooLong { .. }) => Err(FolderStop::Failed),
     }
 }
 
@@ -103,9 +103,9 @@ fn push_line(
     lines: &mut Sequence<GateLine>,
     name: &Text,
     verdict: Verdict,
-) -> Result<(), Stop>
+) -> Result<(), FolderStop>
     ensures ok { OnOk result (lines.new ≡ lines.old ++ record { name = name.now; verdict = verdict } ∷ []) }
-    ensures err { IfErr result (λ e. e ≡ Stop.NoMemory) }
+    ensures err { IfErr result (λ e. e ≡ FolderStop.NoMemory) }
 {
     let name = name.duplicate(alloc)?;
     lines.push(GateLine { name, verdict })?;
@@ -120,7 +120,7 @@ fn add_line<J: Judge, D: Folder>(
     names: &[Text],
     name: &Text,
     lines: &mut Sequence<GateLine>,
-) -> Result<(), Stop>
+) -> Result<(), FolderStop>
     requires sorted { IsSorted text_cmp names.now }
     requires listed { IfTold (D.seen folder.old).told (λ contents. AreOrdered contents.names names.now) }
     requires among { Contains names.now name.now }
@@ -144,7 +144,7 @@ fn judge_each<J: Judge, D: Folder>(
     judge: &J,
     folder: &mut D,
     names: &[Text],
-) -> Result<Sequence<GateLine>, Stop>
+) -> Result<Sequence<GateLine>, FolderStop>
     requires sorted { IsSorted text_cmp names.now }
     requires listed { IfTold (D.seen folder.old).told (λ contents. AreOrdered contents.names names.now) }
     ensures since { Since (D.seen folder.old) (D.seen folder.new) }
@@ -165,7 +165,7 @@ pub(crate) fn judge_folder<J: Judge, D: Folder>(
     alloc: Global,
     judge: &J,
     folder: &mut D,
-) -> Result<Sequence<GateLine>, Stop>
+) -> Result<Sequence<GateLine>, FolderStop>
     ensures { JudgesFolder (J.judging judge.now) (D.seen folder.old) (D.seen folder.new) result }
 {
     let names = ordered_names(alloc, folder)?;

@@ -15,8 +15,7 @@ use Rattle.sigstore_types_parts.specs.TimeRange.{is_by}
 use Rattle.sigstore_keys.specs.declared.log_ids.LogThreshold.{LogThreshold}
 use Rattle.sigstore_keys.specs.LogIds.{is_enough}
 use Rattle.certificate_claims.specs.declared.certificate_info.CertificateInfo.{CertificateInfo}
-use Rattle.certificate_claims.specs.Claims.{value_of}
-use Rattle.certificate_claims.specs.Info.{extensions_of}
+use Rattle.certificate_fields.specs.Fields.{value_of, extensions_of}
 use Rattle.path_core.specs.declared.error.LeafFault.TheVariants as leaf
 use Rattle.path_core.specs.declared.error.PathError.{PathError}
 use Rattle.path_core.specs.declared.error.PathError.TheVariants as path
@@ -33,8 +32,8 @@ use Rattle.sigstore_certificate.specs.declared.policy.IdentityMatcher.{IdentityM
 use Rattle.sigstore_certificate.specs.declared.policy.VerificationPolicy.{VerificationPolicy}
 use Rattle.sigstore_certificate.specs.declared.error.SctRule.{SctRule}
 use Rattle.sigstore_certificate.specs.declared.error.SctRule.TheVariants as rule
-use Rattle.sigstore_certificate.specs.declared.error.Refusal.{Refusal}
-use Rattle.sigstore_certificate.specs.declared.error.Refusal.TheVariants as refusal
+use Rattle.sigstore_certificate.specs.declared.error.CertificateRefusal.{CertificateRefusal}
+use Rattle.sigstore_certificate.specs.declared.error.CertificateRefusal.TheVariants as refusal
 use Rattle.sigstore_certificate.specs.Cause.{IsNoLeaf, LacksAuthority, LacksPath, IsEarly, IsLate, no_extension, unread, HasKnown, no_part, no_length, HasTooFew, SctCause, LacksLog, Cause, Refusals}
 use Rattle.sigstore_certificate.specs.Certified.{Trust, has_authority, authority_judged, window_judged, issued_at, at_each, issued_at_each, parts_read, leaf_scts_judged, scts_asked, chain_verified, chain_judged, certified_of}
 use Rattle.sigstore_certificate.specs.Error.{refusal_of_path, by_path}
@@ -67,7 +66,7 @@ some_is : {X : Type 0} (o : Option X) → is_some o ≡ true → (x : X) × (o �
 some_is None h = cc
 some_is (Some x) h = (x, refl)
 
-through_path : (r : Result FoundPath PathError) (e : Refusal) → by_path r ≡ Err e → (why : PathError) × (r ≡ Err why) × (refusal_of_path why ≡ e)
+through_path : (r : Result FoundPath PathError) (e : CertificateRefusal) → by_path r ≡ Err e → (why : PathError) × (r ≡ Err why) × (refusal_of_path why ≡ e)
 through_path (Ok x) e h = cc
 through_path (Err why) e h = (why, refl, err_same (refusal_of_path why) e h)
 
@@ -77,7 +76,7 @@ module _ (t : Trust) (info : CertificateInfo) (leaf_der : List ℕ) (intermediat
 
   -- ---- at one of the times
 
-  abbrev TimeCause : List Timestamp → Refusal → Type 0
+  abbrev TimeCause : List Timestamp → CertificateRefusal → Type 0
   TimeCause times refusal.Malformed = IsNoLeaf leaf_der
   TimeCause times refusal.ChainInvalid = LacksPath t leaf_der intermediates times
   TimeCause times (refusal.NoValidAuthority time) = LacksAuthority t times time
@@ -85,7 +84,7 @@ module _ (t : Trust) (info : CertificateInfo) (leaf_der : List ℕ) (intermediat
   TimeCause times (refusal.Expired time not_after) = IsLate info times time not_after
   TimeCause times _ = ⊥
 
-  onward : (time : Timestamp) (times : List Timestamp) (e : Refusal) → TimeCause times e → TimeCause (time ∷ times) e
+  onward : (time : Timestamp) (times : List Timestamp) (e : CertificateRefusal) → TimeCause times e → TimeCause (time ∷ times) e
   onward time times refusal.Malformed c = c
   onward time times refusal.ChainInvalid c = record { time = c.time; among = later time times c.time c.among; none = c.none }
   onward time times (refusal.NoValidAuthority at_time) c = record { among = later time times at_time c.among; none = c.none }
@@ -93,10 +92,10 @@ module _ (t : Trust) (info : CertificateInfo) (leaf_der : List ℕ) (intermediat
   onward time times (refusal.Expired at_time not_after) c = record { among = later time times at_time c.among; ended = c.ended; late = c.late }
   onward time times _ c = absurd c
 
-  authority_caused : (time : Timestamp) (times : List Timestamp) (e : Refusal) → authority_judged t.anchors time ≡ Err e → TimeCause (time ∷ times) e
+  authority_caused : (time : Timestamp) (times : List Timestamp) (e : CertificateRefusal) → authority_judged t.anchors time ≡ Err e → TimeCause (time ∷ times) e
   authority_caused time times e h = by (has_authority t.anchors time) refl h
     where
-      by : (b : Bool) → has_authority t.anchors time ≡ b → ◌≡◌ {A = Result ⊤ Refusal} (if b then Ok tt else Err (refusal.NoValidAuthority time)) (Err e) → TimeCause (time ∷ times) e
+      by : (b : Bool) → has_authority t.anchors time ≡ b → ◌≡◌ {A = Result ⊤ CertificateRefusal} (if b then Ok tt else Err (refusal.NoValidAuthority time)) (Err e) → TimeCause (time ∷ times) e
       by true is k = cc
       by false is k = subst (TimeCause (time ∷ times)) (err_same (refusal.NoValidAuthority time) e k) (record { among = first time times; none = is })
 
@@ -111,17 +110,17 @@ module _ (t : Trust) (info : CertificateInfo) (leaf_der : List ℕ) (intermediat
   path_caused time times path.Certificate s n = absurd s
   path_caused time times path.NoMemory s n = absurd (n refl)
 
-  window_caused : (time : Timestamp) (times : List Timestamp) (e : Refusal) → window_judged info time ≡ Err e → TimeCause (time ∷ times) e
+  window_caused : (time : Timestamp) (times : List Timestamp) (e : CertificateRefusal) → window_judged info time ≡ Err e → TimeCause (time ∷ times) e
   window_caused time times e h = by (is_by info.not_before time) (is_by time info.not_after) refl refl h
     where
       by : (a b : Bool) → is_by info.not_before time ≡ a → is_by time info.not_after ≡ b
-          → ◌≡◌ {A = Result ⊤ Refusal} (if a then (if b then Ok tt else Err (refusal.Expired time info.not_after)) else Err (refusal.NotYetValid time info.not_before)) (Err e)
+          → ◌≡◌ {A = Result ⊤ CertificateRefusal} (if a then (if b then Ok tt else Err (refusal.Expired time info.not_after)) else Err (refusal.NotYetValid time info.not_before)) (Err e)
           → TimeCause (time ∷ times) e
       by true true p q k = cc
       by true false p q k = subst (TimeCause (time ∷ times)) (err_same (refusal.Expired time info.not_after) e k) (record { among = first time times; ended = refl; late = q })
       by false b p q k = subst (TimeCause (time ∷ times)) (err_same (refusal.NotYetValid time info.not_before) e k) (record { among = first time times; start = refl; early = p })
 
-  time_caused : (time : Timestamp) (times : List Timestamp) (e : Refusal) → issued_at t info leaf_der intermediates time ≡ Err e → TimeCause (time ∷ times) e
+  time_caused : (time : Timestamp) (times : List Timestamp) (e : CertificateRefusal) → issued_at t info leaf_der intermediates time ≡ Err e → TimeCause (time ∷ times) e
   unfolding issued_at
   time_caused time times e h =
       refused_at (authority_judged t.anchors time) _ e h (authority_caused time times e) (λ u p k.
@@ -130,7 +129,7 @@ module _ (t : Trust) (info : CertificateInfo) (leaf_der : List ℕ) (intermediat
       let means = refused_means (at time) w.0 w.1 in subst (TimeCause (time ∷ times)) w.2 (path_caused time times w.0 means.0 means.1)) (λ found q m.
       refused_at (window_judged info time) (λ _. Ok found.issuer_spki) e m (window_caused time times e) (λ v s o. cc)))
 
-  each_caused : (times : List Timestamp) (key : List ℕ) (e : Refusal) → at_each (issued_at t info leaf_der intermediates) times key ≡ Err e → TimeCause times e
+  each_caused : (times : List Timestamp) (key : List ℕ) (e : CertificateRefusal) → at_each (issued_at t info leaf_der intermediates) times key ≡ Err e → TimeCause times e
   each_caused [] key e h = cc
   each_caused (time ∷ times) key e h =
       refused_at (issued_at t info leaf_der intermediates time) (at_each (issued_at t info leaf_der intermediates) times) e h (time_caused time times e)
@@ -139,11 +138,11 @@ module _ (t : Trust) (info : CertificateInfo) (leaf_der : List ℕ) (intermediat
   -- ---- its timestamps
 
   module _ (threshold : LogThreshold) where
-    abbrev OfTimestamps : Certificate → List ℕ → Refusal → Type 0
+    abbrev OfTimestamps : Certificate → List ℕ → CertificateRefusal → Type 0
     OfTimestamps c issuer e =
         ((broken : SctRule) × SctCause t threshold c issuer broken × (refusal.Sct broken ≡ e)) ⊎ (LacksLog t leaf_der × (refusal.InvalidTrustRoot ≡ e))
 
-    list_caused : (c : Certificate) (issuer : List ℕ) (e : Refusal) → scts_of c ≡ Err e → OfTimestamps c issuer e
+    list_caused : (c : Certificate) (issuer : List ℕ) (e : CertificateRefusal) → scts_of c ≡ Err e → OfTimestamps c issuer e
     list_caused c issuer e h = by (value_of sct_oid (extensions_of c)) refl h
       where
         in_list : (value : List ℕ) → value_of sct_oid (extensions_of c) ≡ Some value → (r : Reading (List OneSct)) → sct_list_of value ≡ r → scts_in r ≡ Err e → OfTimestamps c issuer e
@@ -154,11 +153,11 @@ module _ (t : Trust) (info : CertificateInfo) (leaf_der : List ℕ) (intermediat
         by None is k = inl (rule.List, no_extension is, err_same (refusal.Sct rule.List) e k)
         by (Some value) is k = in_list value is (sct_list_of value) refl k
 
-    module _ (c : Certificate) (issuer : List ℕ) (e : Refusal) (scts : List OneSct) (listed_is : scts_of c ≡ Ok scts) where
+    module _ (c : Certificate) (issuer : List ℕ) (e : CertificateRefusal) (scts : List OneSct) (listed_is : scts_of c ≡ Ok scts) where
       scheme_caused : some_scheme scts ≡ Err e → OfTimestamps c issuer e
       scheme_caused h = by (list_any has_scheme scts) refl h
         where
-          by : (b : Bool) → list_any has_scheme scts ≡ b → ◌≡◌ {A = Result ⊤ Refusal} (if b then Ok tt else Err (refusal.Sct rule.Scheme)) (Err e) → OfTimestamps c issuer e
+          by : (b : Bool) → list_any has_scheme scts ≡ b → ◌≡◌ {A = Result ⊤ CertificateRefusal} (if b then Ok tt else Err (refusal.Sct rule.Scheme)) (Err e) → OfTimestamps c issuer e
           by true is k = cc
           by false is k =
               inl (
@@ -170,7 +169,7 @@ module _ (t : Trust) (info : CertificateInfo) (leaf_der : List ℕ) (intermediat
       log_caused : certificate_of leaf_der ≡ Ok c → list_any has_scheme scts ≡ true → some_log t.ct_logs scts ≡ Err e → OfTimestamps c issuer e
       log_caused read schemed h = by (list_any (is_of_logs t.ct_logs) scts) refl h
         where
-          by : (b : Bool) → list_any (is_of_logs t.ct_logs) scts ≡ b → ◌≡◌ {A = Result ⊤ Refusal} (if b then Ok tt else Err refusal.InvalidTrustRoot) (Err e) → OfTimestamps c issuer e
+          by : (b : Bool) → list_any (is_of_logs t.ct_logs) scts ≡ b → ◌≡◌ {A = Result ⊤ CertificateRefusal} (if b then Ok tt else Err refusal.InvalidTrustRoot) (Err e) → OfTimestamps c issuer e
           by true is k = cc
           by false is k =
               let a = among_from_any has_scheme scts schemed in
@@ -221,7 +220,7 @@ module _ (t : Trust) (info : CertificateInfo) (leaf_der : List ℕ) (intermediat
                 } in
                 inl (rule.TooFew threshold.value found, (refl, cause), err_same (refusal.Sct (rule.TooFew threshold.value found)) e k)
 
-    judged_caused : (c : Certificate) (issuer : List ℕ) (e : Refusal) → certificate_of leaf_der ≡ Ok c → scts_judged t.accepts t.ct_logs threshold c issuer ≡ Err e
+    judged_caused : (c : Certificate) (issuer : List ℕ) (e : CertificateRefusal) → certificate_of leaf_der ≡ Ok c → scts_judged t.accepts t.ct_logs threshold c issuer ≡ Err e
         → OfTimestamps c issuer e
     unfolding scts_judged
     judged_caused c issuer e read h =
@@ -235,10 +234,10 @@ module _ (t : Trust) (info : CertificateInfo) (leaf_der : List ℕ) (intermediat
         (part_caused c issuer e scts p has (precert_of c.tbs c.signed.tail.front c.signed.tail.extensions) refl)
         (λ tbs w n. count_caused c issuer e scts p has tbs w n))))
 
-    abbrev SctRefused : List ℕ → Refusal → Type 0
+    abbrev SctRefused : List ℕ → CertificateRefusal → Type 0
     SctRefused issuer e = ((c : Certificate) × (certificate_of leaf_der ≡ Ok c) × OfTimestamps c issuer e) ⊎ (IsNoLeaf leaf_der × (refusal.Malformed ≡ e))
 
-    scts_caused : (issuer : List ℕ) (e : Refusal) → leaf_scts_judged t threshold leaf_der issuer ≡ Err e → SctRefused issuer e
+    scts_caused : (issuer : List ℕ) (e : CertificateRefusal) → leaf_scts_judged t threshold leaf_der issuer ≡ Err e → SctRefused issuer e
     unfolding leaf_scts_judged leaf_of
     scts_caused issuer e h = by (certificate_of leaf_der) refl h
       where
@@ -249,7 +248,7 @@ module _ (t : Trust) (info : CertificateInfo) (leaf_der : List ℕ) (intermediat
   -- ---- both
 
   module _ (policy : VerificationPolicy) (times : List Timestamp) where
-    wider : (e : Refusal) → IsTrue (verifies_chain policy.certificate) → TimeCause times e → Cause t policy info leaf_der intermediates times e
+    wider : (e : CertificateRefusal) → IsTrue (verifies_chain policy.certificate) → TimeCause times e → Cause t policy info leaf_der intermediates times e
     wider refusal.Malformed a c = (a, c)
     wider refusal.ChainInvalid a c = (a, c)
     wider (refusal.NoValidAuthority time) a c = (a, c)
@@ -261,7 +260,7 @@ module _ (t : Trust) (info : CertificateInfo) (leaf_der : List ℕ) (intermediat
     wider (refusal.IssuerMismatch text actual) a c = absurd c
     wider refusal.NoMemory a c = absurd c
 
-    lacking : (issuer : List ℕ) (e : Refusal) → policy.certificate ≡ Verify true → issued_at_each t info leaf_der intermediates times ≡ Ok issuer
+    lacking : (issuer : List ℕ) (e : CertificateRefusal) → policy.certificate ≡ Verify true → issued_at_each t info leaf_der intermediates times ≡ Ok issuer
         → SctRefused policy.scts issuer e
         → Cause t policy info leaf_der intermediates times e
     lacking issuer e asked valid (inl (c, read, inl s)) =
@@ -270,12 +269,12 @@ module _ (t : Trust) (info : CertificateInfo) (leaf_der : List ℕ) (intermediat
     lacking issuer e asked valid (inl (c, read, inr s)) = subst (Cause t policy info leaf_der intermediates times) s.1 (ap verifies_sct asked, s.0)
     lacking issuer e asked valid (inr s) = subst (Cause t policy info leaf_der intermediates times) s.1 (ap verifies_chain asked, s.0)
 
-    asked_caused : (verify_sct : Bool) (issuer : List ℕ) (e : Refusal) → policy.certificate ≡ Verify verify_sct → issued_at_each t info leaf_der intermediates times ≡ Ok issuer
+    asked_caused : (verify_sct : Bool) (issuer : List ℕ) (e : CertificateRefusal) → policy.certificate ≡ Verify verify_sct → issued_at_each t info leaf_der intermediates times ≡ Ok issuer
         → scts_asked t verify_sct policy.scts leaf_der issuer ≡ Err e → Cause t policy info leaf_der intermediates times e
     asked_caused true issuer e asked valid h = lacking issuer e asked valid (scts_caused policy.scts issuer e h)
     asked_caused false issuer e asked valid h = cc
 
-    chain_caused : (p : CertificatePolicy) (e : Refusal) → policy.certificate ≡ p → chain_judged t p policy.scts info leaf_der intermediates times ≡ Err e
+    chain_caused : (p : CertificatePolicy) (e : CertificateRefusal) → policy.certificate ≡ p → chain_judged t p policy.scts info leaf_der intermediates times ≡ Err e
         → Cause t policy info leaf_der intermediates times e
     unfolding chain_verified
     chain_caused Skip e asked h = cc
@@ -285,29 +284,29 @@ module _ (t : Trust) (info : CertificateInfo) (leaf_der : List ℕ) (intermediat
 
     -- ---- the names
 
-    identity_caused : (asked : Option IdentityMatcher) (e : Refusal) → policy.identity ≡ asked → identity_judged asked info.identity ≡ Err e
+    identity_caused : (asked : Option IdentityMatcher) (e : CertificateRefusal) → policy.identity ≡ asked → identity_judged asked info.identity ≡ Err e
         → Cause t policy info leaf_der intermediates times e
     identity_caused None e is h = cc
     identity_caused (Some matcher) e is h = by (is_matched matcher info.identity) refl h
       where
-        by : (b : Bool) → is_matched matcher info.identity ≡ b → ◌≡◌ {A = Result ⊤ Refusal} (if b then Ok tt else Err (refusal.IdentityMismatch matcher info.identity)) (Err e)
+        by : (b : Bool) → is_matched matcher info.identity ≡ b → ◌≡◌ {A = Result ⊤ CertificateRefusal} (if b then Ok tt else Err (refusal.IdentityMismatch matcher info.identity)) (Err e)
             → Cause t policy info leaf_der intermediates times e
         by true p k = cc
         by false p k =
             subst (Cause t policy info leaf_der intermediates times) (err_same (refusal.IdentityMismatch matcher info.identity) e k) (record { asked = is; said = refl; other = p })
 
-    issuer_caused : (asked : Option (List ℕ)) (e : Refusal) → policy.issuer ≡ asked → issuer_judged asked info.issuer ≡ Err e
+    issuer_caused : (asked : Option (List ℕ)) (e : CertificateRefusal) → policy.issuer ≡ asked → issuer_judged asked info.issuer ≡ Err e
         → Cause t policy info leaf_der intermediates times e
     issuer_caused None e is h = cc
     issuer_caused (Some text) e is h = by (is_text text info.issuer) refl h
       where
-        by : (b : Bool) → is_text text info.issuer ≡ b → ◌≡◌ {A = Result ⊤ Refusal} (if b then Ok tt else Err (refusal.IssuerMismatch text info.issuer)) (Err e)
+        by : (b : Bool) → is_text text info.issuer ≡ b → ◌≡◌ {A = Result ⊤ CertificateRefusal} (if b then Ok tt else Err (refusal.IssuerMismatch text info.issuer)) (Err e)
             → Cause t policy info leaf_der intermediates times e
         by true p k = cc
         by false p k =
             subst (Cause t policy info leaf_der intermediates times) (err_same (refusal.IssuerMismatch text info.issuer) e k) (record { asked = is; said = refl; other = p })
 
-    pub caused : (e : Refusal) → certified_of t policy info leaf_der intermediates times ≡ Err e → Cause t policy info leaf_der intermediates times e
+    pub caused : (e : CertificateRefusal) → certified_of t policy info leaf_der intermediates times ≡ Err e → Cause t policy info leaf_der intermediates times e
     unfolding certified_of
     caused e h =
         refused_at (chain_judged t policy.certificate policy.scts info leaf_der intermediates times) (λ count. names_judged policy info >>= λ _. Ok count) e h

@@ -18,8 +18,8 @@ use Rattle.path_core.proofs.FirstPath.{found_is, found_means}
 use Rattle.sigstore_certificate.specs.declared.policy.CertificatePolicy.{CertificatePolicy}
 use Rattle.sigstore_certificate.specs.declared.policy.CertificatePolicy.TheVariants.{Skip, Verify}
 use Rattle.sigstore_certificate.specs.declared.policy.VerificationPolicy.{VerificationPolicy}
-use Rattle.sigstore_certificate.specs.declared.error.Refusal.{Refusal}
-use Rattle.sigstore_certificate.specs.declared.error.Refusal.TheVariants.{NoValidAuthority, NotYetValid, Expired}
+use Rattle.sigstore_certificate.specs.declared.error.CertificateRefusal.{CertificateRefusal}
+use Rattle.sigstore_certificate.specs.declared.error.CertificateRefusal.TheVariants.{NoValidAuthority, NotYetValid, Expired}
 use Rattle.sigstore_certificate.specs.Certified.{Trust, has_authority, authority_judged, window_judged, issued_at, at_each, issued_at_each, scts_asked, chain_verified, chain_judged, certified_of}
 use Rattle.sigstore_certificate.specs.Error.{by_path}
 use Rattle.sigstore_certificate.specs.IsCertified.{IsValidAt, IsValidAtEach, HasSctsIf, IsChainedIf, IsCertified, CertifiedExactly}
@@ -45,7 +45,7 @@ authority_passes anchors time o =
 window_means : (info : CertificateInfo) (time : Timestamp) (x : ⊤) → window_judged info time ≡ Ok x → IsTrue (is_by info.not_before time) × IsTrue (is_by time info.not_after)
 window_means info time x h = by (is_by info.not_before time) (is_by time info.not_after) h
   where
-    by : (a b : Bool) → ◌≡◌ {A = Result ⊤ Refusal} (if a then (if b then Ok tt else Err (Expired time info.not_after)) else Err (NotYetValid time info.not_before)) (Ok x)
+    by : (a b : Bool) → ◌≡◌ {A = Result ⊤ CertificateRefusal} (if a then (if b then Ok tt else Err (Expired time info.not_after)) else Err (NotYetValid time info.not_before)) (Ok x)
         → (a ≡ true) × (b ≡ true)
     by true true k = (refl, refl)
     by true false k = cc
@@ -64,10 +64,10 @@ module _ (t : Trust) (info : CertificateInfo) (leaf : List ℕ) (intermediates :
   abbrev at : Timestamp → Setting
   at time = setting t.accepts leaf intermediates t.anchors CodeSigning time
 
-  abbrev after_path : Timestamp → FoundPath → Result (List ℕ) Refusal
+  abbrev after_path : Timestamp → FoundPath → Result (List ℕ) CertificateRefusal
   after_path time path = window_judged info time >>= λ _. Ok path.issuer_spki
 
-  abbrev after_authority : Timestamp → ⊤ → Result (List ℕ) Refusal
+  abbrev after_authority : Timestamp → ⊤ → Result (List ℕ) CertificateRefusal
   after_authority time u = by_path (path_of (at time)) >>= after_path time
 
   valid_means : (time : Timestamp) (issuer : List ℕ) → issued_at t info leaf intermediates time ≡ Ok issuer → IsValidAt t info leaf intermediates time issuer
@@ -99,7 +99,7 @@ module _ (t : Trust) (info : CertificateInfo) (leaf : List ℕ) (intermediates :
 
   -- ---- at each
 
-  abbrev each : List Timestamp → List ℕ → Result (List ℕ) Refusal
+  abbrev each : List Timestamp → List ℕ → Result (List ℕ) CertificateRefusal
   each times before = at_each (issued_at t info leaf intermediates) times before
 
   each_means : (times : List Timestamp) (before issuer : List ℕ) → each times before ≡ Ok issuer → IsValidAtEach t info leaf intermediates times before issuer
@@ -143,10 +143,10 @@ module _ (t : Trust) (info : CertificateInfo) (leaf : List ℕ) (intermediates :
   -- ---- with the names
 
   module _ (policy : VerificationPolicy) where
-    abbrev counted : ℕ → ⊤ → Result ℕ Refusal
+    abbrev counted : ℕ → ⊤ → Result ℕ CertificateRefusal
     counted count u = Ok count
 
-    abbrev named : ℕ → Result ℕ Refusal
+    abbrev named : ℕ → Result ℕ CertificateRefusal
     named count = names_judged policy info >>= counted count
 
     pub accepted_means : (times : List Timestamp) (count : ℕ) → certified_of t policy info leaf intermediates times ≡ Ok count

@@ -8,13 +8,13 @@ use Rattle.certificate_claims.specs.declared.certificate_info.CertificateInfo.{C
 use Rattle.certificate_claims.specs.declared.certificate_info.SubjectAltName.{SubjectAltName}
 use Rattle.sigstore_certificate.specs.declared.policy.IdentityMatcher.{IdentityMatcher}
 use Rattle.sigstore_certificate.specs.declared.policy.VerificationPolicy.{VerificationPolicy}
-use Rattle.sigstore_certificate.specs.declared.error.Refusal.{Refusal}
-use Rattle.sigstore_certificate.specs.declared.error.Refusal.TheVariants.{IdentityMismatch, IssuerMismatch}
+use Rattle.sigstore_certificate.specs.declared.error.CertificateRefusal.{CertificateRefusal}
+use Rattle.sigstore_certificate.specs.declared.error.CertificateRefusal.TheVariants.{IdentityMismatch, IssuerMismatch}
 use Rattle.sigstore_certificate.specs.IsCertified.{HasIdentity, HasIssuer}
 use Rattle.sigstore_certificate.specs.Names.{matches, identity_judged, is_text, issuer_judged, names_judged}
 
 -- a test that is passed
-pub passes : (b : Bool) (e : Refusal) (x : ⊤) → ◌≡◌ {A = Result ⊤ Refusal} (if b then Ok tt else Err e) (Ok x) → b ≡ true
+pub passes : (b : Bool) (e : CertificateRefusal) (x : ⊤) → ◌≡◌ {A = Result ⊤ CertificateRefusal} (if b then Ok tt else Err e) (Ok x) → b ≡ true
 passes true e x h = refl
 passes false e x h = cc
 

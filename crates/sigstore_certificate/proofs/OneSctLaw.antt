@@ -14,8 +14,8 @@ use Rattle.sigstore_keys.specs.declared.scheme.SigningScheme.{SigningScheme}
 use Rattle.sigstore_keys.specs.Good.{Judge}
 use Rattle.sigstore_keys.specs.Keyring.{Ring, has_key_of}
 use Rattle.sigstore_keys.specs.LogIds.{count_distinct}
-use Rattle.sigstore_certificate.specs.declared.error.Refusal.{Refusal}
-use Rattle.sigstore_certificate.specs.declared.error.Refusal.TheVariants.{InvalidTrustRoot}
+use Rattle.sigstore_certificate.specs.declared.error.CertificateRefusal.{CertificateRefusal}
+use Rattle.sigstore_certificate.specs.declared.error.CertificateRefusal.TheVariants.{InvalidTrustRoot}
 use Rattle.sigstore_certificate.specs.declared.error.SctRule.TheVariants as rule
 use Rattle.sigstore_certificate.specs.OneSct.{schemed, trusted_for, alone_of, OneAlone}
 use Rattle.sigstore_certificate.specs.Scts.{refused_by, scts_of, scheme_of, some_scheme, is_of_ring, some_log, written, signed_part_of, signed_data_of}
@@ -27,7 +27,7 @@ module _ (accepts : Judge) (ring : Ring) (asked : LogThreshold) (one : asked.val
   abbrev good : SigningScheme → List ℕ → Bool
   good scheme tbs = good_under accepts ring (sha256 issuer) tbs sct (Some scheme)
 
-  abbrev counted : Bool → Result ℕ Refusal
+  abbrev counted : Bool → Result ℕ CertificateRefusal
   counted b = enough_logs asked (count_distinct (if b then sct.log_id ∷ [] else []))
 
   count_is : (b : Bool) → counted b ≡ (if b then Ok 1 else refused_by (rule.TooFew 1 0))
@@ -48,11 +48,11 @@ module _ (accepts : Judge) (ring : Ring) (asked : LogThreshold) (one : asked.val
       kept b = cons_option (if b then Some sct.log_id else None) []
 
   module _ (scheme : SigningScheme) (is : scheme_of sct.algorithm ≡ Some scheme) where
-    abbrev judged : List ℕ → Result ℕ Refusal
+    abbrev judged : List ℕ → Result ℕ CertificateRefusal
     judged message =
         if good_by accepts (key_under scheme (log_key ring sct)) (Ok message) sct.signature then Ok 1 else refused_by (rule.TooFew 1 0)
 
-    abbrev after_part : List ℕ → Result ℕ Refusal
+    abbrev after_part : List ℕ → Result ℕ CertificateRefusal
     after_part tbs = enough_logs asked (promising_logs (is_good_sct accepts ring (sha256 issuer) tbs) (sct ∷ []))
 
     -- over a signed part of which the length can be told
@@ -77,7 +77,7 @@ module _ (accepts : Judge) (ring : Ring) (asked : LogThreshold) (one : asked.val
     unfolding signed_data_of
     by_data = by_part (precert_of c.tbs c.signed.tail.front c.signed.tail.extensions)
 
-    abbrev trusted : Bool → Result ⊤ Refusal
+    abbrev trusted : Bool → Result ⊤ CertificateRefusal
     trusted b = if b then Ok tt else Err InvalidTrustRoot
 
     by_trust : (b : Bool)
@@ -86,11 +86,11 @@ module _ (accepts : Judge) (ring : Ring) (asked : LogThreshold) (one : asked.val
     by_trust true = by_data
     by_trust false = refl
 
-  abbrev after_scheme : ⊤ → Result ℕ Refusal
+  abbrev after_scheme : ⊤ → Result ℕ CertificateRefusal
   after_scheme u =
       some_log ring (sct ∷ []) >>= λ _. signed_part_of c >>= λ tbs. enough_logs asked (promising_logs (is_good_sct accepts ring (sha256 issuer) tbs) (sct ∷ []))
 
-  abbrev schemes : Bool → Result ⊤ Refusal
+  abbrev schemes : Bool → Result ⊤ CertificateRefusal
   schemes b = if b then Ok tt else refused_by rule.Scheme
 
   by_scheme : (o : Option SigningScheme) → scheme_of sct.algorithm ≡ o

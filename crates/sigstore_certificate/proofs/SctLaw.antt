@@ -18,8 +18,8 @@ use Rattle.sigstore_keys.specs.Key.{key_with, same_sort}
 use Rattle.sigstore_keys.specs.Keyring.{has_key_of}
 use Rattle.sigstore_keys.specs.LogIds.{is_enough}
 use Rattle.sigstore_keys.specs.Scheme.{key_algorithm_of}
-use Rattle.sigstore_certificate.specs.declared.error.Refusal.{Refusal}
-use Rattle.sigstore_certificate.specs.declared.error.Refusal.TheVariants.{InvalidTrustRoot}
+use Rattle.sigstore_certificate.specs.declared.error.CertificateRefusal.{CertificateRefusal}
+use Rattle.sigstore_certificate.specs.declared.error.CertificateRefusal.TheVariants.{InvalidTrustRoot}
 use Rattle.sigstore_certificate.specs.declared.error.SctRule.TheVariants as rule
 use Rattle.sigstore_certificate.specs.Certified.{Trust, parts_read, leaf_scts_judged}
 use Rattle.sigstore_certificate.specs.IsCertified.{IsKnown, HasScts, IsGoodSct, GoodExactly}
@@ -64,7 +64,7 @@ pub record IsPart (c : Certificate) (tbs : List ℕ) : Type 0 where
   pub tbs_is : precert_of c.tbs c.signed.tail.front c.signed.tail.extensions ≡ Ok tbs
   pub short : length tbs < 16777216
 
-abbrev pub shortened : List ℕ → Result (List ℕ) Refusal
+abbrev pub shortened : List ℕ → Result (List ℕ) CertificateRefusal
 shortened tbs = if nat_lt (length tbs) 16777216 then Ok tbs else refused_by rule.Precertificate
 
 short_means : (tbs out : List ℕ) → shortened tbs ≡ Ok out → (tbs ≡ out) × (length tbs < 16777216)
@@ -170,19 +170,19 @@ module _ (t : Trust) (asked : LogThreshold) (leaf issuer : List ℕ) where
   abbrev count_in : List Sct → List ℕ → ℕ
   count_in scts tbs = promising_logs (is_good_sct t.accepts t.ct_logs (sha256 issuer) tbs) scts
 
-  abbrev after_part : List Sct → List ℕ → Result ℕ Refusal
+  abbrev after_part : List Sct → List ℕ → Result ℕ CertificateRefusal
   after_part scts tbs = enough_logs asked (count_in scts tbs)
 
-  abbrev after_log : Certificate → List Sct → ⊤ → Result ℕ Refusal
+  abbrev after_log : Certificate → List Sct → ⊤ → Result ℕ CertificateRefusal
   after_log c scts u = signed_part_of c >>= after_part scts
 
-  abbrev after_scheme : Certificate → List Sct → ⊤ → Result ℕ Refusal
+  abbrev after_scheme : Certificate → List Sct → ⊤ → Result ℕ CertificateRefusal
   after_scheme c scts u = some_log t.ct_logs scts >>= after_log c scts
 
-  abbrev after_list : Certificate → List Sct → Result ℕ Refusal
+  abbrev after_list : Certificate → List Sct → Result ℕ CertificateRefusal
   after_list c scts = some_scheme scts >>= after_scheme c scts
 
-  abbrev after_parts : Certificate → Result ℕ Refusal
+  abbrev after_parts : Certificate → Result ℕ CertificateRefusal
   after_parts c = scts_judged t.accepts t.ct_logs asked c issuer
 
   judged_means : (c : Certificate) (count : ℕ) → certificate_of leaf ≡ Ok c → scts_judged t.accepts t.ct_logs asked c issuer ≡ Ok count

@@ -12,7 +12,7 @@ use Rattle.foundation.specs.Steps.{◌>>=◌}
 use Rattle.jiff_core.specs.declared.timestamp.Timestamp.{Timestamp}
 use Rattle.sigstore_types_parts.specs.Instant.{at_nanosecond}
 use Rattle.sigstore_types_parts.proofs.Instants.{at_nanosecond-nanosecond}
-use Rattle.sigstore_certificate.specs.declared.error.Refusal.{Refusal}
+use Rattle.sigstore_certificate.specs.declared.error.CertificateRefusal.{CertificateRefusal}
 use Rattle.sigstore_certificate.specs.Certified.{at_each}
 use Rattle.sigstore_certificate.specs.Times.{IsIssuedAt, AreIssued, IsKept}
 
@@ -24,7 +24,7 @@ same_instant first second e = sym (at_nanosecond-nanosecond first) ∙ ap at_nan
 first_of : (times : List Timestamp) (i : ℕ) (time : Timestamp) → i < length times → drop i times ≡ get_or times i time ∷ drop (i + 1) times
 first_of times i time h = rw (add-one, drop-cons times i time h) refl
 
-module _ (f : Timestamp → Result (List ℕ) Refusal) where
+module _ (f : Timestamp → Result (List ℕ) CertificateRefusal) where
   -- ---- judging at each
 
   -- the key before the last time doesn't count
@@ -38,7 +38,7 @@ module _ (f : Timestamp → Result (List ℕ) Refusal) where
   passed time times last i = ap (λ r. r >>= at_each f (times ++ last ∷ [])) i.1 ∙ same_key times last i.0 []
 
   -- one at which there is none refuses
-  pub refused : (time : Timestamp) (times : List Timestamp) (last : Timestamp) (e : Refusal) → f time ≡ Err e
+  pub refused : (time : Timestamp) (times : List Timestamp) (last : Timestamp) (e : CertificateRefusal) → f time ≡ Err e
       → at_each f ((time ∷ times) ++ last ∷ []) [] ≡ Err e
   refused time times last e h = ap (λ r. r >>= at_each f (times ++ last ∷ [])) h
 
@@ -46,7 +46,7 @@ module _ (f : Timestamp → Result (List ℕ) Refusal) where
   pub last_ok : (last : Timestamp) (key : List ℕ) → f last ≡ Ok key → at_each f (last ∷ []) [] ≡ Ok key
   last_ok last key h = ap (λ r. r >>= at_each f []) h
 
-  pub last_err : (last : Timestamp) (e : Refusal) → f last ≡ Err e → at_each f (last ∷ []) [] ≡ Err e
+  pub last_err : (last : Timestamp) (e : CertificateRefusal) → f last ≡ Err e → at_each f (last ∷ []) [] ≡ Err e
   last_err last e h = ap (λ r. r >>= at_each f []) h
 
   -- ---- the times that were judged

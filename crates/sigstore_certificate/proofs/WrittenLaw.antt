@@ -8,13 +8,13 @@ use Rattle.der_grammar.specs.Tlv.{IsBytes}
 use Rattle.x509_views.specs.Certificates.{Certificate, certificate_of}
 use Rattle.x509_views.specs.Precertificates.{precert_of}
 use Rattle.x509_views.specs.Scts.{Parts as OneSct, signed_of, signed_bytes}
-use Rattle.sigstore_certificate.specs.declared.error.Refusal.{Refusal}
-use Rattle.sigstore_certificate.specs.declared.error.Refusal.TheVariants.{Sct}
+use Rattle.sigstore_certificate.specs.declared.error.CertificateRefusal.{CertificateRefusal}
+use Rattle.sigstore_certificate.specs.declared.error.CertificateRefusal.TheVariants.{Sct}
 use Rattle.sigstore_certificate.specs.declared.error.SctRule.TheVariants.{Precertificate}
 use Rattle.sigstore_certificate.specs.Cause.{WrittenUnlessLong}
 use Rattle.sigstore_certificate.specs.Scts.{written, signed_data_of}
 
-too_long : (sct : OneSct) (key_hash tbs : List ℕ) (e : Refusal) → written (signed_of sct key_hash tbs) ≡ Err e → (e ≡ Sct Precertificate) × (16777216 ≤ length tbs)
+too_long : (sct : OneSct) (key_hash tbs : List ℕ) (e : CertificateRefusal) → written (signed_of sct key_hash tbs) ≡ Err e → (e ≡ Sct Precertificate) × (16777216 ≤ length tbs)
 unfolding signed_of
 too_long sct key_hash tbs e h = by (nat_lt (length tbs) 16777216) (λ k. ltb-false (length tbs) 16777216 k) h
   where

@@ -12,8 +12,7 @@ use Rattle.sigstore_keys.specs.declared.log_ids.LogThreshold.{LogThreshold}
 use Rattle.sigstore_keys.specs.declared.scheme.SigningScheme.{SigningScheme}
 use Rattle.certificate_claims.specs.declared.certificate_info.CertificateInfo.{CertificateInfo}
 use Rattle.certificate_claims.specs.declared.certificate_info.SubjectAltName.{SubjectAltName}
-use Rattle.certificate_claims.specs.Claims.{value_of}
-use Rattle.certificate_claims.specs.Info.{extensions_of}
+use Rattle.certificate_fields.specs.Fields.{value_of, extensions_of}
 use Rattle.path_core.specs.declared.error.LeafFault.{LeafFault}
 use Rattle.path_core.specs.declared.error.PathError.TheVariants.{Leaf}
 use Rattle.path_core.specs.declared.purpose.Purpose.TheVariants.{CodeSigning}
@@ -22,8 +21,8 @@ use Rattle.path_core.specs.Paths.{setting, IsPath}
 use Rattle.path_core.specs.Traits.{leaf_of}
 use Rattle.sigstore_certificate.specs.declared.policy.IdentityMatcher.{IdentityMatcher}
 use Rattle.sigstore_certificate.specs.declared.policy.VerificationPolicy.{VerificationPolicy}
-use Rattle.sigstore_certificate.specs.declared.error.Refusal.{Refusal}
-use Rattle.sigstore_certificate.specs.declared.error.Refusal.TheVariants as refusal
+use Rattle.sigstore_certificate.specs.declared.error.CertificateRefusal.{CertificateRefusal}
+use Rattle.sigstore_certificate.specs.declared.error.CertificateRefusal.TheVariants as refusal
 use Rattle.sigstore_certificate.specs.declared.error.SctRule.{SctRule}
 use Rattle.sigstore_certificate.specs.declared.error.SctRule.TheVariants as rule
 use Rattle.sigstore_certificate.specs.Certified.{Trust, has_authority, issued_at_each, certified_of}
@@ -143,7 +142,7 @@ pub record IsByOther (policy : VerificationPolicy) (info : CertificateInfo) (tex
 
 -- ---- by name
 
-abbrev pub Cause : Trust → VerificationPolicy → CertificateInfo → List ℕ → List (List ℕ) → List Timestamp → Refusal → Type 0
+abbrev pub Cause : Trust → VerificationPolicy → CertificateInfo → List ℕ → List (List ℕ) → List Timestamp → CertificateRefusal → Type 0
 Cause t policy info leaf intermediates times refusal.Malformed = IsTrue (verifies_chain policy.certificate) × IsNoLeaf leaf
 Cause t policy info leaf intermediates times refusal.ChainInvalid =
     IsTrue (verifies_chain policy.certificate) × LacksPath t leaf intermediates times
@@ -163,7 +162,7 @@ Cause t policy info leaf intermediates times refusal.NoMemory = ⊥
 -- each refusal comes only where its cause holds
 abbrev pub Refusals : Type 0
 Refusals = (t : Trust) (policy : VerificationPolicy) (info : CertificateInfo) (leaf : List ℕ) (intermediates : List (List ℕ))
-    (times : List Timestamp) (e : Refusal) → certified_of t policy info leaf intermediates times ≡ Err e
+    (times : List Timestamp) (e : CertificateRefusal) → certified_of t policy info leaf intermediates times ≡ Err e
     → Cause t policy info leaf intermediates times e
 
 -- ---- what a log signed
@@ -176,5 +175,5 @@ pub record IsTooLong (c : Certificate) : Type 0 where
 
 -- for a certificate that was read it can't be written only where it is too long
 abbrev pub WrittenUnlessLong : Type 0
-WrittenUnlessLong = (bytes : List ℕ) (c : Certificate) (sct : OneSct) (key_hash : List ℕ) (e : Refusal) → IsBytes bytes
+WrittenUnlessLong = (bytes : List ℕ) (c : Certificate) (sct : OneSct) (key_hash : List ℕ) (e : CertificateRefusal) → IsBytes bytes
     → certificate_of bytes ≡ Ok c → signed_data_of c sct key_hash ≡ Err e → (e ≡ refusal.Sct rule.Precertificate) × IsTooLong c

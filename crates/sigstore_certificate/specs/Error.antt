@@ -3,12 +3,12 @@ use Rattle.std.specs.Prelude.{Result, Ok, Err}
 use Rattle.path_core.specs.declared.error.LeafFault.TheVariants as leaf
 use Rattle.path_core.specs.declared.error.PathError.{PathError}
 use Rattle.path_core.specs.declared.error.PathError.TheVariants as path
-use Rattle.sigstore_certificate.specs.declared.error.Refusal.{Refusal}
-use Rattle.sigstore_certificate.specs.declared.error.Refusal.TheVariants.{Malformed, ChainInvalid, NoMemory}
+use Rattle.sigstore_certificate.specs.declared.error.CertificateRefusal.{CertificateRefusal}
+use Rattle.sigstore_certificate.specs.declared.error.CertificateRefusal.TheVariants.{Malformed, ChainInvalid, NoMemory}
 
 -- One that is no leaf by its reading, its version or its critical extensions is malformed; one that may issue certificates or is for
 -- another purpose has no path.
-abbrev pub refusal_of_path : PathError → Refusal
+abbrev pub refusal_of_path : PathError → CertificateRefusal
 refusal_of_path (path.Leaf leaf.Unreadable) = Malformed
 refusal_of_path (path.Leaf leaf.Version) = Malformed
 refusal_of_path (path.Leaf leaf.CriticalExtension) = Malformed
@@ -19,6 +19,6 @@ refusal_of_path path.NameConstraints = ChainInvalid
 refusal_of_path path.Certificate = ChainInvalid
 refusal_of_path path.NoMemory = NoMemory
 
-abbrev pub by_path : {A : Type 0} → Result A PathError → Result A Refusal
+abbrev pub by_path : {A : Type 0} → Result A PathError → Result A CertificateRefusal
 by_path (Ok x) = Ok x
 by_path (Err e) = Err (refusal_of_path e)

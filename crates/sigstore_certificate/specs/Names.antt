@@ -7,8 +7,8 @@ use Rattle.certificate_claims.specs.declared.certificate_info.SubjectAltName.The
 use Rattle.sigstore_certificate.specs.declared.policy.IdentityMatcher.{IdentityMatcher}
 use Rattle.sigstore_certificate.specs.declared.policy.IdentityMatcher.TheVariants as asked
 use Rattle.sigstore_certificate.specs.declared.policy.VerificationPolicy.{VerificationPolicy}
-use Rattle.sigstore_certificate.specs.declared.error.Refusal.{Refusal}
-use Rattle.sigstore_certificate.specs.declared.error.Refusal.TheVariants.{IdentityMismatch, IssuerMismatch}
+use Rattle.sigstore_certificate.specs.declared.error.CertificateRefusal.{CertificateRefusal}
+use Rattle.sigstore_certificate.specs.declared.error.CertificateRefusal.TheVariants.{IdentityMismatch, IssuerMismatch}
 
 -- the texts are equal, and the identity is of the sort that is asked for, where one is
 abbrev pub matches : IdentityMatcher → SubjectAltName → Bool
@@ -24,7 +24,7 @@ is_matched matcher None = false
 is_matched matcher (Some identity) = matches matcher identity
 
 -- else anyone to whom the authority gives certificates could have signed
-abbrev pub identity_judged : Option IdentityMatcher → Option SubjectAltName → Result ⊤ Refusal
+abbrev pub identity_judged : Option IdentityMatcher → Option SubjectAltName → Result ⊤ CertificateRefusal
 identity_judged None actual = Ok tt
 identity_judged (Some matcher) actual = if is_matched matcher actual then Ok tt else Err (IdentityMismatch matcher actual)
 
@@ -33,9 +33,9 @@ is_text text None = false
 is_text text (Some actual) = bytes_eq text actual
 
 -- else another issuer of identities could give that identity to another
-abbrev pub issuer_judged : Option (List ℕ) → Option (List ℕ) → Result ⊤ Refusal
+abbrev pub issuer_judged : Option (List ℕ) → Option (List ℕ) → Result ⊤ CertificateRefusal
 issuer_judged None actual = Ok tt
 issuer_judged (Some text) actual = if is_text text actual then Ok tt else Err (IssuerMismatch text actual)
 
-abbrev pub names_judged : VerificationPolicy → CertificateInfo → Result ⊤ Refusal
+abbrev pub names_judged : VerificationPolicy → CertificateInfo → Result ⊤ CertificateRefusal
 names_judged policy info = identity_judged policy.identity info.identity >>= λ _. issuer_judged policy.issuer info.issuer

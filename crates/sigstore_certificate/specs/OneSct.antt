@@ -8,21 +8,21 @@ use Rattle.sigstore_keys.specs.declared.log_ids.LogThreshold.{LogThreshold}
 use Rattle.sigstore_keys.specs.declared.scheme.SigningScheme.{SigningScheme}
 use Rattle.sigstore_keys.specs.Good.{Judge}
 use Rattle.sigstore_keys.specs.Keyring.{Ring, has_key_of}
-use Rattle.sigstore_certificate.specs.declared.error.Refusal.{Refusal}
-use Rattle.sigstore_certificate.specs.declared.error.Refusal.TheVariants as refusal
+use Rattle.sigstore_certificate.specs.declared.error.CertificateRefusal.{CertificateRefusal}
+use Rattle.sigstore_certificate.specs.declared.error.CertificateRefusal.TheVariants as refusal
 use Rattle.sigstore_certificate.specs.declared.error.SctRule.TheVariants as rule
 use Rattle.sigstore_certificate.specs.Scts.{refused_by, scts_of, scheme_of, signed_data_of, key_under, log_key, good_by, scts_judged}
 
-abbrev pub schemed : Option SigningScheme → Result SigningScheme Refusal
+abbrev pub schemed : Option SigningScheme → Result SigningScheme CertificateRefusal
 schemed None = refused_by rule.Scheme
 schemed (Some scheme) = Ok scheme
 
-abbrev pub trusted_for : Ring → SigningScheme → Result ⊤ Refusal
+abbrev pub trusted_for : Ring → SigningScheme → Result ⊤ CertificateRefusal
 trusted_for ring scheme = if has_key_of scheme ring then Ok tt else Err refusal.InvalidTrustRoot
 
 -- Its algorithm has a scheme; some trusted log has a key of that sort; what the log signed can be written; and the log of its id has such a
 -- key, which is used at its time and by which the signature over that is good. Then one log promised the certificate.
-abbrev pub alone_of : Judge → Ring → Certificate → List ℕ → Sct → Result ℕ Refusal
+abbrev pub alone_of : Judge → Ring → Certificate → List ℕ → Sct → Result ℕ CertificateRefusal
 alone_of accepts ring c issuer_spki sct = do
   scheme ← schemed (scheme_of sct.algorithm)
   _ ← trusted_for ring scheme

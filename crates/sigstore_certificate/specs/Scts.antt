@@ -19,28 +19,27 @@ use Rattle.sigstore_keys.specs.Key.{key_with, same_sort}
 use Rattle.sigstore_keys.specs.Keyring.{Ring, key_at, has_key_of}
 use Rattle.sigstore_keys.specs.LogIds.{count_distinct, is_enough}
 use Rattle.sigstore_keys.specs.Scheme.{key_algorithm_of}
-use Rattle.certificate_claims.specs.Claims.{value_of}
-use Rattle.certificate_claims.specs.Info.{extensions_of}
+use Rattle.certificate_fields.specs.Fields.{value_of, extensions_of}
 use Rattle.sigstore_certificate.specs.declared.error.SctRule.{SctRule}
 use Rattle.sigstore_certificate.specs.declared.error.SctRule.TheVariants as rule
-use Rattle.sigstore_certificate.specs.declared.error.Refusal.{Refusal}
-use Rattle.sigstore_certificate.specs.declared.error.Refusal.TheVariants as refusal
+use Rattle.sigstore_certificate.specs.declared.error.CertificateRefusal.{CertificateRefusal}
+use Rattle.sigstore_certificate.specs.declared.error.CertificateRefusal.TheVariants as refusal
 
-abbrev pub refused_by : {A : Type 0} → SctRule → Result A Refusal
+abbrev pub refused_by : {A : Type 0} → SctRule → Result A CertificateRefusal
 refused_by broken = Err (refusal.Sct broken)
 
 -- ---- those that the certificate has
 
-abbrev pub scts_in : Reading (List Sct) → Result (List Sct) Refusal
+abbrev pub scts_in : Reading (List Sct) → Result (List Sct) CertificateRefusal
 scts_in (Ok scts) = Ok scts
 scts_in (Err e) = refused_by rule.List
 
-abbrev pub listed : Option (List ℕ) → Result (List Sct) Refusal
+abbrev pub listed : Option (List ℕ) → Result (List Sct) CertificateRefusal
 listed None = refused_by rule.List
 listed (Some value) = scts_in (sct_list_of value)
 
 -- the list is there and readable
-abbrev pub scts_of : Certificate → Result (List Sct) Refusal
+abbrev pub scts_of : Certificate → Result (List Sct) CertificateRefusal
 scts_of c = listed (value_of sct_oid (extensions_of c))
 
 -- SignatureAndHashAlgorithm (RFC 5246, 7.4.1.4.1)
@@ -57,7 +56,7 @@ abbrev pub has_scheme : Sct → Bool
 has_scheme sct = is_some (scheme_of sct.algorithm)
 
 -- some timestamp's algorithm has a scheme: else nothing could decide whether a log signed
-abbrev pub some_scheme : List Sct → Result ⊤ Refusal
+abbrev pub some_scheme : List Sct → Result ⊤ CertificateRefusal
 some_scheme scts = if list_any has_scheme scts then Ok tt else refused_by rule.Scheme
 
 abbrev pub is_of_ring : Ring → Option SigningScheme → Bool
@@ -69,12 +68,12 @@ abbrev pub is_of_logs : Ring → Sct → Bool
 is_of_logs ring sct = is_of_ring ring (scheme_of sct.algorithm)
 
 -- one of them is such a timestamp: else the trusted logs aren't those of such certificates
-abbrev pub some_log : Ring → List Sct → Result ⊤ Refusal
+abbrev pub some_log : Ring → List Sct → Result ⊤ CertificateRefusal
 some_log ring scts = if list_any (is_of_logs ring) scts then Ok tt else Err refusal.InvalidTrustRoot
 
 -- ---- what the log signed
 
-abbrev pub written : Reading (List ℕ) → Result (List ℕ) Refusal
+abbrev pub written : Reading (List ℕ) → Result (List ℕ) CertificateRefusal
 written (Ok octets) = Ok octets
 written (Err e) = refused_by rule.Precertificate
 
@@ -84,13 +83,13 @@ pub record SignedByLog : Type 0 where
   pub octets : List ℕ
 
 -- the timestamp, the SHA-256 value of the issuer's key, and the certificate's signed part without its timestamps
-unfoldable pub signed_data_of : Certificate → Sct → List ℕ → Result (List ℕ) Refusal
+unfoldable pub signed_data_of : Certificate → Sct → List ℕ → Result (List ℕ) CertificateRefusal
 signed_data_of c sct key_hash = do
   tbs ← written (precert_of c.tbs c.signed.tail.front c.signed.tail.extensions)
   written (signed_of sct key_hash tbs)
 
 -- the certificate's signed part without its timestamps, of which three octets can tell the length: the same for every log
-abbrev pub signed_part_of : Certificate → Result (List ℕ) Refusal
+abbrev pub signed_part_of : Certificate → Result (List ℕ) CertificateRefusal
 signed_part_of c = do
   tbs ← written (precert_of c.tbs c.signed.tail.front c.signed.tail.extensions)
   if nat_lt (length tbs) 16777216 then Ok tbs else refused_by rule.Precertificate
@@ -135,14 +134,14 @@ promising_logs good scts = count_distinct (filter_map (promising good) scts)
 
 -- As many different logs as are asked for have a good one, or more: one log alone could keep the certificate to itself, or show it to
 -- nobody but whoever asked for it.
-abbrev pub enough_logs : LogThreshold → ℕ → Result ℕ Refusal
+abbrev pub enough_logs : LogThreshold → ℕ → Result ℕ CertificateRefusal
 enough_logs asked found = if is_enough asked found then Ok found else refused_by (rule.TooFew asked.value found)
 
 -- ---- all of it
 
 -- The certificate has a list of timestamps; some of them has a scheme, and some such scheme a trusted log's key; the signed part can be
 -- written; and enough logs have a good timestamp, for the certificate's issuer by that key. So many logs do.
-unfoldable pub scts_judged : Judge → Ring → LogThreshold → Certificate → List ℕ → Result ℕ Refusal
+unfoldable pub scts_judged : Judge → Ring → LogThreshold → Certificate → List ℕ → Result ℕ CertificateRefusal
 scts_judged accepts ring asked c issuer_spki = do
   scts ← scts_of c
   _ ← some_scheme scts

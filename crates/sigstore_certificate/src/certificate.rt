@@ -3,8 +3,8 @@ ghost use Rattle.std.specs.Prelude.{◌≡◌, ◌≢◌, Ok, Err, IfOk, IfErr};
 ghost use Rattle.sigstore_certificate.specs.Certified.{leaf_scts_judged, scts_asked, chain_verified, chain_judged, certified_of};
 ghost use Rattle.sigstore_certificate.specs.Given.{trust_of};
 
-use crate::error::Refusal;
-use crate::given::Given;
+use crate::error::CertificateRefusal;
+use crate::given::CertificateInputs;
 use crate::names::check_names;
 use crate::policy::{CertificatePolicy, VerificationPolicy};
 use crate::scts::check_scts;
@@ -21,17 +21,17 @@ use x509_views::{CertView, X509Error};
 #[tactic(auto, unfolding(crate::specs::Certified::leaf_scts_judged))]
 fn check_leaf_scts<C: CryptoProvider>(
     alloc: Global,
-    given: &Given<C>,
+    given: &CertificateInputs<C>,
     asked: LogThreshold,
     issuer_spki: &[u8],
-) -> Result<u64, Refusal>
+) -> Result<u64, CertificateRefusal>
     ensures ok { IfOk result (λ count. leaf_scts_judged (trust_of C.accepts given.now) asked given.now.leaf.now issuer_spki.now ≡ Ok count) }
-    ensures err { IfErr result (λ e. e ≢ Refusal.NoMemory → leaf_scts_judged (trust_of C.accepts given.now) asked given.now.leaf.now issuer_spki.now ≡ Err e) }
+    ensures err { IfErr result (λ e. e ≢ CertificateRefusal.NoMemory → leaf_scts_judged (trust_of C.accepts given.now) asked given.now.leaf.now issuer_spki.now ≡ Err e) }
 {
     let view = match CertView::parse_in(alloc, given.leaf.as_bytes()) {
         Ok(view) => view,
-        Err(X509Error::NoMemory) => return Err(Refusal::NoMemory),
-        Err(_) => return Err(Refusal::Malformed),
+        Err(X509Error::NoMemory) => return Err(CertificateRefusal::NoMemory),
+        Err(_) => return Err(CertificateRefusal::Malformed),
     };
     Ok(check_scts(
         alloc,
@@ -46,13 +46,13 @@ fn check_leaf_scts<C: CryptoProvider>(
 // Where that is asked for.
 fn check_promised<C: CryptoProvider>(
     alloc: Global,
-    given: &Given<C>,
+    given: &CertificateInputs<C>,
     verify_sct: bool,
     asked: LogThreshold,
     issuer_spki: &[u8],
-) -> Result<u64, Refusal>
+) -> Result<u64, CertificateRefusal>
     ensures ok { IfOk result (λ count. scts_asked (trust_of C.accepts given.now) verify_sct asked given.now.leaf.now issuer_spki.now ≡ Ok count) }
-    ensures err { IfErr result (λ e. e ≢ Refusal.NoMemory → scts_asked (trust_of C.accepts given.now) verify_sct asked given.now.leaf.now issuer_spki.now ≡ Err e) }
+    ensures err { IfErr result (λ e. e ≢ CertificateRefusal.NoMemory → scts_asked (trust_of C.accepts given.now) verify_sct asked given.now.leaf.now issuer_spki.now ≡ Err e) }
 {
     if verify_sct {
         Ok(check_leaf_scts(alloc, given, asked, issuer_spki)?)
@@ -66,13 +66,13 @@ fn check_promised<C: CryptoProvider>(
 #[tactic(auto, unfolding(crate::specs::Certified::chain_verified))]
 fn check_chain<C: CryptoProvider>(
     alloc: Global,
-    given: &Given<C>,
+    given: &CertificateInputs<C>,
     verify_sct: bool,
     asked: LogThreshold,
     times: &[Timestamp],
-) -> Result<u64, Refusal>
+) -> Result<u64, CertificateRefusal>
     ensures ok { IfOk result (λ count. chain_verified (trust_of C.accepts given.now) verify_sct asked given.now.info.now given.now.leaf.now given.now.intermediates.now times.now ≡ Ok count) }
-    ensures err { IfErr result (λ e. e ≢ Refusal.NoMemory → chain_verified (trust_of C.accepts given.now) verify_sct asked given.now.info.now given.now.leaf.now given.now.intermediates.now times.now ≡ Err e) }
+    ensures err { IfErr result (λ e. e ≢ CertificateRefusal.NoMemory → chain_verified (trust_of C.accepts given.now) verify_sct asked given.now.info.now given.now.leaf.now given.now.intermediates.now times.now ≡ Err e) }
 {
     let issuer = issuer_at_each(alloc, given, times)?;
     Ok(check_promised(alloc, given, verify_sct, asked, issuer.as_bytes())?)
@@ -81,13 +81,13 @@ fn check_chain<C: CryptoProvider>(
 // What isn't asked for is passed over; the names aren't looked at here.
 fn check_asked<C: CryptoProvider>(
     alloc: Global,
-    given: &Given<C>,
+    given: &CertificateInputs<C>,
     policy: CertificatePolicy,
     asked: LogThreshold,
     times: &[Timestamp],
-) -> Result<u64, Refusal>
+) -> Result<u64, CertificateRefusal>
     ensures ok { IfOk result (λ count. chain_judged (trust_of C.accepts given.now) policy asked given.now.info.now given.now.leaf.now given.now.intermediates.now times.now ≡ Ok count) }
-    ensures err { IfErr result (λ e. e ≢ Refusal.NoMemory → chain_judged (trust_of C.accepts given.now) policy asked given.now.info.now given.now.leaf.now given.now.intermediates.now times.now ≡ Err e) }
+    ensures err { IfErr result (λ e. e ≢ CertificateRefusal.NoMemory → chain_judged (trust_of C.accepts given.now) policy asked given.now.info.now given.now.leaf.now given.now.intermediates.now times.now ≡ Err e) }
 {
     match policy {
         CertificatePolicy::Skip => Ok(0),
@@ -114,11 +114,11 @@ pub fn judge_certificate<C: CryptoProvider>(
     leaf: &DerCertificate,
     intermediates: &[DerCertificate],
     times: &[Timestamp],
-) -> Result<u64, Refusal>
+) -> Result<u64, CertificateRefusal>
     ensures ok { IfOk result (λ promised. certified_of (record { accepts = C.accepts provider.now; anchors = anchors.now; ct_logs = ct_logs.now }) policy.now info.now leaf.now intermediates.now times.now ≡ Ok promised) }
-    ensures err { IfErr result (λ e. e ≢ Refusal.NoMemory → certified_of (record { accepts = C.accepts provider.now; anchors = anchors.now; ct_logs = ct_logs.now }) policy.now info.now leaf.now intermediates.now times.now ≡ Err e) }
+    ensures err { IfErr result (λ e. e ≢ CertificateRefusal.NoMemory → certified_of (record { accepts = C.accepts provider.now; anchors = anchors.now; ct_logs = ct_logs.now }) policy.now info.now leaf.now intermediates.now times.now ≡ Err e) }
 {
-    let given = Given {
+    let given = CertificateInputs {
         provider,
         anchors,
         ct_logs,

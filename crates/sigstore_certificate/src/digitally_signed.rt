@@ -6,7 +6,7 @@ ghost use Rattle.x509_views.specs.Views.{certificate_parts};
 ghost use Rattle.sigstore_certificate.specs.declared.error.SctRule.TheVariants.{Precertificate};
 ghost use Rattle.sigstore_certificate.specs.Scts.{written, signed_data_of};
 
-use crate::error::{Refusal, SctRule};
+use crate::error::{CertificateRefusal, SctRule};
 use der_core::OctetString;
 use sigstore_types_parts::Sha256Hash;
 use std::alloc::Global;
@@ -30,15 +30,15 @@ impl Model for DigitallySigned {
 }
 
 /// The certificate's signed part without its timestamps. Errors: `Sct` with the rule `Precertificate`.
-pub(crate) fn signed_part(alloc: Global, cert: &CertView) -> Result<OctetString, Refusal>
+pub(crate) fn signed_part(alloc: Global, cert: &CertView) -> Result<OctetString, CertificateRefusal>
     ensures ok { IfOk result (λ tbs. written (precert_of cert.now.tbs.now cert.now.front.now (option_copied cert.now.extensions)) ≡ Ok tbs) }
-    ensures err { IfErr result (λ e. e ≢ Refusal.NoMemory → written (precert_of cert.now.tbs.now cert.now.front.now (option_copied cert.now.extensions)) ≡ Err e) }
-    ensures cause { IfErr result (λ e. e ≢ Refusal.NoMemory → e ≡ Refusal.Sct Precertificate) }
+    ensures err { IfErr result (λ e. e ≢ CertificateRefusal.NoMemory → written (precert_of cert.now.tbs.now cert.now.front.now (option_copied cert.now.extensions)) ≡ Err e) }
+    ensures cause { IfErr result (λ e. e ≢ CertificateRefusal.NoMemory → e ≡ CertificateRefusal.Sct Precertificate) }
 {
     match precert_tbs(alloc, cert) {
         Ok(tbs) => Ok(tbs),
-        Err(X509Error::NoMemory) => Err(Refusal::NoMemory),
-        Err(_) => Err(Refusal::Sct(SctRule::Precertificate)),
+        Err(X509Error::NoMemory) => Err(CertificateRefusal::NoMemory),
+        Err(_) => Err(CertificateRefusal::Sct(SctRule::Precertificate)),
     }
 }
 
@@ -47,15 +47,15 @@ fn signed_with(
     sct: &Sct,
     key_hash: &[u8; 32],
     tbs: &[u8],
-) -> Result<OctetString, Refusal>
+) -> Result<OctetString, CertificateRefusal>
     ensures ok { IfOk result (λ octets. written (signed_of sct.now key_hash.now tbs.now) ≡ Ok octets) }
-    ensures err { IfErr result (λ e. e ≢ Refusal.NoMemory → written (signed_of sct.now key_hash.now tbs.now) ≡ Err e) }
-    ensures cause { IfErr result (λ e. e ≢ Refusal.NoMemory → e ≡ Refusal.Sct Precertificate) }
+    ensures err { IfErr result (λ e. e ≢ CertificateRefusal.NoMemory → written (signed_of sct.now key_hash.now tbs.now) ≡ Err e) }
+    ensures cause { IfErr result (λ e. e ≢ CertificateRefusal.NoMemory → e ≡ CertificateRefusal.Sct Precertificate) }
 {
     match sct_signed_bytes(alloc, sct, key_hash, tbs) {
         Ok(octets) => Ok(octets),
-        Err(X509Error::NoMemory) => Err(Refusal::NoMemory),
-        Err(_) => Err(Refusal::Sct(SctRule::Precertificate)),
+        Err(X509Error::NoMemory) => Err(CertificateRefusal::NoMemory),
+        Err(_) => Err(CertificateRefusal::Sct(SctRule::Precertificate)),
     }
 }
 
@@ -69,11 +69,11 @@ impl DigitallySigned {
         cert: &CertView,
         sct: &Sct,
         issuer_key_hash: [u8; 32],
-    ) -> Result<DigitallySigned, Refusal>
+    ) -> Result<DigitallySigned, CertificateRefusal>
         ensures ok { IfOk result (λ d. signed_data_of (certificate_parts cert.now) sct.now issuer_key_hash ≡ Ok d.octets) }
         ensures log { IfOk result (λ d. d.log_id ≡ sct.now.log_id) }
-        ensures err { IfErr result (λ e. e ≢ Refusal.NoMemory → signed_data_of (certificate_parts cert.now) sct.now issuer_key_hash ≡ Err e) }
-        ensures cause { IfErr result (λ e. e ≢ Refusal.NoMemory → e ≡ Refusal.Sct Precertificate) }
+        ensures err { IfErr result (λ e. e ≢ CertificateRefusal.NoMemory → signed_data_of (certificate_parts cert.now) sct.now issuer_key_hash ≡ Err e) }
+        ensures cause { IfErr result (λ e. e ≢ CertificateRefusal.NoMemory → e ≡ CertificateRefusal.Sct Precertificate) }
     {
         let tbs = signed_part(alloc, cert)?;
         let octets = signed_with(alloc, sct, &issuer_key_hash, tbs.as_bytes())?;

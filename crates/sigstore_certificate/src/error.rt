@@ -1,7 +1,7 @@
 // Why a signing certificate isn't accepted.
 ghost use Rattle.std.specs.Prelude.{◌≡◌};
 ghost use Rattle.sigstore_certificate.specs.Error.{refusal_of_path};
-ghost use Rattle.sigstore_certificate.specs.declared.error.Refusal.TheVariants.{NoMemory};
+ghost use Rattle.sigstore_certificate.specs.declared.error.CertificateRefusal.TheVariants.{NoMemory};
 
 use crate::policy::IdentityMatcher;
 use certificate_claims::SubjectAltName;
@@ -28,7 +28,7 @@ pub enum SctRule {
 
 /// Why a signing certificate isn't accepted.
 #[derive(Debug, PartialEq, Drop)]
-pub enum Refusal {
+pub enum CertificateRefusal {
     /// It isn't read as a certificate of the third version, or has a critical extension that isn't known.
     Malformed,
     /// No path leads from it to a trusted authority at a verified time; or it may issue certificates, or isn't for
@@ -66,24 +66,24 @@ pub enum Refusal {
     NoMemory,
 }
 
-impl From<NoMemory> for Refusal {
+impl From<NoMemory> for CertificateRefusal {
     ghost from_gives = { λ _ e. e ≡ NoMemory };
 
-    fn from(_: NoMemory) -> Refusal {
-        Refusal::NoMemory
+    fn from(_: NoMemory) -> CertificateRefusal {
+        CertificateRefusal::NoMemory
     }
 }
 
-impl From<PathError> for Refusal {
+impl From<PathError> for CertificateRefusal {
     ghost from_gives = { λ fault e. e ≡ refusal_of_path fault };
 
-    fn from(fault: PathError) -> Refusal {
+    fn from(fault: PathError) -> CertificateRefusal {
         match fault {
-            PathError::Leaf(LeafFault::Unreadable) => Refusal::Malformed,
-            PathError::Leaf(LeafFault::Version) => Refusal::Malformed,
-            PathError::Leaf(LeafFault::CriticalExtension) => Refusal::Malformed,
-            PathError::NoMemory => Refusal::NoMemory,
-            _ => Refusal::ChainInvalid,
+            PathError::Leaf(LeafFault::Unreadable) => CertificateRefusal::Malformed,
+            PathError::Leaf(LeafFault::Version) => CertificateRefusal::Malformed,
+            PathError::Leaf(LeafFault::CriticalExtension) => CertificateRefusal::Malformed,
+            PathError::NoMemory => CertificateRefusal::NoMemory,
+            _ => CertificateRefusal::ChainInvalid,
         }
     }
 }
@@ -99,21 +99,21 @@ impl fmt::Display for SctRule {
     }
 }
 
-impl fmt::Display for Refusal {
+impl fmt::Display for CertificateRefusal {
     fn fmt<W: fmt::Write>(&self, f: &mut fmt::Formatter<W>) -> fmt::Result {
         f.write_str(match self {
-            Refusal::Malformed => "Malformed",
-            Refusal::ChainInvalid => "ChainInvalid",
-            Refusal::NoValidAuthority { .. } => "NoValidAuthority",
-            Refusal::NotYetValid { .. } => "NotYetValid",
-            Refusal::Expired { .. } => "Expired",
-            Refusal::Sct(_) => "Sct",
-            Refusal::InvalidTrustRoot => "InvalidTrustRoot",
-            Refusal::IdentityMismatch { .. } => "IdentityMismatch",
-            Refusal::IssuerMismatch { .. } => "IssuerMismatch",
-            Refusal::NoMemory => "NoMemory",
+            CertificateRefusal::Malformed => "Malformed",
+            CertificateRefusal::ChainInvalid => "ChainInvalid",
+            CertificateRefusal::NoValidAuthority { .. } => "NoValidAuthority",
+            CertificateRefusal::NotYetValid { .. } => "NotYetValid",
+            CertificateRefusal::Expired { .. } => "Expired",
+            CertificateRefusal::Sct(_) => "Sct",
+            CertificateRefusal::InvalidTrustRoot => "InvalidTrustRoot",
+            CertificateRefusal::IdentityMismatch { .. } => "IdentityMismatch",
+            CertificateRefusal::IssuerMismatch { .. } => "IssuerMismatch",
+            CertificateRefusal::NoMemory => "NoMemory",
         })
     }
 }
 
-impl error::Error for Refusal {}
+impl error::Error for CertificateRefusal {}

@@ -6,7 +6,7 @@ use sigstore_types_parts::DerCertificate;
 
 /// What is trusted, and the certificate with those beside it, by reference.
 #[derive(Drop)]
-pub(crate) struct Given<'a, C> {
+pub(crate) struct CertificateInputs<'a, C> {
     pub(crate) provider: &'a C,
     pub(crate) anchors: &'a [Anchor],
     pub(crate) ct_logs: &'a Keyring,

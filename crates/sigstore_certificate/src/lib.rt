@@ -15,7 +15,7 @@ mod times;
 
 pub use certificate::judge_certificate;
 pub use digitally_signed::DigitallySigned;
-pub use error::{Refusal, SctRule};
+pub use error::{CertificateRefusal, SctRule};
 pub use laws::{
     certified_exactly, good_exactly, one_sct_alone, refusals_have_causes, sct_is_written,
 };

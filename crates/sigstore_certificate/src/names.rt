@@ -2,7 +2,7 @@
 ghost use Rattle.std.specs.Prelude.{◌≡◌, ◌≢◌, Ok, Err, IfOk, IfErr};
 ghost use Rattle.sigstore_certificate.specs.Names.{is_matched, identity_judged, is_text, issuer_judged, names_judged};
 
-use crate::error::Refusal;
+use crate::error::CertificateRefusal;
 use crate::policy::{IdentityMatcher, VerificationPolicy};
 use certificate_claims::{CertificateInfo, SubjectAltName};
 use foundation::{Duplicate, NoMemory};
@@ -23,10 +23,10 @@ fn other_identity(
     alloc: Global,
     matcher: &IdentityMatcher,
     identity: &Option<SubjectAltName>,
-) -> Result<Refusal, NoMemory>
-    ensures { IfOk result (λ e. e ≡ Refusal.IdentityMismatch matcher.now identity.now) }
+) -> Result<CertificateRefusal, NoMemory>
+    ensures { IfOk result (λ e. e ≡ CertificateRefusal.IdentityMismatch matcher.now identity.now) }
 {
-    Ok(Refusal::IdentityMismatch {
+    Ok(CertificateRefusal::IdentityMismatch {
         expected: matcher.duplicate(alloc)?,
         actual: identity.duplicate(alloc)?,
     })
@@ -37,9 +37,9 @@ fn check_identity(
     alloc: Global,
     asked: &Option<IdentityMatcher>,
     identity: &Option<SubjectAltName>,
-) -> Result<(), Refusal>
+) -> Result<(), CertificateRefusal>
     ensures ok { IfOk result (λ x. identity_judged asked.now identity.now ≡ Ok x) }
-    ensures err { IfErr result (λ e. e ≢ Refusal.NoMemory → identity_judged asked.now identity.now ≡ Err e) }
+    ensures err { IfErr result (λ e. e ≢ CertificateRefusal.NoMemory → identity_judged asked.now identity.now ≡ Err e) }
 {
     let Some(matcher) = asked else {
         return Ok(());
@@ -59,19 +59,27 @@ fn is_text(text: &Text, actual: &Option<Text>) -> bool
     }
 }
 
-fn other_issuer(alloc: Global, text: &Text, actual: &Option<Text>) -> Result<Refusal, NoMemory>
-    ensures { IfOk result (λ e. e ≡ Refusal.IssuerMismatch text.now actual.now) }
+fn other_issuer(
+    alloc: Global,
+    text: &Text,
+    actual: &Option<Text>,
+) -> Result<CertificateRefusal, NoMemory>
+    ensures { IfOk result (λ e. e ≡ CertificateRefusal.IssuerMismatch text.now actual.now) }
 {
-    Ok(Refusal::IssuerMismatch {
+    Ok(CertificateRefusal::IssuerMismatch {
         expected: text.duplicate(alloc)?,
         actual: actual.duplicate(alloc)?,
     })
 }
 
 // Else another issuer of identities could give that identity to another.
-fn check_issuer(alloc: Global, asked: &Option<Text>, actual: &Option<Text>) -> Result<(), Refusal>
+fn check_issuer(
+    alloc: Global,
+    asked: &Option<Text>,
+    actual: &Option<Text>,
+) -> Result<(), CertificateRefusal>
     ensures ok { IfOk result (λ x. issuer_judged asked.now actual.now ≡ Ok x) }
-    ensures err { IfErr result (λ e. e ≢ Refusal.NoMemory → issuer_judged asked.now actual.now ≡ Err e) }
+    ensures err { IfErr result (λ e. e ≢ CertificateRefusal.NoMemory → issuer_judged asked.now actual.now ≡ Err e) }
 {
     let Some(text) = asked else {
         return Ok(());
@@ -87,9 +95,9 @@ pub(crate) fn check_names(
     alloc: Global,
     policy: &VerificationPolicy,
     info: &CertificateInfo,
-) -> Result<(), Refusal>
+) -> Result<(), CertificateRefusal>
     ensures ok { IfOk result (λ x. names_judged policy.now info.now ≡ Ok x) }
-    ensures err { IfErr result (λ e. e ≢ Refusal.NoMemory → names_judged policy.now info.now ≡ Err e) }
+    ensures err { IfErr result (λ e. e ≢ CertificateRefusal.NoMemory → names_judged policy.now info.now ≡ Err e) }
 {
     check_identity(alloc, &policy.identity, &info.identity)?;
     check_issuer(alloc, &policy.issuer, &info.issuer)?;

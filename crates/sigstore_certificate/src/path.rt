@@ -8,8 +8,8 @@ ghost use Rattle.sigstore_certificate.specs.Certified.{has_authority, authority_
 ghost use Rattle.sigstore_certificate.specs.Error.{by_path, refusal_of_path};
 ghost use Rattle.sigstore_certificate.specs.Given.{trust_of, issuer_in};
 
-use crate::error::Refusal;
-use crate::given::Given;
+use crate::error::CertificateRefusal;
+use crate::given::CertificateInputs;
 use certificate_claims::CertificateInfo;
 use jiff::Timestamp;
 use path_core::{Anchor, FoundPath, Purpose, Steps, find_path};
@@ -33,28 +33,28 @@ fn has_authority(anchors: &[Anchor], time: Timestamp) -> bool
 }
 
 // Without this check an authority that is no longer trusted could issue for later times.
-fn check_authority(anchors: &[Anchor], time: Timestamp) -> Result<(), Refusal>
+fn check_authority(anchors: &[Anchor], time: Timestamp) -> Result<(), CertificateRefusal>
     ensures { result ≡ authority_judged anchors.now time }
 {
     if has_authority(anchors, time) {
         Ok(())
     } else {
-        Err(Refusal::NoValidAuthority { time })
+        Err(CertificateRefusal::NoValidAuthority { time })
     }
 }
 
 // Without this check a key that was given away after the certificate's end could still sign.
-fn check_window(info: &CertificateInfo, time: Timestamp) -> Result<(), Refusal>
+fn check_window(info: &CertificateInfo, time: Timestamp) -> Result<(), CertificateRefusal>
     ensures { result ≡ window_judged info.now time }
 {
     if time < info.not_before {
-        return Err(Refusal::NotYetValid {
+        return Err(CertificateRefusal::NotYetValid {
             time,
             not_before: info.not_before,
         });
     }
     if info.not_after < time {
-        return Err(Refusal::Expired {
+        return Err(CertificateRefusal::Expired {
             time,
             not_after: info.not_after,
         });
@@ -65,11 +65,11 @@ fn check_window(info: &CertificateInfo, time: Timestamp) -> Result<(), Refusal>
 // The first path for code signing. Without it anyone could write a certificate with any name.
 fn path_at<C: CryptoProvider>(
     alloc: Global,
-    given: &Given<C>,
+    given: &CertificateInputs<C>,
     time: Timestamp,
-) -> Result<FoundPath, Refusal>
+) -> Result<FoundPath, CertificateRefusal>
     ensures ok { IfOk result (λ p. by_path (path_of (setting (C.accepts given.now.provider.now) given.now.leaf.now given.now.intermediates.now given.now.anchors.now CodeSigning time)) ≡ Ok p) }
-    ensures err { IfErr result (λ e. e ≢ Refusal.NoMemory → by_path (path_of (setting (C.accepts given.now.provider.now) given.now.leaf.now given.now.intermediates.now given.now.anchors.now CodeSigning time)) ≡ Err e) }
+    ensures err { IfErr result (λ e. e ≢ CertificateRefusal.NoMemory → by_path (path_of (setting (C.accepts given.now.provider.now) given.now.leaf.now given.now.intermediates.now given.now.anchors.now CodeSigning time)) ≡ Err e) }
 {
     let mut steps = Steps::new();
     match find_path(
@@ -83,7 +83,7 @@ fn path_at<C: CryptoProvider>(
         &mut steps,
     ) {
         Ok(found) => Ok(found),
-        Err(fault) => Err(Refusal::from(fault)),
+        Err(fault) => Err(CertificateRefusal::from(fault)),
     }
 }
 
@@ -93,11 +93,11 @@ fn path_at<C: CryptoProvider>(
 #[tactic(auto, unfolding(crate::specs::Certified::issued_at))]
 pub(crate) fn issuer_at<C: CryptoProvider>(
     alloc: Global,
-    given: &Given<C>,
+    given: &CertificateInputs<C>,
     time: Timestamp,
-) -> Result<Bytes, Refusal>
+) -> Result<Bytes, CertificateRefusal>
     ensures ok { IfOk result (λ key. issuer_in C.accepts given.now time ≡ Ok key) }
-    ensures err { IfErr result (λ e. e ≢ Refusal.NoMemory → issuer_in C.accepts given.now time ≡ Err e) }
+    ensures err { IfErr result (λ e. e ≢ CertificateRefusal.NoMemory → issuer_in C.accepts given.now time ≡ Err e) }
 {
     check_authority(given.anchors, time)?;
     let path = path_at(alloc, given, time)?;

@@ -13,8 +13,8 @@ ghost use Rattle.sigstore_certificate.specs.Scts.{scts_in, listed, scts_of, sche
 ghost use Rattle.sigstore_certificate.specs.Scts.{key_under, log_key, good_over, good_by, good_under, is_good_sct, promising, promising_logs, enough_logs, scts_judged};
 
 use crate::digitally_signed::signed_part;
-use crate::error::{Refusal, SctRule};
-use certificate_claims::extension_value;
+use crate::error::{CertificateRefusal, SctRule};
+use certificate_fields::extension_value;
 use der_core::OctetString;
 use foundation::{NoMemory, Sequence};
 use sigstore_keys::{
@@ -27,24 +27,24 @@ use x509_views::{CertView, Sct, X509Error, sct_list, sct_signed_bytes};
 // The contents of the identifier 1.3.6.1.4.1.11129.2.4.2 (RFC 6962, 3.3).
 const SCT_OID: [u8; 10] = [43, 6, 1, 4, 1, 214, 121, 2, 4, 2];
 
-fn listed(alloc: Global, value: Option<&[u8]>) -> Result<Sequence<Sct>, Refusal>
+fn listed(alloc: Global, value: Option<&[u8]>) -> Result<Sequence<Sct>, CertificateRefusal>
     ensures ok { IfOk result (λ scts. listed (option_copied value.entry) ≡ Ok scts) }
-    ensures err { IfErr result (λ e. e ≢ Refusal.NoMemory → listed (option_copied value.entry) ≡ Err e) }
+    ensures err { IfErr result (λ e. e ≢ CertificateRefusal.NoMemory → listed (option_copied value.entry) ≡ Err e) }
 {
     let Some(value) = value else {
-        return Err(Refusal::Sct(SctRule::List));
+        return Err(CertificateRefusal::Sct(SctRule::List));
     };
     match sct_list(alloc, value) {
         Ok(scts) => Ok(Sequence::from_vec(scts)),
-        Err(X509Error::NoMemory) => Err(Refusal::NoMemory),
-        Err(_) => Err(Refusal::Sct(SctRule::List)),
+        Err(X509Error::NoMemory) => Err(CertificateRefusal::NoMemory),
+        Err(_) => Err(CertificateRefusal::Sct(SctRule::List)),
     }
 }
 
 // Without a list no log promised to show the certificate.
-fn scts_of(alloc: Global, certificate: &CertView) -> Result<Sequence<Sct>, Refusal>
+fn scts_of(alloc: Global, certificate: &CertView) -> Result<Sequence<Sct>, CertificateRefusal>
     ensures ok { IfOk result (λ scts. scts_of (certificate_parts certificate.now) ≡ Ok scts) }
-    ensures err { IfErr result (λ e. e ≢ Refusal.NoMemory → scts_of (certificate_parts certificate.now) ≡ Err e) }
+    ensures err { IfErr result (λ e. e ≢ CertificateRefusal.NoMemory → scts_of (certificate_parts certificate.now) ≡ Err e) }
 {
     match listed(
         alloc,
@@ -88,13 +88,13 @@ fn has_schemes(scts: &[Sct]) -> bool
 }
 
 // Without a scheme nothing could decide whether a log signed.
-fn check_scheme(scts: &[Sct]) -> Result<(), Refusal>
+fn check_scheme(scts: &[Sct]) -> Result<(), CertificateRefusal>
     ensures { result ≡ some_scheme scts.now }
 {
     if has_schemes(scts) {
         Ok(())
     } else {
-        Err(Refusal::Sct(SctRule::Scheme))
+        Err(CertificateRefusal::Sct(SctRule::Scheme))
     }
 }
 
@@ -116,27 +116,27 @@ fn any_is_of_logs(ct_logs: &Keyring, scts: &[Sct]) -> bool
 
 // Some trusted log has a key of a scheme's sort; else the trusted logs aren't those of such certificates, and that
 // is no fault of the certificate.
-fn check_log(ct_logs: &Keyring, scts: &[Sct]) -> Result<(), Refusal>
+fn check_log(ct_logs: &Keyring, scts: &[Sct]) -> Result<(), CertificateRefusal>
     ensures { result ≡ some_log ct_logs.now scts.now }
 {
     if any_is_of_logs(ct_logs, scts) {
         Ok(())
     } else {
-        Err(Refusal::InvalidTrustRoot)
+        Err(CertificateRefusal::InvalidTrustRoot)
     }
 }
 
 // The certificate's signed part without its timestamps, which is written once for all of them. A length that three
 // octets can't tell is no log's to sign.
-fn signed_part_of(alloc: Global, certificate: &CertView) -> Result<OctetString, Refusal>
+fn signed_part_of(alloc: Global, certificate: &CertView) -> Result<OctetString, CertificateRefusal>
     ensures ok { IfOk result (λ tbs. signed_part_of (certificate_parts certificate.now) ≡ Ok tbs) }
-    ensures err { IfErr result (λ e. e ≢ Refusal.NoMemory → signed_part_of (certificate_parts certificate.now) ≡ Err e) }
+    ensures err { IfErr result (λ e. e ≢ CertificateRefusal.NoMemory → signed_part_of (certificate_parts certificate.now) ≡ Err e) }
 {
     let tbs = signed_part(alloc, certificate)?;
     if tbs.as_bytes().len() < 16777216 {
         Ok(tbs)
     } else {
-        Err(Refusal::Sct(SctRule::Precertificate))
+        Err(CertificateRefusal::Sct(SctRule::Precertificate))
     }
 }
 
@@ -255,13 +255,13 @@ fn promising_logs<C: CryptoProvider>(
 }
 
 // As many logs as are asked for: fewer could hide what was issued.
-fn check_count(asked: LogThreshold, found: u64) -> Result<u64, Refusal>
+fn check_count(asked: LogThreshold, found: u64) -> Result<u64, CertificateRefusal>
     ensures { result ≡ enough_logs asked found }
 {
     if asked.is_met_by(found) {
         Ok(found)
     } else {
-        Err(Refusal::Sct(SctRule::TooFew {
+        Err(CertificateRefusal::Sct(SctRule::TooFew {
             asked: asked.number(),
             found,
         }))
@@ -280,9 +280,9 @@ pub(crate) fn check_scts<C: CryptoProvider>(
     asked: LogThreshold,
     certificate: &CertView,
     issuer_spki: &[u8],
-) -> Result<u64, Refusal>
+) -> Result<u64, CertificateRefusal>
     ensures ok { IfOk result (λ count. scts_judged (C.accepts provider.now) ct_logs.now asked (certificate_parts certificate.now) issuer_spki.now ≡ Ok count) }
-    ensures err { IfErr result (λ e. e ≢ Refusal.NoMemory → scts_judged (C.accepts provider.now) ct_logs.now asked (certificate_parts certificate.now) issuer_spki.now ≡ Err e) }
+    ensures err { IfErr result (λ e. e ≢ CertificateRefusal.NoMemory → scts_judged (C.accepts provider.now) ct_logs.now asked (certificate_parts certificate.now) issuer_spki.now ≡ Err e) }
 {
     let scts = scts_of(alloc, certificate)?;
     check_scheme(scts.as_slice())?;

@@ -5,8 +5,8 @@ ghost use Rattle.sigstore_certificate.specs.Certified.{at_each, issued_at_each};
 ghost use Rattle.sigstore_certificate.specs.Given.{trust_of, issuer_in};
 ghost use Rattle.sigstore_certificate.specs.Times.{IsIssuedAt, AreIssued, IsKept};
 
-use crate::error::Refusal;
-use crate::given::Given;
+use crate::error::CertificateRefusal;
+use crate::given::CertificateInputs;
 use crate::path::issuer_at;
 use foundation::NoMemory;
 use jiff::Timestamp;
@@ -17,7 +17,7 @@ use std::collections::BTreeSet;
 
 // Puts a time to those that were judged.
 fn remember<C: CryptoProvider>(
-    given: &Given<C>,
+    given: &CertificateInputs<C>,
     judged: &mut BTreeSet<Timestamp>,
     time: Timestamp,
 ) -> Result<(), NoMemory>
@@ -32,15 +32,15 @@ fn remember<C: CryptoProvider>(
 // Judges the certificate at a time, unless that was done: then there is no key.
 fn judge_once<C: CryptoProvider>(
     alloc: Global,
-    given: &Given<C>,
+    given: &CertificateInputs<C>,
     judged: &mut BTreeSet<Timestamp>,
     time: Timestamp,
-) -> Result<Option<Bytes>, Refusal>
+) -> Result<Option<Bytes>, CertificateRefusal>
     requires before { AreIssued (issuer_in C.accepts given.now) judged.old.keys }
     ensures valid { OnOk result (IsIssuedAt (issuer_in C.accepts given.now) time) }
     ensures after { OnOk result (AreIssued (issuer_in C.accepts given.now) judged.new.keys) }
     ensures key { IfOk result (λ found. IfSome found (λ key. issuer_in C.accepts given.now time ≡ Ok key)) }
-    ensures err { IfErr result (λ e. e ≢ Refusal.NoMemory → issuer_in C.accepts given.now time ≡ Err e) }
+    ensures err { IfErr result (λ e. e ≢ CertificateRefusal.NoMemory → issuer_in C.accepts given.now time ≡ Err e) }
 {
     if judged.contains(&time) {
         return Ok(None);
@@ -70,13 +70,13 @@ fn kept(
 // these.
 fn issuer_before<C: CryptoProvider>(
     alloc: Global,
-    given: &Given<C>,
+    given: &CertificateInputs<C>,
     earlier: &[Timestamp],
     last: Timestamp,
-) -> Result<Option<Bytes>, Refusal>
+) -> Result<Option<Bytes>, CertificateRefusal>
     ensures each { OnOk result (at_each (issuer_in C.accepts given.now) (earlier.now ++ last ∷ []) [] ≡ at_each (issuer_in C.accepts given.now) (last ∷ []) []) }
     ensures key { IfOk result (λ found. IfSome found (λ key. issuer_in C.accepts given.now last ≡ Ok key)) }
-    ensures err { IfErr result (λ e. e ≢ Refusal.NoMemory → at_each (issuer_in C.accepts given.now) (earlier.now ++ last ∷ []) [] ≡ Err e) }
+    ensures err { IfErr result (λ e. e ≢ CertificateRefusal.NoMemory → at_each (issuer_in C.accepts given.now) (earlier.now ++ last ∷ []) [] ≡ Err e) }
 {
     let mut judged = BTreeSet::new(alloc);
     let mut issuer = None;
@@ -90,13 +90,13 @@ fn issuer_before<C: CryptoProvider>(
 // The issuer's key at the last time: it was found already, or a search finds it.
 fn issuer_at_last<C: CryptoProvider>(
     alloc: Global,
-    given: &Given<C>,
+    given: &CertificateInputs<C>,
     found: Option<Bytes>,
     last: Timestamp,
-) -> Result<Bytes, Refusal>
+) -> Result<Bytes, CertificateRefusal>
     requires { IfSome found (λ key. issuer_in C.accepts given.now last ≡ Ok key) }
     ensures ok { IfOk result (λ key. at_each (issuer_in C.accepts given.now) (last ∷ []) [] ≡ Ok key) }
-    ensures err { IfErr result (λ e. e ≢ Refusal.NoMemory → at_each (issuer_in C.accepts given.now) (last ∷ []) [] ≡ Err e) }
+    ensures err { IfErr result (λ e. e ≢ CertificateRefusal.NoMemory → at_each (issuer_in C.accepts given.now) (last ∷ []) [] ≡ Err e) }
 {
     match found {
         Some(issuer) => Ok(issuer),
@@ -110,12 +110,12 @@ fn issuer_at_last<C: CryptoProvider>(
 // The issuer's key at the last time, where there is one at each.
 fn issuer_behind<C: CryptoProvider>(
     alloc: Global,
-    given: &Given<C>,
+    given: &CertificateInputs<C>,
     earlier: &[Timestamp],
     last: Timestamp,
-) -> Result<Bytes, Refusal>
+) -> Result<Bytes, CertificateRefusal>
     ensures ok { IfOk result (λ key. at_each (issuer_in C.accepts given.now) (earlier.now ++ last ∷ []) [] ≡ Ok key) }
-    ensures err { IfErr result (λ e. e ≢ Refusal.NoMemory → at_each (issuer_in C.accepts given.now) (earlier.now ++ last ∷ []) [] ≡ Err e) }
+    ensures err { IfErr result (λ e. e ≢ CertificateRefusal.NoMemory → at_each (issuer_in C.accepts given.now) (earlier.now ++ last ∷ []) [] ≡ Err e) }
 {
     match issuer_before(alloc, given, earlier, last) {
         Ok(found) => match issuer_at_last(alloc, given, found, last) {
@@ -131,11 +131,11 @@ fn issuer_behind<C: CryptoProvider>(
 /// and of what a search takes nothing stays. Errors: those of `issuer_at` at the first time that has one.
 pub(crate) fn issuer_at_each<C: CryptoProvider>(
     alloc: Global,
-    given: &Given<C>,
+    given: &CertificateInputs<C>,
     times: &[Timestamp],
-) -> Result<Bytes, Refusal>
+) -> Result<Bytes, CertificateRefusal>
     ensures ok { IfOk result (λ key. issued_at_each (trust_of C.accepts given.now) given.now.info.now given.now.leaf.now given.now.intermediates.now times.now ≡ Ok key) }
-    ensures err { IfErr result (λ e. e ≢ Refusal.NoMemory → issued_at_each (trust_of C.accepts given.now) given.now.info.now given.now.leaf.now given.now.intermediates.now times.now ≡ Err e) }
+    ensures err { IfErr result (λ e. e ≢ CertificateRefusal.NoMemory → issued_at_each (trust_of C.accepts given.now) given.now.info.now given.now.leaf.now given.now.intermediates.now times.now ≡ Err e) }
 {
     match times {
         [earlier @ .., last] => match issuer_behind(alloc, given, earlier, *last) {

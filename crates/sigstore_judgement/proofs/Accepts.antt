@@ -19,7 +19,7 @@ use Rattle.sigstore_keys.specs.Key.{spki_key_of}
 use Rattle.sigstore_keys.specs.Good.{Judge, is_good_over}
 use Rattle.certificate_claims.specs.declared.certificate_info.CertificateInfo.{CertificateInfo}
 use Rattle.certificate_claims.specs.Info.{info_of}
-use Rattle.sigstore_certificate.specs.declared.error.Refusal.{Refusal}
+use Rattle.sigstore_certificate.specs.declared.error.CertificateRefusal.{CertificateRefusal}
 use Rattle.sigstore_certificate.specs.declared.policy.VerificationPolicy.{VerificationPolicy}
 use Rattle.sigstore_certificate.specs.Certified.{certified_of}
 use Rattle.sigstore_certificate.proofs.CertifiedLaw.{certified_exactly}
@@ -261,7 +261,7 @@ module _ (grounds : Grounds) (policy : PublicKeyVerificationPolicy) (bundle : Bu
       ∙ ap (λ r. r >>= after_stamped promised) (stamped_pass grounds (signature_in bundle.content) (tokens_in bundle) v.stamped v.are)
       ∙ ap Ok (sym v.shows)
 
-ok_certificate : (r : Result ℕ Refusal) (x : ℕ) → by_certificate r ≡ Ok x → r ≡ Ok x
+ok_certificate : (r : Result ℕ CertificateRefusal) (x : ℕ) → by_certificate r ≡ Ok x → r ≡ Ok x
 ok_certificate (Ok y) x h = ap Ok (ok_same y x h)
 ok_certificate (Err e) x h = cc
 

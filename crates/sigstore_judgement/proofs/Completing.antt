@@ -11,7 +11,7 @@ use Rattle.sigstore_keys.specs.declared.reader.ReadError.{ReadError}
 use Rattle.sigstore_keys.specs.declared.reader.ReadError.TheVariants.{Failed, TooLong}
 use Rattle.sigstore_judgement.specs.declared.error.Error.{Error}
 use Rattle.sigstore_judgement.specs.declared.error.Error.TheVariants as verify
-use Rattle.sigstore_judgement.specs.declared.report.Kept.{Kept}
+use Rattle.sigstore_judgement.specs.declared.report.JudgedBundle.{JudgedBundle}
 use Rattle.sigstore_judgement.specs.declared.report.VerificationResult.{VerificationResult}
 use Rattle.sigstore_judgement.specs.declared.trust.Material.{Material}
 use Rattle.sigstore_judgement.specs.Artifact.{Read}
@@ -56,24 +56,24 @@ step_err : {A B E : Type 0} (r : Result A E) (f : A → Result B E) (e : E) → 
 step_err r f e h = ap (λ r. r >>= f) h
 
 -- what follows each step of the verdict
-abbrev told_of : Asked → List ℕ → Bundle → VerificationResult → Result Kept Error
+abbrev told_of : Asked → List ℕ → Bundle → VerificationResult → Result JudgedBundle Error
 told_of asked bytes bundle report = Ok (record { result = report; digests = digests_by (needed_by asked.policy bundle) bytes })
 
-abbrev after_bundle : Asked → List ℕ → Material → Bundle → Result Kept Error
+abbrev after_bundle : Asked → List ℕ → Material → Bundle → Result JudgedBundle Error
 after_bundle asked bytes material bundle = judged_of (terms_of asked material) bundle (Read bytes) >>= told_of asked bytes bundle
 
-abbrev after_use : Asked → List ℕ → Material → Result Kept Error
+abbrev after_use : Asked → List ℕ → Material → Result JudgedBundle Error
 after_use asked bytes material = bundle_of asked.bundle >>= after_bundle asked bytes material
 
-abbrev after_trust : Asked → List ℕ → TrustedRoot → Result Kept Error
+abbrev after_trust : Asked → List ℕ → TrustedRoot → Result JudgedBundle Error
 after_trust asked bytes trust = material_of trust >>= after_use asked bytes
 
 module _ (asked : Asked) (source source' : Watched (List ℕ)) (file bytes : List ℕ) (told : source.told ≡ Some bytes) (quiet : Rose source.faults source'.faults → ⊥)
     (short : length bytes ≤ asked.max) where
-  abbrev pub Verdict : Result Kept Error → Type 0
+  abbrev pub Verdict : Result JudgedBundle Error → Type 0
   Verdict result = (result ≡ Err verify.NoMemory) ⊎ (result ≡ verdict_by asked file bytes)
 
-  refused_so : (e : Error) (result : Result Kept Error) → result ≡ Err e → (e ≢ verify.NoMemory → verdict_by asked file bytes ≡ Err e) → Verdict result
+  refused_so : (e : Error) (result : Result JudgedBundle Error) → result ≡ Err e → (e ≢ verify.NoMemory → verdict_by asked file bytes ≡ Err e) → Verdict result
   refused_so e result is h = by_want (is_want e)
     where
       by_want : (e ≡ verify.NoMemory) ⊎ (e ≢ verify.NoMemory) → Verdict result
@@ -116,7 +116,7 @@ module _ (asked : Asked) (source source' : Watched (List ℕ)) (file bytes : Lis
         let same = read_whole source source' asked.max bytes c.refusal.0 told c.refusal.1 in
         inr (sym (judged_err e (ap (λ x. judged_of (terms_of asked material) bundle (Read x)) (sym same) ∙ c.refusal.2)))
 
-    by_result : (result : Result Kept Error) → VerifiesKept (terms_of asked material) bundle source source' asked.max result → Verdict result
+    by_result : (result : Result JudgedBundle Error) → VerifiesKept (terms_of asked material) bundle source source' asked.max result → Verdict result
     by_result (Ok kept) v =
         let a = v.accepted in
         let same = read_whole source source' asked.max bytes a.0 told a.1.read in
@@ -124,7 +124,7 @@ module _ (asked : Asked) (source source' : Watched (List ℕ)) (file bytes : Lis
         inr (ap (λ d. Ok (record { result = kept.result; digests = d })) (a.2 ∙ ap (λ x. digests_by (needed_by asked.policy bundle) x) same) ∙ sym ok)
     by_result (Err e) v = by_cause e v.refused
 
-  pub judge_completes : (result : Result Kept Error) → JudgesBundle asked file source source' result → Verdict result
+  pub judge_completes : (result : Result JudgedBundle Error) → JudgesBundle asked file source source' result → Verdict result
   judge_completes result (trust_refused e h s is) = refused_so e result is (λ other. trust_err e (h other))
   judge_completes result (verifier_refused trust e t h s is) = refused_so e result is (λ other. usable_err trust e t (h other))
   judge_completes result (bundle_refused trust material e t u h s is) = refused_so e result is (λ other. bundle_err trust material e t u (h other))

@@ -33,8 +33,8 @@ use Rattle.sigstore_log.specs.declared.error.LogError.TheVariants as entry
 use Rattle.sigstore_log.specs.Cause.{LogCause}
 use Rattle.certificate_claims.specs.declared.certificate_info.CertificateInfo.{CertificateInfo}
 use Rattle.certificate_claims.specs.Info.{info_of}
-use Rattle.sigstore_certificate.specs.declared.error.Refusal.{Refusal}
-use Rattle.sigstore_certificate.specs.declared.error.Refusal.TheVariants as refusal
+use Rattle.sigstore_certificate.specs.declared.error.CertificateRefusal.{CertificateRefusal}
+use Rattle.sigstore_certificate.specs.declared.error.CertificateRefusal.TheVariants as refusal
 use Rattle.sigstore_certificate.specs.declared.policy.VerificationPolicy.{VerificationPolicy}
 use Rattle.sigstore_certificate.specs.Cause.{Cause as CertificateCause}
 use Rattle.sigstore_certificate.specs.Certified.{certified_of}
@@ -119,7 +119,7 @@ pub through_info : {A : Type 0} (r : Result A CryptoError) (e : Error) → by_in
 through_info (Ok x) e h = cc
 through_info (Err t) e h = (t, refl, err_same (error_of_info t) e h)
 
-pub through_certificate : {A : Type 0} (r : Result A Refusal) (e : Error) → by_certificate r ≡ Err e → IsRefusedAs error_of_certificate r e
+pub through_certificate : {A : Type 0} (r : Result A CertificateRefusal) (e : Error) → by_certificate r ≡ Err e → IsRefusedAs error_of_certificate r e
 through_certificate (Ok x) e h = cc
 through_certificate (Err t) e h = (t, refl, err_same (error_of_certificate t) e h)
 
@@ -535,7 +535,7 @@ module _ (asked : Asked) (file : List ℕ) (source source' : Watched (List ℕ))
           let d = through_certificate (certified_of (trust_in grounds) policy info certificate (intermediates_in reading) times) e h in
           subst Cause d.2 (by_why d.0 (certificate_causes (trust_in grounds) policy info certificate (intermediates_in reading) times d.0 d.1))
         where
-          as_is : (why : Refusal) → CertificateCause (trust_in grounds) policy info certificate (intermediates_in reading) times why
+          as_is : (why : CertificateRefusal) → CertificateCause (trust_in grounds) policy info certificate (intermediates_in reading) times why
               → IsUncertified asked file source source' (error_of_certificate why)
           as_is why cause = record {
             material = material;
@@ -557,7 +557,7 @@ module _ (asked : Asked) (file : List ℕ) (source source' : Watched (List ℕ))
             cause = cause;
           }
 
-          by_why : (why : Refusal) → CertificateCause (trust_in grounds) policy info certificate (intermediates_in reading) times why → Cause (error_of_certificate why)
+          by_why : (why : CertificateRefusal) → CertificateCause (trust_in grounds) policy info certificate (intermediates_in reading) times why → Cause (error_of_certificate why)
           by_why refusal.Malformed cause = inr (inr (as_is refusal.Malformed cause))
           by_why refusal.ChainInvalid cause = inr (inr (as_is refusal.ChainInvalid cause))
           by_why (refusal.NoValidAuthority time) cause = inr (inr (as_is (refusal.NoValidAuthority time) cause))

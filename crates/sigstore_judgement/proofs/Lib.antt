@@ -11,7 +11,7 @@ pub mod LogRefusals
 pub mod UsableCauses
 pub mod JudgeCauses
 pub mod Completing
-pub mod Had
+pub mod KnownArtifact
 pub mod Signed
 pub mod Agree
 pub mod Taken

@@ -21,8 +21,8 @@ use Rattle.sigstore_keys.specs.declared.log_ids.LogThreshold.{LogThreshold}
 use Rattle.sigstore_keys.specs.Key.{spki_key_of}
 use Rattle.sigstore_keys.specs.LogIds.{is_enough}
 use Rattle.certificate_claims.specs.Info.{info_of}
-use Rattle.sigstore_certificate.specs.declared.error.Refusal.{Refusal}
-use Rattle.sigstore_certificate.specs.declared.error.Refusal.TheVariants as refusal
+use Rattle.sigstore_certificate.specs.declared.error.CertificateRefusal.{CertificateRefusal}
+use Rattle.sigstore_certificate.specs.declared.error.CertificateRefusal.TheVariants as refusal
 use Rattle.sigstore_certificate.specs.Certified.{certified_of}
 use Rattle.sigstore_judgement.specs.declared.error.CertificateError.TheVariants as certificate
 use Rattle.sigstore_judgement.specs.declared.error.Error.{Error}
@@ -80,12 +80,12 @@ info_no_log r e h =
     by t (inl is) k = subst NoLog (sym is ∙ k) tt
     by t (inr is) k = subst NoLog (sym is ∙ k) tt
 
-certificate_no_log : {A : Type 0} (r : Result A Refusal) (e : Error) → by_certificate r ≡ Err e → NoLog e
+certificate_no_log : {A : Type 0} (r : Result A CertificateRefusal) (e : Error) → by_certificate r ≡ Err e → NoLog e
 certificate_no_log r e h =
     let t = through_certificate r e h in
     subst NoLog t.2 (by t.0)
   where
-    by : (t : Refusal) → NoLog (error_of_certificate t)
+    by : (t : CertificateRefusal) → NoLog (error_of_certificate t)
     by refusal.Malformed = tt
     by refusal.ChainInvalid = tt
     by (refusal.NoValidAuthority time) = tt

@@ -15,7 +15,7 @@ use Rattle.sigstore_keys.specs.Good.{Judge, is_raw_key, accepted_of, judged_over
 use Rattle.sigstore_keys.specs.Scheme.{key_algorithm_of, digest_algorithm_of}
 use Rattle.sigstore_judgement.specs.Artifact.{digest_among}
 use Rattle.sigstore_judgement.specs.Content.{subject_by, is_good_of, is_artifact_signed}
-use Rattle.sigstore_judgement.proofs.Had.{same_is}
+use Rattle.sigstore_judgement.proofs.KnownArtifact.{same_is}
 
 -- ---- the digest that is found is of the algorithm that is asked for
 

@@ -25,7 +25,7 @@ use Rattle.sigstore_judgement.specs.Signer.{signatory_of}
 use Rattle.sigstore_judgement.specs.Taking.{Takes}
 use Rattle.sigstore_judgement.proofs.Accepts.{prepared_means, all_hashed}
 use Rattle.sigstore_judgement.proofs.Within.{took_nothing}
-use Rattle.sigstore_judgement.proofs.Had.{AreAlike, judged_alike, taken_alike, one_alike}
+use Rattle.sigstore_judgement.proofs.KnownArtifact.{AreAlike, judged_alike, taken_alike, one_alike}
 use Rattle.sigstore_judgement.proofs.Wanting.{wanting}
 
 -- what was prepared has what the bundle says

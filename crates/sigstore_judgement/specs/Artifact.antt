@@ -7,9 +7,9 @@ use Rattle.sigstore_types_parts.specs.declared.hash_algorithm.Artifact.TheVarian
 use Rattle.sigstore_keys.specs.Digest.{is_hashed, digest_by}
 use Rattle.sigstore_judgement.specs.declared.error.Error.{Error}
 use Rattle.sigstore_judgement.specs.declared.error.Error.TheVariants.{UnsupportedArtifact, Crypto}
-use Rattle.sigstore_judgement.specs.declared.artifact.Had.{Had}
-use Rattle.sigstore_judgement.specs.declared.artifact.Handed.{Handed}
-use Rattle.sigstore_judgement.specs.declared.artifact.Handed.TheVariants as handed
+use Rattle.sigstore_judgement.specs.declared.artifact.KnownArtifact.{KnownArtifact}
+use Rattle.sigstore_judgement.specs.declared.artifact.ArtifactInput.{ArtifactInput}
+use Rattle.sigstore_judgement.specs.declared.artifact.ArtifactInput.TheVariants as handed
 
 -- all its bytes; those that a reader gave up to its end, of which only digests are kept; or one digest of it alone
 pub data Artifact : Type 0 where
@@ -55,7 +55,7 @@ kind_of (Blob bytes) = blob_kind
 kind_of (Read bytes) = read_kind
 kind_of (Digest given digest) = digest_kind given
 
-abbrev pub kind_in : Handed → Kind
+abbrev pub kind_in : ArtifactInput → Kind
 kind_in handed.Blob = blob_kind
 kind_in handed.Read = read_kind
 kind_in (handed.Digest given) = digest_kind given
@@ -69,8 +69,8 @@ abbrev pub digest_among : List (HashAlgorithm × List ℕ) → Digests
 digest_among digests algorithm = option_map (λ taken. taken.1) (find (λ taken. same_algorithm taken.0 algorithm) digests)
 
 -- what the code has of an artifact: digests, and its bytes where they are kept
-abbrev pub digest_had : Had → Digests
+abbrev pub digest_had : KnownArtifact → Digests
 digest_had had = digest_among had.digests.now
 
-abbrev pub bytes_had : Had → Option (List ℕ)
+abbrev pub bytes_had : KnownArtifact → Option (List ℕ)
 bytes_had had = option_copied had.bytes

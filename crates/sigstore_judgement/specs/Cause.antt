@@ -24,7 +24,7 @@ use Rattle.sigstore_log.specs.declared.error.LogError.{LogError}
 use Rattle.sigstore_log.specs.declared.error.LogError.TheVariants.{InclusionProof, Checkpoint}
 use Rattle.sigstore_log.specs.Cause.{LogCause}
 use Rattle.sigstore_log.specs.Promise.{told_time}
-use Rattle.sigstore_certificate.specs.declared.error.Refusal.{Refusal}
+use Rattle.sigstore_certificate.specs.declared.error.CertificateRefusal.{CertificateRefusal}
 use Rattle.sigstore_certificate.specs.declared.policy.VerificationPolicy.{VerificationPolicy}
 use Rattle.sigstore_certificate.specs.Cause.{Cause as CertificateCause}
 use Rattle.sigstore_tsa.specs.Authorities.{IsUnstamped, IsOutsideNone, IsOutsideOne}
@@ -254,7 +254,7 @@ pub record IsUncertified (asked : Asked) (file : List ℕ) (source source' : Wat
   pub says : info_of certificate ≡ Ok info
   pub times : List Timestamp
   pub verified : AreVerified (terms_of asked material).grounds reading times
-  pub why : Refusal
+  pub why : CertificateRefusal
   pub named : error_of_certificate why ≡ e
   pub cause :
       CertificateCause (trust_in (terms_of asked material).grounds) policy info certificate (intermediates_in reading) times why

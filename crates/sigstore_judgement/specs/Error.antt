@@ -10,8 +10,8 @@ use Rattle.sigstore_binding.specs.declared.error.BindingError.{BindingError}
 use Rattle.sigstore_binding.specs.declared.error.BindingError.TheVariants as binding
 use Rattle.sigstore_tsa.specs.declared.authorities.TokenFault.{TokenFault}
 use Rattle.sigstore_tsa.specs.declared.authorities.TokenFault.TheVariants as token
-use Rattle.sigstore_certificate.specs.declared.error.Refusal.{Refusal}
-use Rattle.sigstore_certificate.specs.declared.error.Refusal.TheVariants as refusal
+use Rattle.sigstore_certificate.specs.declared.error.CertificateRefusal.{CertificateRefusal}
+use Rattle.sigstore_certificate.specs.declared.error.CertificateRefusal.TheVariants as refusal
 use Rattle.sigstore_judgement.specs.declared.error.CertificateError.{CertificateError}
 use Rattle.sigstore_judgement.specs.declared.error.CertificateError.TheVariants.{Malformed, ChainInvalid, NoValidAuthority}
 use Rattle.sigstore_judgement.specs.declared.error.CertificateError.TheVariants.{NotYetValid, Expired, Sct}
@@ -137,7 +137,7 @@ error_of_info (crypto.InvalidKey rule) = Certificate Malformed
 error_of_info crypto.NoMemory = NoMemory
 
 -- what a refusal of the certificate's judgement is of its bundle
-abbrev pub error_of_certificate : Refusal → Error
+abbrev pub error_of_certificate : CertificateRefusal → Error
 error_of_certificate refusal.Malformed = Certificate Malformed
 error_of_certificate refusal.ChainInvalid = Certificate ChainInvalid
 error_of_certificate (refusal.NoValidAuthority time) = Certificate (NoValidAuthority time)
@@ -189,7 +189,7 @@ abbrev pub by_info : {A : Type 0} → Result A CryptoError → Result A Error
 by_info (Ok x) = Ok x
 by_info (Err e) = Err (error_of_info e)
 
-abbrev pub by_certificate : {A : Type 0} → Result A Refusal → Result A Error
+abbrev pub by_certificate : {A : Type 0} → Result A CertificateRefusal → Result A Error
 by_certificate (Ok x) = Ok x
 by_certificate (Err e) = Err (error_of_certificate e)
 

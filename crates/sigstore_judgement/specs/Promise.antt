@@ -13,7 +13,7 @@ use Rattle.sigstore_keys.specs.declared.reader.ReadError.TheVariants.{Failed, To
 use Rattle.sigstore_judgement.specs.declared.error.Error.{Error}
 use Rattle.sigstore_judgement.specs.declared.error.Error.TheVariants.{ArtifactRead, NoMemory}
 use Rattle.sigstore_judgement.specs.declared.report.VerificationResult.{VerificationResult}
-use Rattle.sigstore_judgement.specs.declared.report.Kept.{Kept}
+use Rattle.sigstore_judgement.specs.declared.report.JudgedBundle.{JudgedBundle}
 use Rattle.sigstore_judgement.specs.Artifact.{Artifact, Read, read_kind}
 use Rattle.sigstore_judgement.specs.Grounds.{Terms, terms_with}
 use Rattle.sigstore_judgement.specs.Policy.{Meaning}
@@ -74,7 +74,7 @@ pub record Verifies (terms : Terms) (bundle : Bundle) (old new : Watched (List �
   pub refused : IfErr result (Cause terms bundle old new max)
 
 -- the promise of one that keeps the digests: they are those that were needed, in their order, of the same bytes
-pub record VerifiesKept (terms : Terms) (bundle : Bundle) (old new : Watched (List ℕ)) (max : ℕ) (result : Result Kept Error) : Type 0 where
+pub record VerifiesKept (terms : Terms) (bundle : Bundle) (old new : Watched (List ℕ)) (max : ℕ) (result : Result JudgedBundle Error) : Type 0 where
   pub later : old.faults ≤ new.faults
   pub within : TookWithin old new max
   pub accepted : IfOk result (λ kept. (bytes : List ℕ) × Accepted terms bundle old new max kept.result bytes

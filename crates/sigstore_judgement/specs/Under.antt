@@ -12,7 +12,7 @@ use Rattle.sigstore_keys.specs.Crypto.{Crypto}
 use Rattle.sigstore_keys.specs.Digest.{digests_by}
 use Rattle.sigstore_judgement.specs.declared.error.Error.{Error}
 use Rattle.sigstore_judgement.specs.declared.error.Error.TheVariants as verify
-use Rattle.sigstore_judgement.specs.declared.report.Kept.{Kept}
+use Rattle.sigstore_judgement.specs.declared.report.JudgedBundle.{JudgedBundle}
 use Rattle.sigstore_judgement.specs.declared.trust.Material.{Material}
 use Rattle.sigstore_judgement.specs.Artifact.{Read}
 use Rattle.sigstore_judgement.specs.Error.{lowered}
@@ -60,7 +60,7 @@ terms_of asked material = terms_with asked.crypto material asked.now asked.polic
 -- ---- the judgement
 
 -- The file is read, a verifier is made of it, then the bundle is read, then the artifact; the first that refuses answers.
-pub data JudgesBundle (asked : Asked) (file : List ℕ) (source source' : Watched (List ℕ)) (result : Result Kept Error) : Type 0 where
+pub data JudgesBundle (asked : Asked) (file : List ℕ) (source source' : Watched (List ℕ)) (result : Result JudgedBundle Error) : Type 0 where
   trust_refused : (e : Error) → (e ≢ verify.NoMemory → trust_of file ≡ Err e) → source' ≡ source → result ≡ Err e
       → JudgesBundle asked file source source' result
   verifier_refused : (trust : TrustedRoot) (e : Error) → trust_of file ≡ Ok trust
@@ -75,7 +75,7 @@ pub data JudgesBundle (asked : Asked) (file : List ℕ) (source source' : Watche
 
 -- What is made of a trust file and of an artifact's bytes: the trust file is read and can be used, the bundle is read, and it is judged
 -- over the bytes; the first that refuses answers.
-unfoldable pub verdict_by : Asked → List ℕ → List ℕ → Result Kept Error
+unfoldable pub verdict_by : Asked → List ℕ → List ℕ → Result JudgedBundle Error
 verdict_by asked file bytes = do
   trust ← trust_of file
   material ← material_of trust

@@ -10,7 +10,7 @@ use sigstore_types_parts::{ArtifactDigest, HashAlgorithm};
 
 /// How an artifact is handed in: all its bytes, through a reader, or one digest of it.
 #[derive(Clone, Copy)]
-pub(crate) enum Handed {
+pub(crate) enum ArtifactInput {
     Blob,
     Read,
     Digest(HashAlgorithm),
@@ -18,16 +18,16 @@ pub(crate) enum Handed {
 
 /// What is had of an artifact: digests of it, and its bytes where they are kept.
 #[derive(Drop)]
-pub(crate) struct Had<'a> {
+pub(crate) struct KnownArtifact<'a> {
     pub(crate) digests: &'a [ArtifactDigest],
     pub(crate) bytes: Option<&'a [u8]>,
 }
 
-impl Handed {
+impl ArtifactInput {
     pub(crate) fn keeps_bytes(&self) -> bool
         ensures { result ≡ (kind_in self.now).keeps_bytes }
     {
-        matches!(self, Handed::Blob)
+        matches!(self, ArtifactInput::Blob)
     }
 
     // Whether the digest by an algorithm can be had.
@@ -35,7 +35,7 @@ impl Handed {
         ensures { result ≡ (kind_in self.now).has algorithm }
     {
         match self {
-            Handed::Digest(given) => given.is_same(algorithm),
+            ArtifactInput::Digest(given) => given.is_same(algorithm),
             _ => ArtifactHasher::is_known(algorithm),
         }
     }
@@ -45,14 +45,14 @@ impl Handed {
         ensures { result ≡ (kind_in self.now).lacking }
     {
         match self {
-            Handed::Digest(_) => Error::UnsupportedArtifact,
+            ArtifactInput::Digest(_) => Error::UnsupportedArtifact,
             _ => Error::Crypto,
         }
     }
 }
 
 // Whether each digest that is needed can be had.
-pub(crate) fn has_all(handed: Handed, needed: &[HashAlgorithm]) -> bool
+pub(crate) fn has_all(handed: ArtifactInput, needed: &[HashAlgorithm]) -> bool
     ensures { result ≡ list_all (kind_in handed).has needed.now }
 {
     'each: for algorithm in needed {

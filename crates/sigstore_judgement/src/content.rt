@@ -9,7 +9,7 @@ ghost use Rattle.sigstore_judgement.specs.Claim.{claim_as};
 ghost use Rattle.sigstore_judgement.specs.Content.{scheme_of, signs_digest, supported_of, is_artifact_signed, content_judged_of, signature_in, signed_in};
 ghost use Rattle.sigstore_judgement.specs.Opened.{content_as};
 
-use crate::artifact::{Had, Handed, has_all, taken};
+use crate::artifact::{ArtifactInput, KnownArtifact, has_all, taken};
 use crate::claim::{Claim, is_bound};
 use crate::error::Error;
 use foundation::NoMemory;
@@ -51,7 +51,7 @@ fn signs_digest(scheme: SigningScheme, content: &SignatureContent) -> bool
 /// The artifact can be judged: its bytes are kept where they are signed themselves, and each digest that is
 /// needed can be had. Else a check would have to be passed over.
 pub(crate) fn check_supported(
-    handed: Handed,
+    handed: ArtifactInput,
     scheme: SigningScheme,
     content: &SignatureContent,
     needed: &[HashAlgorithm],
@@ -101,7 +101,7 @@ pub(crate) fn open_content<'b>(
 }
 
 /// What an entry is compared with.
-pub(crate) fn signed_in<'o>(opened: &'o Opened<'o>, had: &'o Had<'o>) -> Signed<'o>
+pub(crate) fn signed_in<'o>(opened: &'o Opened<'o>, had: &'o KnownArtifact<'o>) -> Signed<'o>
     ensures { signed_as result ≡ signed_in (content_as opened.now) (digest_had had.now) }
 {
     match opened {
@@ -165,7 +165,7 @@ pub(crate) fn judge_content<C: CryptoProvider>(
     key: &VerificationKey,
     opened: &Opened<'_>,
     claim: &Claim<'_>,
-    had: &Had<'_>,
+    had: &KnownArtifact<'_>,
 ) -> Result<(), Error>
     ensures { result ≡ content_judged_of (C.accepts provider.now) key.now (content_as opened.now) (claim_as claim.now) (digest_had had.now) (bytes_had had.now) }
 {

@@ -13,7 +13,7 @@ ghost use Rattle.sigstore_judgement.specs.Opened.{content_as};
 ghost use Rattle.sigstore_judgement.specs.Grounds.{grounds_by};
 ghost use Rattle.sigstore_judgement.specs.Signer.{signer_as};
 
-use crate::artifact::Had;
+use crate::artifact::KnownArtifact;
 use crate::content::{Opened, signed_in};
 use crate::error::{Error, TransparencyLogError};
 use crate::grounds::Grounds;
@@ -263,7 +263,7 @@ pub(crate) fn check_described<C: CryptoProvider, M: Armor>(
     signer: &Signing<'_>,
     bundle: &Bundle,
     opened: &Opened<'_>,
-    had: &Had<'_>,
+    had: &KnownArtifact<'_>,
 ) -> Result<(), Error>
     requires same { content_as opened.now ≡ bundle.now.content }
     ensures ok { IfOk result (λ x. entries_described_of (grounds_by C.CryptoProvider M.Armor grounds.now) (signer_as signer.now) bundle.now (digest_had had.now) (entries_in bundle.now) ≡ Ok x) }

@@ -6,7 +6,7 @@ ghost use Rattle.sigstore_judgement.specs.declared.error.Error.TheVariants.{NoMe
 use certificate_claims::SubjectAltName;
 use foundation::NoMemory;
 use jiff::Timestamp;
-use sigstore_certificate::{IdentityMatcher, Refusal, SctRule};
+use sigstore_certificate::{CertificateRefusal, IdentityMatcher, SctRule};
 use sigstore_keys::ReadError;
 use sigstore_types_parts::{Sha256Hash, Text, TypesError};
 use std::{error, fmt};
@@ -296,28 +296,31 @@ pub(crate) fn lowered(fault: TypesError, otherwise: Error) -> Error
 }
 
 // What a refusal of the certificate's judgement is of its bundle.
-pub(crate) fn uncertified(fault: Refusal) -> Error
+pub(crate) fn uncertified(fault: CertificateRefusal) -> Error
     ensures { result ≡ error_of_certificate fault }
 {
     match fault {
-        Refusal::Malformed => Error::Certificate(CertificateError::Malformed),
-        Refusal::ChainInvalid => Error::Certificate(CertificateError::ChainInvalid),
-        Refusal::NoValidAuthority { time } => {
+        CertificateRefusal::Malformed => Error::Certificate(CertificateError::Malformed),
+        CertificateRefusal::ChainInvalid => Error::Certificate(CertificateError::ChainInvalid),
+        CertificateRefusal::NoValidAuthority { time } => {
             Error::Certificate(CertificateError::NoValidAuthority { time })
         }
-        Refusal::NotYetValid { time, not_before } => {
+        CertificateRefusal::NotYetValid { time, not_before } => {
             Error::Certificate(CertificateError::NotYetValid { time, not_before })
         }
-        Refusal::Expired { time, not_after } => {
+        CertificateRefusal::Expired { time, not_after } => {
             Error::Certificate(CertificateError::Expired { time, not_after })
         }
-        Refusal::Sct(rule) => Error::Certificate(CertificateError::Sct(rule)),
-        Refusal::InvalidTrustRoot => Error::InvalidTrustRoot,
-        Refusal::IdentityMismatch { expected, actual } => {
+        CertificateRefusal::Sct(rule) => Error::Certificate(CertificateError::Sct(rule)),
+        CertificateRefusal::InvalidTrustRoot => Error::InvalidTrustRoot,
+        CertificateRefusal::IdentityMismatch { expected, actual } => {
             Error::IdentityMismatch { expected, actual }
         }
-        Refusal::IssuerMismatch { expected, actual } => Error::IssuerMismatch { expected, actual },
-        Refusal::NoMemory => Error::NoMemory,
+        CertificateRefusal::IssuerMismatch { expected, actual } => Error::IssuerMismatch {
+            expected,
+            actual,
+        },
+        CertificateRefusal::NoMemory => Error::NoMemory,
     }
 }
 

@@ -12,7 +12,7 @@ ghost use Rattle.sigstore_judgement.specs.Judged.{ready_as, ready_with, claimed_
 ghost use Rattle.sigstore_judgement.specs.Policy.{meaning_of};
 ghost use Rattle.sigstore_judgement.specs.Signer.{Managed, Certified, signer_as};
 
-use crate::artifact::{Had, Handed};
+use crate::artifact::{ArtifactInput, KnownArtifact};
 use crate::claim::{Claim, needed, read_claim};
 use crate::content::{check_supported, judge_content, open_content, scheme_of, signature_in};
 use crate::entries::{check_described, check_log, check_log_count};
@@ -67,7 +67,7 @@ fn key_of(alloc: Global, der: &DerPublicKey) -> Result<VerificationKey, Error>
 // The digests that are needed, and whether the artifact serves.
 fn digests_needed(
     alloc: Global,
-    handed: Handed,
+    handed: ArtifactInput,
     scheme: SigningScheme,
     content: &SignatureContent,
     claim: &Claim<'_>,
@@ -85,7 +85,7 @@ fn digests_needed(
 // What a bundle says of its artifact, with the digests that are needed.
 fn claim_and_digests<'b>(
     alloc: Global,
-    handed: Handed,
+    handed: ArtifactInput,
     scheme: SigningScheme,
     content: &'b SignatureContent,
 ) -> Result<(Claim<'b>, Sequence<HashAlgorithm>), Error>
@@ -107,7 +107,7 @@ fn claim_and_digests<'b>(
 #[tactic(auto, unfolding(crate::specs::Judged::ready_of))]
 fn key_and_claim<'b>(
     alloc: Global,
-    handed: Handed,
+    handed: ArtifactInput,
     signer: &Signing<'_>,
     bundle: &'b Bundle,
 ) -> Result<(VerificationKey, Claim<'b>, Sequence<HashAlgorithm>), Error>
@@ -133,7 +133,7 @@ fn key_and_claim<'b>(
 #[tactic(auto, unfolding(crate::specs::Judged::prepared_of))]
 pub(crate) fn prepare<'a>(
     alloc: Global,
-    handed: Handed,
+    handed: ArtifactInput,
     policy: PolicyKind<'a>,
     bundle: &'a Bundle,
 ) -> Result<Ready<'a>, Error>
@@ -283,7 +283,7 @@ fn accepted<C: CryptoProvider, M: Armor>(
     grounds: &Grounds<'_, C, M>,
     ready: &Ready<'_>,
     bundle: &Bundle,
-    had: &Had<'_>,
+    had: &KnownArtifact<'_>,
 ) -> Result<Evidence, Error>
     ensures ok { IfOk result (λ evidence.
         judged_had (grounds_by C.CryptoProvider M.Armor grounds.now) (ready_as ready.now) bundle.now (digest_had had.now) (bytes_had had.now)
@@ -308,7 +308,7 @@ pub(crate) fn judge<C: CryptoProvider, M: Armor>(
     grounds: &Grounds<'_, C, M>,
     ready: Ready<'_>,
     bundle: &Bundle,
-    had: &Had<'_>,
+    had: &KnownArtifact<'_>,
 ) -> Result<VerificationResult, Error>
     ensures ok { IfOk result (λ report.
         judged_had (grounds_by C.CryptoProvider M.Armor grounds.now) (ready_as ready.entry) bundle.now (digest_had had.now) (bytes_had had.now) ≡ Ok report) }

@@ -30,7 +30,7 @@ pub use laws::{
 };
 pub use policy::{Policy, PolicyKind, PublicKeyVerificationPolicy};
 pub use prepared::prepare_reader;
-pub use report::{Kept, VerificationResult};
+pub use report::{JudgedBundle, VerificationResult};
 pub use sigstore_certificate::{
     CertificatePolicy, DigitallySigned, IdentityMatcher, SctRule, VerificationPolicy,
 };

@@ -5,7 +5,7 @@ ghost use Rattle.sigstore_judgement.specs.Grounds.{terms_by};
 ghost use Rattle.sigstore_judgement.specs.Judged.{ready_as, prepared_of, judged_had};
 ghost use Rattle.sigstore_judgement.specs.Policy.{Meaning};
 
-use crate::artifact::{Had, Handed};
+use crate::artifact::{ArtifactInput, KnownArtifact};
 use crate::error::Error;
 use crate::judge::{Ready, judge, prepare};
 use crate::policy::Policy;
@@ -27,7 +27,7 @@ pub fn prepare_reader<'a, P: Policy>(
     ensures ok { IfOk result (λ ready. prepared_of read_kind (P.meant policy.now) bundle.now ≡ Ok (ready_as ready)) }
     ensures err { IfErr result (λ e. e ≢ Error.NoMemory → prepared_of read_kind (P.meant policy.now) bundle.now ≡ Err e) }
 {
-    prepare(alloc, Handed::Read, policy.kind(), bundle)
+    prepare(alloc, ArtifactInput::Read, policy.kind(), bundle)
 }
 
 impl<'p, C: CryptoProvider, M: Armor> Verifier<'p, C, M> {
@@ -48,7 +48,7 @@ impl<'p, C: CryptoProvider, M: Armor> Verifier<'p, C, M> {
             judged_had (terms_by C.CryptoProvider M.Armor self.now policy now).grounds (ready_as ready.entry) bundle.now (digest_among digests.now) None
             ≡ Err e) }
     {
-        let had = Had {
+        let had = KnownArtifact {
             digests,
             bytes: None,
         };

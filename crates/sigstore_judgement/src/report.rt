@@ -131,14 +131,14 @@ impl Duplicate for VerificationResult {
 
 /// What an accepted bundle shows, with the digests of the artifact that were taken.
 #[derive(Drop)]
-pub struct Kept {
+pub struct JudgedBundle {
     pub result: VerificationResult,
     pub digests: Sequence<ArtifactDigest>,
 }
 
-impl Duplicate for Kept {
-    fn duplicate(&self, alloc: Global) -> Result<Kept, NoMemory> {
-        Ok(Kept {
+impl Duplicate for JudgedBundle {
+    fn duplicate(&self, alloc: Global) -> Result<JudgedBundle, NoMemory> {
+        Ok(JudgedBundle {
             result: self.result.duplicate(alloc)?,
             digests: self.digests.duplicate(alloc)?,
         })

@@ -5,7 +5,7 @@ ghost use Rattle.sigstore_judgement.specs.Under.{trust_of, bundle_of, Asked, Jud
 
 use crate::error::{Error, lowered};
 use crate::policy::Policy;
-use crate::report::Kept;
+use crate::report::JudgedBundle;
 use crate::verifier::Verifier;
 use jiff::Timestamp;
 use sigstore_keys::{ArtifactSource, CryptoProvider};
@@ -47,7 +47,7 @@ pub fn judge_bundle<C: CryptoProvider, M: Armor, A: ArtifactSource, P: Policy>(
     artifact: &mut A,
     max_artifact: u64,
     policy: &P,
-) -> Result<Kept, Error>
+) -> Result<JudgedBundle, Error>
     ensures { let crypto = crypto_by C.CryptoProvider M.Armor provider.now armor.now in
         let asked : Asked = record { crypto = crypto; policy = P.meant policy.now; now = now; bundle = bundle_bytes.now; max = max_artifact } in
         JudgesBundle asked file.now (A.seen artifact.old) (A.seen artifact.new) result }

@@ -7,12 +7,12 @@ ghost use Rattle.sigstore_judgement.specs.Policy.{Meaning, meaning_of};
 ghost use Rattle.sigstore_judgement.specs.Trust.{material_of};
 ghost use Rattle.sigstore_judgement.specs.Promise.{Verifies, VerifiesKept, VerifiesHanded, VerifiesUnder};
 
-use crate::artifact::{Had, Handed};
+use crate::artifact::{ArtifactInput, KnownArtifact};
 use crate::error::Error;
 use crate::grounds::Grounds;
 use crate::judge::{judge, prepare};
 use crate::policy::{Policy, PolicyKind};
-use crate::report::{Kept, VerificationResult};
+use crate::report::{JudgedBundle, VerificationResult};
 use crate::taking::{digests_in, read_digests};
 use crate::trust::{Material, material_in};
 use jiff::Timestamp;
@@ -76,19 +76,19 @@ impl<'p, C: CryptoProvider, M: Armor> Verifier<'p, C, M> {
         bundle: &Bundle,
         policy: PolicyKind<'_>,
         now: Timestamp,
-    ) -> Result<Kept, Error>
+    ) -> Result<JudgedBundle, Error>
         ensures { VerifiesKept (terms_by C.CryptoProvider M.Armor self.now (meaning_of policy.entry) now) bundle.now
             (A.seen source.old) (A.seen source.new) max result }
     {
-        match prepare(alloc, Handed::Read, policy, bundle) {
+        match prepare(alloc, ArtifactInput::Read, policy, bundle) {
             Ok(ready) => match read_digests(alloc, source, max, ready.needed.as_slice()) {
                 Ok(digests) => {
-                    let had = Had {
+                    let had = KnownArtifact {
                         digests: digests.as_slice(),
                         bytes: None,
                     };
                     match judge(alloc, &self.grounds(now), ready, bundle, &had) {
-                        Ok(result) => Ok(Kept { result, digests }),
+                        Ok(result) => Ok(JudgedBundle { result, digests }),
                         Err(e) => Err(e),
                     }
                 }
@@ -112,10 +112,10 @@ impl<'p, C: CryptoProvider, M: Armor> Verifier<'p, C, M> {
     ) -> Result<VerificationResult, Error>
         ensures { VerifiesHanded (terms_by C.CryptoProvider M.Armor self.now (meaning_of policy.entry) now) bundle.now (Blob bytes.now) result }
     {
-        match prepare(alloc, Handed::Blob, policy, bundle) {
+        match prepare(alloc, ArtifactInput::Blob, policy, bundle) {
             Ok(ready) => match digests_in(alloc, bytes, ready.needed.as_slice()) {
                 Ok(digests) => {
-                    let had = Had {
+                    let had = KnownArtifact {
                         digests: digests.as_slice(),
                         bytes: Some(bytes),
                     };
@@ -142,9 +142,14 @@ impl<'p, C: CryptoProvider, M: Armor> Verifier<'p, C, M> {
         ensures { VerifiesHanded (terms_by C.CryptoProvider M.Armor self.now (meaning_of policy.entry) now) bundle.now
             (Digest digest.now.0 digest.now.1) result }
     {
-        match prepare(alloc, Handed::Digest(digest.algorithm()), policy, bundle) {
+        match prepare(
+            alloc,
+            ArtifactInput::Digest(digest.algorithm()),
+            policy,
+            bundle,
+        ) {
             Ok(ready) => {
-                let had = Had {
+                let had = KnownArtifact {
                     digests: slice::from_ref(digest),
                     bytes: None,
                 };
@@ -196,7 +201,7 @@ impl<'p, C: CryptoProvider, M: Armor> Verifier<'p, C, M> {
         bundle: &Bundle,
         policy: &P,
         now: Timestamp,
-    ) -> Result<Kept, Error>
+    ) -> Result<JudgedBundle, Error>
         ensures { VerifiesKept (terms_by C.CryptoProvider M.Armor self.now (P.meant policy.now) now) bundle.now
             (A.seen source.old) (A.seen source.new) max result }
     {

@@ -1,4 +1,5 @@
 // An artifact in a file.
+ghost use Rattle.std.specs.Prelude.{◌≡◌};
 ghost use Rattle.std.specs.Io.{ReadsAtMost};
 ghost use Rattle.foundation.specs.Watched.{untold};
 
@@ -18,7 +19,10 @@ pub struct FileSource<'r, X: Files + AllocGlobal> {
 
 impl<'r, X: Files + AllocGlobal> FileSource<'r, X> {
     /// The file at a path.
-    pub fn new(rt: &'r X, path: Text) -> FileSource<'r, X> {
+    pub fn new(rt: &'r X, path: Text) -> FileSource<'r, X>
+        ensures path { result.path ≡ path }
+        ensures faults { result.faults ≡ 0 }
+    {
         FileSource {
             rt,
             path,

@@ -7,7 +7,7 @@ use Rattle.der_core.specs.declared.civil.Civil.{Civil}
 use Rattle.der_core.specs.Times.{generalized_of}
 use Rattle.sigstore_types_parts.specs.declared.hash_algorithm.HashAlgorithm.{HashAlgorithm}
 use Rattle.sigstore_types_parts.specs.Instant.{at_nanosecond}
-use Rattle.certificate_claims.specs.Info.{moment_of}
+use Rattle.certificate_fields.specs.Fields.{moment_of}
 use Rattle.sigstore_keys.specs.Digest.{digest_by}
 use Rattle.path_core.specs.Anchors.{is_since_1970}
 use Rattle.sigstore_tsa_parts.specs.declared.content.TokenContent.{TokenContent}

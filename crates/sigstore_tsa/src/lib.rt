@@ -4,7 +4,6 @@
 mod authorities;
 mod digest;
 mod laws;
-mod moment;
 mod named;
 mod signed;
 mod stamp;

@@ -4,7 +4,7 @@ ghost use Rattle.path_core.specs.Anchors.{is_since_1970};
 ghost use Rattle.sigstore_tsa.specs.Stamp.{imprint_judged_of, time_of, time_judged, told_of, stamp_at, stamp_of};
 
 use crate::digest::{check_digest, known};
-use crate::moment::moment;
+use certificate_fields::moment;
 use cms_parts::signed_data::SignerInfo;
 use der_core::{GeneralizedTime, OctetString, SetOfVec};
 use jiff::Timestamp;

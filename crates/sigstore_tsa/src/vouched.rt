@@ -8,7 +8,7 @@ ghost use Rattle.path_core.specs.Traits.{window_of};
 ghost use Rattle.sigstore_tsa_parts.specs.declared.error.CertificateFault.TheVariants as fault;
 ghost use Rattle.sigstore_tsa.specs.Vouched.{or_fault, root_anchor, setting_of, within_validity, within_window, vouched_of};
 
-use crate::moment::moment;
+use certificate_fields::moment;
 use foundation::Sequence;
 use jiff::Timestamp;
 use path_core::{Anchor, PathError, Purpose, Steps, find_path};

@@ -19,7 +19,7 @@ use Rattle.sigstore_tuf_rules.specs.Documents.{content_of}
 use Rattle.sigstore_tuf_rules.specs.declared.visit.Visit.{Visit}
 use Rattle.sigstore_tuf_rules.specs.declared.visit.Next.{Next}
 use Rattle.sigstore_tuf_rules.specs.Order.{is_top_level, nothing_next, with_name, pattern_or, matching, delegated_in, by}
-use Rattle.sigstore_tuf_rules.specs.Trusted.{Authority, authority_in}
+use Rattle.sigstore_tuf_rules.specs.Trusted.{RoleAuthority, authority_in}
 use Rattle.sigstore_tuf_rules.specs.Delegated.{not_top_level_of, delegation_of}
 use Rattle.sigstore_tuf_rules.proofs.Updates.{ok_some}
 use Rattle.sigstore_tuf_causes.proofs.Growing.{Grows}
@@ -80,21 +80,21 @@ matching_named path (d ∷ later) next h = by_top (is_top_level d.name) refl h (
 
 -- whoever is named so is delegated to
 pub named_delegation : (set : InForce) (delegator name : List ℕ) (held : Held Targets) → at_name delegator set.targets ≡ Some held → IsNamed (delegated_in (content_of held).delegations) name
-    → (authority : Authority) × (delegation_of set (by delegator name) ≡ Ok authority)
+    → (authority : RoleAuthority) × (delegation_of set (by delegator name) ≡ Ok authority)
 unfolding delegation_of
 named_delegation set delegator name held at named = by_delegations (content_of held).delegations refl named
   where
     by_role : (d : Delegations) → (content_of held).delegations ≡ Some d → (o : Option DelegatedRole) → find (λ (r : DelegatedRole). bytes_eq r.name name) d.roles ≡ o → is_top_level name ≡ false → is_some o ≡ true
-        → (authority : Authority) × (delegation_of set (by delegator name) ≡ Ok authority)
+        → (authority : RoleAuthority) × (delegation_of set (by delegator name) ≡ Ok authority)
     by_role d there None is low some = cc
     by_role d there (Some r) is low some = (record { keys = d.keys; role = role_keys_in r }, rw (low, at, there, is) refl)
 
-    by_delegations : (o : Option Delegations) → (content_of held).delegations ≡ o → IsNamed (delegated_in o) name → (authority : Authority) × (delegation_of set (by delegator name) ≡ Ok authority)
+    by_delegations : (o : Option Delegations) → (content_of held).delegations ≡ o → IsNamed (delegated_in o) name → (authority : RoleAuthority) × (delegation_of set (by delegator name) ≡ Ok authority)
     by_delegations None is h = let never : false ≡ true = h.1 in cc
     by_delegations (Some d) is h = by_role d is (find (λ (r : DelegatedRole). bytes_eq r.name name) d.roles) refl h.0 h.1
 
 -- a delegation stays where the delegator's document does
-pub delegation_grows : (old new : InForce) (v : Visit) (authority : Authority) → Grows old new → delegation_of old v ≡ Ok authority → delegation_of new v ≡ Ok authority
+pub delegation_grows : (old new : InForce) (v : Visit) (authority : RoleAuthority) → Grows old new → delegation_of old v ≡ Ok authority → delegation_of new v ≡ Ok authority
 unfolding delegation_of
 delegation_grows old new v authority g h =
     let t = step_ok (not_top_level_of v.name) _ authority h in

@@ -20,7 +20,7 @@ use Rattle.sigstore_tuf_rules.specs.declared.documents.InForce.{InForce}
 use Rattle.sigstore_tuf_rules.specs.Documents.{targets_document, content_of}
 use Rattle.sigstore_tuf_rules.specs.Names.{role_pin_in}
 use Rattle.sigstore_tuf_rules.specs.declared.visit.Visit.{Visit}
-use Rattle.sigstore_tuf_rules.specs.Trusted.{Authority}
+use Rattle.sigstore_tuf_rules.specs.Trusted.{RoleAuthority}
 use Rattle.sigstore_tuf_rules.specs.Delegated.{delegation_of, meets_delegation_of, role_pin_of, role_checks_of, role_document_of, update_role_of}
 use Rattle.sigstore_tuf_rules.specs.Authorised.{Serve}
 use Rattle.sigstore_tuf_runs.specs.SearchCause.{RoleRefusal, role_differs, role_unread, role_version, role_unmet, role_expired}
@@ -30,7 +30,7 @@ module _ (crypto : Crypto) (set : InForce) (now : jiff.Timestamp) (v : Visit) (b
   abbrev R : Type 0
   R = RoleRefusal crypto set now v bytes e
 
-  role_unchecked : (authority : Authority) → delegation_of set v ≡ Ok authority → (pin : MetaFile) → role_pin_in set v.name ≡ Some pin → (doc : Document Targets) → targets_document bytes ≡ Ok doc
+  role_unchecked : (authority : RoleAuthority) → delegation_of set v ≡ Ok authority → (pin : MetaFile) → role_pin_in set v.name ≡ Some pin → (doc : Document Targets) → targets_document bytes ≡ Ok doc
       → role_checks_of crypto authority pin v.name doc (Some now) ≡ Err e → R
   unfolding role_checks_of
   role_unchecked authority d pin p doc read h =
@@ -38,7 +38,7 @@ module _ (crypto : Crypto) (set : InForce) (now : jiff.Timestamp) (v : Visit) (b
       refused_at (meets_delegation_of crypto authority v.name doc) _ e k (λ q. role_unmet authority doc d read (meets_cause crypto authority.keys authority.role v.name doc e q)) (λ u q l.
       role_expired doc read (expiry_cause v.name (content_in doc).expires now e l)))
 
-  document_refusal : (authority : Authority) → delegation_of set v ≡ Ok authority → (pin : MetaFile) → role_pin_in set v.name ≡ Some pin → role_document_of crypto authority pin v.name bytes (Some now) ≡ Err e → R
+  document_refusal : (authority : RoleAuthority) → delegation_of set v ≡ Ok authority → (pin : MetaFile) → role_pin_in set v.name ≡ Some pin → role_document_of crypto authority pin v.name bytes (Some now) ≡ Err e → R
   unfolding role_document_of
   document_refusal authority d pin p h =
       refused_at (integrity_of pin.length pin.hashes bytes) _ e h (λ q. role_differs pin p (integrity_cause pin.length pin.hashes bytes e q)) (λ u q k.
@@ -55,7 +55,7 @@ module _ (crypto : Crypto) (set : InForce) (now : jiff.Timestamp) (v : Visit) (b
       rw (serve.snapshot_is, fresh, is) refl
 
   -- whose delegation and whose pin are there
-  pub role_refusal : Serve now set → (authority : Authority) → delegation_of set v ≡ Ok authority → (pin : MetaFile) → role_pin_in set v.name ≡ Some pin → update_role_of crypto set v bytes (Some now) ≡ Err e → R
+  pub role_refusal : Serve now set → (authority : RoleAuthority) → delegation_of set v ≡ Ok authority → (pin : MetaFile) → role_pin_in set v.name ≡ Some pin → update_role_of crypto set v bytes (Some now) ≡ Err e → R
   unfolding update_role_of
   role_refusal serve authority d pin p h =
       refused_at (delegation_of set v) _ e h (λ q. no_both authority e (sym d ∙ q)) (λ other q k.

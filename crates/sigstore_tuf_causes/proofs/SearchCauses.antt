@@ -27,7 +27,7 @@ use Rattle.sigstore_tuf_runs.specs.Adopt.{FetchesNamed, fetch_unnamed, fetch_ask
 use Rattle.sigstore_tuf_rules.specs.declared.visit.Visit.{Visit}
 use Rattle.sigstore_tuf_rules.specs.declared.visit.Walk.{Walk}
 use Rattle.sigstore_tuf_rules.specs.Order.{Gap, pattern, first_visit, first_walk, visit_of}
-use Rattle.sigstore_tuf_rules.specs.Trusted.{Authority}
+use Rattle.sigstore_tuf_rules.specs.Trusted.{RoleAuthority}
 use Rattle.sigstore_tuf_rules.specs.Delegated.{delegation_of, meets_delegation_of, role_serves_of, update_role_of}
 use Rattle.sigstore_tuf_runs.specs.Search.{documents_of, tree_in, AdoptsRole, visit_serves_of, reads, is_held, gap_error, Readies, wanting, untouched, looked_at, had, Searches, visits_in, FindsVisits, unserved, searched}
 use Rattle.sigstore_tuf_runs.specs.Cause.{Has, TransportCause}
@@ -166,7 +166,7 @@ module _ (session : Session) (path : List ℕ) (old new : State) (e : Error) (se
 
   -- ---- one that was in force
 
-  role_unserving : reads mid.documents v f.u ≡ true → is_held mid.documents v.name ≡ true → (authority : Authority) → delegation_of mid.documents v ≡ Ok authority → role_serves_of session.crypto mid.documents v session.now ≡ Err e → C
+  role_unserving : reads mid.documents v f.u ≡ true → is_held mid.documents v.name ≡ true → (authority : RoleAuthority) → delegation_of mid.documents v ≡ Ok authority → role_serves_of session.crypto mid.documents v session.now ≡ Err e → C
   unfolding role_serves_of
   role_unserving n held authority d h =
       refused_at (delegation_of mid.documents v) _ e h (λ q. no_both authority e (sym d ∙ q)) (λ its q k.

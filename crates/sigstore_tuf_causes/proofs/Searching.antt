@@ -49,7 +49,7 @@ use Rattle.sigstore_tuf_rules.specs.SearchLaws.{walk_all, visits_of, tree_of}
 use Rattle.sigstore_tuf_runs.specs.Search.{documents_of, listed_by, entry_after, Searches, visits_in, FindsVisits, unserved, searched, GivesInfo}
 use Rattle.sigstore_tuf_runs.specs.Search as search
 use Rattle.sigstore_tuf_runs.specs.Chain.{role_doc_in, chain_of, GivesChain, unlisted, unobtained, unchained, found, GetsTarget, unfound, visited}
-use Rattle.sigstore_tuf_rules.specs.Trusted.{visit_in, read_in, documents_in, last_in, Authority, authority_in, delegated_authority, root_authority, authority_of, IsTrustedRole, IsTrustedVisit, Trusted}
+use Rattle.sigstore_tuf_rules.specs.Trusted.{visit_in, read_in, documents_in, last_in, RoleAuthority, authority_in, delegated_authority, root_authority, authority_of, IsTrustedRole, IsTrustedVisit, Trusted}
 use Rattle.sigstore_tuf_rules.specs.Delegated.{not_top_level_of, delegation_of}
 use Rattle.sigstore_tuf_rules.specs.Authorised.{AreAuthorised, IsAuthorised, given_in, Serve}
 use Rattle.sigstore_tuf_runs.specs.Found.{role_bytes, Finds, FindsEntry}
@@ -126,7 +126,7 @@ serve_grows {now} {old} {new} g s = record {
 
 -- ---- a visit that was made is trusted
 
-authority_there : (set : InForce) (d : List ℕ → Option Targets) (v : Visit) (authority : Authority) → d v.delegator ≡ documents_of set v.delegator → delegation_of set v ≡ Ok authority → delegated_authority d v ≡ Some authority
+authority_there : (set : InForce) (d : List ℕ → Option Targets) (v : Visit) (authority : RoleAuthority) → d v.delegator ≡ documents_of set v.delegator → delegation_of set v ≡ Ok authority → delegated_authority d v ≡ Some authority
 unfolding delegation_of
 authority_there set d v authority agrees h =
     let t = step_ok (not_top_level_of v.name) _ authority h in
@@ -149,7 +149,7 @@ module _ (session : Session) (first : List ℕ) (set : InForce) (k : AreAuthoris
       let same : r.held ≡ serve.snapshot = some_same r.held serve.snapshot (sym r.there ∙ serve.snapshot_is) in
       (r.pin, ap (λ (h : Held Snapshot). at_name (pin_name name) (content_of h).meta) (sym same) ∙ r.pin_is)
 
-  role_trusted : (d : List ℕ → Option Targets) (v : Visit) (held : Held Targets) (authority : Authority) → at_name v.name set.targets ≡ Some held → authority_of (content_in set.root) d v ≡ Some authority
+  role_trusted : (d : List ℕ → Option Targets) (v : Visit) (held : Held Targets) (authority : RoleAuthority) → at_name v.name set.targets ≡ Some held → authority_of (content_in set.root) d v ≡ Some authority
       → Meets session.crypto authority.keys authority.role held.document → Fresh (content_of held).expires session.now → IsTrustedRole session.crypto (content_in set.root) (content_of serve.snapshot) d session.now v held.bytes
   role_trusted d v held authority there is met fresh =
       let r = k.roles v.name held there in

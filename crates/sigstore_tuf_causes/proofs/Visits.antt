@@ -29,7 +29,7 @@ use Rattle.sigstore_tuf_rules.specs.declared.visit.Visit.{Visit}
 use Rattle.sigstore_tuf_rules.specs.declared.visit.Walk.{Walk}
 use Rattle.sigstore_tuf_rules.specs.declared.visit.Next.{Next}
 use Rattle.sigstore_tuf_rules.specs.Order.{Step, by, first_visit, is_top_level, is_pinned, ended as walk_ended, visited as one_more, having_read, put_before, pending_after, delegated_in}
-use Rattle.sigstore_tuf_rules.specs.Trusted.{Authority}
+use Rattle.sigstore_tuf_rules.specs.Trusted.{RoleAuthority}
 use Rattle.sigstore_tuf_rules.specs.Delegated.{delegation_of, meets_delegation_of, role_serves_of, role_checks_of, role_pin_of, role_document_of, update_role_of, with_role}
 use Rattle.sigstore_tuf_runs.specs.Search.{documents_of, AdoptsRole, visit_serves_of, reads, IsSnapshot, Readies, wanting, untouched, looked_at, had}
 use Rattle.sigstore_tuf_outside.proofs.Files.{at_insert}
@@ -44,13 +44,13 @@ use Rattle.sigstore_tuf_causes.proofs.Followed.{each_map, IsNamed, matching_name
 
 pub record RoleTaken (crypto : Crypto) (old : InForce) (v : Visit) (now : jiff.Timestamp) (new : InForce) : Type 0 where
   pub held : Held Targets
-  pub authority : Authority
+  pub authority : RoleAuthority
   pub delegated : delegation_of old v ≡ Ok authority
   pub met : meets_delegation_of crypto authority v.name held.document ≡ Ok tt
   pub fresh : Fresh (content_of held).expires now
   pub new_is : new ≡ with_role old v.name held
 
-checked_both : (crypto : Crypto) (authority : Authority) (pin : MetaFile) (name : List ℕ) (doc : Document Targets) (now : jiff.Timestamp) → role_checks_of crypto authority pin name doc (Some now) ≡ Ok tt
+checked_both : (crypto : Crypto) (authority : RoleAuthority) (pin : MetaFile) (name : List ℕ) (doc : Document Targets) (now : jiff.Timestamp) → role_checks_of crypto authority pin name doc (Some now) ≡ Ok tt
     → (meets_delegation_of crypto authority name doc ≡ Ok tt) × Fresh (content_in doc).expires now
 unfolding role_checks_of
 checked_both crypto authority pin name doc now h =
@@ -75,7 +75,7 @@ at_role old name x = at_insert name name x old.targets ∙ ap (λ b. cond b (Som
 pub record RoleServes (crypto : Crypto) (set : InForce) (v : Visit) (now : jiff.Timestamp) : Type 0 where
   pub held : Held Targets
   pub there : at_name v.name set.targets ≡ Some held
-  pub authority : Authority
+  pub authority : RoleAuthority
   pub delegated : delegation_of set v ≡ Ok authority
   pub met : meets_delegation_of crypto authority v.name held.document ≡ Ok tt
   pub fresh : Fresh (content_of held).expires now
@@ -89,7 +89,7 @@ role_serving crypto set v now h =
     record { held = r.0; there = ok_some (at_name v.name set.targets) (tuf.UnknownRole v.name) r.0 r.1; authority = a.0; delegated = a.1; met = m.1; fresh = fresh_from v.name (content_of r.0).expires now m.2 }
 
 -- a delegated role isn't `targets`
-pub low_name : (set : InForce) (v : Visit) (authority : Authority) → delegation_of set v ≡ Ok authority → bytes_eq v.name (codes "targets") ≡ false
+pub low_name : (set : InForce) (v : Visit) (authority : RoleAuthority) → delegation_of set v ≡ Ok authority → bytes_eq v.name (codes "targets") ≡ false
 low_name set v authority h = by_test (bytes_eq v.name (codes "targets")) refl
   where
     by_test : (b : Bool) → bytes_eq v.name (codes "targets") ≡ b → b ≡ false
@@ -115,7 +115,7 @@ all_both P (x ∷ xs) ys h k = (h.0, all_both P xs ys h.1 k)
 -- a visit is the first, or of a role to which a document that was read delegates
 pub data IsDue (set : InForce) (w : Walk) (v : Visit) : Type 0 where
   begins : v ≡ first_visit → IsDue set w v
-  delegated : (authority : Authority) → delegation_of set v ≡ Ok authority → is_among w.read v.delegator ≡ true → IsDue set w v
+  delegated : (authority : RoleAuthority) → delegation_of set v ≡ Ok authority → is_among w.read v.delegator ≡ true → IsDue set w v
 
 -- a name that was read is that of a document in force, and was visited
 pub record IsRead (set : InForce) (w : Walk) (name : List ℕ) : Type 0 where

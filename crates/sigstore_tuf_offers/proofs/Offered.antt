@@ -30,7 +30,7 @@ use Rattle.sigstore_tuf_rules.specs.declared.visit.Visit.{Visit}
 use Rattle.sigstore_tuf_rules.specs.Order.{order}
 use Rattle.sigstore_tuf_outside.specs.Repository.{Folders}
 use Rattle.sigstore_tuf_runs.specs.State.{Session, session_of}
-use Rattle.sigstore_tuf_rules.specs.Trusted.{visit_in, documents_in, targets_bytes, last_in, Authority, root_authority, IsTrustedVisit, BeginsWith, AreRoots, Reading, TrustedAs}
+use Rattle.sigstore_tuf_rules.specs.Trusted.{visit_in, documents_in, targets_bytes, last_in, RoleAuthority, root_authority, IsTrustedVisit, BeginsWith, AreRoots, Reading, TrustedAs}
 use Rattle.sigstore_tuf_offers.proofs.ChainVisits.{held_in, Begins, first_role}
 
 -- ---- the roles
@@ -40,14 +40,14 @@ abbrev pub AreOf : List RoleDoc → InForce → Type 0
 AreOf roles set = (name : List ℕ) (held : Held Targets) → at_name name set.targets ≡ Some held → held_in roles name ≡ Some held
 
 -- the authority of the first visit is that of the root
-pub root_role : (crypto : Crypto) (root : declared.Root) (doc : Document Targets) (authority : Authority) → root_authority root (codes "targets") ≡ Some authority → Meets crypto authority.keys authority.role doc → MeetsRole crypto root (codes "targets") doc
+pub root_role : (crypto : Crypto) (root : declared.Root) (doc : Document Targets) (authority : RoleAuthority) → root_authority root (codes "targets") ≡ Some authority → Meets crypto authority.keys authority.role doc → MeetsRole crypto root (codes "targets") doc
 root_role crypto root doc authority is met = by_role (at_name (codes "targets") root.roles) refl is
   where
     by_role : (o : Option RoleKeys) → at_name (codes "targets") root.roles ≡ o → option_map (λ role. record { keys = root.keys; role = role }) o ≡ Some authority → MeetsRole crypto root (codes "targets") doc
     by_role None e h = cc
     by_role (Some role) e h =
         let same : record { keys = root.keys; role = role } ≡ authority = some_same _ authority h in
-        (role, e, subst (λ (a : Authority). Meets crypto a.keys a.role doc) (sym same) met)
+        (role, e, subst (λ (a : RoleAuthority). Meets crypto a.keys a.role doc) (sym same) met)
 
 -- ---- the roots
 

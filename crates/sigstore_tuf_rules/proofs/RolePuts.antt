@@ -26,7 +26,7 @@ use Rattle.sigstore_tuf_rules.specs.Documents.{targets_document, content_of}
 use Rattle.sigstore_tuf_rules.specs.Update.{fresh_at_of, Updates}
 use Rattle.sigstore_tuf_rules.specs.Taking.{top_targets, taken_of, Takes}
 use Rattle.sigstore_tuf_rules.specs.Order.{Visit, is_top_level}
-use Rattle.sigstore_tuf_rules.specs.Trusted.{Authority}
+use Rattle.sigstore_tuf_rules.specs.Trusted.{RoleAuthority}
 use Rattle.sigstore_tuf_rules.specs.Delegated.{not_top_level_of, delegation_of, with_role, role_pin_of, role_checks_of, role_document_of, update_role_of}
 use Rattle.sigstore_tuf_rules.specs.Authorised.{IsPinnedBy, AreAuthorised, given_in, UpdatesSet}
 use Rattle.sigstore_tuf_outside.proofs.Files.{at_insert}
@@ -36,7 +36,7 @@ use Rattle.sigstore_tuf_rules.proofs.Authorised.{Stays, same, roles_more}
 
 -- ---- what was checked
 
-pub not_top : (set : InForce) (v : Visit) (authority : Authority) → delegation_of set v ≡ Ok authority → is_top_level v.name ≡ false
+pub not_top : (set : InForce) (v : Visit) (authority : RoleAuthority) → delegation_of set v ≡ Ok authority → is_top_level v.name ≡ false
 unfolding delegation_of
 not_top set v authority h = let a = step_ok (not_top_level_of v.name) _ authority h in by_test (is_top_level v.name) a.1
   where
@@ -51,16 +51,16 @@ pinned_so set name pin now h =
     let f = step_ok (fresh_at_of (codes "snapshot") (content_of s.0).expires now) _ pin s.2 in
     (s.0, ok_some set.snapshot (tuf.Malformed rule.NoSnapshot) s.0 s.1, ok_some (at_name (pin_name name) (content_of s.0).meta) (tuf.Malformed rule.Unpinned) pin f.2)
 
-version_so : (crypto : Crypto) (authority : Authority) (pin : MetaFile) (name : List ℕ) (doc : Document Targets) (now : Option jiff.Timestamp) → role_checks_of crypto authority pin name doc now ≡ Ok tt → version_of pin (content_in doc).version ≡ Ok tt
+version_so : (crypto : Crypto) (authority : RoleAuthority) (pin : MetaFile) (name : List ℕ) (doc : Document Targets) (now : Option jiff.Timestamp) → role_checks_of crypto authority pin name doc now ≡ Ok tt → version_of pin (content_in doc).version ≡ Ok tt
 unfolding role_checks_of
 version_so crypto authority pin name doc now h = let a = step_ok (version_of pin (content_in doc).version) _ tt h in a.1
 
-pub record RoleRead (crypto : Crypto) (authority : Authority) (pin : MetaFile) (name bytes : List ℕ) (now : Option jiff.Timestamp) (doc : Document Targets) : Type 0 where
+pub record RoleRead (crypto : Crypto) (authority : RoleAuthority) (pin : MetaFile) (name bytes : List ℕ) (now : Option jiff.Timestamp) (doc : Document Targets) : Type 0 where
   pub intact : integrity_of pin.length pin.hashes bytes ≡ Ok tt
   pub read : targets_document bytes ≡ Ok doc
   pub checked : role_checks_of crypto authority pin name doc now ≡ Ok tt
 
-pub role_read : (crypto : Crypto) (authority : Authority) (pin : MetaFile) (name bytes : List ℕ) (now : Option jiff.Timestamp) (doc : Document Targets) → role_document_of crypto authority pin name bytes now ≡ Ok doc → RoleRead crypto authority pin name bytes now doc
+pub role_read : (crypto : Crypto) (authority : RoleAuthority) (pin : MetaFile) (name bytes : List ℕ) (now : Option jiff.Timestamp) (doc : Document Targets) → role_document_of crypto authority pin name bytes now ≡ Ok doc → RoleRead crypto authority pin name bytes now doc
 unfolding role_document_of
 role_read crypto authority pin name bytes now doc h =
     let i = step_ok (integrity_of pin.length pin.hashes bytes) _ doc h in
@@ -102,7 +102,7 @@ module _ (crypto : Crypto) (old : InForce) (v : Visit) (bytes : List ℕ) where
   pub record RolePut (new : InForce) : Type 0 where
     pub held : Held Targets
     pub bytes_is : held.bytes ≡ bytes
-    pub authority : Authority
+    pub authority : RoleAuthority
     pub delegated : delegation_of old v ≡ Ok authority
     pub other : is_top_level v.name ≡ false
     pub pinned : IsPinnedBy old.snapshot v.name held

@@ -21,7 +21,7 @@ use Rattle.sigstore_tuf_rules.specs.declared.documents.Held.{Held}
 use Rattle.sigstore_tuf_rules.specs.declared.documents.InForce.{InForce}
 use Rattle.sigstore_tuf_rules.specs.Documents.{targets_document, content_of}
 use Rattle.sigstore_tuf_rules.specs.Order.{Visit, is_top_level}
-use Rattle.sigstore_tuf_rules.specs.Trusted.{Authority, authority_in}
+use Rattle.sigstore_tuf_rules.specs.Trusted.{RoleAuthority, authority_in}
 use Rattle.sigstore_tuf_rules.specs.Update.{fresh_at_of}
 
 -- ---- the delegation
@@ -32,7 +32,7 @@ not_top_level_of name = if is_top_level name then Err (Malformed rule.TopLevel) 
 
 -- Who signs for a role, as the document of its delegator in force says. The first delegation of its name counts (4.5, 'in order of
 -- appearance'): else a later one takes the role from those whom the delegator named first.
-unfoldable pub delegation_of : InForce → Visit → Result Authority Error
+unfoldable pub delegation_of : InForce → Visit → Result RoleAuthority Error
 delegation_of set v = do
   _ ← not_top_level_of v.name
   delegator ← ok_or (at_name v.delegator set.targets) (UnknownRole v.delegator)
@@ -40,11 +40,11 @@ delegation_of set v = do
   ok_or (authority_in v.name delegations) (UnknownRole v.name)
 
 -- the same, of what the code finds
-abbrev pub authority_by : declared.Delegation → Authority
+abbrev pub authority_by : declared.Delegation → RoleAuthority
 authority_by d = record { keys = d.keys.now; role = role_keys_in d.role.now }
 
 -- its signatures are those that the delegation asks for ('arbitrary software attack')
-abbrev pub meets_delegation_of : Crypto → Authority → List ℕ → Document Targets → Result ⊤ Error
+abbrev pub meets_delegation_of : Crypto → RoleAuthority → List ℕ → Document Targets → Result ⊤ Error
 meets_delegation_of crypto authority name doc = meets_of crypto authority.keys authority.role name doc
 
 -- ---- the update
@@ -61,14 +61,14 @@ role_pin_of set name now = do
   ok_or (at_name (pin_name name) (content_of snapshot).meta) (Malformed rule.Unpinned)
 
 -- the checks of a document that was read, for its pin and its delegation: as those of the top-level targets document
-unfoldable pub role_checks_of : Crypto → Authority → MetaFile → List ℕ → Document Targets → Option jiff.Timestamp → Result ⊤ Error
+unfoldable pub role_checks_of : Crypto → RoleAuthority → MetaFile → List ℕ → Document Targets → Option jiff.Timestamp → Result ⊤ Error
 role_checks_of crypto authority pin name new now = do
   _ ← version_of pin (content_in new).version
   _ ← meets_delegation_of crypto authority name new
   fresh_at_of name (content_in new).expires now
 
 -- the document of these bytes, for its pin
-unfoldable pub role_document_of : Crypto → Authority → MetaFile → List ℕ → List ℕ → Option jiff.Timestamp → Result (Document Targets) Error
+unfoldable pub role_document_of : Crypto → RoleAuthority → MetaFile → List ℕ → List ℕ → Option jiff.Timestamp → Result (Document Targets) Error
 role_document_of crypto authority pin name bytes now = do
   _ ← integrity_of pin.length pin.hashes bytes
   new ← targets_document bytes

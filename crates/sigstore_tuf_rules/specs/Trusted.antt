@@ -50,23 +50,23 @@ last_in roles = option_and_then (λ r. documents_in roles r.name) (last_or None 
 -- ---- the authority of a role
 
 -- keys, and what is asked of their signatures
-pub record Authority : Type 0 where
+pub record RoleAuthority : Type 0 where
   pub keys : Keys
   pub role : RoleKeys
 
 -- the first delegation of the name, with the keys beside it
-abbrev pub authority_in : List ℕ → Delegations → Option Authority
+abbrev pub authority_in : List ℕ → Delegations → Option RoleAuthority
 authority_in name d = option_map (λ r. record { keys = d.keys; role = role_keys_in r }) (find (λ r. bytes_eq r.name name) d.roles)
 
-abbrev pub delegated_authority : (List ℕ → Option Targets) → Visit → Option Authority
+abbrev pub delegated_authority : (List ℕ → Option Targets) → Visit → Option RoleAuthority
 delegated_authority documents v =
     option_and_then (λ (doc : Targets). option_and_then (authority_in v.name) doc.delegations) (documents v.delegator)
 
-abbrev pub root_authority : Root → List ℕ → Option Authority
+abbrev pub root_authority : Root → List ℕ → Option RoleAuthority
 root_authority root name = option_map (λ role. record { keys = root.keys; role = role }) (at_name name root.roles)
 
 -- that of `targets` is the root; that of another role is the first delegation of its name in the document of its delegator
-abbrev pub authority_of : Root → (List ℕ → Option Targets) → Visit → Option Authority
+abbrev pub authority_of : Root → (List ℕ → Option Targets) → Visit → Option RoleAuthority
 authority_of root documents v = if bytes_eq v.name (codes "targets") then root_authority root v.name else delegated_authority documents v
 
 -- ---- what holds of a trusted chain
@@ -76,7 +76,7 @@ pub record IsTrustedRole (crypto : Crypto) (root : Root) (snapshot : Snapshot) (
     (now : jiff.Timestamp) (v : Visit) (bytes : List ℕ) : Type 0 where
   pub doc : Document Targets
   pub pin : MetaFile
-  pub authority : Authority
+  pub authority : RoleAuthority
   pub read : targets_document bytes ≡ Ok doc
   pub pin_is : at_name (pin_name v.name) snapshot.meta ≡ Some pin
   pub pinned : Pinned bytes (content_in doc).version pin

@@ -30,7 +30,7 @@ use Rattle.sigstore_tuf_rules.specs.declared.visit.Visit.{Visit}
 use Rattle.sigstore_tuf_rules.specs.declared.visit.Walk.{Walk}
 use Rattle.sigstore_tuf_rules.specs.Order.{Tree, pattern, Step, visit_of, pending_after, first_visit, first_walk}
 use Rattle.sigstore_tuf_runs.specs.Search.{reads, is_held, tree_in, entry_after}
-use Rattle.sigstore_tuf_rules.specs.Trusted.{Authority}
+use Rattle.sigstore_tuf_rules.specs.Trusted.{RoleAuthority}
 use Rattle.sigstore_tuf_rules.specs.Delegated.{delegation_of}
 use Rattle.sigstore_tuf_rules.specs.Authorised.{Serve}
 use Rattle.sigstore_tuf_runs.specs.Cause.{Has, TransportCause, PinsSnapshot, PinsTargets, IsOfAnotherVersion}
@@ -88,7 +88,7 @@ pub data RoleRefusal (crypto : Crypto) (set : InForce) (now : jiff.Timestamp) (v
   role_unread : ReadCause (codes "targets") targets_of bytes e → RoleRefusal crypto set now v bytes e
   role_version : (pin : MetaFile) (doc : Document declared_targets.Targets) → role_pin_in set v.name ≡ Some pin
       → targets_document bytes ≡ Ok doc → IsOfAnotherVersion pin (content_in doc).version e → RoleRefusal crypto set now v bytes e
-  role_unmet : (authority : Authority) (doc : Document declared_targets.Targets) → delegation_of set v ≡ Ok authority
+  role_unmet : (authority : RoleAuthority) (doc : Document declared_targets.Targets) → delegation_of set v ≡ Ok authority
       → targets_document bytes ≡ Ok doc → MeetsCause crypto authority.keys authority.role v.name doc e
       → RoleRefusal crypto set now v bytes e
   role_expired : (doc : Document declared_targets.Targets) → targets_document bytes ≡ Ok doc
@@ -107,7 +107,7 @@ pub data SearchCause (session : Session) (path : List ℕ) (old new : State) (e 
   role_unfetched : (v : Visit) (fault : TransportFault) → ComesTo session path new.documents v → is_held new.documents v.name ≡ false
       → TransportCause metadata_files (role_name_in new.documents v.name) session.config.targets_max_length old.repo new.repo fault
       → e ≡ tuf.Transport fault → SearchCause session path old new e
-  kept_role_unmet : (v : Visit) (held : Held declared_targets.Targets) (authority : Authority) → ComesTo session path new.documents v
+  kept_role_unmet : (v : Visit) (held : Held declared_targets.Targets) (authority : RoleAuthority) → ComesTo session path new.documents v
       → at_name v.name old.documents.targets ≡ Some held → delegation_of new.documents v ≡ Ok authority
       → MeetsCause session.crypto authority.keys authority.role v.name held.document e → SearchCause session path old new e
   kept_role_expired : (v : Visit) (held : Held declared_targets.Targets) → ComesTo session path new.documents v

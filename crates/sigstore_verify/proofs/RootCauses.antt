@@ -19,7 +19,7 @@ use Rattle.sigstore_verify.specs.declared.from_root.RootFault.{RootFault}
 use Rattle.sigstore_verify.specs.Cause as cause
 use Rattle.sigstore_judgement.specs.Cause.{JudgeCause}
 use Rattle.sigstore_verify.specs.Cause.{RootCause, ChainCause, state_in}
-use Rattle.sigstore_verify.specs.Given.{Anchor, Given, Places, Outside, places_in, asked_by}
+use Rattle.sigstore_verify.specs.Inputs.{Anchor, VerifyInputs, Places, Outside, places_in, asked_by}
 use Rattle.sigstore_verify.specs.FromRoot as top
 use Rattle.sigstore_verify.specs.FromRoot.{trust_path, session_in, TrustsChain, GivesChain, root_of_tuf, root_of_verify, Runs}
 use Rattle.sigstore_judgement.proofs.JudgeCauses.{judge_refused}
@@ -60,7 +60,7 @@ module _ (anchor : Anchor) (before after : Places) where
       (target_earlier (session_in anchor) trust_path (state_in last before) (state_of last mid kept) (state_in end after) refl since d g.cause))
   chain_cause e (top.chain_given set last end mid begun kept chain b w g r) = cc
 
-module _ (given : Given) (before after : Outside) where
+module _ (given : VerifyInputs) (before after : Outside) where
   abbrev Cause : RootFault → Type 0
   Cause fault = RootCause given before after fault
 

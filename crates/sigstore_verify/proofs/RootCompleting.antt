@@ -20,11 +20,11 @@ use Rattle.sigstore_tuf_causes.proofs.Faults.{quiet_first, quiet_second, not_bot
 use Rattle.sigstore_tuf_offers.proofs.TargetCompleting.{GivenChain, chain_wanting, chain_given as is_given, gets_since, first_wants, StaysWarm as StaysTold, Going, Arrived, attached_done, refreshed_done, target_done}
 use Rattle.sigstore_judgement.specs.declared.error.Error.{Error}
 use Rattle.sigstore_judgement.specs.declared.error.Error.TheVariants as verify
-use Rattle.sigstore_judgement.specs.declared.report.Kept.{Kept}
-use Rattle.sigstore_verify.specs.declared.from_root.Rooted.{Rooted}
+use Rattle.sigstore_judgement.specs.declared.report.JudgedBundle.{JudgedBundle}
+use Rattle.sigstore_verify.specs.declared.from_root.Acceptance.{Acceptance}
 use Rattle.sigstore_verify.specs.declared.from_root.RootFault.{RootFault}
 use Rattle.sigstore_verify.specs.declared.from_root.RootFault.TheVariants as root
-use Rattle.sigstore_verify.specs.Given.{Anchor, Given, Places, Outside, places_in, asked_by}
+use Rattle.sigstore_verify.specs.Inputs.{Anchor, VerifyInputs, Places, Outside, places_in, asked_by}
 use Rattle.sigstore_judgement.proofs.Completing.{judge_completes}
 use Rattle.sigstore_verify.specs.FromRoot.{trust_path, session_in, Begins, GivesChain, root_refused, attach_refused, refresh_refused, target_refused, chain_given, JudgesGiven, root_of_tuf, root_of_verify, Runs, chain_refused, judgement_refused, accepted}
 use Rattle.sigstore_verify.specs.Complete.{verdict_of, rooted_of, TellsQuietly, OffersChain, StaysWarm, CompletesChain, Favours, Completes}
@@ -109,15 +109,15 @@ gives_complete anchor before after result g chain o = chain_answered anchor befo
 -- ---- the judgement
 
 -- over bytes that are told within the limit, where the source is quiet, the judgement is the verdict
-judge_so : (given : Given) (before after : Outside) (file bytes : List ℕ) (source : TellsQuietly before.source after.source bytes) (short : length bytes ≤ given.max)
-    (result : Result Kept Error) → JudgesGiven given file before after result → (result ≡ Err verify.NoMemory) ⊎ (result ≡ verdict_of given file bytes)
+judge_so : (given : VerifyInputs) (before after : Outside) (file bytes : List ℕ) (source : TellsQuietly before.source after.source bytes) (short : length bytes ≤ given.max)
+    (result : Result JudgedBundle Error) → JudgesGiven given file before after result → (result ≡ Err verify.NoMemory) ⊎ (result ≡ verdict_of given file bytes)
 judge_so given before after file bytes source short result j =
     judge_completes (asked_by given) before.source after.source file bytes source.told (λ rose. not_both before.source.faults after.source.faults rose source.quiet) short result j
 
 -- ---- the whole
 
-module _ (given : Given) (before after : Outside) (chain : TrustChain) (bytes : List ℕ) (f : Favours given before after chain bytes) where
-  abbrev Answered : Result Rooted RootFault → Type 0
+module _ (given : VerifyInputs) (before after : Outside) (chain : TrustChain) (bytes : List ℕ) (f : Favours given before after chain bytes) where
+  abbrev Answered : Result Acceptance RootFault → Type 0
   Answered result = (result ≡ Err root.NoMemory) ⊎ ((result ≡ rooted_of chain (verdict_of given chain.file bytes)) × StaysWarm after.store f.offer)
 
   abbrev AfterWarm : Type 0
@@ -126,11 +126,11 @@ module _ (given : Given) (before after : Outside) (chain : TrustChain) (bytes : 
   chain_of : (answer : Result TrustChain TufError) → GivesChain given.anchor before.repo after.repo before.store after.store answer → GivenChain AfterWarm chain answer
   chain_of answer g = offered_chain given.anchor (places_in before) (places_in after) chain f.offer answer g
 
-  by_judgement : (result : Result Rooted RootFault) (answer : Result Kept Error) → AfterWarm → result ≡ rooted_of chain answer → (answer ≡ Err verify.NoMemory) ⊎ (answer ≡ verdict_of given chain.file bytes) → Answered result
+  by_judgement : (result : Result Acceptance RootFault) (answer : Result JudgedBundle Error) → AfterWarm → result ≡ rooted_of chain answer → (answer ≡ Err verify.NoMemory) ⊎ (answer ≡ verdict_of given chain.file bytes) → Answered result
   by_judgement result answer w is (inl h) = inl (is ∙ ap (rooted_of chain) h)
   by_judgement result answer w is (inr h) = inr (is ∙ ap (rooted_of chain) h, warm_so given.anchor (places_in before) (places_in after) chain f.offer w)
 
-  pub run_complete : (result : Result Rooted RootFault) → Runs given before after result → Answered result
+  pub run_complete : (result : Result Acceptance RootFault) → Runs given before after result → Answered result
   run_complete result (chain_refused e g s is) = by_given (chain_of (Err e) g)
     where
       by_given : GivenChain AfterWarm chain (Err e) → Answered result
@@ -153,5 +153,5 @@ module _ (given : Given) (before after : Outside) (chain : TrustChain) (bytes : 
           by_judgement result (Ok (record { result = rooted.result; digests = rooted.digests })) w (is ∙ ap (λ c. Ok (record { result = rooted.result; chain = c; digests = rooted.digests })) same)
           (judge_so given before after chain.file bytes f.source f.short (Ok (record { result = rooted.result; digests = rooted.digests })) (subst (λ (c : TrustChain). JudgesGiven given c.file before after (Ok (record { result = rooted.result; digests = rooted.digests }))) same j))
 
-pub runs_complete : (given : Given) (before after : Outside) (result : Result Rooted RootFault) → Runs given before after result → Completes given before after result
+pub runs_complete : (given : VerifyInputs) (before after : Outside) (result : Result Acceptance RootFault) → Runs given before after result → Completes given before after result
 runs_complete given before after result runs chain bytes f = run_complete given before after chain bytes f result runs

@@ -16,8 +16,8 @@ use Rattle.sigstore_tuf_rules.proofs.Authorised.{first_root_given, first_root_is
 use Rattle.sigstore_tuf_causes.proofs.Faults.{quiet_first, quiet_second}
 use Rattle.sigstore_tuf_causes.proofs.Keeping.{told_each, first_kept, attach_later, refresh_later}
 use Rattle.sigstore_tuf_causes.proofs.TargetKept.{gets_later}
-use Rattle.sigstore_verify.specs.declared.from_root.Rooted.{Rooted}
-use Rattle.sigstore_verify.specs.Given.{Anchor, Given, Outside, asked_by}
+use Rattle.sigstore_verify.specs.declared.from_root.Acceptance.{Acceptance}
+use Rattle.sigstore_verify.specs.Inputs.{Anchor, VerifyInputs, Outside, asked_by}
 use Rattle.sigstore_judgement.specs.Artifact.{Read}
 use Rattle.sigstore_judgement.proofs.Accepts.{accepts_exactly}
 use Rattle.sigstore_verify.specs.FromRoot.{trust_path, TrustsChain, session_in, Begins, GivesChain, root_refused, attach_refused, refresh_refused, target_refused, chain_given, JudgesGiven, IsAccepted}
@@ -81,7 +81,7 @@ chain_kept anchor repo repo' store store' chain (chain_given set last end mid be
     let refreshed = w.stored (λ e. cc) (quiet_first begun.faults kept.faults store'.faults two three rest) begins in
     subst (λ c. IfTold store'.told (λ files. HoldsChain files trust_path c)) same (g.stored refl (quiet_second begun.faults kept.faults store'.faults two three rest) refreshed)
 
-module _ (given : Given) (before after : Outside) (rooted : Rooted) where
+module _ (given : VerifyInputs) (before after : Outside) (rooted : Acceptance) where
   pub is_accepted : TrustsChain given.anchor rooted.chain
       → JudgesGiven given rooted.chain.file before after (Ok (record { result = rooted.result; digests = rooted.digests }))
       → IsAccepted given before after rooted

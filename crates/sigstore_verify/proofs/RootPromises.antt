@@ -3,7 +3,7 @@ use Rattle.std.proofs.Common.{Result, Ok, Err}
 use Rattle.std.specs.Prelude.{IfOk, IfErr}
 use Rattle.sigstore_tuf_text.specs.declared.error.Error.{Error as TufError}
 use Rattle.sigstore_tuf_rules.specs.declared.chain.TrustChain.{TrustChain}
-use Rattle.sigstore_verify.specs.Given.{Anchor, Places}
+use Rattle.sigstore_verify.specs.Inputs.{Anchor, Places}
 use Rattle.sigstore_verify.specs.FromRoot.{TrustsChain, GivesChain}
 use Rattle.sigstore_verify.specs.Cause.{ChainCause}
 use Rattle.sigstore_verify.specs.Promises.{HasStored, PromisesChain}

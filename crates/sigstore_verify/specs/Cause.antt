@@ -16,7 +16,7 @@ use Rattle.sigstore_judgement.specs.declared.error.Error.TheVariants as verify
 use Rattle.sigstore_verify.specs.declared.from_root.RootFault.{RootFault}
 use Rattle.sigstore_verify.specs.declared.from_root.RootFault.TheVariants as refusal
 use Rattle.sigstore_judgement.specs.Cause.{JudgeCause}
-use Rattle.sigstore_verify.specs.Given.{Anchor, Given, Places, Outside, places_in, asked_by}
+use Rattle.sigstore_verify.specs.Inputs.{Anchor, VerifyInputs, Places, Outside, places_in, asked_by}
 use Rattle.sigstore_verify.specs.FromRoot.{trust_path, session_in, TrustsChain}
 
 -- ---- why there is no chain
@@ -46,7 +46,7 @@ pub data ChainCause (anchor : Anchor) (before after : Places) (e : TufError) : T
 
 -- Tuf: its cause is in the root, the repository and the store. Verify: the chain that is handed back is trusted, and the cause is in its
 -- file, the bundle, the policy and the artifact. Want of memory is never told as one of these.
-abbrev pub RootCause : Given → Outside → Outside → RootFault → Type 0
+abbrev pub RootCause : VerifyInputs → Outside → Outside → RootFault → Type 0
 RootCause given before after (refusal.Tuf tuf.NoMemory) = ⊥
 RootCause given before after (refusal.Tuf e) =
     ChainCause given.anchor (places_in before) (places_in after) e × (after.source ≡ before.source)

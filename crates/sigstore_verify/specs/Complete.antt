@@ -8,22 +8,22 @@ use Rattle.sigstore_tuf_text.specs.declared.error.Error.TheVariants as tuf
 use Rattle.sigstore_tuf_rules.specs.declared.chain.TrustChain.{TrustChain}
 use Rattle.sigstore_tuf_offers.specs.Offer.{Offers, Warm}
 use Rattle.sigstore_judgement.specs.declared.error.Error.{Error}
-use Rattle.sigstore_judgement.specs.declared.report.Kept.{Kept}
-use Rattle.sigstore_verify.specs.declared.from_root.Rooted.{Rooted}
+use Rattle.sigstore_judgement.specs.declared.report.JudgedBundle.{JudgedBundle}
+use Rattle.sigstore_verify.specs.declared.from_root.Acceptance.{Acceptance}
 use Rattle.sigstore_verify.specs.declared.from_root.RootFault.{RootFault}
 use Rattle.sigstore_verify.specs.declared.from_root.RootFault.TheVariants.{NoMemory}
 use Rattle.sigstore_judgement.specs.Under.{verdict_by}
-use Rattle.sigstore_verify.specs.Given.{Anchor, Given, Places, Outside, places_in, asked_by}
+use Rattle.sigstore_verify.specs.Inputs.{Anchor, VerifyInputs, Places, Outside, places_in, asked_by}
 use Rattle.sigstore_verify.specs.FromRoot.{trust_path, root_of_verify}
 
 -- ---- the verdict
 
 -- what is made of a trust file and of an artifact's bytes, under what is given
-abbrev pub verdict_of : Given → List ℕ → List ℕ → Result Kept Error
+abbrev pub verdict_of : VerifyInputs → List ℕ → List ℕ → Result JudgedBundle Error
 verdict_of given file bytes = verdict_by (asked_by given) file bytes
 
 -- the top call's answer by a verdict, with the chain whose trust file it is over
-abbrev pub rooted_of : TrustChain → Result Kept Error → Result Rooted RootFault
+abbrev pub rooted_of : TrustChain → Result JudgedBundle Error → Result Acceptance RootFault
 rooted_of chain (Ok kept) = Ok (record { result = kept.result; chain = chain; digests = kept.digests })
 rooted_of chain (Err e) = Err (root_of_verify e chain)
 
@@ -60,14 +60,14 @@ CompletesChain anchor before after result =
     → (result ≡ Err tuf.NoMemory) ⊎ ((result ≡ Ok chain) × StaysWarm after.store offer)
 
 -- Nothing outside fails: a chain is offered, and the artifact's source tells these bytes, within the limit.
-pub record Favours (given : Given) (before after : Outside) (chain : TrustChain) (bytes : List ℕ) : Type 0 where
+pub record Favours (given : VerifyInputs) (before after : Outside) (chain : TrustChain) (bytes : List ℕ) : Type 0 where
   pub offer : OffersChain given.anchor (places_in before) (places_in after) chain
   pub source : TellsQuietly before.source after.source bytes
   pub short : length bytes ≤ given.max
 
 -- Where a chain is offered and nothing outside fails, the answer is want of memory, or the verdict over the chain's trust file: an
 -- acceptance where there is nothing to refuse, and else the first refusal; and the store stays warm.
-abbrev pub Completes : Given → Outside → Outside → Result Rooted RootFault → Type 0
+abbrev pub Completes : VerifyInputs → Outside → Outside → Result Acceptance RootFault → Type 0
 Completes given before after result =
     (chain : TrustChain) (bytes : List ℕ) (favours : Favours given before after chain bytes)
     → (result ≡ Err NoMemory)

@@ -17,18 +17,18 @@ use Rattle.sigstore_tuf_runs.specs.Promises.{Attached, Refreshed, Got}
 use Rattle.sigstore_tuf_rules.specs.Trusted.{Trusted}
 use Rattle.sigstore_judgement.specs.declared.error.Error.{Error}
 use Rattle.sigstore_judgement.specs.declared.error.Error.TheVariants as verify
-use Rattle.sigstore_verify.specs.declared.from_root.Rooted.{Rooted}
+use Rattle.sigstore_verify.specs.declared.from_root.Acceptance.{Acceptance}
 use Rattle.sigstore_verify.specs.declared.from_root.RootFault.{RootFault}
 use Rattle.sigstore_verify.specs.declared.from_root.RootFault.TheVariants.{Tuf, Verify, NoMemory}
 use Rattle.sigstore_judgement.specs.Accepts.{Accepts}
 use Rattle.sigstore_judgement.specs.Artifact.{Read}
-use Rattle.sigstore_judgement.specs.declared.report.Kept.{Kept}
+use Rattle.sigstore_judgement.specs.declared.report.JudgedBundle.{JudgedBundle}
 use Rattle.sigstore_judgement.specs.declared.trust.Material.{Material}
 use Rattle.sigstore_judgement.specs.Judged.{judged_of, needed_by}
 use Rattle.sigstore_judgement.specs.Promise.{ReadWhole}
 use Rattle.sigstore_judgement.specs.Trust.{material_of}
 use Rattle.sigstore_judgement.specs.Under.{terms_of, JudgesBundle}
-use Rattle.sigstore_verify.specs.Given.{Anchor, Given, Outside, asked_by}
+use Rattle.sigstore_verify.specs.Inputs.{Anchor, VerifyInputs, Outside, asked_by}
 
 -- the target that is the trust file
 abbrev pub trust_path : List ℕ
@@ -82,19 +82,19 @@ root_of_verify verify.NoMemory chain = NoMemory
 root_of_verify e chain = Verify e chain
 
 -- the judgement of what is asked, under a trust file
-abbrev pub JudgesGiven : Given → List ℕ → Outside → Outside → Result Kept Error → Type 0
+abbrev pub JudgesGiven : VerifyInputs → List ℕ → Outside → Outside → Result JudgedBundle Error → Type 0
 JudgesGiven given file before after result = JudgesBundle (asked_by given) file before.source after.source result
 
 -- The top call is the chain and then the judgement under the chain's file; the first that refuses answers. The artifact stays
 -- unread where there is no chain.
-pub data Runs (given : Given) (before after : Outside) (result : Result Rooted RootFault) : Type 0 where
+pub data Runs (given : VerifyInputs) (before after : Outside) (result : Result Acceptance RootFault) : Type 0 where
   chain_refused : (e : TufError) → GivesChain given.anchor before.repo after.repo before.store after.store (Err e)
       → after.source ≡ before.source
       → result ≡ Err (root_of_tuf e) → Runs given before after result
   judgement_refused : (chain : TrustChain) (e : Error) → GivesChain given.anchor before.repo after.repo before.store after.store (Ok chain)
       → JudgesGiven given chain.file before after (Err e)
       → result ≡ Err (root_of_verify e chain) → Runs given before after result
-  accepted : (rooted : Rooted) → GivesChain given.anchor before.repo after.repo before.store after.store (Ok rooted.chain)
+  accepted : (rooted : Acceptance) → GivesChain given.anchor before.repo after.repo before.store after.store (Ok rooted.chain)
       → JudgesGiven given rooted.chain.file before after
       (Ok (record { result = rooted.result; digests = rooted.digests })) → result ≡ Ok rooted → Runs given before after result
 
@@ -102,7 +102,7 @@ pub data Runs (given : Given) (before after : Outside) (result : Result Rooted R
 -- file, of which a verifier keeps this, and the bundle has a reading; these bytes are exactly those that a telling source gave up
 -- to its end; over them the bundle is accepted under these terms with this report; and the digests are those of these bytes that
 -- were needed, in their order.
-pub record IsAccepted (given : Given) (before after : Outside) (rooted : Rooted) : Type 0 where
+pub record IsAccepted (given : VerifyInputs) (before after : Outside) (rooted : Acceptance) : Type 0 where
   pub trusted : TrustsChain given.anchor rooted.chain
   pub trust : TrustedRoot
   pub trust_read : trusted_root_of_bytes rooted.chain.file ≡ Ok trust

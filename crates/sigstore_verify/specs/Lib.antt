@@ -1,6 +1,6 @@
 pub mod Cause
 pub mod Complete
 pub mod FromRoot
-pub mod Given
+pub mod Inputs
 pub mod OnePlace
 pub mod Promises

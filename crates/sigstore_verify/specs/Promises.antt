@@ -5,9 +5,9 @@ use Rattle.sigstore_tuf_text.specs.declared.error.Error.{Error as TufError}
 use Rattle.sigstore_tuf_outside.specs.Repository.{Quiet}
 use Rattle.sigstore_tuf_rules.specs.declared.chain.TrustChain.{TrustChain}
 use Rattle.sigstore_tuf_runs.specs.Kept.{HoldsChain}
-use Rattle.sigstore_verify.specs.declared.from_root.Rooted.{Rooted}
+use Rattle.sigstore_verify.specs.declared.from_root.Acceptance.{Acceptance}
 use Rattle.sigstore_verify.specs.declared.from_root.RootFault.{RootFault}
-use Rattle.sigstore_verify.specs.Given.{Anchor, Given, Places, Outside, places_in}
+use Rattle.sigstore_verify.specs.Inputs.{Anchor, VerifyInputs, Places, Outside, places_in}
 use Rattle.sigstore_verify.specs.FromRoot.{trust_path, TrustsChain, GivesChain, IsAccepted, Runs}
 use Rattle.sigstore_verify.specs.Cause.{ChainCause, RootCause}
 use Rattle.sigstore_verify.specs.Complete.{CompletesChain, Completes}
@@ -26,7 +26,7 @@ pub record PromisesChain (anchor : Anchor) (before after : Places) (result : Res
   pub stored : IfOk result (HasStored before after)
 
 -- what Ok means, what each refusal means, which call answers, when the answer has to be Ok, and what the store then has
-pub record Promises (given : Given) (before after : Outside) (result : Result Rooted RootFault) : Type 0 where
+pub record Promises (given : VerifyInputs) (before after : Outside) (result : Result Acceptance RootFault) : Type 0 where
   pub accepted : IfOk result (IsAccepted given before after)
   pub refused : IfErr result (RootCause given before after)
   pub runs : Runs given before after result

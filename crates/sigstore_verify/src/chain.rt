@@ -4,7 +4,7 @@ ghost use Rattle.sigstore_keys.specs.Crypto.{crypto_by};
 ghost use Rattle.sigstore_tuf_rules.specs.Update.{first_root_of};
 ghost use Rattle.sigstore_tuf_rules.specs.Authorised.{crypto_in};
 ghost use Rattle.sigstore_verify.specs.FromRoot.{GivesChain};
-ghost use Rattle.sigstore_verify.specs.Given.{Anchor, Places};
+ghost use Rattle.sigstore_verify.specs.Inputs.{Anchor, Places};
 ghost use Rattle.sigstore_verify.specs.Promises.{PromisesChain};
 
 use jiff::Timestamp;

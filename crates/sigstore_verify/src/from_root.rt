@@ -2,13 +2,13 @@
 ghost use Rattle.std.specs.Prelude.{◌≡◌};
 ghost use Rattle.sigstore_keys.specs.Crypto.{crypto_by};
 ghost use Rattle.sigstore_verify.specs.FromRoot.{root_of_tuf, root_of_verify};
-ghost use Rattle.sigstore_verify.specs.Given.{Anchor, Given, Outside};
+ghost use Rattle.sigstore_verify.specs.Inputs.{Anchor, VerifyInputs, Outside};
 ghost use Rattle.sigstore_verify.specs.Promises.{Promises};
 
 use crate::chain::chain_from_root;
 use foundation::{Duplicate, NoMemory, Sequence};
 use jiff::Timestamp;
-use sigstore_judgement::{Error, Kept, Policy, VerificationResult, judge_bundle};
+use sigstore_judgement::{Error, JudgedBundle, Policy, VerificationResult, judge_bundle};
 use sigstore_keys::{ArtifactSource, CryptoProvider};
 use sigstore_tuf::{MetadataStore, Repository, TrustChain, UpdaterConfig};
 use sigstore_types_parts::{Armor, ArtifactDigest};
@@ -18,15 +18,15 @@ use std::fmt;
 /// An acceptance: the report, the chain of documents that authorises the trust file, and the digests of
 /// the artifact that were taken.
 #[derive(Drop)]
-pub struct Rooted {
+pub struct Acceptance {
     pub result: VerificationResult,
     pub chain: TrustChain,
     pub digests: Sequence<ArtifactDigest>,
 }
 
-impl Duplicate for Rooted {
-    fn duplicate(&self, alloc: Global) -> Result<Rooted, NoMemory> {
-        Ok(Rooted {
+impl Duplicate for Acceptance {
+    fn duplicate(&self, alloc: Global) -> Result<Acceptance, NoMemory> {
+        Ok(Acceptance {
             result: self.result.duplicate(alloc)?,
             chain: self.chain.duplicate(alloc)?,
             digests: self.digests.duplicate(alloc)?,
@@ -93,10 +93,10 @@ pub fn verify_from_root<
     artifact: &mut A,
     max_artifact: u64,
     policy: &P,
-) -> Result<Rooted, RootFault>
+) -> Result<Acceptance, RootFault>
     ensures { let crypto = crypto_by C.CryptoProvider M.Armor provider.now armor.now in
         let anchor : Anchor = record { crypto = crypto; root = root_bytes.now; config = config; now = now } in
-        let given : Given = record { anchor = anchor; policy = P.meant policy.now; bundle = bundle_bytes.now; max = max_artifact } in
+        let given : VerifyInputs = record { anchor = anchor; policy = P.meant policy.now; bundle = bundle_bytes.now; max = max_artifact } in
         let before : Outside = record { repo = R.seen repo.old; store = S.seen store.old; source = A.seen artifact.old } in
         let after : Outside = record { repo = R.seen repo.new; store = S.seen store.new; source = A.seen artifact.new } in
         Promises given before after result }
@@ -119,8 +119,8 @@ pub fn verify_from_root<
         policy,
     ) {
         Ok(kept) => {
-            let Kept { result, digests } = kept;
-            Ok(Rooted {
+            let JudgedBundle { result, digests } = kept;
+            Ok(Acceptance {
                 result,
                 chain,
                 digests,

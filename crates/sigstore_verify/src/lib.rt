@@ -7,11 +7,11 @@ mod from_root;
 mod laws;
 
 pub use chain::chain_from_root;
-pub use from_root::{RootFault, Rooted, verify_from_root};
+pub use from_root::{Acceptance, RootFault, verify_from_root};
 pub use laws::one_place_one_content;
 pub use sigstore_judgement::{
-    CertificateError, CertificatePolicy, DigitallySigned, Error, Evidence, IdentityMatcher, Kept,
-    Material, Policy, PolicyKind, PublicKeyVerificationPolicy, SctRule, TimestampError,
-    TransparencyLogError, VerificationPolicy, VerificationResult, Verifier, accepts_exactly,
-    blob_and_reader_agree, log_refusals_have_causes, usable_exactly, verify,
+    CertificateError, CertificatePolicy, DigitallySigned, Error, Evidence, IdentityMatcher,
+    JudgedBundle, Material, Policy, PolicyKind, PublicKeyVerificationPolicy, SctRule,
+    TimestampError, TransparencyLogError, VerificationPolicy, VerificationResult, Verifier,
+    accepts_exactly, blob_and_reader_agree, log_refusals_have_causes, usable_exactly, verify,
 };

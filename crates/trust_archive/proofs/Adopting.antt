@@ -31,7 +31,7 @@ use Rattle.sigstore_tuf_rules.specs.Authorised.{IsPinnedBy}
 use Rattle.sigstore_tuf_rules.specs.Delegated.{not_top_level_of, delegation_of, meets_delegation_of, with_role, role_pin_of, role_checks_of, role_document_of, update_role_of}
 use Rattle.sigstore_tuf_rules.specs.Documents.{targets_document, content_of}
 use Rattle.sigstore_tuf_rules.specs.Order.{is_top_level}
-use Rattle.sigstore_tuf_rules.specs.Trusted.{Authority, authority_in, delegated_authority, root_authority, IsTrustedRole}
+use Rattle.sigstore_tuf_rules.specs.Trusted.{RoleAuthority, authority_in, delegated_authority, root_authority, IsTrustedRole}
 use Rattle.sigstore_tuf_rules.specs.Update.{fresh_at_of, targets_pin_of, targets_checks_of, update_targets_of}
 use Rattle.sigstore_tuf_rules.proofs.RolePuts.{role_read}
 use Rattle.sigstore_tuf_rules.proofs.Updates.{ok_some, same_version, fresh_from, targets_put}
@@ -91,7 +91,7 @@ module _ (crypto : Crypto) (now : jiff.Timestamp) (set : InForce) (root : declar
       })
 
   -- the delegation of a role stands in the document of its delegator
-  delegated_there : (v : Visit) (authority : Authority) → ((h : Held Targets) → at_name v.delegator set.targets ≡ Some h → docs v.delegator ≡ Some (content_of h)) → delegation_of set v ≡ Ok authority → delegated_authority docs v ≡ Some authority
+  delegated_there : (v : Visit) (authority : RoleAuthority) → ((h : Held Targets) → at_name v.delegator set.targets ≡ Some h → docs v.delegator ≡ Some (content_of h)) → delegation_of set v ≡ Ok authority → delegated_authority docs v ≡ Some authority
   unfolding delegation_of
   delegated_there v authority agree h =
       let t = step_ok (not_top_level_of v.name) _ authority h in
@@ -104,7 +104,7 @@ module _ (crypto : Crypto) (now : jiff.Timestamp) (set : InForce) (root : declar
 
   -- a delegated role was read, and checked
   record RoleFacts (v : Visit) (bytes : List ℕ) (new : InForce) : Type 0 where
-    authority : Authority
+    authority : RoleAuthority
     delegated : delegation_of set v ≡ Ok authority
     pin : MetaFile
     pin_is : at_name (pin_name v.name) (content_of snap).meta ≡ Some pin
@@ -141,12 +141,12 @@ module _ (crypto : Crypto) (now : jiff.Timestamp) (set : InForce) (root : declar
         new_is = sym (ok_same _ new d.2);
       }
 
-  record Checked (authority : Authority) (pin : MetaFile) (name : List ℕ) (doc : Document Targets) : Type 0 where
+  record Checked (authority : RoleAuthority) (pin : MetaFile) (name : List ℕ) (doc : Document Targets) : Type 0 where
     version : (content_in doc).version ≡ pin.version
     met : Meets crypto authority.keys authority.role doc
     fresh : Fresh (content_in doc).expires now
 
-  checks : (authority : Authority) (pin : MetaFile) (name : List ℕ) (doc : Document Targets) → role_checks_of crypto authority pin name doc (Some now) ≡ Ok tt → Checked authority pin name doc
+  checks : (authority : RoleAuthority) (pin : MetaFile) (name : List ℕ) (doc : Document Targets) → role_checks_of crypto authority pin name doc (Some now) ≡ Ok tt → Checked authority pin name doc
   unfolding role_checks_of
   checks authority pin name doc h =
       let v = step_ok (version_of pin (content_in doc).version) _ tt h in
@@ -217,7 +217,7 @@ module _ (crypto : Crypto) (now : jiff.Timestamp) (set : InForce) (root : declar
         by_role None e h = cc
         by_role (Some role) e h =
             let same : record { keys = root.keys; role = role } ≡ t.authority = some_same _ t.authority h in
-            (role, e, subst (λ (a : Authority). Meets crypto a.keys a.role t.doc) (sym same) t.met)
+            (role, e, subst (λ (a : RoleAuthority). Meets crypto a.keys a.role t.doc) (sym same) t.met)
 
     top_checks : MeetsRole crypto root (codes "targets") t.doc → targets_checks_of crypto set t.pin t.doc (Some now) ≡ Ok tt
     unfolding targets_checks_of

@@ -36,7 +36,7 @@ use Rattle.sigstore_tuf_rules.specs.Delegated.{not_top_level_of, delegation_of, 
 use Rattle.sigstore_tuf_rules.specs.Documents.{targets_document, content_of, targets_pin}
 use Rattle.sigstore_tuf_rules.specs.Names.{role_pin_in}
 use Rattle.sigstore_tuf_rules.specs.Order.{Gap, by, is_top_level, matching, delegated_in, put_before, unread_of, first_visit}
-use Rattle.sigstore_tuf_rules.specs.Trusted.{visit_in, Authority, authority_in}
+use Rattle.sigstore_tuf_rules.specs.Trusted.{visit_in, RoleAuthority, authority_in}
 use Rattle.sigstore_tuf_rules.specs.Update.{fresh_at_of, targets_pin_of, update_targets_of}
 use Rattle.sigstore_tuf_rules.proofs.RolePuts.{not_top}
 use Rattle.sigstore_tuf_rules.proofs.Stepping.{among_append, among_last}
@@ -87,7 +87,7 @@ module _ (crypto : Crypto) (now : jiff.Timestamp) (path : List ℕ) where
   -- ---- what is pending has its delegation
 
   abbrev IsDelegated : InForce → Visit → Type 0
-  IsDelegated set v = (v ≡ first_visit) ⊎ ((authority : Authority) × (delegation_of set v ≡ Ok authority))
+  IsDelegated set v = (v ≡ first_visit) ⊎ ((authority : RoleAuthority) × (delegation_of set v ≡ Ok authority))
 
   pub record Ready (g : Going) : Type 0 where
     pub snap : Held Snapshot
@@ -210,7 +210,7 @@ module _ (crypto : Crypto) (now : jiff.Timestamp) (path : List ℕ) where
     -- ---- a document that is refused
 
     module _ (bytes : List ℕ) (fault : Error) where
-      role_unchecked : (authority : Authority) → delegation_of g.set v ≡ Ok authority → (pin : MetaFile) → role_pin_in g.set v.name ≡ Some pin → (doc : Document Targets) → targets_document bytes ≡ Ok doc
+      role_unchecked : (authority : RoleAuthority) → delegation_of g.set v ≡ Ok authority → (pin : MetaFile) → role_pin_in g.set v.name ≡ Some pin → (doc : Document Targets) → targets_document bytes ≡ Ok doc
           → role_checks_of crypto authority pin v.name doc (Some now) ≡ Err fault → RoleRefusal crypto g.set now v bytes fault
       unfolding role_checks_of
       role_unchecked authority d pin p doc read h =
@@ -218,7 +218,7 @@ module _ (crypto : Crypto) (now : jiff.Timestamp) (path : List ℕ) where
           refused_at (meets_delegation_of crypto authority v.name doc) _ fault k (λ q. role_unmet authority doc d read (meets_cause crypto authority.keys authority.role v.name doc fault q)) (λ u q l.
           role_expired doc read (expiry_cause v.name (content_in {T = Targets} doc).expires now fault l)))
 
-      document_refused : (authority : Authority) → delegation_of g.set v ≡ Ok authority → (pin : MetaFile) → role_pin_in g.set v.name ≡ Some pin → role_document_of crypto authority pin v.name bytes (Some now) ≡ Err fault
+      document_refused : (authority : RoleAuthority) → delegation_of g.set v ≡ Ok authority → (pin : MetaFile) → role_pin_in g.set v.name ≡ Some pin → role_document_of crypto authority pin v.name bytes (Some now) ≡ Err fault
           → RoleRefusal crypto g.set now v bytes fault
       unfolding role_document_of
       document_refused authority d pin p h =
@@ -236,7 +236,7 @@ module _ (crypto : Crypto) (now : jiff.Timestamp) (path : List ℕ) where
       unfolding role_pin_of
       role_pin_so pin p = rw (ready.snap_is, fresh_snap, pin_there pin p) refl
 
-      role_refused : (authority : Authority) → delegation_of g.set v ≡ Ok authority → (pin : MetaFile) → role_pin_in g.set v.name ≡ Some pin → update_role_of crypto g.set v bytes (Some now) ≡ Err fault
+      role_refused : (authority : RoleAuthority) → delegation_of g.set v ≡ Ok authority → (pin : MetaFile) → role_pin_in g.set v.name ≡ Some pin → update_role_of crypto g.set v bytes (Some now) ≡ Err fault
           → RoleRefusal crypto g.set now v bytes fault
       unfolding update_role_of
       role_refused authority d pin p h =

@@ -3,7 +3,7 @@
 use crate::inclusions::{hash, path, shown};
 use crate::tables::{good, halves, hold, number, numbered, place, string, there};
 use crate::trees::leaves;
-use log_tiles::{Compared, TileError, Which, compare_trees, verify_consistency};
+use log_tiles::{Compared, TileError, WhichTree, compare_trees, verify_consistency};
 use sigstore_types_parts::Sha256Hash;
 use std::process::Abort;
 
@@ -50,7 +50,7 @@ fn fields<X: AllocGlobal + Abort>(rt: &X, error: &TileError) -> String {
     }
 }
 
-fn mismatch<X: AllocGlobal + Abort>(rt: &X, which: Which, computed: &Sha256Hash) -> String {
+fn mismatch<X: AllocGlobal + Abort>(rt: &X, which: WhichTree, computed: &Sha256Hash) -> String {
     let computed = shown(rt, computed);
     good(rt, format!(in rt.alloc(); " {which:?} {computed}"))
 }

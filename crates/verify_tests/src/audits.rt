@@ -1,7 +1,7 @@
 // Audits over the tiles of seven leaves, the hashes of which are their numbers 32 times over.
 use crate::tables::{bytes, failures, good, hold, string, text_of, there, words};
 use command_audit::run_audit;
-use command_files::{MemoryInputs, MemorySink, Which};
+use command_files::{InputFile, MemoryInputs, MemorySink};
 use command_verify::Status;
 use log_tiles::MemoryTiles;
 use sigstore_keys::MemorySource;
@@ -74,7 +74,7 @@ pub(crate) fn said<X: AllocGlobal + Abort>(rt: &X, row: &str) -> String {
     let tiles_fail = failures(rt, if fails == "tiles" { "1" } else { "" });
     let mut tiles = MemoryTiles::new(leaves(rt, count), tiles_fail);
     let mut inputs = MemoryInputs::new(failures(rt, if fails == "inputs" { "1" } else { "" }));
-    inputs.put(Which::Provider, bytes(rt, PROVIDER.as_bytes()));
+    inputs.put(InputFile::Provider, bytes(rt, PROVIDER.as_bytes()));
     let sink_fails = failures(rt, if fails == "sink" { "1" } else { "" });
     let mut sink = good(rt, MemorySink::new(rt.alloc(), 1024, sink_fails));
     let words = words(rt, line);

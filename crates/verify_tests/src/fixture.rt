@@ -6,7 +6,8 @@ use crate::{
     archives, audits, delegated, enveloped, gate_runs, gates, hostile, keyless, keyless_data,
     logged, stamped,
 };
-use command_files::{MemoryInputs, MemorySink, Which};
+use command_files::{InputFile, MemoryInputs, MemorySink};
+use command_generate::{is_generate, run_generate};
 use command_verify::{Status, run};
 use jiff::Timestamp;
 use sigstore_keys::{MemorySource, sha256};
@@ -493,10 +494,10 @@ pub(crate) fn inputs<X: AllocGlobal + Abort>(
     targets: &str,
 ) -> MemoryInputs {
     let mut inputs = MemoryInputs::new(failures(rt, change.of("inputs fail", "")));
-    inputs.put(Which::Root, given_root(rt, change, root));
-    inputs.put(Which::Policy, policy(rt, change));
-    inputs.put(Which::Provider, provider(rt, change, root, targets));
-    inputs.put(Which::Bundle, bundle(rt, change));
+    inputs.put(InputFile::Root, given_root(rt, change, root));
+    inputs.put(InputFile::Policy, policy(rt, change));
+    inputs.put(InputFile::Provider, provider(rt, change, root, targets));
+    inputs.put(InputFile::Bundle, bundle(rt, change));
     inputs
 }
 
@@ -528,6 +529,11 @@ fn ended<X: AllocGlobal + Abort>(
     sink: &mut MemorySink,
 ) -> Status {
     let words = words(rt, told(change));
+    if is_generate(&words) {
+        let status = run_generate(rt.alloc(), &words, sink);
+        drop(words);
+        return status;
+    }
     let mut artifact = artifact(rt, change);
     let clock = Timestamp::UNIX_EPOCH;
     let status = run(

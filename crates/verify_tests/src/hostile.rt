@@ -7,7 +7,7 @@ use command_files::{Tables, read_provider};
 use jiff::Timestamp;
 use sigstore_tuf::{MemoryRepository, MemoryStore, UpdaterConfig};
 use sigstore_types_parts::{Bytes, DerPublicKey};
-use sigstore_verify::{PublicKeyVerificationPolicy, RootFault, Rooted, verify_from_root};
+use sigstore_verify::{Acceptance, PublicKeyVerificationPolicy, RootFault, verify_from_root};
 use std::process::Abort;
 
 // A row: the part, the first and the last number that stand in its place in turn, and from which number on which answer
@@ -118,7 +118,7 @@ fn judged<X: AllocGlobal + Abort>(
     repo: &mut MemoryRepository,
     artifact: &str,
     max: u64,
-) -> Result<Rooted, RootFault> {
+) -> Result<Acceptance, RootFault> {
     let mut store = MemoryStore::new(rt.alloc());
     let mut artifact = source(rt, artifact, 2, "");
     let bundle = bundle(rt, unchanged(false));
@@ -146,7 +146,7 @@ fn judged<X: AllocGlobal + Abort>(
 }
 
 // What a call of the top gave.
-fn answered<X: AllocGlobal + Abort>(rt: &X, judged: Result<Rooted, RootFault>) -> String {
+fn answered<X: AllocGlobal + Abort>(rt: &X, judged: Result<Acceptance, RootFault>) -> String {
     match judged {
         Ok(rooted) => {
             drop(rooted);

@@ -3,16 +3,16 @@ use Rattle.foundation.specs.Steps.{◌>>=◌}
 use Rattle.command_files.proofs.Readings.{first_refused, then_reads, then_ok}
 use Rattle.command_files.specs.Inputs.{Held}
 use Rattle.command_files.specs.Gather.{input_of, tables_in, anchored_of}
-use Rattle.command_files.specs.declared.inputs.Which.TheVariants.{Root}
+use Rattle.command_files.specs.declared.inputs.InputFile.TheVariants.{Root}
 use Rattle.command_files.specs.declared.gather.Anchored.{Anchored}
-use Rattle.command_files.specs.declared.gather.Stop.{Stop}
+use Rattle.command_files.specs.declared.gather.CommandStop.{CommandStop}
 use Rattle.command_files.specs.declared.tables.Tables.{Tables}
 use Rattle.command_files.proofs.gather.gather_anchor.Goals as goal
 
-abbrev last : Tables → List ℕ → Held → Result Anchored Stop
+abbrev last : Tables → List ℕ → Held → Result Anchored CommandStop
 last tables root held = Ok (record { tables = tables; root = root })
 
-abbrev others : Tables → Held → Result Anchored Stop
+abbrev others : Tables → Held → Result Anchored CommandStop
 others tables held = input_of Root held >>= λ root. last tables root held
 
 pub returns-in-Ok-take_input : goal.returns-in-Ok-take_input

@@ -5,14 +5,14 @@ use Rattle.command_files.specs.Inputs.{Held}
 use Rattle.command_files.specs.Gather.{policy_in, anchored_of, governed_of}
 use Rattle.command_files.specs.declared.gather.Anchored.{Anchored}
 use Rattle.command_files.specs.declared.gather.Governed.{Governed}
-use Rattle.command_files.specs.declared.gather.Stop.{Stop}
+use Rattle.command_files.specs.declared.gather.CommandStop.{CommandStop}
 use Rattle.command_files.specs.declared.policy.PolicyFile.{PolicyFile}
 use Rattle.command_files.proofs.gather.gather_governed.Goals as goal
 
-abbrev last : PolicyFile → Anchored → Held → Result Governed Stop
+abbrev last : PolicyFile → Anchored → Held → Result Governed CommandStop
 last policy anchored held = Ok (record { policy = policy; anchored = anchored })
 
-abbrev others : PolicyFile → Held → Result Governed Stop
+abbrev others : PolicyFile → Held → Result Governed CommandStop
 others policy held = anchored_of held >>= λ anchored. last policy anchored held
 
 pub returns-in-Ok-gather_anchor : goal.returns-in-Ok-gather_anchor

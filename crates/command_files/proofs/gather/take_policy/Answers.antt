@@ -1,7 +1,7 @@
 use Rattle.command_files.proofs.Readings.{first_refused, then_ok, then_malformed}
 use Rattle.command_files.specs.Gather.{input_of, by_form, policy_in}
 use Rattle.command_files.specs.Policy.{policy_of}
-use Rattle.command_files.specs.declared.inputs.Which.TheVariants.{Policy}
+use Rattle.command_files.specs.declared.inputs.InputFile.TheVariants.{Policy}
 use Rattle.command_files.proofs.gather.take_policy.Goals as goal
 
 pub returns-in-Ok-formed_policy : goal.returns-in-Ok-formed_policy

@@ -3,17 +3,17 @@ use Rattle.foundation.specs.Steps.{◌>>=◌}
 use Rattle.command_files.proofs.Readings.{first_refused, then_reads, then_ok}
 use Rattle.command_files.specs.Inputs.{Held}
 use Rattle.command_files.specs.Gather.{input_of, made_of, signed_in}
-use Rattle.command_files.specs.declared.inputs.Which.TheVariants.{Root, Bundle}
+use Rattle.command_files.specs.declared.inputs.InputFile.TheVariants.{Root, Bundle}
 use Rattle.command_files.specs.declared.gather.Gathered.{Gathered}
-use Rattle.command_files.specs.declared.gather.Stop.{Stop}
+use Rattle.command_files.specs.declared.gather.CommandStop.{CommandStop}
 use Rattle.command_files.specs.declared.policy.PolicyFile.{PolicyFile}
 use Rattle.command_files.specs.declared.tables.Tables.{Tables}
 use Rattle.command_files.proofs.gather.take_signed.Goals as goal
 
-abbrev last : PolicyFile → Tables → List ℕ → List ℕ → Held → Result Gathered Stop
+abbrev last : PolicyFile → Tables → List ℕ → List ℕ → Held → Result Gathered CommandStop
 last policy tables root bundle held = Ok (made_of policy tables root bundle)
 
-abbrev others : PolicyFile → Tables → List ℕ → Held → Result Gathered Stop
+abbrev others : PolicyFile → Tables → List ℕ → Held → Result Gathered CommandStop
 others policy tables root held = input_of Bundle held >>= λ bundle. last policy tables root bundle held
 
 pub returns-in-Ok-take_input : goal.returns-in-Ok-take_input

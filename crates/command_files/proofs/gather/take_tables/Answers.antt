@@ -1,7 +1,7 @@
 use Rattle.command_files.proofs.Readings.{first_refused, then_ok, then_malformed}
 use Rattle.command_files.specs.Gather.{input_of, by_form, tables_in}
 use Rattle.command_files.specs.Tables.{tables_of}
-use Rattle.command_files.specs.declared.inputs.Which.TheVariants.{Provider}
+use Rattle.command_files.specs.declared.inputs.InputFile.TheVariants.{Provider}
 use Rattle.command_files.proofs.gather.take_tables.Goals as goal
 
 pub returns-in-Ok-formed_tables : goal.returns-in-Ok-formed_tables

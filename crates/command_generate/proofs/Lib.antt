@@ -1,0 +1,5 @@
+pub mod Adding
+mod Counting
+mod Items
+pub mod Placing
+pub mod Supplied

@@ -1,6 +1,0 @@
-use Rattle.std.proofs.Common.{◌≡◌, ◌≤◌, take}
-use Rattle.command_verify.specs.Judged.{counted_of}
-use Rattle.command_verify.proofs.summary.counted.Given as goal
-
-abbrev pub invariant-outcomes : goal.invariant-outcomes
-invariant-outcomes l = (l.count ≡ counted_of l.number (take l.outcome-index l.outcomes)) × (l.count ≤ l.outcome-index)

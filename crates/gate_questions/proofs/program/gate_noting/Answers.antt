@@ -1,6 +1,0 @@
-use Rattle.gate_questions.proofs.Meaning.{gated_believing}
-use Rattle.gate_questions.proofs.program.gate_noting.Goals as goal
-
-pub returns : goal.returns
-returns g c =
-    gated_believing c.args.governed c.args.now _ _ _ _ c.new-provider.result.refused.now c.as_bytes.ensures c.new-provider.ensures c.gate_folder-judged.ensures

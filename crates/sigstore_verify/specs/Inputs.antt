@@ -1,0 +1,47 @@
+-- What the top call is given, and what it finds and leaves of the outside.
+use Rattle.std.specs.Prelude.{ℕ, List}
+use Rattle.jiff_core.specs.declared.timestamp.Timestamp as jiff
+use Rattle.foundation.specs.Watched.{Watched}
+use Rattle.sigstore_keys.specs.Crypto.{Crypto}
+use Rattle.sigstore_tuf_outside.specs.Repository.{Files, Folders}
+use Rattle.sigstore_tuf_rules.specs.declared.config.UpdaterConfig.{UpdaterConfig}
+use Rattle.sigstore_judgement.specs.Policy.{Meaning}
+use Rattle.sigstore_judgement.specs.Under.{Asked}
+
+-- from what a chain of documents is trusted: who decides signatures, the pinned root, the limits, the moment
+pub record Anchor : Type 0 where
+  pub crypto : Crypto
+  pub root : List ℕ
+  pub config : UpdaterConfig
+  pub now : jiff.Timestamp
+
+-- and what is asked: the bundle's bytes, under which policy, and the greatest length of the artifact
+pub record VerifyInputs : Type 0 where
+  pub anchor : Anchor
+  pub policy : Meaning
+  pub bundle : List ℕ
+  pub max : ℕ
+
+-- what is asked of a bundle under a chain's trust file
+abbrev pub asked_by : VerifyInputs → Asked
+asked_by given = record {
+  crypto = given.anchor.crypto;
+  policy = given.policy;
+  now = given.anchor.now;
+  bundle = given.bundle;
+  max = given.max;
+}
+
+-- where documents come from at one moment
+pub record Places : Type 0 where
+  pub repo : Watched Folders
+  pub store : Watched Files
+
+-- the outside at one moment
+pub record Outside : Type 0 where
+  pub repo : Watched Folders
+  pub store : Watched Files
+  pub source : Watched (List ℕ)
+
+abbrev pub places_in : Outside → Places
+places_in outside = record { repo = outside.repo; store = outside.store }

@@ -1,7 +1,0 @@
-use Rattle.sigstore_workload.proofs.Adding.{item_more}
-use Rattle.sigstore_workload.proofs.rows.add_items.Goals as goal
-
-pub items-preserved : goal.items-preserved
-items-preserved c =
-    item_more c.args.provider.now.rows c.items.provider.rows c.add_item.new.provider.rows c.args.items.now c.items.drawn-index c.drawn-item.result
-    c.items-test.true c.drawn-item.is c.in_ok-add_item.ensures c.items.invariant

@@ -1,6 +1,0 @@
-use Rattle.std.proofs.Common.{◌≡◌, take}
-use Rattle.sigstore_workload.specs.Supplies.{leaves_of}
-use Rattle.sigstore_workload.proofs.supplies.leaves.Given as goal
-
-abbrev pub invariant-drawn : goal.invariant-drawn
-invariant-drawn l = l.leaves ≡ leaves_of (take l.item-index l.drawn)

@@ -1,2 +1,0 @@
-pub mod Provider
-pub mod Supplies

@@ -1,9 +1,0 @@
-pub mod Bounds
-pub mod Contents
-pub mod Filled
-pub mod KeyRead
-pub mod Literals
-pub mod Offered
-pub mod Reading
-pub mod Texts
-pub mod Writable

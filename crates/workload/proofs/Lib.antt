@@ -1,0 +1,10 @@
+pub mod Bounds
+pub mod Contents
+pub mod Drawing
+pub mod Filled
+pub mod KeyRead
+pub mod Literals
+pub mod Offered
+pub mod Reading
+pub mod Texts
+pub mod Writable

@@ -1,0 +1,10 @@
+pub mod Documents
+pub mod Drawn
+pub mod Keys
+pub mod Law
+pub mod Log
+pub mod Numbers
+pub mod Published
+pub mod Rows
+pub mod Texts
+pub mod Trust
