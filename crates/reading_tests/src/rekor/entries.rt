@@ -19,9 +19,10 @@ pub fn describe(alloc: Global, row: &Row) -> Result<String, Stop> {
         return signed_by(alloc, row, SignedBy::Key(&key));
     };
     let certificate = DerCertificate::from_base64(alloc, text)?;
-    let (from, to) = (row.time("valid_from"), row.time("valid_to"));
-    let from = at_second(from.ok_or(Stop::Row)?);
-    let validity = TimeRange::new(from, to.map(at_second));
+    let (Some(from), Some(to)) = (row.time("valid_from"), row.time("valid_to")) else {
+        return Err(Stop::Row);
+    };
+    let validity = TimeRange::new(at_second(from), Some(at_second(to)));
     let who = SignedBy::Certificate {
         certificate: &certificate,
         key: &key,
@@ -38,22 +39,19 @@ fn signed_by(alloc: Global, row: &Row, who: SignedBy<'_>) -> Result<String, Stop
         return described(alloc, row, who, Signed::Envelope(&hashed));
     }
     let signature = SignatureBytes::from_base64(alloc, row.text("signature_base64")?)?;
-    message_of(alloc, row, who, &signature)
-}
-
-fn message_of(
-    alloc: Global,
-    row: &Row,
-    who: SignedBy<'_>,
-    signature: &SignatureBytes,
-) -> Result<String, Stop> {
     let Some(text) = row.find_text("digest_base64") else {
-        let digest = None;
-        return described(alloc, row, who, Signed::Message { digest, signature });
+        let signed = Signed::Message {
+            digest: None,
+            signature: &signature,
+        };
+        return described(alloc, row, who, signed);
     };
     let digest = DigestBytes::from_base64(alloc, text)?;
-    let digest = Some(digest.as_bytes());
-    described(alloc, row, who, Signed::Message { digest, signature })
+    let signed = Signed::Message {
+        digest: Some(digest.as_bytes()),
+        signature: &signature,
+    };
+    described(alloc, row, who, signed)
 }
 
 fn described(

@@ -54,12 +54,12 @@ pub fn key_details(alloc: Global, row: &Row) -> Result<String, Stop> {
         alloc,
         row.find("details").ok_or(Stop::Row)?,
     );
-    printed(alloc, details.map(RekorV2KeyDetails::as_str))
+    printed(alloc, details.map(|details| details.as_str()))
 }
 
 /// The version of a number, its number, and the version where none is told.
 pub fn api_version(alloc: Global, row: &Row) -> Result<String, Stop> {
     let version = RekorApiVersion::from_major(row.number("major")?);
-    let major = version.map(RekorApiVersion::major);
+    let major = version.map(|version| version.major());
     printed(alloc, (version, major, RekorApiVersion::default()))
 }
