@@ -18,13 +18,93 @@ A file has a world a line, an object of JSON:
               is read two bytes at a time
     room      how many bytes the sink takes
 """
+import datetime
+import hashlib
 import json
 import pathlib
+import re
 import subprocess
 import sys
 
 TOP = pathlib.Path(__file__).resolve().parent.parent
 DATA = TOP / "crates" / "world_tests" / "data"
+sys.path.insert(0, str(TOP / "examples"))
+from keyless import openssl, spelled
+
+FAR = "2036-01-01T00:00:00Z"
+# What stands before the seed of an Ed25519 key in PKCS #8 (RFC 8410, section 7).
+PKCS8 = bytes.fromhex("302e020100300506032b657004220420")
+TRUST = "repository/targets/trusted_root.json"
+
+
+def canonical(value):
+    return json.dumps(value, sort_keys=True, separators=(",", ":")).encode()
+
+
+class Role:
+    """A role's key."""
+
+    def __init__(self, folder, name):
+        self.path = pathlib.Path(folder, name)
+        self.path.write_bytes(PKCS8 + hashlib.sha256(name.encode()).digest())
+        words = ["pkey", "-inform", "DER", "-in", str(self.path), "-pubout", "-outform", "DER"]
+        self.raw = openssl(*words)[-32:]
+        self.declared = {"keytype": "ed25519", "scheme": "ed25519", "keyval": {"public": self.raw.hex()}}
+        self.id = hashlib.sha256(canonical(self.declared)).hexdigest()
+
+    def document(self, kind, rows, **members):
+        """A document of version 1, signed, whose signature has a row."""
+        signed = {"_type": kind, "spec_version": "1.0.31", "version": 1, "expires": FAR, **members}
+        message = canonical(signed)
+        given = self.path.with_suffix(".message")
+        given.write_bytes(message)
+        signature = openssl("pkeyutl", "-sign", "-keyform", "DER", "-inkey", str(self.path), "-rawin", "-in", str(given))
+        rows.append(f"accept ED25519 {spelled(self.raw)} {spelled(message)} {spelled(signature)}")
+        return json.dumps({"signatures": [{"keyid": self.id, "sig": signature.hex()}], "signed": signed})
+
+
+class Repository:
+    """The documents around one trust file after another, whose snapshot pins the targets by their version alone."""
+
+    def __init__(self, folder):
+        self.rows = []
+        self.roles = {name: Role(folder, name) for name in ("root", "timestamp", "snapshot", "targets")}
+        keys = {role.id: role.declared for role in self.roles.values()}
+        roles = {name: {"keyids": [role.id], "threshold": 1} for name, role in self.roles.items()}
+        self.root = self.document("root", keys=keys, roles=roles, consistent_snapshot=False)
+        meta = {"version": 1}
+        self.timestamp = self.document("timestamp", meta={"snapshot.json": meta})
+        self.snapshot = self.document("snapshot", meta={"targets.json": meta})
+        self.listed = {}
+
+    def document(self, kind, **members):
+        return self.roles[kind].document(kind, self.rows, **members)
+
+    def fixed(self):
+        """The files that no trust file changes."""
+        return {"root.json": self.root, "repository/timestamp.json": self.timestamp, "repository/snapshot.json": self.snapshot}
+
+    def files(self, trust):
+        """The files that a trust file changes."""
+        if trust not in self.listed:
+            octets = trust.encode()
+            pin = {"length": len(octets), "hashes": {"sha256": hashlib.sha256(octets).hexdigest()}}
+            self.listed[trust] = self.document("targets", targets={"trusted_root.json": pin})
+        return {TRUST: trust, "repository/targets.json": self.listed[trust]}
+
+
+def names_of_refusals():
+    """The names of the refusals of a bundle by their numbers, as docs/REFUSALS.md lists them."""
+    section = (TOP / "docs" / "REFUSALS.md").read_text().split("## verify: the bundle")[1].split("\n## ")[0]
+    names = {}
+    for numbers, told in re.findall(r"^\| ([0-9, ]+) \| ([A-Za-z, ]+) \|", section, re.M):
+        names.update(zip(numbers.split(", "), told.split(", ")))
+    return names
+
+
+def seconds(instant):
+    """The seconds since 1970 of an instant."""
+    return int(datetime.datetime.fromisoformat(instant.replace("Z", "+00:00")).timestamp())
 
 
 def answered(rows):

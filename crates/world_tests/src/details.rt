@@ -2,9 +2,10 @@
 // the whole result, and how many logs vouched.
 use crate::fault::Fault;
 use crate::objects::Objects;
-use command_files::gather_inputs;
+use command_files::{Gathered, gather_inputs};
 use command_verify::{VerifyRequest, verify_request};
 use jiff::Timestamp;
+use sigstore_pem::PemArmor;
 use sigstore_verify::{Acceptance, Error, RootFault, VerificationResult};
 use std::alloc::Global;
 
@@ -12,9 +13,9 @@ use std::alloc::Global;
 fn push_certificate(
     alloc: Global,
     text: &mut String,
-    result: &VerificationResult,
+    accepted: &VerificationResult,
 ) -> Result<(), Fault> {
-    if let Some(info) = result.certificate() {
+    if let Some(info) = accepted.certificate() {
         let key = info.public_key.to_base64(alloc)?;
         let (start, end, key) = (info.not_before, info.not_after, key.as_str());
         write!(text, "certificate {start} {end} {key}\n")?;
@@ -23,11 +24,11 @@ fn push_certificate(
 }
 
 // The names, the four flags, the integrated time and the verified times.
-fn push_names(text: &mut String, result: &VerificationResult) -> Result<(), Fault> {
-    let (identity, issuer) = (result.identity(), result.issuer());
-    let (chain, sct) = (result.certificate_verified(), result.sct_verified());
-    let (log, names) = (result.tlog_verified(), result.identity_policy_checked());
-    let (integrated, times) = (result.integrated_time(), result.verified_timestamps());
+fn push_names(text: &mut String, accepted: &VerificationResult) -> Result<(), Fault> {
+    let (identity, issuer) = (accepted.identity(), accepted.issuer());
+    let (chain, sct) = (accepted.certificate_verified(), accepted.sct_verified());
+    let (log, names) = (accepted.tlog_verified(), accepted.identity_policy_checked());
+    let (integrated, times) = (accepted.integrated_time(), accepted.verified_timestamps());
     write!(
         text,
         "result {identity:?} {issuer:?} {chain} {sct} {log} {names} {integrated:?} {times:?}\n"
@@ -39,11 +40,11 @@ fn push_names(text: &mut String, result: &VerificationResult) -> Result<(), Faul
 pub fn push_result(
     alloc: Global,
     text: &mut String,
-    result: &VerificationResult,
+    accepted: &VerificationResult,
 ) -> Result<(), Fault> {
-    push_certificate(alloc, text, result)?;
-    push_names(text, result)?;
-    let (scts, logs) = (result.sct_count(), result.log_count());
+    push_certificate(alloc, text, accepted)?;
+    push_names(text, accepted)?;
+    let (scts, logs) = (accepted.sct_count(), accepted.log_count());
     write!(text, "scts {scts}\nlogs {logs}\n")?;
     Ok(())
 }
@@ -74,7 +75,8 @@ fn push_judged(
     }
 }
 
-/// Verifies from the root at a moment, and adds what is found; nothing where an input is outside its grammar.
+/// Verifies from the root at a moment, with armoured texts as they are read and not as the provider file lists them, and
+/// adds what is found; nothing where an input is outside its grammar.
 pub fn push_found(
     alloc: Global,
     objects: &mut Objects,
@@ -84,16 +86,22 @@ pub fn push_found(
     let Ok(gathered) = gather_inputs(alloc, &mut objects.inputs) else {
         return Ok(());
     };
+    let Gathered {
+        policy,
+        tables,
+        root,
+        bundle,
+    } = gathered;
     let request = VerifyRequest {
-        policy: gathered.policy,
-        root: gathered.root,
-        bundle: gathered.bundle,
+        policy,
+        root,
+        bundle,
     };
     let judged = verify_request(
         alloc,
         request,
-        &gathered.tables.provider,
-        &gathered.tables.armor,
+        &tables.provider,
+        &PemArmor,
         now,
         &mut objects.repository,
         &mut objects.store,

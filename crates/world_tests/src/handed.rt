@@ -8,6 +8,7 @@ use command_verify::{AskedPolicy, policy_meant};
 use jiff::Timestamp;
 use sigstore_judgement::{judge_bundle, verify};
 use sigstore_keys::sha256;
+use sigstore_pem::PemArmor;
 use sigstore_types::{Artifact, ArtifactDigest, Bundle, Bytes, HashAlgorithm, TrustedRoot};
 use std::alloc::Global;
 
@@ -33,7 +34,7 @@ fn push_read(
     let judged = judge_bundle(
         alloc,
         &tables.provider,
-        &tables.armor,
+        &PemArmor,
         trust_file(world),
         now,
         octets(world, "bundle.json"),
@@ -80,7 +81,7 @@ fn push_handed(
     let judged = verify(
         alloc,
         &tables.provider,
-        &tables.armor,
+        &PemArmor,
         artifact,
         &bundle,
         policy,

@@ -13,8 +13,8 @@ mod world;
 use crate::fault::Fault;
 use crate::trial::try_worlds;
 use crate::world::worlds_in;
-use program_objects::words_of;
-use sigstore_types_parts::{Text, read_file};
+use sigstore_types_parts::read_file;
+use std::env;
 use std::process::ExitCode;
 use std::rt::Runtime;
 
@@ -32,27 +32,19 @@ fn try_file<X: Runtime + AllocGlobal>(
     try_worlds(rt.alloc(), path, &worlds, report)
 }
 
-// Tries the worlds of each file.
-fn try_files<X: Runtime + AllocGlobal>(
-    rt: &X,
-    paths: &[Text],
-    report: &mut String,
-) -> Result<bool, Fault> {
+// Tries the worlds of each file that a word names.
+fn try_files<X: Runtime + AllocGlobal>(rt: &X, report: &mut String) -> Result<bool, Fault> {
+    let paths = env::args(rt).map_err(|_| Fault::File)?;
     let mut is_right = true;
-    for path in paths {
+    for path in paths.skip(1) {
         is_right = try_file(rt, path.as_str(), report)? && is_right;
     }
     Ok(is_right)
 }
 
-fn tried<X: Runtime + AllocGlobal>(rt: &X, report: &mut String) -> Result<bool, Fault> {
-    let paths = words_of(rt)?;
-    try_files(rt, &paths, report)
-}
-
 fn main(rt: HostRuntime) -> ExitCode {
     let mut report = String::new(rt.alloc());
-    let ended = tried(&rt, &mut report);
+    let ended = try_files(&rt, &mut report);
     let written = print!(rt; "{report}");
     match (ended, written) {
         (Ok(true), Ok(())) => ExitCode::SUCCESS,

@@ -106,11 +106,7 @@ pub fn artifact(alloc: Global, world: &World) -> Result<MemorySource, Fault> {
     let step = NonZeroU32::new(2).ok_or(Fault::World)?;
     let failures = failures(alloc, world, "artifact")?;
     let octets = world.file("artifact").unwrap_or("");
-    Ok(MemorySource::new(
-        Bytes::new(alloc, octets.as_bytes())?,
-        step,
-        failures,
-    ))
+    Ok(MemorySource::new(Bytes::new(alloc, octets.as_bytes())?, step, failures))
 }
 
 fn sink(alloc: Global, world: &World) -> Result<MemorySink, Fault> {

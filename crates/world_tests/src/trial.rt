@@ -124,12 +124,7 @@ fn is_wanted(world: &World, ending: &Ending) -> bool {
 }
 
 // Tries a world; whether it ends as it is to end.
-fn try_world(
-    alloc: Global,
-    path: &str,
-    world: &World,
-    report: &mut String,
-) -> Result<bool, Fault> {
+fn try_world(alloc: Global, path: &str, world: &World, report: &mut String) -> Result<bool, Fault> {
     let ending = end(alloc, world)?;
     let is_wanted = is_wanted(world, &ending);
     if !is_wanted {

@@ -85,16 +85,16 @@ impl<'a> World<'a> {
     pub fn file(&self, name: &str) -> Option<&'a str> {
         match file_in(self.own, name) {
             Some(file) => file.as_str(),
-            None => self.base.and_then(|base| file_in(base, name)).and_then(Value::as_str),
+            None => self
+                .base
+                .and_then(|base| file_in(base, name))
+                .and_then(Value::as_str),
         }
     }
 
     /// The files of the base, and those of its own.
     pub fn layers(&self) -> [Option<&'a Map<String, Value>>; 2] {
-        [
-            self.base.and_then(files_of),
-            files_of(self.own),
-        ]
+        [self.base.and_then(files_of), files_of(self.own)]
     }
 }
 
