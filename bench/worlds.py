@@ -16,6 +16,7 @@ A file has a world a line, an object of JSON:
               times; `scts` and `logs`, how many vouched
     failing   of an object (inputs, repository, store, artifact, sink) the number of the call that fails; the artifact
               is read two bytes at a time
+    step      how many bytes of the artifact a read gives, 2 where it is not told; and
     room      how many bytes the sink takes
 """
 import datetime

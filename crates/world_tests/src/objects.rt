@@ -9,7 +9,9 @@ use sigstore_types_parts::{Bytes, FailList};
 use std::alloc::Global;
 use std::num::NonZeroU32;
 
-// The bytes that the sink takes, where the world doesn't say how many.
+// The bytes that a read of the artifact gives, and those that the sink takes, where the world doesn't say how many.
+const STEP: u64 = 2;
+
 const ROOM: u64 = 65_536;
 
 /// What a run reads from and writes to.
@@ -26,7 +28,7 @@ pub struct Objects {
 fn failures(alloc: Global, world: &World, object: &str) -> Result<FailList, Fault> {
     let mut calls = Vec::new(alloc);
     if let Some(call) = world.failing(object) {
-        calls.push(call).map_err(|_| Fault::NoMemory)?;
+        calls.push(call)?;
     }
     FailList::new(calls).ok_or(Fault::World)
 }
@@ -39,14 +41,13 @@ const INPUTS: [(InputFile, &str); 4] = [
     (InputFile::Bundle, "bundle.json"),
 ];
 
-fn inputs(alloc: Global, world: &World) -> Result<MemoryInputs, Fault> {
-    let mut inputs = MemoryInputs::new(failures(alloc, world, "inputs")?);
+fn put_inputs(alloc: Global, world: &World, inputs: &mut MemoryInputs) -> Result<(), Fault> {
     for (which, name) in INPUTS {
         if let Some(file) = world.file(name) {
             inputs.put(which, Bytes::new(alloc, file.as_bytes())?);
         }
     }
-    Ok(inputs)
+    Ok(())
 }
 
 // Whether a run takes a file of that name.
@@ -101,29 +102,36 @@ fn put_all(
     Ok(())
 }
 
-/// The artifact, two bytes at a time.
+// A small number of the world, or else the usual one.
+fn small(world: &World, member: &str, usual: u64) -> Result<u32, Fault> {
+    let number = world.number(member).unwrap_or(usual);
+    u32::try_from(number).map_err(|_| Fault::World)
+}
+
+/// The artifact, two bytes at a time where the world doesn't say how many.
 pub fn artifact(alloc: Global, world: &World) -> Result<MemorySource, Fault> {
-    let step = NonZeroU32::new(2).ok_or(Fault::World)?;
+    let step = NonZeroU32::new(small(world, "step", STEP)?).ok_or(Fault::World)?;
     let failures = failures(alloc, world, "artifact")?;
     let octets = world.file("artifact").unwrap_or("");
     Ok(MemorySource::new(Bytes::new(alloc, octets.as_bytes())?, step, failures))
 }
 
 fn sink(alloc: Global, world: &World) -> Result<MemorySink, Fault> {
-    let room = world.number("room").unwrap_or(ROOM);
-    let room = u32::try_from(room).map_err(|_| Fault::World)?;
+    let room = small(world, "room", ROOM)?;
     Ok(MemorySink::new(alloc, room, failures(alloc, world, "sink")?)?)
 }
 
-// Puts the files of a world into a repository and a store.
-fn lay_out(
-    alloc: Global,
-    world: &World,
-    repository: &mut MemoryRepository,
-    store: &mut MemoryStore,
-) -> Result<(), Fault> {
+// Puts each file of a world in its place.
+fn fill(alloc: Global, world: &World, objects: &mut Objects) -> Result<(), Fault> {
+    put_inputs(alloc, world, &mut objects.inputs)?;
     for files in world.layers().into_iter().flatten() {
-        put_all(alloc, world, files, repository, store)?;
+        put_all(
+            alloc,
+            world,
+            files,
+            &mut objects.repository,
+            &mut objects.store,
+        )?;
     }
     Ok(())
 }
@@ -131,15 +139,20 @@ fn lay_out(
 impl Objects {
     /// The objects over the files of a world.
     pub fn new(alloc: Global, world: &World) -> Result<Objects, Fault> {
+        let (artifact, sink) = (artifact(alloc, world)?, sink(alloc, world)?);
+        let (inputs, repository, store) = (
+            failures(alloc, world, "inputs")?,
+            failures(alloc, world, "repository")?,
+            failures(alloc, world, "store")?,
+        );
         let mut objects = Objects {
-            inputs: inputs(alloc, world)?,
-            repository: MemoryRepository::new(alloc, failures(alloc, world, "repository")?),
-            store: MemoryStore::with_failures(alloc, failures(alloc, world, "store")?),
-            artifact: artifact(alloc, world)?,
-            sink: sink(alloc, world)?,
+            inputs: MemoryInputs::new(inputs),
+            repository: MemoryRepository::new(alloc, repository),
+            store: MemoryStore::with_failures(alloc, store),
+            artifact,
+            sink,
         };
-        let laid = lay_out(alloc, world, &mut objects.repository, &mut objects.store);
-        match laid {
+        match fill(alloc, world, &mut objects) {
             Ok(()) => Ok(objects),
             Err(fault) => {
                 drop(objects);

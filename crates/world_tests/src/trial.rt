@@ -74,10 +74,11 @@ fn find_over(
     pushed
 }
 
+// The moment of a world that has lines.
 fn moment(world: &World) -> Option<Timestamp> {
     match world.text("now") {
-        Some(now) => now.parse::<Timestamp>().ok(),
-        None => None,
+        Some(now) if !world.lines().is_empty() => now.parse::<Timestamp>().ok(),
+        _ => None,
     }
 }
 
