@@ -1,7 +1,6 @@
 // A real certificate by itself: what is judged of it, and what its log signed.
-use crate::keyless::{Texts, named, texts};
-use crate::keyless_data::SIGNATURES;
-use crate::tables::{check, debug, good, string, there};
+use crate::keyless_data::{SIGNATURES, TEXTS};
+use crate::tables::{check, debug, good, halves, there};
 use certificate_claims::parse_certificate_info;
 use command_files::{TableProvider, read_provider};
 use jiff::Timestamp;
@@ -13,23 +12,28 @@ use std::process::Abort;
 use std::slice;
 use x509_views::{CertView, sct_list};
 
-fn certificate<X: AllocGlobal + Abort>(rt: &X, texts: &Texts, name: &str) -> DerCertificate {
-    good(
-        rt,
-        DerCertificate::from_base64(rt.alloc(), named(rt, texts, name)),
-    )
+// The octets of a name, in base64.
+fn named<X: Abort>(rt: &X, name: &str) -> &'static str {
+    for row in TEXTS.lines() {
+        let (first, octets) = halves(rt, row, " ");
+        if first == name {
+            return octets;
+        }
+    }
+    panic!(rt; "no octets {name}")
 }
 
-fn key<X: AllocGlobal + Abort>(rt: &X, texts: &Texts, name: &str) -> DerPublicKey {
-    good(
-        rt,
-        DerPublicKey::from_base64(rt.alloc(), named(rt, texts, name)),
-    )
+fn certificate<X: AllocGlobal + Abort>(rt: &X, name: &str) -> DerCertificate {
+    good(rt, DerCertificate::from_base64(rt.alloc(), named(rt, name)))
+}
+
+fn key<X: AllocGlobal + Abort>(rt: &X, name: &str) -> DerPublicKey {
+    good(rt, DerPublicKey::from_base64(rt.alloc(), named(rt, name)))
 }
 
 // The one log of certificates.
-fn logs<X: AllocGlobal + Abort>(rt: &X, texts: &Texts) -> Keyring {
-    let der = key(rt, texts, "ct_key");
+fn logs<X: AllocGlobal + Abort>(rt: &X) -> Keyring {
+    let der = key(rt, "ct_key");
     let mut logs = Keyring::new(rt.alloc());
     let read = good(rt, VerificationKey::from_spki(rt.alloc(), &der));
     good(rt, logs.add_key(sha256(der.as_bytes()), read));
@@ -40,19 +44,18 @@ fn logs<X: AllocGlobal + Abort>(rt: &X, texts: &Texts) -> Keyring {
 // The answer for the certificate under a root, with the intermediate beside it, for a signature at a moment.
 fn judged<X: AllocGlobal + Abort>(
     rt: &X,
-    texts: &Texts,
     provider: &TableProvider,
     root: &str,
     now: &str,
 ) -> String {
     let (leaf, between, root) = (
-        certificate(rt, texts, "leaf"),
-        certificate(rt, texts, "intermediate"),
-        certificate(rt, texts, root),
+        certificate(rt, "leaf"),
+        certificate(rt, "intermediate"),
+        certificate(rt, root),
     );
     let info = good(rt, parse_certificate_info(rt.alloc(), &leaf));
     let anchor = good(rt, Anchor::from_certificate(rt.alloc(), &root, None));
-    let (logs, policy) = (logs(rt, texts), VerificationPolicy::any_identity());
+    let (logs, policy) = (logs(rt), VerificationPolicy::any_identity());
     let time = good(rt, now.parse::<Timestamp>());
     let answer = judge_certificate(
         rt.alloc(),
@@ -77,17 +80,12 @@ fn judged<X: AllocGlobal + Abort>(
 
 // Whether OpenSSL found the timestamp's signature good over what is said that the log signed; the issuer is the owner of
 // a certificate.
-fn is_signed<X: AllocGlobal + Abort>(
-    rt: &X,
-    texts: &Texts,
-    provider: &TableProvider,
-    issuer: &str,
-) -> bool {
+fn is_signed<X: AllocGlobal + Abort>(rt: &X, provider: &TableProvider, issuer: &str) -> bool {
     let (leaf, above, list, log) = (
-        certificate(rt, texts, "leaf"),
-        certificate(rt, texts, issuer),
-        certificate(rt, texts, "scts"),
-        key(rt, texts, "ct_key"),
+        certificate(rt, "leaf"),
+        certificate(rt, issuer),
+        certificate(rt, "scts"),
+        key(rt, "ct_key"),
     );
     let scts = good(rt, sct_list(rt.alloc(), list.as_bytes()));
     let sct = there(rt, scts.first());
@@ -121,20 +119,13 @@ other_root 2024-06-01T00:10:00Z | Err(ChainInvalid)";
 
 #[test]
 fn certificates_are_judged(rt: HostRuntime) {
-    let texts = texts(&rt);
     let tables = good(&rt, read_provider(rt.alloc(), SIGNATURES.as_bytes()));
     for row in JUDGED.lines() {
         let (given, wanted) = there(&rt, row.split_once(" | "));
         let (root, now) = there(&rt, given.split_once(" "));
-        check(
-            &rt,
-            row,
-            wanted,
-            judged(&rt, &texts, &tables.provider, root, now),
-        );
+        check(&rt, row, wanted, judged(&rt, &tables.provider, root, now));
     }
-    assert!(rt; is_signed(&rt, &texts, &tables.provider, "intermediate"));
-    assert!(rt; !is_signed(&rt, &texts, &tables.provider, "other_intermediate"));
+    assert!(rt; is_signed(&rt, &tables.provider, "intermediate"));
+    assert!(rt; !is_signed(&rt, &tables.provider, "other_intermediate"));
     drop(tables);
-    drop(texts);
 }

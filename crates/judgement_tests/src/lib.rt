@@ -10,17 +10,9 @@ mod files;
 #[cfg(test)]
 mod inputs;
 #[cfg(test)]
-mod keyless;
-#[cfg(test)]
 mod keyless_data;
 #[cfg(test)]
-mod keyless_rows;
-#[cfg(test)]
 mod policies;
-#[cfg(test)]
-mod stamped;
-#[cfg(test)]
-mod stamps;
 #[cfg(test)]
 mod tables;
 #[cfg(test)]

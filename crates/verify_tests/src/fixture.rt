@@ -3,8 +3,7 @@ use crate::tables::{
     Change, bytes, change_in, display, failures, first, good, source, string, text_of, there, words,
 };
 use crate::{
-    archives, audits, delegated, enveloped, gate_runs, gates, hostile, keyless, keyless_data,
-    logged, stamped,
+    archives, audits, delegated, gate_runs, gates, hostile, keyless, keyless_data, logged,
 };
 use command_files::{InputFile, MemoryInputs, MemorySink};
 use command_generate::{is_generate, run_generate};
@@ -57,10 +56,6 @@ const SNAPSHOT: &str =
 const MESSAGE: &str =
     r#""messageSignature":{"messageDigest":{"algorithm":"SHA2_256","digest":"LPJNul+wow4m6DsqxbninhsWHlwfp0JecwQzYpOLmCQ="},"signature":"AQ=="}"#;
 
-// The same over the empty artifact.
-const EMPTY_MESSAGE: &str =
-    r#""messageSignature":{"messageDigest":{"algorithm":"SHA2_256","digest":"47DEQpj8HBSa+/TImW+5JCeuQeRkm5NMpJWZG3hSuFU="},"signature":"AQ=="}"#;
-
 const WORDS: &str =
     "verify --root=a --repository=b --store=c --bundle=d --artifact=e --policy=f --provider=g --now=2025-01-01T00:00:00Z";
 
@@ -71,54 +66,21 @@ const DIGEST_NAME: &str =
 // The parts of the fixture that a change names; nothing is unchanged.
 pub(crate) const PARTS: &str = "nothing
 words
-consistent
 consistent names
-scheme
-declared key
-next root
 second root
 kept root
-timestamp
 kept timestamp
 unsigned
 trust
-logged
-unasked
-later log
-proof
-root of proof
-checkpoint
-promised time
-promised body
-log id
-timeless log id
-stamped
-stamped before
-keyless
-two timestamps
-authority before
-issuing window
-unpromised
-crossed
-listed
-delegations
 delegated
-file
-key
 skip
 policy
-bundle
 bundle of blanks
-bundle of lists
 start of root
 start of bundle
 start of token
-doubled
 material
 content
-enveloped
-signed artifact
-artifact
 repository fails
 store fails
 inputs fail
@@ -137,11 +99,9 @@ fn name_of(change: Change, consistent: &'static str, plain: &'static str) -> &'s
 }
 
 pub(crate) fn root<X: AllocGlobal + Abort>(rt: &X, change: Change, version: &str) -> String {
-    let consistent = change.of("consistent", name_of(change, "true", "false"));
-    let scheme = change.of("scheme", "ecdsa-sha2-nistp256");
-    let public = change.of("declared key", SPKI);
+    let consistent = name_of(change, "true", "false");
     let text = format!(in rt.alloc();
-        r#"{{"_type":"root","consistent_snapshot":{consistent},"expires":"2031-01-01T00:00:00Z","keys":{{"k":{{"keytype":"ecdsa","keyval":{{"public":"der:{public}"}},"scheme":"{scheme}"}}}},{ROLES},"spec_version":"1.0.0","version":{version}}}"#
+        r#"{{"_type":"root","consistent_snapshot":{consistent},"expires":"2031-01-01T00:00:00Z","keys":{{"k":{{"keytype":"ecdsa","keyval":{{"public":"der:{SPKI}"}},"scheme":"ecdsa-sha2-nistp256"}}}},{ROLES},"spec_version":"1.0.0","version":{version}}}"#
     );
     good(rt, text)
 }
@@ -153,22 +113,9 @@ fn second_version(change: Change) -> &str {
 
 fn trust<X: AllocGlobal + Abort>(rt: &X, change: Change) -> String {
     if keyless::is_keyless(change) {
-        return keyless::trust(rt, change, SPKI);
+        return keyless::trust(rt, SPKI);
     }
-    if logged::is_logged(change) {
-        return string(rt, logged::trust(change));
-    }
-    let text = match change.part {
-        "stamped" => stamped::TRUST,
-        "stamped before" => stamped::LATER,
-        _ => change.of("trust", "{}"),
-    };
-    string(rt, text)
-}
-
-// Whether the bundle has a time-stamp token.
-fn is_stamped(change: Change) -> bool {
-    matches!(change.part, "stamped" | "stamped before")
+    string(rt, change.of("trust", "{}"))
 }
 
 // The entry of the trust file, with its length and digest.
@@ -189,10 +136,9 @@ pub(crate) fn targets<X: AllocGlobal + Abort>(rt: &X, change: Change) -> String 
     let trust = trust(rt, change);
     let entry = listed(rt, trust.as_str());
     drop(trust);
-    let listed = change.of("listed", entry.as_str());
-    let delegations = change.of("delegations", "");
+    let listed = entry.as_str();
     let text = format!(in rt.alloc();
-        r#"{{"_type":"targets",{delegations}"expires":"2031-01-01T00:00:00Z","spec_version":"1.0.0","targets":{{{listed}}},"version":1}}"#
+        r#"{{"_type":"targets","expires":"2031-01-01T00:00:00Z","spec_version":"1.0.0","targets":{{{listed}}},"version":1}}"#
     );
     drop(entry);
     good(rt, text)
@@ -213,44 +159,24 @@ fn document<X: AllocGlobal + Abort>(rt: &X, signed: &str) -> String {
     good(rt, text)
 }
 
-// A document whose one signature stands twice, where the change names its file.
-fn served<X: AllocGlobal + Abort>(rt: &X, change: Change, name: &str, signed: &str) -> String {
-    if change.of("doubled", "") == name {
-        let text = format!(in rt.alloc();
-            r#"{{"signatures":[{{"keyid":"k","sig":"01"}},{{"keyid":"k","sig":"01"}}],"signed":{signed}}}"#
-        );
-        return good(rt, text);
-    }
-    document(rt, signed)
-}
-
-// Puts a document in its place; an empty text is none.
-fn put<X: AllocGlobal + Abort>(
-    rt: &X,
-    repo: &mut MemoryRepository,
-    change: Change,
-    name: &str,
-    signed: &str,
-) {
-    if !signed.is_empty() {
-        let document = served(rt, change, name, signed);
-        good(rt, repo.put_metadata(rt.alloc(), name, document.as_bytes()));
-        drop(document);
-    }
+// Puts a document in its place.
+fn put<X: AllocGlobal + Abort>(rt: &X, repo: &mut MemoryRepository, name: &str, signed: &str) {
+    let document = document(rt, signed);
+    good(rt, repo.put_metadata(rt.alloc(), name, document.as_bytes()));
+    drop(document);
 }
 
 fn put_delegated<X: AllocGlobal + Abort>(rt: &X, repo: &mut MemoryRepository, change: Change) {
     if change.part == "delegated" {
-        put(rt, repo, change, "d.json", delegated::LISTING);
-        put(rt, repo, change, "e.json", delegated::EMPTY);
+        put(rt, repo, "d.json", delegated::LISTING);
+        put(rt, repo, "e.json", delegated::EMPTY);
     }
 }
 
 fn put_trust<X: AllocGlobal + Abort>(rt: &X, repo: &mut MemoryRepository, change: Change) {
     let trust = trust(rt, change);
-    let text = change.of("file", trust.as_str());
     let file = name_of(change, DIGEST_NAME, "trusted_root.json");
-    good(rt, repo.put_target(rt.alloc(), file, text.as_bytes()));
+    good(rt, repo.put_target(rt.alloc(), file, trust.as_bytes()));
     drop(trust);
 }
 
@@ -261,19 +187,16 @@ pub(crate) fn repository<X: AllocGlobal + Abort>(
 ) -> MemoryRepository {
     let failures = failures(rt, change.of("repository fails", ""));
     let mut repo = MemoryRepository::new(rt.alloc(), failures);
-    let next = change.of("next root", "");
-    put(rt, &mut repo, change, "2.root.json", next);
     if change.part == "second root" {
         let second = root(rt, change, change.text);
-        put(rt, &mut repo, change, "2.root.json", second.as_str());
+        put(rt, &mut repo, "2.root.json", second.as_str());
         drop(second);
     }
-    let timestamp = change.of("timestamp", TIMESTAMP);
-    put(rt, &mut repo, change, "timestamp.json", timestamp);
+    put(rt, &mut repo, "timestamp.json", TIMESTAMP);
     let name = name_of(change, "1.snapshot.json", "snapshot.json");
-    put(rt, &mut repo, change, name, snapshot(change));
+    put(rt, &mut repo, name, snapshot(change));
     let name = name_of(change, "1.targets.json", "targets.json");
-    put(rt, &mut repo, change, name, targets);
+    put(rt, &mut repo, name, targets);
     put_delegated(rt, &mut repo, change);
     put_trust(rt, &mut repo, change);
     repo
@@ -330,30 +253,20 @@ fn sign_delegated<X: AllocGlobal + Abort>(rt: &X, change: Change, rows: &mut Str
 }
 
 fn sign_entry<X: AllocGlobal + Abort>(rt: &X, change: Change, rows: &mut String) {
-    if logged::is_logged(change) {
-        let signed = logged::signed(rt, change);
+    if keyless::is_keyless(change) {
+        let signed = logged::signed(rt);
         sign(rt, change, rows, "entry", signed.as_str());
         drop(signed);
-        let payload = logged::payload(rt, change);
+        let payload = logged::payload(rt);
         sign(rt, change, rows, "promise", payload.as_str());
         drop(payload);
     }
 }
 
-fn sign_envelope<X: AllocGlobal + Abort>(rt: &X, change: Change, rows: &mut String) {
-    if change.part == "enveloped" {
-        let encoding = enveloped::encoding(rt, change.text);
-        sign(rt, change, rows, "envelope", encoding.as_str());
-        drop(encoding);
-    }
-}
-
-// The rows of the certificates and of the token.
+// The rows of the certificates and of the token, where the signer has them.
 fn stamps(change: Change) -> &'static str {
     if keyless::is_keyless(change) {
         keyless_data::ROWS
-    } else if is_stamped(change) {
-        stamped::ROWS
     } else {
         ""
     }
@@ -374,35 +287,20 @@ pub(crate) fn provider<X: AllocGlobal + Abort>(
     sign(rt, change, &mut rows, "targets", targets);
     sign_delegated(rt, change, &mut rows);
     sign_entry(rt, change, &mut rows);
-    sign_envelope(rt, change, &mut rows);
     good(rt, rows.push_str(stamps(change)));
-    sign(
-        rt,
-        change,
-        &mut rows,
-        "hello",
-        change.of("signed artifact", "hello"),
-    );
+    sign(rt, change, &mut rows, "hello", "hello");
     Bytes::from_vec(rows.into_bytes())
-}
-
-// The policy asks for the log where the bundle has an entry, unless the change says otherwise.
-fn skip(change: Change) -> &str {
-    if logged::is_logged(change) && change.part != "unasked" {
-        return "";
-    }
-    change.of("skip", "skip tlog\n")
 }
 
 fn policy<X: AllocGlobal + Abort>(rt: &X, change: Change) -> Bytes {
     if keyless::is_keyless(change) {
-        return Bytes::from_vec(keyless::lines(rt, keyless::policy(change)).into_bytes());
+        return Bytes::from_vec(keyless::lines(rt, keyless::POLICY).into_bytes());
     }
     if change.part == "policy" {
         return Bytes::from_vec(keyless::lines(rt, change.text).into_bytes());
     }
-    let (key, skip) = (change.of("key", SPKI), skip(change));
-    let text = good(rt, format!(in rt.alloc(); "key {key}\n{skip}"));
+    let skip = change.of("skip", "skip tlog\n");
+    let text = good(rt, format!(in rt.alloc(); "key {SPKI}\n{skip}"));
     Bytes::from_vec(text.into_bytes())
 }
 
@@ -423,60 +321,32 @@ pub(crate) fn given_root<X: AllocGlobal + Abort>(rt: &X, change: Change, root: &
     start
 }
 
-// So many lists, each within another.
-fn lists<X: AllocGlobal + Abort>(rt: &X, count: &str) -> Bytes {
-    let count = good(rt, count.parse::<usize>());
-    let mut text = good(rt, vec![in rt.alloc(); b'['; count]);
-    good(
-        rt,
-        text.extend_from_slice(good(rt, vec![in rt.alloc(); b']'; count]).as_slice()),
-    );
-    Bytes::from_vec(text)
-}
-
 // That many blanks.
 fn blanks<X: AllocGlobal + Abort>(rt: &X, count: &str) -> Bytes {
     let count = good(rt, count.parse::<usize>());
     Bytes::from_vec(good(rt, vec![in rt.alloc(); b' '; count]))
 }
 
-fn content<X: AllocGlobal + Abort>(rt: &X, change: Change) -> String {
-    match change.part {
-        "signed artifact" => string(rt, EMPTY_MESSAGE),
-        "enveloped" => enveloped::content(rt, change.text),
-        _ => string(rt, change.of("content", MESSAGE)),
-    }
-}
-
 fn material<X: AllocGlobal + Abort>(rt: &X, change: Change) -> String {
     if keyless::is_keyless(change) {
         return keyless::material(rt, change);
-    }
-    if logged::is_logged(change) {
-        return logged::material(rt, change);
-    }
-    if is_stamped(change) {
-        return string(rt, stamped::MATERIAL);
     }
     string(rt, change.of("material", r#""publicKey":{"hint":"k"}"#))
 }
 
 fn made_bundle<X: AllocGlobal + Abort>(rt: &X, change: Change) -> Bytes {
     let material = material(rt, change);
-    let content = content(rt, change);
+    let content = change.of("content", MESSAGE);
     let text = format!(in rt.alloc();
         r#"{{"mediaType":"application/vnd.dev.sigstore.bundle.v0.3+json","verificationMaterial":{{{material}}},{content}}}"#
     );
     drop(material);
-    drop(content);
     Bytes::from_vec(good(rt, text).into_bytes())
 }
 
 pub(crate) fn bundle<X: AllocGlobal + Abort>(rt: &X, change: Change) -> Bytes {
     match change.part {
-        "bundle" => bytes(rt, change.text.as_bytes()),
         "bundle of blanks" => blanks(rt, change.text),
-        "bundle of lists" => lists(rt, change.text),
         "start of bundle" => {
             let whole = made_bundle(rt, change);
             let start = start(rt, whole.as_bytes(), change.text);
@@ -503,11 +373,10 @@ pub(crate) fn inputs<X: AllocGlobal + Abort>(
 
 // The artifact, two bytes at a time, or one byte at a time where the read of a byte fails.
 fn artifact<X: AllocGlobal + Abort>(rt: &X, change: Change) -> MemorySource {
-    let artifact = change.of("artifact", change.of("signed artifact", "hello"));
     if change.part == "byte fails" {
-        return source(rt, artifact, 1, change.text);
+        return source(rt, "hello", 1, change.text);
     }
-    source(rt, artifact, 2, change.of("artifact fails", ""))
+    source(rt, "hello", 2, change.of("artifact fails", ""))
 }
 
 // The words that the run is told.

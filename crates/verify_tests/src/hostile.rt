@@ -1,4 +1,5 @@
-// What repositories, stores, bundles, readers, inputs and sinks can do: each case and how the program answers it.
+// What repositories, stores, bundles, readers, inputs and sinks can do: each call and each length, and how the program
+// answers it.
 use crate::fixture::{
     PARTS, SPKI, bundle, given_root, provider, repository, root, said_of, targets,
 };
@@ -26,13 +27,6 @@ start of bundle | 0 248 | 0 Refused "refused verify 22 InvalidBundle\n"; 248 as 
 keyless, start of token | 0 277 | 0 Refused "refused verify 19 TimestampInvalid\n"; 277 as usual
 keyless, byte fails | 7 8 | 7 as usual"#;
 
-// A row: the part, the text in its place, and the status with what is written.
-const ONCE: &str = r#"doubled | timestamp.json | Refused "refused tuf 7 DuplicateSignature\n"
-doubled | snapshot.json | Refused "refused tuf 7 DuplicateSignature\n"
-doubled | targets.json | Refused "refused tuf 7 DuplicateSignature\n"
-keyless, crossed |  | Refused "refused verify 7 ChainInvalid\n"
-bundle of lists | 128 | Refused "refused verify 22 InvalidBundle\n""#;
-
 // A row: an artifact, how many octets it may have, and the answer of the top call.
 const BOUNDED: &str = "hello! | 5 | ArtifactRead(TooLong { max: 5 })
 hello | 5 | accepted";
@@ -40,7 +34,6 @@ hello | 5 | accepted";
 #[test]
 fn nothing_outside_does_more_than_be_refused(rt: HostRuntime) {
     hold(&rt, "each", EACH);
-    hold(&rt, "run", ONCE);
     hold(&rt, "bounded", BOUNDED);
 }
 

@@ -1,10 +1,7 @@
 // The parts of the fixture where its signer has a certificate, which is valid for ten minutes from 1700000000. Its bundle
 // has a token at 1700000060 and the entry of `logged` over the certificate, with a promise at 1700000100; each window of
 // the trust file begins at 1600000000. The run is at 1700001000.
-use crate::keyless_data::{
-    AUTHORITY, BODY, CERTIFICATE, CERTIFICATE_LOG, CROSSED, OTHER_AUTHORITY, ROOT, STAMPER, TOKEN,
-    TWICE_BODY, TWICE_CERTIFICATE, TWICE_ROOT,
-};
+use crate::keyless_data::{AUTHORITY, CERTIFICATE, CERTIFICATE_LOG, STAMPER, TOKEN};
 use crate::logged;
 use crate::tables::{Change, first, good, string, text};
 use sigstore_types_parts::{DigestBytes, Text};
@@ -13,67 +10,22 @@ use std::process::Abort;
 pub(crate) const WORDS: &str =
     "verify --root=a --repository=b --store=c --bundle=d --artifact=e --policy=f --provider=g --now=2023-11-14T22:30:00Z";
 
-const POLICY: &str = "keyless;identity email a@example.com;issuer https://accounts.example.com";
+pub(crate) const POLICY: &str =
+    "keyless;identity email a@example.com;issuer https://accounts.example.com";
 
 const WINDOW: &str = r#""start":"2020-09-13T12:26:40Z""#;
 
 // Whether the signer has a certificate.
 pub(crate) fn is_keyless(change: Change) -> bool {
-    let named = matches!(
-        change.part,
-        "keyless" | "two timestamps" | "authority before" | "issuing window" | "unpromised"
-    );
-    named || change.keyless
-}
-
-// Whether the certificate has two timestamps of its log.
-fn is_twice(change: Change) -> bool {
-    change.part == "two timestamps"
-}
-
-fn certificate(change: Change) -> &'static str {
-    if is_twice(change) {
-        TWICE_CERTIFICATE
-    } else {
-        CERTIFICATE
-    }
-}
-
-// The body of the entry in base64.
-pub(crate) fn body(change: Change) -> &'static str {
-    if is_twice(change) { TWICE_BODY } else { BODY }
-}
-
-// The root of a tree of that body.
-pub(crate) fn root(change: Change) -> &'static str {
-    if is_twice(change) { TWICE_ROOT } else { ROOT }
-}
-
-// The authority that stands before the right one.
-fn before(change: Change) -> &'static str {
-    if change.part == "authority before" {
-        OTHER_AUTHORITY
-    } else {
-        ""
-    }
+    change.keyless
 }
 
 // The trust file, whose log has this key.
-pub(crate) fn trust<X: AllocGlobal + Abort>(rt: &X, change: Change, key: &str) -> String {
-    let (issuing, logging) = (
-        change.of("issuing window", WINDOW),
-        change.of("unpromised", WINDOW),
-    );
-    let before = before(change);
+pub(crate) fn trust<X: AllocGlobal + Abort>(rt: &X, key: &str) -> String {
     let text = format!(in rt.alloc();
-        r#"{{"tlogs":[{{"logId":{{"keyId":"AQEBAQEBAQEBAQEBAQEBAQEBAQEBAQEBAQEBAQEBAQE="}},"publicKey":{{"rawBytes":"{key}","validFor":{{{logging}}}}}}}],"ctlogs":[{CERTIFICATE_LOG}],"certificateAuthorities":[{before}{{"certChain":{{"certificates":[{{"rawBytes":"{AUTHORITY}"}}]}},"validFor":{{{issuing}}}}}],"timestampAuthorities":[{STAMPER}]}}"#
+        r#"{{"tlogs":[{{"logId":{{"keyId":"AQEBAQEBAQEBAQEBAQEBAQEBAQEBAQEBAQEBAQEBAQE="}},"publicKey":{{"rawBytes":"{key}","validFor":{{{WINDOW}}}}}}}],"ctlogs":[{CERTIFICATE_LOG}],"certificateAuthorities":[{{"certChain":{{"certificates":[{{"rawBytes":"{AUTHORITY}"}}]}},"validFor":{{{WINDOW}}}}}],"timestampAuthorities":[{STAMPER}]}}"#
     );
     good(rt, text)
-}
-
-// The lines of the policy, each followed by a `;` here but the last one.
-pub(crate) fn policy(change: Change) -> &str {
-    change.of("keyless", change.of("two timestamps", POLICY))
 }
 
 // The text in which each `;` ends a line, and so does the end.
@@ -84,21 +36,6 @@ pub(crate) fn lines<X: AllocGlobal + Abort>(rt: &X, words: &str) -> String {
         good(rt, lines.push('\n'));
     }
     lines
-}
-
-// The certificate, or a chain that leads to no authority.
-fn certified<X: AllocGlobal + Abort>(rt: &X, change: Change) -> String {
-    if change.part == "crossed" {
-        let text = format!(in rt.alloc();
-            r#""x509CertificateChain":{{"certificates":[{CROSSED}]}}"#
-        );
-        return good(rt, text);
-    }
-    let certificate = certificate(change);
-    good(
-        rt,
-        format!(in rt.alloc(); r#""certificate":{{"rawBytes":"{certificate}"}}"#),
-    )
 }
 
 // The token in base64, or that of its first octets.
@@ -119,12 +56,10 @@ fn token<X: AllocGlobal + Abort>(rt: &X, change: Change) -> Text {
 }
 
 pub(crate) fn material<X: AllocGlobal + Abort>(rt: &X, change: Change) -> String {
-    let (certified, entries) = (certified(rt, change), logged::entries(rt, change));
-    let token = token(rt, change);
+    let (entries, token) = (logged::entries(rt), token(rt, change));
     let text = format!(in rt.alloc();
-        r#"{certified},"timestampVerificationData":{{"rfc3161Timestamps":[{{"signedTimestamp":"{token}"}}]}},{entries}"#
+        r#""certificate":{{"rawBytes":"{CERTIFICATE}"}},"timestampVerificationData":{{"rfc3161Timestamps":[{{"signedTimestamp":"{token}"}}]}},{entries}"#
     );
-    drop(certified);
     drop(entries);
     drop(token);
     good(rt, text)

@@ -8,8 +8,6 @@ mod audits;
 #[cfg(test)]
 mod delegated;
 #[cfg(test)]
-mod enveloped;
-#[cfg(test)]
 mod fixture;
 #[cfg(test)]
 mod gate_runs;
@@ -22,12 +20,8 @@ mod keyless;
 #[cfg(test)]
 mod keyless_data;
 #[cfg(test)]
-mod keyless_runs;
-#[cfg(test)]
 mod logged;
 #[cfg(test)]
 mod runs;
-#[cfg(test)]
-mod stamped;
 #[cfg(test)]
 mod tables;

@@ -1,0 +1,113 @@
+// What a verification finds beside what its run says: what a refusal holds; or what the certificate says of its owner,
+// the whole result, and how many logs vouched.
+use crate::fault::Fault;
+use crate::objects::Objects;
+use command_files::{Gathered, gather_inputs};
+use command_verify::{VerifyRequest, verify_request};
+use jiff::Timestamp;
+use sigstore_pem::PemArmor;
+use sigstore_verify::{Acceptance, Error, RootFault, VerificationResult};
+use std::alloc::Global;
+
+// The window of the certificate and its key, in a line; none where a key signed.
+fn push_certificate(
+    alloc: Global,
+    text: &mut String,
+    accepted: &VerificationResult,
+) -> Result<(), Fault> {
+    if let Some(info) = accepted.certificate() {
+        let key = info.public_key.to_base64(alloc)?;
+        let (start, end, key) = (info.not_before, info.not_after, key.as_str());
+        write!(text, "certificate {start} {end} {key}\n")?;
+    }
+    Ok(())
+}
+
+// The names, the four flags, the integrated time and the verified times.
+fn push_names(text: &mut String, accepted: &VerificationResult) -> Result<(), Fault> {
+    let (identity, issuer) = (accepted.identity(), accepted.issuer());
+    let (chain, sct) = (accepted.certificate_verified(), accepted.sct_verified());
+    let (log, names) = (accepted.tlog_verified(), accepted.identity_policy_checked());
+    let (integrated, times) = (accepted.integrated_time(), accepted.verified_timestamps());
+    write!(
+        text,
+        "result {identity:?} {issuer:?} {chain} {sct} {log} {names} {integrated:?} {times:?}\n"
+    )?;
+    Ok(())
+}
+
+/// Adds what an acceptance holds.
+pub fn push_result(
+    alloc: Global,
+    text: &mut String,
+    accepted: &VerificationResult,
+) -> Result<(), Fault> {
+    push_certificate(alloc, text, accepted)?;
+    push_names(text, accepted)?;
+    let (scts, logs) = (accepted.sct_count(), accepted.log_count());
+    write!(text, "scts {scts}\nlogs {logs}\n")?;
+    Ok(())
+}
+
+/// Adds what a refusal of a bundle holds.
+pub fn push_refusal(text: &mut String, refusal: &Error) -> Result<(), Fault> {
+    let number = refusal.number();
+    write!(text, "refusal {number} {refusal:?}\n")?;
+    Ok(())
+}
+
+fn push_refused(text: &mut String, refusal: &sigstore_tuf::Error) -> Result<(), Fault> {
+    let number = refusal.number();
+    write!(text, "refusal {number} {refusal:?}\n")?;
+    Ok(())
+}
+
+fn push_judged(
+    alloc: Global,
+    text: &mut String,
+    judged: &Result<Acceptance, RootFault>,
+) -> Result<(), Fault> {
+    match judged {
+        Ok(accepted) => push_result(alloc, text, &accepted.result),
+        Err(RootFault::Verify { fault, .. }) => push_refusal(text, fault),
+        Err(RootFault::Tuf(refusal)) => push_refused(text, refusal),
+        Err(RootFault::NoMemory) => Err(Fault::NoMemory),
+    }
+}
+
+/// Verifies from the root at a moment, with armoured texts as they are read and not as the provider file lists them, and
+/// adds what is found; nothing where an input is outside its grammar.
+pub fn push_found(
+    alloc: Global,
+    objects: &mut Objects,
+    now: Timestamp,
+    text: &mut String,
+) -> Result<(), Fault> {
+    let Ok(gathered) = gather_inputs(alloc, &mut objects.inputs) else {
+        return Ok(());
+    };
+    let Gathered {
+        policy,
+        tables,
+        root,
+        bundle,
+    } = gathered;
+    let request = VerifyRequest {
+        policy,
+        root,
+        bundle,
+    };
+    let judged = verify_request(
+        alloc,
+        request,
+        &tables.provider,
+        &PemArmor,
+        now,
+        &mut objects.repository,
+        &mut objects.store,
+        &mut objects.artifact,
+    );
+    let pushed = push_judged(alloc, text, &judged);
+    drop(judged);
+    pushed
+}

@@ -1,0 +1,159 @@
+// How the worlds of a file end, and how they are to end.
+use crate::details::push_found;
+use crate::fault::Fault;
+use crate::handed::{is_handed, push_alone};
+use crate::objects::Objects;
+use crate::world::World;
+use command_verify::run;
+use jiff::Timestamp;
+use serde_json::Value;
+use sigstore_types_parts::Text;
+use std::alloc::Global;
+
+// The words before the moment.
+const WORDS: &str =
+    "verify --root=root.json --repository=repository --store=store --bundle=bundle.json --artifact=artifact --policy=policy --provider=provider";
+
+// How a world ends: the status of its run, if there is one, and what it writes; and the lines that are found beside it.
+#[derive(Drop)]
+struct Ending {
+    status: Option<u64>,
+    text: String,
+    found: String,
+}
+
+fn words_in(alloc: Global, line: &str) -> Result<Vec<Text>, Fault> {
+    let mut words = Vec::new(alloc);
+    for word in line.split_whitespace() {
+        words.push(Text::new(alloc, word)?)?;
+    }
+    Ok(words)
+}
+
+// The words of the run: those of the world, or else the usual ones with its moment.
+fn words(alloc: Global, world: &World) -> Result<Vec<Text>, Fault> {
+    if let Some(line) = world.text("words") {
+        return words_in(alloc, line);
+    }
+    let now = world.text("now").unwrap_or("");
+    let line = format!(in alloc; "{WORDS} --now={now}")?;
+    words_in(alloc, line.as_str())
+}
+
+// Runs over the world, adds what is written, and gives the status.
+fn run_over(alloc: Global, world: &World, text: &mut String) -> Result<u64, Fault> {
+    let words = words(alloc, world)?;
+    let mut objects = Objects::new(alloc, world)?;
+    let status = run(
+        alloc,
+        &words,
+        Timestamp::UNIX_EPOCH,
+        &mut objects.inputs,
+        &mut objects.repository,
+        &mut objects.store,
+        &mut objects.artifact,
+        &mut objects.sink,
+    );
+    let written = str::from_utf8(objects.sink.bytes()).unwrap_or("");
+    let pushed = text.push_str(written);
+    drop(objects);
+    pushed?;
+    Ok(u64::from(status.code()))
+}
+
+// What is found beside the run.
+fn find_over(
+    alloc: Global,
+    world: &World,
+    now: Timestamp,
+    found: &mut String,
+) -> Result<(), Fault> {
+    let mut objects = Objects::new(alloc, world)?;
+    let pushed = push_found(alloc, &mut objects, now, found);
+    drop(objects);
+    pushed
+}
+
+// The moment of a world that has lines.
+fn moment(world: &World) -> Option<Timestamp> {
+    match world.text("now") {
+        Some(now) if !world.lines().is_empty() => now.parse::<Timestamp>().ok(),
+        _ => None,
+    }
+}
+
+fn end(alloc: Global, world: &World) -> Result<Ending, Fault> {
+    let (mut text, mut found) = (String::new(alloc), String::new(alloc));
+    let status = match moment(world) {
+        Some(now) if is_handed(world) => {
+            push_alone(alloc, world, now, &mut found)?;
+            None
+        }
+        Some(now) => {
+            find_over(alloc, world, now, &mut found)?;
+            Some(run_over(alloc, world, &mut text)?)
+        }
+        None => Some(run_over(alloc, world, &mut text)?),
+    };
+    Ok(Ending {
+        status,
+        text,
+        found,
+    })
+}
+
+fn has_line(text: &str, wanted: &str) -> bool {
+    text.lines().any(|line| line == wanted)
+}
+
+// Whether each line that is to stand in what is written or found stands there.
+fn has_lines(wanted: &[Value], ending: &Ending) -> bool {
+    for line in wanted {
+        let line = line.as_str().unwrap_or("");
+        if !has_line(ending.text.as_str(), line) && !has_line(ending.found.as_str(), line) {
+            return false;
+        }
+    }
+    true
+}
+
+fn is_wanted(world: &World, ending: &Ending) -> bool {
+    let answer = world.text("answer").unwrap_or(ending.text.as_str());
+    answer == ending.text.as_str()
+        && world.number("status") == ending.status
+        && has_lines(world.lines(), ending)
+}
+
+// Tries a world; whether it ends as it is to end.
+fn try_world(alloc: Global, path: &str, world: &World, report: &mut String) -> Result<bool, Fault> {
+    let ending = end(alloc, world)?;
+    let is_wanted = is_wanted(world, &ending);
+    if !is_wanted {
+        let name = world.text("name").unwrap_or("");
+        let (status, text, found) = (ending.status, ending.text.as_str(), ending.found.as_str());
+        write!(report, "{path} {name}: {status:?}\n{text}{found}")?;
+    }
+    Ok(is_wanted)
+}
+
+/// Tries the worlds of a file; whether each ends as it is to end.
+pub fn try_worlds(
+    alloc: Global,
+    path: &str,
+    worlds: &[Value],
+    report: &mut String,
+) -> Result<bool, Fault> {
+    let mut wrong: u64 = 0;
+    for own in worlds {
+        let world = World::new(own, worlds)?;
+        if !try_world(alloc, path, &world, report)? {
+            wrong = wrong.saturating_add(1);
+        }
+    }
+    let count = worlds.len();
+    match wrong {
+        0 => write!(report, "{path}: {count} worlds\n")?,
+        _ => write!(report, "{path}: {wrong} of {count} worlds end otherwise\n")?,
+    }
+    Ok(wrong == 0)
+}
