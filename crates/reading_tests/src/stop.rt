@@ -1,7 +1,9 @@
 // Why there is no answer.
+use cms::builder::Error;
+use der_core::DerError;
 use foundation::NoMemory;
 use sigstore_types_parts::TypesError;
-use std::alloc::AllocError;
+use std::alloc::{AllocError, AllocFailed};
 use std::io;
 
 /// Why a row has no answer, or a file isn't tried to its end.
@@ -26,6 +28,30 @@ impl From<AllocError> for Stop {
 impl From<NoMemory> for Stop {
     fn from(_: NoMemory) -> Stop {
         Stop::Memory
+    }
+}
+
+impl<T: Drop> From<AllocFailed<T>> for Stop {
+    fn from(_: AllocFailed<T>) -> Stop {
+        Stop::Memory
+    }
+}
+
+impl From<DerError> for Stop {
+    fn from(refusal: DerError) -> Stop {
+        match refusal {
+            DerError::NoMemory => Stop::Memory,
+            _ => Stop::Row,
+        }
+    }
+}
+
+impl From<Error> for Stop {
+    fn from(refusal: Error) -> Stop {
+        match refusal {
+            Error::NoMemory => Stop::Memory,
+            _ => Stop::Row,
+        }
     }
 }
 

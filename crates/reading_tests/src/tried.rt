@@ -1,7 +1,7 @@
 // Trying the rows of files.
-use crate::rekor;
 use crate::row::{Row, place};
 use crate::stop::Stop;
+use crate::{der, rekor};
 use std::alloc::Global;
 use std::rt::Runtime;
 use std::{env, fs};
@@ -58,8 +58,9 @@ fn difference(alloc: Global, path: &str, line: &str) -> Result<Option<String>, S
 // A group's rows stand in the folder of its name, and its calls in the module of that name.
 fn answer(alloc: Global, path: &str, row: &Row) -> Result<String, Stop> {
     let (group, _) = path.split_once("/").ok_or(Stop::Row)?;
-    match place(group, "rekor") {
-        0 => rekor::answer(alloc, row),
+    match place(group, "der rekor") {
+        0 => der::answer(alloc, row),
+        1 => rekor::answer(alloc, row),
         _ => Err(Stop::Row),
     }
 }
