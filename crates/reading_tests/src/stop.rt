@@ -3,7 +3,7 @@ use cms::builder::Error;
 use der_core::DerError;
 use foundation::NoMemory;
 use sigstore_types_parts::TypesError;
-use std::alloc::{AllocError, AllocFailed};
+use std::alloc::AllocError;
 use std::io;
 
 /// Why a row has no answer, or a file isn't tried to its end.
@@ -27,12 +27,6 @@ impl From<AllocError> for Stop {
 
 impl From<NoMemory> for Stop {
     fn from(_: NoMemory) -> Stop {
-        Stop::Memory
-    }
-}
-
-impl<T: Drop> From<AllocFailed<T>> for Stop {
-    fn from(_: AllocFailed<T>) -> Stop {
         Stop::Memory
     }
 }

@@ -2,17 +2,22 @@
 ghost use Rattle.std.specs.Prelude.{Some, None, bytes_eq, if◌then◌else◌};
 
 use crate::der::told::{encoded, read, told};
+use crate::der::values::moment;
 use crate::row::{Row, place};
 use crate::shown::printed;
 use crate::stop::Stop;
-use cms::builder::{CmsSigner, Error, SignedDataBuilder, SignerInfoBuilder};
+use cms::builder::{
+    CmsSigner, Error, SignedDataBuilder, SignerInfoBuilder, create_content_type_attribute,
+    create_message_digest_attribute, create_signing_time_attribute,
+};
 use cms::cert::CertificateChoices;
+use cms::content_info::ContentInfo;
 use cms::revocation::RevocationInfoChoice;
 use cms::signed_data::EncapsulatedContentInfo;
-use der_core::OctetString;
+use der_core::{ObjectIdentifier, OctetString};
 use foundation::{Duplicate, Sequence};
 use std::alloc::Global;
-use x509_core::{AlgorithmIdentifierOwned, Attribute};
+use x509_core::{AlgorithmIdentifierOwned, Attribute, Certificate};
 
 /// A signer that knows one message with its signature.
 #[derive(Drop)]
@@ -40,45 +45,76 @@ impl CmsSigner for Told {
     }
 }
 
-// The signer of a row.
-fn signer_of(alloc: Global, row: &Row) -> Result<Told, Stop> {
-    let message = OctetString::new(alloc, &row.octets(alloc, "message")?)?;
-    let signature = OctetString::new(alloc, &row.octets(alloc, "signature")?)?;
-    Ok(Told {
-        message,
-        signature,
-        algorithm: read(alloc, row, "algorithm")?,
-    })
+const MADE: &str = "content_type message_digest signing_time from_certificate from_path";
+
+/// An attribute, or a message of certificates alone.
+pub fn made(alloc: Global, row: &Row) -> Result<String, Stop> {
+    match place(row.text("call")?, MADE) {
+        0 => {
+            let identifier = ObjectIdentifier::new(row.text("type")?)?;
+            encoded(alloc, create_content_type_attribute(alloc, identifier))
+        }
+        1 => {
+            let digest = row.octets(alloc, "digest")?;
+            encoded(alloc, create_message_digest_attribute(alloc, &digest))
+        }
+        2 => encoded(alloc, create_signing_time_attribute(alloc, moment(row)?)),
+        3 => {
+            let certificate: Certificate = read(alloc, row, "certificate")?;
+            encoded(alloc, ContentInfo::from_certificate(alloc, certificate))
+        }
+        4 => {
+            let path: Sequence<Certificate> = read(alloc, row, "path")?;
+            encoded(alloc, ContentInfo::from_path(alloc, path.into_vec()))
+        }
+        _ => Err(Stop::Row),
+    }
 }
 
-/// What the builder of a signer tells, or makes.
-pub fn signer(alloc: Global, row: &Row) -> Result<String, Stop> {
-    let signer = signer_of(alloc, row)?;
-    let answer = of_signer(alloc, row, &signer);
-    drop(signer);
-    answer
-}
-
-fn of_signer(alloc: Global, row: &Row, signer: &Told) -> Result<String, Stop> {
+/// A message over content, or what the builder of a signer tells or makes.
+pub fn message(alloc: Global, row: &Row) -> Result<String, Stop> {
     let content: EncapsulatedContentInfo = read(alloc, row, "content")?;
-    let answer = of_content(alloc, row, signer, &content);
+    let answer = of_content(alloc, row, &content);
     drop(content);
     answer
 }
 
-// The version of a signer with the identifier of its algorithm, what the first or the second end of its builder gives,
-// or what is built.
-fn of_content(
+fn of_content(alloc: Global, row: &Row, content: &EncapsulatedContentInfo) -> Result<String, Stop> {
+    if row.find("signer_hex").is_none() {
+        return built(alloc, row, content, None);
+    }
+    let message = OctetString::new(alloc, &row.octets(alloc, "message")?)?;
+    let signature = OctetString::new(alloc, &row.octets(alloc, "signature")?)?;
+    let algorithm = read(alloc, row, "algorithm")?;
+    let signer = Told {
+        algorithm,
+        message,
+        signature,
+    };
+    let answer = of_signer(alloc, row, content, &signer);
+    drop(signer);
+    answer
+}
+
+// The version of a signer with the identifier of its algorithm; what the first or the second end of its builder gives;
+// its information, or a message with it.
+fn of_signer(
     alloc: Global,
     row: &Row,
-    signer: &Told,
     content: &EncapsulatedContentInfo,
+    signer: &Told,
 ) -> Result<String, Stop> {
     let digest = row.octets(alloc, "digest")?;
-    let digest = Some(digest.as_slice()).filter(|digest| !digest.is_empty());
-    let mut builder = builder_of(alloc, row, signer, content, digest)?;
+    let digest = if digest.is_empty() {
+        None
+    } else {
+        Some(digest.as_slice())
+    };
+    let algorithm = read(alloc, row, "digest_algorithm")?;
+    let identifier = read(alloc, row, "signer")?;
+    let mut builder = SignerInfoBuilder::new(alloc, signer, identifier, algorithm, content, digest);
     add_attributes(alloc, row, &mut builder)?;
-    match place(row.text("gives")?, "version end second_end info") {
+    match place(row.text("gives")?, "version end second_end info message") {
         0 => {
             let version = builder.version();
             printed(
@@ -92,20 +128,9 @@ fn of_content(
             told(alloc, builder.finalize(alloc))
         }
         3 => encoded(alloc, builder.build(alloc)),
+        4 => built(alloc, row, content, Some(builder)),
         _ => Err(Stop::Row),
     }
-}
-
-fn builder_of<'s>(
-    alloc: Global,
-    row: &Row,
-    signer: &'s Told,
-    content: &'s EncapsulatedContentInfo,
-    digest: Option<&'s [u8]>,
-) -> Result<SignerInfoBuilder<'s, Told>, Stop> {
-    let identifier = read(alloc, row, "signer")?;
-    let algorithm = read(alloc, row, "digest_algorithm")?;
-    Ok(SignerInfoBuilder::new(alloc, signer, identifier, algorithm, content, digest))
 }
 
 fn add_attributes(
@@ -122,57 +147,34 @@ fn add_attributes(
     Ok(())
 }
 
-/// A message.
-pub fn message(alloc: Global, row: &Row) -> Result<String, Stop> {
-    let content: EncapsulatedContentInfo = read(alloc, row, "content")?;
-    let answer = built(alloc, row, &content);
-    drop(content);
-    answer
-}
-
-fn built(alloc: Global, row: &Row, content: &EncapsulatedContentInfo) -> Result<String, Stop> {
+fn built(
+    alloc: Global,
+    row: &Row,
+    content: &EncapsulatedContentInfo,
+    signer: Option<SignerInfoBuilder<Told>>,
+) -> Result<String, Stop> {
     let mut builder = SignedDataBuilder::new(alloc, content);
-    add_parts(alloc, row, &mut builder)?;
-    if row.find("signer_hex").is_some() {
-        add_signer(alloc, row, content, &mut builder)?;
+    if let Some(signer) = signer {
+        builder.add_signer_info(alloc, signer)?;
     }
+    add_parts(alloc, row, &mut builder)?;
     encoded(alloc, builder.build(alloc))
 }
 
 // Adds algorithms, certificates and lists, each certificate behind a build.
 fn add_parts(alloc: Global, row: &Row, builder: &mut SignedDataBuilder) -> Result<(), Stop> {
-    for algorithm in read::<Sequence<AlgorithmIdentifierOwned>>(
-        alloc,
-        row,
-        "algorithms",
-    )?.into_vec()
-    {
+    let algorithms: Sequence<AlgorithmIdentifierOwned> = read(alloc, row, "algorithms")?;
+    for algorithm in algorithms.into_vec() {
         builder.add_digest_algorithm(algorithm)?;
     }
-    for certificate in read::<Sequence<CertificateChoices>>(
-        alloc,
-        row,
-        "certificates",
-    )?.into_vec()
-    {
+    let certificates: Sequence<CertificateChoices> = read(alloc, row, "certificates")?;
+    for certificate in certificates.into_vec() {
         drop(builder.build(alloc)?);
         builder.add_certificate(certificate)?;
     }
-    for list in read::<Sequence<RevocationInfoChoice>>(alloc, row, "lists")?.into_vec() {
+    let lists: Sequence<RevocationInfoChoice> = read(alloc, row, "lists")?;
+    for list in lists.into_vec() {
         builder.add_crl(list)?;
     }
-    Ok(())
-}
-
-fn add_signer(
-    alloc: Global,
-    row: &Row,
-    content: &EncapsulatedContentInfo,
-    builder: &mut SignedDataBuilder,
-) -> Result<(), Stop> {
-    let signer = signer_of(alloc, row)?;
-    let mut one = builder_of(alloc, row, &signer, content, None)?;
-    add_attributes(alloc, row, &mut one)?;
-    builder.add_signer_info(alloc, one)?;
     Ok(())
 }

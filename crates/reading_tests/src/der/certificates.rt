@@ -6,8 +6,10 @@ use crate::stop::Stop;
 use der_core::ObjectIdentifier;
 use hex::FromHex;
 use std::alloc::Global;
+use std::fmt;
+use std::fmt::Debug;
 use x509_core::{
-    CertView, RsaKeyView, SpkiView, X509Error, precert_tbs, sct_list, sct_signed_bytes,
+    CertView, Extensions, RsaKeyView, SpkiView, X509Error, precert_tbs, sct_list, sct_signed_bytes,
 };
 
 /// What is told of a certificate, which is the same whether it is read without memory or with it.
@@ -53,7 +55,7 @@ fn part(
                 extension.map(|it| (it.critical, Hexadecimal(it.value))),
             );
         }
-        7 => return marked(alloc, &cert),
+        7 => return printed(alloc, Marked(cert.each_extension())),
         8 => return printed(alloc, (cert.not_before, cert.not_after)),
         9 => {
             let (from, to) = (cert.not_before.moment(), cert.not_after.moment());
@@ -66,40 +68,47 @@ fn part(
     printed(alloc, (is_whole, version, Hexadecimal(part)))
 }
 
-// The identifiers of a certificate's extensions in their order, each with its critical mark behind it.
-fn marked(alloc: Global, cert: &CertView<'_>) -> Result<String, Stop> {
-    let mut marked = Vec::new(alloc);
-    for extension in cert.each_extension() {
-        marked.extend_from_slice(extension.oid)?;
-        marked.push(extension.critical as u8)?;
+// The identifiers of extensions in their order, each with its critical mark behind it.
+struct Marked<'a>(Extensions<'a>);
+
+impl Debug for Marked<'_> {
+    fn fmt<W: fmt::Write>(&self, f: &mut fmt::Formatter<W>) -> fmt::Result {
+        for extension in self.0 {
+            let (oid, mark) = (Hexadecimal(extension.oid), extension.critical as u8);
+            write!(f, "{oid:?}{mark:02x}")?;
+        }
+        Ok(())
     }
-    printed(alloc, Hexadecimal(&marked))
 }
 
 /// The identifier and the parameters of a key, and the number of unused bits, the length and the last octet of its
-/// bits.
+/// bits; or the number of the bits of an RSA key's modulus, and its public exponent.
 pub fn key(alloc: Global, row: &Row) -> Result<String, Stop> {
     let octets = row.octets(alloc, "key")?;
-    let key = SpkiView::parse(&octets).map(|key| {
-        (
-            Hexadecimal(key.oid),
-            Hexadecimal(key.parameters.unwrap_or(&[])),
-            key.unused_bits,
-            key.key.len(),
-            key.key.last(),
-        )
-    });
-    printed(alloc, key)
-}
-
-/// The number of the bits of an RSA key's modulus, and its public exponent.
-pub fn rsa_key(alloc: Global, row: &Row) -> Result<String, Stop> {
-    let octets = row.octets(alloc, "key")?;
-    let key = RsaKeyView::parse(&octets);
-    printed(
-        alloc,
-        key.map(|key| (key.modulus_bits(), Hexadecimal(key.exponent))),
-    )
+    match place(row.text("type")?, "SpkiView RsaKeyView") {
+        0 => {
+            let key = SpkiView::parse(&octets).map(|key| {
+                let parameters = key.parameters.unwrap_or(&[]);
+                let (unused, length, last) = (key.unused_bits, key.key.len(), key.key.last());
+                (
+                    Hexadecimal(key.oid),
+                    Hexadecimal(parameters),
+                    unused,
+                    length,
+                    last,
+                )
+            });
+            printed(alloc, key)
+        }
+        1 => {
+            let key = RsaKeyView::parse(&octets);
+            printed(
+                alloc,
+                key.map(|key| (key.modulus_bits(), Hexadecimal(key.exponent))),
+            )
+        }
+        _ => Err(Stop::Row),
+    }
 }
 
 /// The last timestamp of a list: its log, its milliseconds, the length of its extensions, its algorithms and the length
@@ -120,12 +129,6 @@ pub fn timestamp(alloc: Global, row: &Row) -> Result<String, Stop> {
         })
     });
     printed(alloc, told)
-}
-
-/// The number of timestamps in a list.
-pub fn timestamps(alloc: Global, row: &Row) -> Result<String, Stop> {
-    let octets = row.octets(alloc, "list")?;
-    printed(alloc, sct_list(alloc, &octets).map(|list| list.len()))
 }
 
 /// What the log of a list's last timestamp signs with it for the signed part of a certificate and its issuer's key.

@@ -4,6 +4,7 @@ use crate::stop::Stop;
 use cms::builder::{BuilderFault, Error};
 use der_core::DerError;
 use std::alloc::Global;
+use std::fmt::Display;
 
 const DER_REFUSALS: &str = "Truncated Length Tag Value Trailing SetDuplicate Oid TooLong NoMemory";
 
@@ -38,13 +39,7 @@ pub fn of_builder(alloc: Global, row: &Row) -> Result<String, Stop> {
     Ok(format!(in alloc; "{number} {refusal}")?)
 }
 
-/// What is wrong in what a signer is to sign.
-pub fn fault(alloc: Global, row: &Row) -> Result<String, Stop> {
-    let fault = match place(row.text("fault")?, "ContentTwice NoHasher ContentType") {
-        0 => BuilderFault::ContentTwice,
-        1 => BuilderFault::NoHasher,
-        2 => BuilderFault::ContentType,
-        _ => return Err(Stop::Row),
-    };
-    Ok(format!(in alloc; "{fault}")?)
+/// The text of a refusal, which is let go.
+pub fn displayed<D: Display + Drop>(alloc: Global, refusal: D) -> Result<String, Stop> {
+    Ok(format!(in alloc; "{refusal}")?)
 }

@@ -1,5 +1,5 @@
 // Encodings: read as a type by its name, copied, and written again.
-use crate::der::told::{filled, told};
+use crate::der::told::told;
 use crate::row::{Row, place};
 use crate::shown::{copied, printed};
 use crate::stop::Stop;
@@ -60,18 +60,12 @@ pub fn kept(
     }
 }
 
-/// Octets as a type.
-pub fn again_of(alloc: Global, row: &Row) -> Result<String, Stop> {
-    let octets = filled(alloc, row, "octets")?;
-    of_certificates(alloc, row.text("type")?, &octets)
-}
-
 /// What a message holds, as a type.
 pub fn content(alloc: Global, row: &Row) -> Result<String, Stop> {
     let octets = row.octets(alloc, "octets")?;
     let info = ContentInfo::from_der(alloc, &octets);
     match info.and_then(|info| info.content.to_der(alloc)) {
-        Ok(content) => of_certificates(alloc, row.text("type")?, content.as_bytes()),
+        Ok(content) => of_name(alloc, row.text("type")?, content.as_bytes()),
         Err(refusal) => printed(alloc, Err::<(), DerError>(refusal)),
     }
 }
@@ -81,8 +75,8 @@ Any Int Uint BitString OctetString Utf8 Ia5 bool Octet U16 U64 ObjectIdentifier 
 UtcTime GeneralizedTime Time AlgorithmIdentifierOwned Attributes Extension GeneralName Name \
 SubjectKeyIdentifier SerialNumber CertificateList Certificate";
 
-// A type of DER or of certificates; any other name is one of messages.
-fn of_certificates(alloc: Global, name: &str, octets: &[u8]) -> Result<String, Stop> {
+/// Octets as a type of DER or of certificates, or by any other name as one of messages.
+pub fn of_name(alloc: Global, name: &str, octets: &[u8]) -> Result<String, Stop> {
     match place(name, TYPES) {
         0 => again::<Any>(alloc, octets),
         1 => again::<Int>(alloc, octets),

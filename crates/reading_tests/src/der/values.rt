@@ -1,5 +1,5 @@
 // Values of DER: made, read, compared and written.
-use crate::der::told::{Hexadecimal, encoded, filled, told};
+use crate::der::told::{Hexadecimal, encoded, filled, read, told};
 use crate::der::types::kept;
 use crate::row::{Row, place};
 use crate::shown::printed;
@@ -13,7 +13,7 @@ use jiff::Timestamp;
 use serde_json::Value;
 use std::alloc::Global;
 use std::fmt::Debug;
-use x509_core::OtherName;
+use x509_core::{OtherName, sct_list};
 
 /// The value of octets, or of a tag with contents behind it.
 pub fn made(alloc: Global, row: &Row) -> Result<String, Stop> {
@@ -30,34 +30,40 @@ pub fn made(alloc: Global, row: &Row) -> Result<String, Stop> {
     }
 }
 
-/// The magnitude of a number, the length of an OCTET STRING, or the tag of a name.
-pub fn held(alloc: Global, row: &Row) -> Result<String, Stop> {
+const GIVEN: &str = "magnitude length tag is_identifier is_unsigned default timestamps";
+
+/// The magnitude of a number, the length of an OCTET STRING, or the tag of a name; whether octets are the contents of an
+/// identifier, or of a number; a BOOLEAN DEFAULT FALSE as it is read; or the number of timestamps in a list.
+pub fn given(alloc: Global, row: &Row) -> Result<String, Stop> {
     let octets = filled(alloc, row, "octets")?;
-    match place(row.text("type")?, "Uint OctetString OtherName") {
+    match place(row.text("gives")?, GIVEN) {
         0 => {
             let number = Uint::new(alloc, &octets);
-            printed(
-                alloc,
-                number.as_ref().map(|number| Hexadecimal(number.as_bytes())),
-            )
+            printed(alloc, number.as_ref().map(|it| Hexadecimal(it.as_bytes())))
         }
-        1 => {
-            let value = OctetString::from_der(alloc, &octets);
-            printed(alloc, value.map(|value| value.as_bytes().len()))
-        }
+        1 => printed(
+            alloc,
+            OctetString::from_der(alloc, &octets).map(|it| it.as_bytes().len()),
+        ),
         2 => {
             let name = OtherName::new(alloc, Tag(row.number("tag")?), &octets);
-            printed(alloc, name.map(|name| name.tag_byte()))
+            printed(alloc, name.map(|it| it.tag_byte()))
         }
+        3 => printed(alloc, ObjectIdentifier::is_contents(&octets)),
+        4 => printed(alloc, Uint::is_contents(&octets)),
+        5 => printed(alloc, read_default(alloc, false, &mut Reader::new(&octets))),
+        6 => printed(alloc, sct_list(alloc, &octets).map(|it| it.len())),
         _ => Err(Stop::Row),
     }
 }
 
-/// The encoding of an INTEGER behind octets.
+/// Octets, and behind them the encoding of an INTEGER, or that of a truth where it isn't the default `false`.
 pub fn appended(alloc: Global, row: &Row) -> Result<String, Stop> {
-    let number = Int::new(alloc, &row.octets(alloc, "octets")?)?;
     let mut out = OctetString::new(alloc, &row.octets(alloc, "before")?)?;
-    let appended = number.encode_into(alloc, &mut out);
+    let appended = match row.find("truth").and_then(Value::as_bool) {
+        Some(truth) => append_default(alloc, &false, &truth, &mut out),
+        None => Int::new(alloc, &row.octets(alloc, "octets")?)?.encode_into(alloc, &mut out),
+    };
     told(alloc, appended.map(|_| out))
 }
 
@@ -82,21 +88,6 @@ pub fn two_values(alloc: Global, row: &Row) -> Result<String, Stop> {
     printed(alloc, (first.value, first.whole, next, second.whole, last))
 }
 
-/// A BOOLEAN DEFAULT FALSE as it is read.
-pub fn truth_read(alloc: Global, row: &Row) -> Result<String, Stop> {
-    let octets = row.octets(alloc, "octets")?;
-    let mut reader = Reader::new(&octets);
-    printed(alloc, read_default(alloc, false, &mut reader))
-}
-
-/// A BOOLEAN DEFAULT FALSE as it is written.
-pub fn truth_written(alloc: Global, row: &Row) -> Result<String, Stop> {
-    let truth = row.find("truth").and_then(Value::as_bool).ok_or(Stop::Row)?;
-    let mut out = OctetString::empty(alloc);
-    let appended = append_default(alloc, &false, &truth, &mut out);
-    told(alloc, appended.map(|_| out))
-}
-
 /// The INTEGER DEFAULT 0 under tag a0 at the front of octets, written again.
 pub fn number_again(alloc: Global, row: &Row) -> Result<String, Stop> {
     let octets = row.octets(alloc, "octets")?;
@@ -110,48 +101,48 @@ pub fn number_again(alloc: Global, row: &Row) -> Result<String, Stop> {
     kept(alloc, &octets, written.map(|_| out))
 }
 
-// The set of INTEGERs of one octet each, put in one after the other.
-fn inserted(alloc: Global, octets: &[u8]) -> Result<SetOfVec<Int>, DerError> {
+// The set of INTEGERs, put in one after the other.
+fn inserted(alloc: Global, members: Vec<Int>) -> Result<SetOfVec<Int>, DerError> {
     let mut set = SetOfVec::new(alloc);
-    for octet in octets {
-        set.insert(alloc, Int::new(alloc, &[*octet])?)?;
+    for member in members {
+        set.insert(alloc, member)?;
     }
     Ok(set)
 }
 
-// The same set, all at once.
-fn collected(alloc: Global, octets: &[u8]) -> Result<SetOfVec<Int>, DerError> {
-    let mut items = Vec::new(alloc);
-    for octet in octets {
-        items.push(Int::new(alloc, &[*octet])?)?;
-    }
-    SetOfVec::try_from(alloc, items)
-}
-
-/// A set of INTEGERs of one octet each: how many members it has once they are put in, and whether none stands behind
-/// them; what it is all at once; or whether one made either way is the other.
+/// A set of INTEGERs: how many members it has once they are put in, and whether none stands behind them; what it is all
+/// at once; or whether one is another that was made so.
 pub fn set(alloc: Global, row: &Row) -> Result<String, Stop> {
-    let octets = row.octets(alloc, "octets")?;
+    let members = read::<Sequence<Int>>(alloc, row, "members")?.into_vec();
     match place(row.text("by")?, "insert try_from eq") {
         0 => {
-            let set = inserted(alloc, &octets);
+            let set = inserted(alloc, members);
             printed(
                 alloc,
                 set.map(|set| (set.len(), set.get(set.len()).is_none())),
             )
         }
-        1 => encoded(alloc, collected(alloc, &octets)),
+        1 => encoded(alloc, SetOfVec::try_from(alloc, members)),
         2 => {
-            let other = row.octets(alloc, "other")?;
-            printed(alloc, inserted(alloc, &octets) == collected(alloc, &other))
+            let others = read::<Sequence<Int>>(alloc, row, "others")?.into_vec();
+            let is_same = inserted(alloc, members) == SetOfVec::try_from(alloc, others);
+            printed(alloc, is_same)
         }
         _ => Err(Stop::Row),
     }
 }
 
-/// The identifier that a text spells, its parent, its contents, or the number of its arcs and those at 1, 6 and 9.
+/// The identifier that a text spells, or the one of three arcs; its parent, its contents, or the number of its arcs and
+/// those at 1, 6 and 9.
 pub fn identifier(alloc: Global, row: &Row) -> Result<String, Stop> {
-    let identifier = ObjectIdentifier::new(row.text("text")?);
+    let identifier = match row.find_text("text") {
+        Some(text) => ObjectIdentifier::new(text),
+        None => ObjectIdentifier::from_arcs(&[
+            row.number("first")?,
+            row.number("second")?,
+            row.number("third")?,
+        ]),
+    };
     match place(row.text("part")?, "whole parent contents arcs") {
         0 => encoded(alloc, identifier),
         1 => encoded(
@@ -166,16 +157,6 @@ pub fn identifier(alloc: Global, row: &Row) -> Result<String, Stop> {
             alloc,
             identifier.map(|it| (it.len(), it.arc(1), it.arc(6), it.arc(9))),
         ),
-        _ => Err(Stop::Row),
-    }
-}
-
-/// Whether octets are the contents of an identifier, or of a number.
-pub fn is_contents(alloc: Global, row: &Row) -> Result<String, Stop> {
-    let octets = row.octets(alloc, "octets")?;
-    match place(row.text("type")?, "ObjectIdentifier Uint") {
-        0 => printed(alloc, ObjectIdentifier::is_contents(&octets)),
-        1 => printed(alloc, Uint::is_contents(&octets)),
         _ => Err(Stop::Row),
     }
 }
