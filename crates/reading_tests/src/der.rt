@@ -7,13 +7,13 @@ mod told;
 mod types;
 mod values;
 
+use crate::der::told::filled;
 use crate::row::{Row, place};
 use crate::stop::Stop;
 use cms::builder::BuilderFault;
 use der_core::{GeneralizedTimeKind, UtcTimeKind};
 use foundation::{NoMemory, Sequence};
 use std::alloc::Global;
-use told::filled;
 
 const CALLS: &str = "\
 again content new octets append der_cmp reader explicit_default set identifier utc_moment generalized_moment \

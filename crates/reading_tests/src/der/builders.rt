@@ -13,7 +13,7 @@ use cms::builder::{
 use cms::cert::CertificateChoices;
 use cms::content_info::ContentInfo;
 use cms::revocation::RevocationInfoChoice;
-use cms::signed_data::EncapsulatedContentInfo;
+use cms::signed_data::{EncapsulatedContentInfo, SignerIdentifier};
 use der_core::{ObjectIdentifier, OctetString};
 use foundation::{Duplicate, Sequence};
 use std::alloc::Global;
@@ -85,7 +85,7 @@ fn of_content(alloc: Global, row: &Row, content: &EncapsulatedContentInfo) -> Re
     }
     let message = OctetString::new(alloc, &row.octets(alloc, "message")?)?;
     let signature = OctetString::new(alloc, &row.octets(alloc, "signature")?)?;
-    let algorithm = read(alloc, row, "algorithm")?;
+    let algorithm: AlgorithmIdentifierOwned = read(alloc, row, "algorithm")?;
     let signer = Told {
         algorithm,
         message,
@@ -110,8 +110,8 @@ fn of_signer(
     } else {
         Some(digest.as_slice())
     };
-    let algorithm = read(alloc, row, "digest_algorithm")?;
-    let identifier = read(alloc, row, "signer")?;
+    let algorithm: AlgorithmIdentifierOwned = read(alloc, row, "digest_algorithm")?;
+    let identifier: SignerIdentifier = read(alloc, row, "signer")?;
     let mut builder = SignerInfoBuilder::new(alloc, signer, identifier, algorithm, content, digest);
     add_attributes(alloc, row, &mut builder)?;
     match place(row.text("gives")?, "version end second_end info message") {

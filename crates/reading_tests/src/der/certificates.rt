@@ -115,12 +115,15 @@ pub fn key(alloc: Global, row: &Row) -> Result<String, Stop> {
 /// of its signature.
 pub fn timestamp(alloc: Global, row: &Row) -> Result<String, Stop> {
     let octets = row.octets(alloc, "list")?;
-    let last = sct_list(alloc, &octets).map(|mut list| list.pop());
+    let last = match sct_list(alloc, &octets) {
+        Ok(mut list) => Ok(list.pop()),
+        Err(refusal) => Err(refusal),
+    };
     let last = copied(alloc, last)?;
     let told = last.as_ref().map(|last| {
         last.as_ref().map(|sct| {
             (
-                Hexadecimal(sct.log_id()),
+                Hexadecimal(sct.log_id().as_slice()),
                 sct.milliseconds(),
                 sct.extensions().len(),
                 sct.algorithm(),

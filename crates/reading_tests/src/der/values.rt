@@ -51,7 +51,10 @@ pub fn given(alloc: Global, row: &Row) -> Result<String, Stop> {
         }
         3 => printed(alloc, ObjectIdentifier::is_contents(&octets)),
         4 => printed(alloc, Uint::is_contents(&octets)),
-        5 => printed(alloc, read_default(alloc, false, &mut Reader::new(&octets))),
+        5 => {
+            let mut reader = Reader::new(&octets);
+            printed(alloc, read_default(alloc, false, &mut reader))
+        }
         6 => printed(alloc, sct_list(alloc, &octets).map(|it| it.len())),
         _ => Err(Stop::Row),
     }
@@ -60,11 +63,11 @@ pub fn given(alloc: Global, row: &Row) -> Result<String, Stop> {
 /// Octets, and behind them the encoding of an INTEGER, or that of a truth where it isn't the default `false`.
 pub fn appended(alloc: Global, row: &Row) -> Result<String, Stop> {
     let mut out = OctetString::new(alloc, &row.octets(alloc, "before")?)?;
-    let appended = match row.find("truth").and_then(Value::as_bool) {
-        Some(truth) => append_default(alloc, &false, &truth, &mut out),
-        None => Int::new(alloc, &row.octets(alloc, "octets")?)?.encode_into(alloc, &mut out),
-    };
-    told(alloc, appended.map(|_| out))
+    match row.find("truth").and_then(Value::as_bool) {
+        Some(truth) => append_default(alloc, &false, &truth, &mut out)?,
+        None => Int::new(alloc, &row.octets(alloc, "octets")?)?.encode_into(alloc, &mut out)?,
+    }
+    told::<DerError>(alloc, Ok(out))
 }
 
 /// How the encodings of two INTEGERs are ordered.
@@ -91,14 +94,16 @@ pub fn two_values(alloc: Global, row: &Row) -> Result<String, Stop> {
 /// The INTEGER DEFAULT 0 under tag a0 at the front of octets, written again.
 pub fn number_again(alloc: Global, row: &Row) -> Result<String, Stop> {
     let octets = row.octets(alloc, "octets")?;
-    let (zero, other) = (Int::new(alloc, &[0])?, Int::new(alloc, &[0])?);
     let mut reader = Reader::new(&octets);
-    let read = read_explicit_default(alloc, Tag(0xa0), other, &mut reader);
+    let read = read_explicit_default(alloc, Tag(0xa0), Int::new(alloc, &[0])?, &mut reader);
+    let number = match read {
+        Ok(number) => number,
+        Err(refusal) => return printed(alloc, Err::<(), DerError>(refusal)),
+    };
+    let zero = Int::new(alloc, &[0])?;
     let mut out = OctetString::empty(alloc);
-    let written = read.and_then(|number| {
-        append_explicit_default(alloc, Tag(0xa0), &zero, &number, &mut out)
-    });
-    kept(alloc, &octets, written.map(|_| out))
+    append_explicit_default(alloc, Tag(0xa0), &zero, &number, &mut out)?;
+    kept(alloc, &octets, Ok(out))
 }
 
 // The set of INTEGERs, put in one after the other.
