@@ -104,6 +104,7 @@ fn of_signer(
     content: &EncapsulatedContentInfo,
     signer: &Told,
 ) -> Result<String, Stop> {
+    let gives = place(row.text("gives")?, "version end second_end info message");
     let digest = row.octets(alloc, "digest")?;
     let digest = if digest.is_empty() {
         None
@@ -114,7 +115,7 @@ fn of_signer(
     let identifier: SignerIdentifier = read(alloc, row, "signer")?;
     let mut builder = SignerInfoBuilder::new(alloc, signer, identifier, algorithm, content, digest);
     add_attributes(alloc, row, &mut builder)?;
-    match place(row.text("gives")?, "version end second_end info message") {
+    match gives {
         0 => {
             let version = builder.version();
             printed(
@@ -154,15 +155,20 @@ fn built(
     signer: Option<SignerInfoBuilder<Told>>,
 ) -> Result<String, Stop> {
     let mut builder = SignedDataBuilder::new(alloc, content);
-    if let Some(signer) = signer {
-        builder.add_signer_info(alloc, signer)?;
-    }
-    add_parts(alloc, row, &mut builder)?;
+    add_parts(alloc, row, signer, &mut builder)?;
     encoded(alloc, builder.build(alloc))
 }
 
-// Adds algorithms, certificates and lists, each certificate behind a build.
-fn add_parts(alloc: Global, row: &Row, builder: &mut SignedDataBuilder) -> Result<(), Stop> {
+// Adds a signer, algorithms, certificates and lists, each certificate behind a build.
+fn add_parts(
+    alloc: Global,
+    row: &Row,
+    signer: Option<SignerInfoBuilder<Told>>,
+    builder: &mut SignedDataBuilder,
+) -> Result<(), Stop> {
+    if let Some(signer) = signer {
+        builder.add_signer_info(alloc, signer)?;
+    }
     let algorithms: Sequence<AlgorithmIdentifierOwned> = read(alloc, row, "algorithms")?;
     for algorithm in algorithms.into_vec() {
         builder.add_digest_algorithm(algorithm)?;

@@ -69,6 +69,7 @@ fn part(
 }
 
 // The identifiers of extensions in their order, each with its critical mark behind it.
+#[derive(Clone, Copy)]
 struct Marked<'a>(Extensions<'a>);
 
 impl Debug for Marked<'_> {
@@ -115,23 +116,16 @@ pub fn key(alloc: Global, row: &Row) -> Result<String, Stop> {
 /// of its signature.
 pub fn timestamp(alloc: Global, row: &Row) -> Result<String, Stop> {
     let octets = row.octets(alloc, "list")?;
-    let last = match sct_list(alloc, &octets) {
-        Ok(mut list) => Ok(list.pop()),
-        Err(refusal) => Err(refusal),
+    let Ok(mut list) = sct_list(alloc, &octets) else {
+        return Err(Stop::Row);
     };
-    let last = copied(alloc, last)?;
-    let told = last.as_ref().map(|last| {
-        last.as_ref().map(|sct| {
-            (
-                Hexadecimal(sct.log_id().as_slice()),
-                sct.milliseconds(),
-                sct.extensions().len(),
-                sct.algorithm(),
-                sct.signature().len(),
-            )
-        })
-    });
-    printed(alloc, told)
+    let sct = copied(alloc, list.pop().ok_or(Stop::Row))??;
+    let (log, milliseconds) = (Hexadecimal(sct.log_id().as_slice()), sct.milliseconds());
+    let (extensions, signature) = (sct.extensions().len(), sct.signature().len());
+    printed(
+        alloc,
+        (log, milliseconds, extensions, sct.algorithm(), signature),
+    )
 }
 
 /// What the log of a list's last timestamp signs with it for the signed part of a certificate and its issuer's key.
