@@ -12,7 +12,7 @@ use crate::row::{Row, place};
 use crate::stop::Stop;
 use cms::builder::BuilderFault;
 use der_core::{GeneralizedTimeKind, UtcTimeKind};
-use foundation::{NoMemory, Sequence};
+use foundation::NoMemory;
 use std::alloc::Global;
 
 const CALLS: &str = "\
@@ -37,8 +37,8 @@ pub fn answer(alloc: Global, row: &Row) -> Result<String, Stop> {
         11 => values::second::<GeneralizedTimeKind>(alloc, row),
         12 => values::letters::<UtcTimeKind>(alloc, row),
         13 => values::letters::<GeneralizedTimeKind>(alloc, row),
-        14 => values::list(alloc, Sequence::from_vec(vec![in alloc; 7u64, 8, 9]?)),
-        15 => values::list(alloc, Sequence::from_vec(vec![in alloc; Some(true), None]?)),
+        14 => values::list(alloc, vec![in alloc; 7u64, 8, 9]),
+        15 => values::list(alloc, vec![in alloc; Some(true), None]),
         16 => refusals::of_der(alloc, row),
         17 => refusals::of_builder(alloc, row),
         18 => refusals::displayed(alloc, NoMemory),

@@ -196,13 +196,16 @@ pub fn letters<K: TimeKind>(alloc: Global, row: &Row) -> Result<String, Stop> {
 
 /// Whether a new list is empty, the length of one that items are put into, whether its copy equals it, and the copy's
 /// items.
-pub fn list<T: Duplicate + PartialEq + Debug>(
+pub fn list<T: Duplicate + PartialEq + Debug, E: Drop>(
     alloc: Global,
-    items: Sequence<T>,
+    items: Result<Vec<T>, E>,
 ) -> Result<String, Stop> {
+    let Ok(items) = items else {
+        return Err(Stop::Memory);
+    };
     let mut list = Sequence::new(alloc);
     let is_empty = list.is_empty();
-    for item in items.into_vec() {
+    for item in Sequence::from_vec(items).into_vec() {
         list.push(item)?;
     }
     let copy = list.duplicate(alloc)?;
