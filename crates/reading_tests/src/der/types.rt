@@ -36,8 +36,8 @@ use x509_core::{
     Name, SerialNumber, SubjectKeyIdentifier, Time,
 };
 
-/// `kept` where the value that octets are is written again to these, else what is written, or the refusal.
-pub fn again<T: Der + Duplicate + PartialEq>(alloc: Global, octets: &[u8]) -> Result<String, Stop> {
+// `kept` where the value that octets are is written again to these, else what is written, or the refusal.
+fn again<T: Der + Duplicate + PartialEq>(alloc: Global, octets: &[u8]) -> Result<String, Stop> {
     match copied(alloc, T::from_der(alloc, octets))? {
         Ok(value) => kept(alloc, octets, value.to_der(alloc)),
         Err(refusal) => printed(alloc, Err::<(), DerError>(refusal)),
