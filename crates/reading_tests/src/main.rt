@@ -3,6 +3,7 @@
 //! wanted, their number is printed, else each row that differs; the status tells which.
 #![tactic(auto)]
 
+mod der;
 mod path;
 mod rekor;
 mod row;

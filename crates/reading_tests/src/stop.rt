@@ -1,4 +1,6 @@
 // Why there is no answer.
+use cms::builder::Error;
+use der_core::DerError;
 use foundation::NoMemory;
 use sigstore_types_parts::TypesError;
 use std::alloc::AllocError;
@@ -26,6 +28,24 @@ impl From<AllocError> for Stop {
 impl From<NoMemory> for Stop {
     fn from(_: NoMemory) -> Stop {
         Stop::Memory
+    }
+}
+
+impl From<DerError> for Stop {
+    fn from(refusal: DerError) -> Stop {
+        match refusal {
+            DerError::NoMemory => Stop::Memory,
+            _ => Stop::Row,
+        }
+    }
+}
+
+impl From<Error> for Stop {
+    fn from(refusal: Error) -> Stop {
+        match refusal {
+            Error::NoMemory => Stop::Memory,
+            _ => Stop::Row,
+        }
     }
 }
 

@@ -1,7 +1,7 @@
 // Trying the rows of files.
 use crate::row::{Row, place};
 use crate::stop::Stop;
-use crate::{path, rekor, tsa};
+use crate::{der, path, rekor, tsa};
 use std::alloc::Global;
 use std::rt::Runtime;
 use std::{env, fs};
@@ -60,10 +60,11 @@ fn difference(alloc: Global, path: &str, line: &str) -> Result<Option<String>, S
 // A group's rows stand in the folder of its name, and its calls in the module of that name.
 fn answer(alloc: Global, path: &str, row: &Row) -> Result<String, Stop> {
     let (group, _) = path.split_once("/").ok_or(Stop::Row)?;
-    match place(group, "rekor tsa path") {
-        0 => rekor::answer(alloc, row),
-        1 => tsa::answer(alloc, row),
-        2 => path::answer(alloc, row),
+    match place(group, "der rekor tsa path") {
+        0 => der::answer(alloc, row),
+        1 => rekor::answer(alloc, row),
+        2 => tsa::answer(alloc, row),
+        3 => path::answer(alloc, row),
         _ => Err(Stop::Row),
     }
 }
