@@ -76,7 +76,11 @@ class Repository:
         meta = {"version": 1}
         self.timestamp = self.document("timestamp", meta={"snapshot.json": meta})
         self.snapshot = self.document("snapshot", meta={"targets.json": meta})
-        self.listed = {}
+        self.listed, self.signed, self.fixed_rows = {}, {}, list(self.rows)
+
+    def rows_around(self, trust):
+        """The rows of the documents around a trust file, which was asked for."""
+        return [*self.fixed_rows, self.signed[trust]]
 
     def document(self, kind, **members):
         return self.roles[kind].document(kind, self.rows, **members)
@@ -91,6 +95,7 @@ class Repository:
             octets = trust.encode()
             pin = {"length": len(octets), "hashes": {"sha256": hashlib.sha256(octets).hexdigest()}}
             self.listed[trust] = self.document("targets", targets={"trusted_root.json": pin})
+            self.signed[trust] = self.rows[-1]
         return {TRUST: trust, "repository/targets.json": self.listed[trust]}
 
 
