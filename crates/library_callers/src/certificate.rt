@@ -2,7 +2,9 @@
 use certificate_claims::parse_certificate_info;
 use jiff::Timestamp;
 use path_core::Anchor;
-use sigstore_certificate::{IdentityMatcher, Refusal, VerificationPolicy, judge_certificate};
+use sigstore_certificate::{
+    CertificateRefusal, IdentityMatcher, VerificationPolicy, judge_certificate,
+};
 use sigstore_keys::{CryptoProvider, Error, Keyring};
 use sigstore_types_parts::{DerCertificate, Text};
 use std::alloc::Global;
@@ -19,11 +21,11 @@ pub fn check_signer<C: CryptoProvider>(
     certificate: &DerCertificate,
     intermediates: &[DerCertificate],
     signed_at: Timestamp,
-) -> Result<u64, Refusal> {
+) -> Result<u64, CertificateRefusal> {
     let info = match parse_certificate_info(alloc, certificate) {
         Ok(info) => info,
-        Err(Error::NoMemory) => return Err(Refusal::NoMemory),
-        Err(_) => return Err(Refusal::Malformed),
+        Err(Error::NoMemory) => return Err(CertificateRefusal::NoMemory),
+        Err(_) => return Err(CertificateRefusal::Malformed),
     };
     let policy = VerificationPolicy::new(IdentityMatcher::Email(address), issuer);
     judge_certificate(
