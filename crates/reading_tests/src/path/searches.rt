@@ -22,7 +22,7 @@ struct Searched {
     asked: u64,
 }
 
-fn searched(alloc: Global, row: &Row) -> Result<Searched, Stop> {
+fn search(alloc: Global, row: &Row) -> Result<Searched, Stop> {
     let purpose = match place(row.text("purpose")?, "CodeSigning TimeStamping") {
         0 => Purpose::CodeSigning,
         1 => Purpose::TimeStamping,
@@ -74,13 +74,13 @@ fn anchors(alloc: Global, row: &Row) -> Result<Result<Sequence<Anchor>, PathErro
 
 /// The first path.
 pub fn path(alloc: Global, row: &Row) -> Result<String, Stop> {
-    let searched = searched(alloc, row)?;
+    let searched = search(alloc, row)?;
     printed(alloc, searched.found.as_ref().map(Shown))
 }
 
 /// How many pairs of certificates were judged, and how often the judge of signatures was asked.
 pub fn counts(alloc: Global, row: &Row) -> Result<String, Stop> {
-    let searched = searched(alloc, row)?;
+    let searched = search(alloc, row)?;
     printed(alloc, (searched.judged, searched.asked))
 }
 

@@ -18,7 +18,7 @@ struct Stamped {
     tables: Tables,
 }
 
-fn stamped(alloc: Global, row: &Row) -> Result<Stamped, Stop> {
+fn read_stamped(alloc: Global, row: &Row) -> Result<Stamped, Stop> {
     let signature: SignatureBytes = row.value(alloc, "signature_base64")?;
     let token: TimestampToken = row.value(alloc, "token_base64")?;
     let authorities = authorities(alloc, row)?;
@@ -41,7 +41,7 @@ fn authorities(alloc: Global, row: &Row) -> Result<Sequence<TsaAuthority>, Stop>
 
 /// The time of a token under the one authority that stands in the row.
 pub fn under_one(alloc: Global, row: &Row) -> Result<String, Stop> {
-    let stamped = stamped(alloc, row)?;
+    let stamped = read_stamped(alloc, row)?;
     let [authority] = stamped.authorities.as_slice() else {
         return Err(Stop::Row);
     };
@@ -58,7 +58,7 @@ pub fn under_one(alloc: Global, row: &Row) -> Result<String, Stop> {
 
 /// The time of a token under the first authority that accepts it.
 pub fn among(alloc: Global, row: &Row) -> Result<String, Stop> {
-    let stamped = stamped(alloc, row)?;
+    let stamped = read_stamped(alloc, row)?;
     let time = token_time(
         alloc,
         &stamped.tables.provider,
