@@ -1,3 +1,6 @@
+// Runs of a workload, of words outside its grammar, and runs over a store that an earlier run left.
+use crate::tables::hold;
+
 // A row: the part, the text in its place, and the status with what is written. The other runs stand in `world_tests`.
 const RUNS: &str = r#"# A workload, and words outside its grammar.
 words | generate --number=0 --count=10 | Accepted "generated 10\naccepted 4\nrefused verify 3 SignatureInvalid 4\nrefused verify 4 ArtifactMismatch 2\n"
