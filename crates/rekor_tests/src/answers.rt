@@ -40,7 +40,7 @@ const ENTRIES: &str =
 200 {"a":{*,"integratedTime":null,"verification":null}} => ("a", "e30=", None, "c0d2", 7) None
 200 {"a":{*,"integratedTime":-9223372036854775808,"verification":{"inclusionProof":null,"signedEntryTimestamp":null}}} => ("a", "e30=", Some(-9223372036854775808), "c0d2", 7) None
 200 {"a":{*,"verification":{"signedEntryTimestamp":""}}} => ("a", "e30=", None, "c0d2", 7) Some("")
-200 {"a":{*,"verification":{"inclusionProof":{"treeSize":18446744073709551615,"rootHash":"<DIGEST>","logIndex":9223372036854775807,"hashes":[],"checkpoint":""}}}} => ("a", "e30=", None, "c0d2", 7) None ("", 9223372036854775807, "<digest>", 18446744073709551615)
+200 {"a":{*,"verification":{"inclusionProof":{"treeSize":9223372036854775807,"rootHash":"<DIGEST>","logIndex":9223372036854775807,"hashes":[],"checkpoint":""}}}} => ("a", "e30=", None, "c0d2", 7) None ("", 9223372036854775807, "<digest>", 9223372036854775807)
 200 {"a":{*},"b":{*}} => rule Entries
 200 {"a":{*},"b":0} => rule Entries
 200 {"a":0,"b":0,"c":0} => rule Entries
@@ -85,6 +85,8 @@ const ENTRIES: &str =
 200 {"a":{*,"verification":{"inclusionProof":{"checkpoint":"","hashes":[],"logIndex":0,"rootHash":"<digest>"}}}} => TreeSize
 200 {"a":{*,"verification":{"inclusionProof":{"checkpoint":"","hashes":[],"logIndex":0,"rootHash":"<digest>","treeSize":"5"}}}} => TreeSize
 200 {"a":{*,"verification":{"inclusionProof":{"checkpoint":"","hashes":[],"logIndex":0,"rootHash":"<digest>","treeSize":-1}}}} => TreeSize
+200 {"a":{*,"verification":{"inclusionProof":{"checkpoint":"","hashes":[],"logIndex":0,"rootHash":"<digest>","treeSize":9223372036854775808}}}} => TreeSize
+200 {"a":{*,"verification":{"inclusionProof":{"checkpoint":"","hashes":[],"logIndex":0,"rootHash":"<digest>","treeSize":18446744073709551615}}}} => TreeSize
 200 {"a":{*,"verification":{"signedEntryTimestamp":0}}} => SignedEntryTimestamp
 200 {"a":{*,"verification":{"signedEntryTimestamp":"!"}}} => rule Base64"#;
 

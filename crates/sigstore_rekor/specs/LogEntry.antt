@@ -1,5 +1,5 @@
 -- Entries as the API of Rekor's first version tells them (Rekor, "LogEntry").
-use Rattle.std.specs.Prelude.{ℕ, ℤ, List, [], if◌then◌else◌, Option, Some, None, option_and_then, Result, Ok, Err, ok_or}
+use Rattle.std.specs.Prelude.{ℕ, ℤ, ◌^◌, nat_lt, List, [], if◌then◌else◌, Option, Some, None, option_and_then, Result, Ok, Err, ok_or}
 use Rattle.std.specs.Result.{result_ok}
 use Rattle.serde_json.specs.Data.{Data}
 use Rattle.serde_json.specs.Find.{as_number, as_i64}
@@ -19,6 +19,7 @@ use Rattle.sigstore_rekor.specs.Refused.{refused_of}
 use Rattle.sigstore_rekor.specs.declared.entry_uuid.EntryUuid.{EntryUuid}
 use Rattle.sigstore_rekor.specs.declared.number.Placed.{Placed}
 use Rattle.sigstore_rekor.specs.declared.number.Seconds.{Seconds}
+use Rattle.sigstore_rekor.specs.declared.number.TreeSize.{TreeSize}
 use Rattle.sigstore_rekor.specs.declared.log_entry.RekorInclusionProof.{RekorInclusionProof}
 use Rattle.sigstore_rekor.specs.declared.log_entry.Verification.{Verification}
 use Rattle.sigstore_rekor.specs.declared.log_entry.LogEntry.{LogEntry}
@@ -41,6 +42,12 @@ seconds_of d = do
   seconds ← ok_or (option_and_then as_i64 (as_number d)) (InvalidResponse rule.Shape)
   Ok (record { seconds = seconds })
 
+-- how many entries a tree has: an integer below 2^63, as a bundle tells it
+unfoldable pub tree_size_of : Data → Result TreeSize Error
+tree_size_of d = do
+  size ← read.u64_of rekor_of d
+  if nat_lt size (2 ^ 63) then Ok (record { size = size }) else Err (InvalidResponse rule.Shape)
+
 abbrev pub time_of : Option Seconds → Option ℤ
 time_of None = None
 time_of (Some time) = Some time.seconds
@@ -60,8 +67,8 @@ proof_of d = do
   hashes ← list hex_hash_of m.Hashes d
   place ← required placed_of m.LogIndex d
   root ← required hex_hash_of m.RootHash d
-  tree_size ← required (read.u64_of rekor_of) m.TreeSize d
-  Ok (record { checkpoint = checkpoint; hashes = hashes; log_index = place.index; root_hash = root; tree_size = tree_size })
+  tree ← required tree_size_of m.TreeSize d
+  Ok (record { checkpoint = checkpoint; hashes = hashes; log_index = place.index; root_hash = root; tree_size = tree.size })
 
 unfoldable pub verification_of : Data → Result Verification Error
 verification_of d = do

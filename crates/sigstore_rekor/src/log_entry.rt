@@ -5,7 +5,7 @@ ghost use Rattle.sigstore_rekor.specs.LogEntry.{proof_of, verification_of, time_
 
 use crate::entry_uuid::EntryUuid;
 use crate::hex_hash::{HexSha256, hashes};
-use crate::number::{Placed, Seconds};
+use crate::number::{Placed, Seconds, TreeSize};
 use foundation::{Duplicate, NoMemory, Sequence};
 use serde_json::Value;
 use sigstore_entries::LogIndex;
@@ -51,7 +51,7 @@ pub struct RekorInclusionProof {
     pub log_index: LogIndex,
     /// The tree's root.
     pub root_hash: Sha256Hash,
-    /// How many entries the tree has.
+    /// How many entries the tree has; below 2^63 where it was read.
     pub tree_size: u64,
 }
 
@@ -98,13 +98,13 @@ impl FromValue<Error> for RekorInclusionProof {
         let list: Sequence<HexSha256> = required(alloc, value, RekorMember::Hashes)?;
         let place: Placed = required(alloc, value, RekorMember::LogIndex)?;
         let root: HexSha256 = required(alloc, value, RekorMember::RootHash)?;
-        let tree_size = required(alloc, value, RekorMember::TreeSize)?;
+        let tree: TreeSize = required(alloc, value, RekorMember::TreeSize)?;
         Ok(RekorInclusionProof {
             checkpoint,
             hashes: hashes(alloc, &list)?,
             log_index: place.index,
             root_hash: root.into_hash(),
-            tree_size,
+            tree_size: tree.size,
         })
     }
 }
