@@ -1,6 +1,6 @@
 -- What is refused of two checkpoints, and that those of one tree aren't.
-use Rattle.std.proofs.Common.{◌≡◌, ◌≢◌, ℕ, true, List, Option, Some, Result, Ok, Err, refl, sym, ◌∙◌, ap, arith, subst}
-use Rattle.std.specs.Prelude.{⊤}
+use Rattle.std.proofs.Common.{◌≡◌, ◌≢◌, ℕ, Bool, true, false, List, Option, Some, Result, Ok, Err, refl, sym, ◌∙◌, ap, arith, subst}
+use Rattle.std.specs.Prelude.{⊤, bytes_eq, if◌then◌else◌}
 use Rattle.std.proofs.lemmas.Option.{some_pair_parts, none-some}
 use Rattle.foundation.specs.Steps.{◌>>=◌}
 use Rattle.foundation.specs.Watched.{Watched, IfTold}
@@ -41,18 +41,30 @@ last_refusal Is (Err cause) mine e is h =
 OfKey : TileError → Type 0
 OfKey refusal.Key = ⊤
 OfKey (refusal.Signature which) = ⊤
+OfKey refusal.Origin = ⊤
 OfKey e = ⊥
 
 OfText : TileError → Type 0
 OfText (refusal.Checkpoint which) = ⊤
 OfText e = ⊥
 
+abbrev one_log : Bool → Result ⊤ TileError
+one_log same = if same then Ok tt else Err refusal.Origin
+
+of_origin : (same : Bool) (e : TileError) → one_log same ≡ Err e → OfKey e
+unfolding OfKey
+of_origin true e h = cc
+of_origin false e h =
+    let is : refusal.Origin ≡ e = cc in
+    subst OfKey is tt
+
 of_key : (accepts : Judge) (key : List ℕ) (older newer : Checkpoint) (e : TileError) → pair_signed accepts key older newer ≡ Err e → OfKey e
 unfolding pair_signed OfKey
 of_key accepts key older newer e h =
     step_refusal OfKey (spki_key_of key) refusal.Key e _ tt
     (λ read. step_refusal OfKey (verified_of accepts key older) (refusal.Signature First) e _ tt
-    (λ x. last_refusal OfKey (verified_of accepts key newer) (refusal.Signature Second) e tt))
+    (λ x. step_refusal OfKey (verified_of accepts key newer) (refusal.Signature Second) e _ tt
+    (λ y. of_origin (bytes_eq older.origin newer.origin) e)))
     h
 
 abbrev both : Checkpoint → Checkpoint → Result (Checkpoint × Checkpoint) TileError
@@ -75,6 +87,7 @@ pub signed_cause : (accepts : Judge) (key : List ℕ) (older newer : Checkpoint)
 unfolding OfKey
 signed_cause accepts key older newer old new refusal.Key h = h (λ same. cc)
 signed_cause accepts key older newer old new (refusal.Signature which) h = h (λ same. cc)
+signed_cause accepts key older newer old new refusal.Origin h = h (λ same. cc)
 signed_cause accepts key older newer old new refusal.NoMemory h = tt
 signed_cause accepts key older newer old new e h = absurd (of_key accepts key older newer _ (h (λ same. cc)))
 
@@ -153,6 +166,7 @@ pub refused_served : (accepts : Judge) (key first second : List ℕ) (older newe
 refused_served accepts key first second older newer leaves old new (refusal.Checkpoint which) e of s cause = let both = sym cause ∙ e in cc
 refused_served accepts key first second older newer leaves old new (refusal.Signature which) e of s cause = let both = sym cause ∙ e in cc
 refused_served accepts key first second older newer leaves old new refusal.Key e of s cause = let both = sym cause ∙ e in cc
+refused_served accepts key first second older newer leaves old new refusal.Origin e of s cause = let both = sym cause ∙ e in cc
 refused_served accepts key first second older newer leaves old new refusal.NoMemory e of s cause = refl
 refused_served accepts key first second older newer leaves old new x e of s cause =
     growth_served older newer leaves old new _ of s (of_these accepts key first second older newer _ e cause)

@@ -9,7 +9,7 @@ use Rattle.log_tiles.specs.Whole.{tree_hash}
 use Rattle.log_tiles.specs.Tiles.{run_of, run_hashes, leaves_at, tile_hashes}
 use Rattle.log_tiles.specs.Source.{Leaves}
 use Rattle.log_tiles.specs.Cause.{count_in}
-use Rattle.log_tiles.specs.Reading.{IsRead, AreRead, IsPlace, IsPlaceHash, place_hash, Computes}
+use Rattle.log_tiles.specs.Reading.{IsRead, AreRead, IsPlace, IsThis, IsPlaceHash, place_hash, Computes}
 use Rattle.log_tiles.specs.declared.place.Place.{Place}
 use Rattle.log_tiles.specs.declared.reading.ReadTile.{ReadTile}
 use Rattle.log_tiles.specs.declared.error.TileError.{TileError}
@@ -72,7 +72,7 @@ enough told size tile place read l i is =
 
 pub found_there : (size : ℕ) (seen : Watched Leaves) (tile : ReadTile) (place : Place) (hash : List ℕ) → IsRead seen.told size tile
     → tile.level ≡ place.level → tile.index ≡ place.index → IsPlace size place → hash ≡ place_hash place tile.hashes
-    → Computes size seen seen (IsPlaceHash place) (Ok hash)
+    → Computes (IsThis place.level place.index) size seen seen (IsPlaceHash place) (Ok hash)
 found_there size seen tile place hash read l i is e =
     record {
       since = record { same = refl; later = omega arith };
@@ -83,7 +83,7 @@ found_there size seen tile place hash read l i is e =
 pub kept_there : (size : ℕ) (old new : Watched Leaves) (tile : ReadTile) (place : Place) (result : Result (List ℕ) TileError)
     → Since old new → IsRead new.told size tile → tile.level ≡ place.level → tile.index ≡ place.index → IsPlace size place
     → IfOk result (λ hash. hash ≡ place_hash place tile.hashes) → IfErr result (λ e. e ≡ NoMemory)
-    → Computes size old new (IsPlaceHash place) result
+    → Computes (IsThis place.level place.index) size old new (IsPlaceHash place) result
 kept_there size old new tile place (Ok hash) since read l i is e want =
     record {
       since = since;

@@ -1,6 +1,6 @@
 -- The leaves of a tree's parts.
-use Rattle.std.proofs.Common.{◌≡◌, ℕ, zero, suc, ◌+◌, ◌*◌, ◌/◌, ◌<◌, ◌≤◌, List, length, take, drop, Option, Some, None}
-use Rattle.std.proofs.Common.{Ok, sym, ◌∙◌, ap, arith}
+use Rattle.std.proofs.Common.{◌≡◌, ℕ, zero, suc, ◌+◌, ◌*◌, ◌/◌, ◌<◌, ◌≤◌, List, length, take, drop, get_or, Option, Some, None}
+use Rattle.std.proofs.Common.{Result, Ok, Err, sym, ◌∙◌, ap, arith}
 use Rattle.std.proofs.Math.Nat.{add-mul}
 use Rattle.std.proofs.Math.Seq.{take-take}
 use Rattle.std.proofs.lemmas.Nat.{le-div}
@@ -9,11 +9,13 @@ use Rattle.foundation.specs.Watched.{Watched, IfTold, Since}
 use Rattle.sigstore_merkle.specs.Tree.{split, node_hash}
 use Rattle.log_tiles.specs.Tiles.{run_of, leaves_at}
 use Rattle.log_tiles.specs.Source.{Leaves}
-use Rattle.log_tiles.specs.Reading.{IsPlace, IsPlaceOf, IsInside, IsPartHash, part_hash, AreHalves, Computes}
+use Rattle.log_tiles.specs.Asked.{AreHalves, IsPlaceOf, IsTileOf, OfParts, tile_own, tile_left, tile_right}
+use Rattle.log_tiles.specs.Reading.{IsPlace, IsThis, IsPlaceHash, IsInside, IsPartHash, ArePartHashes, part_hash, Computes}
 use Rattle.log_tiles.specs.declared.place.Place.{Place}
 use Rattle.log_tiles.specs.declared.place.Part.{Part}
+use Rattle.log_tiles.specs.declared.error.TileError.{TileError}
 use Rattle.log_tiles.proofs.TreeHashes.{tree_of_parts, front_length, back_length}
-use Rattle.log_tiles.proofs.Fetched.{told_back}
+use Rattle.log_tiles.proofs.Fetched.{if_told, told_back, cause_more, cause_behind}
 
 pub length_at : (start count : ℕ) (leaves : Leaves) → start + count ≤ length leaves → length (leaves_at start count leaves) ≡ count
 length_at start count leaves h =
@@ -57,8 +59,8 @@ if_both (Some leaves) P Q R f p q = f leaves p q
 
 pub halves_ok : (size : ℕ) (a b c : Watched Leaves) (part left right : Part) (older newer : List ℕ) → AreHalves part left right
     → IsInside size part
-    → Computes size a b (IsPartHash left) (Ok older) → Computes size b c (IsPartHash right) (Ok newer)
-    → Computes size a c (IsPartHash part) (Ok (node_hash older newer))
+    → Computes (IsTileOf left) size a b (IsPartHash left) (Ok older) → Computes (IsTileOf right) size b c (IsPartHash right) (Ok newer)
+    → Computes (IsTileOf part) size a c (IsPartHash part) (Ok (node_hash older newer))
 halves_ok size a b c part left right older newer h is one two =
     record {
       since = since_then a b c one.since two.since;
@@ -72,7 +74,64 @@ halves_ok size a b c part left right older newer h is one two =
       refused = tt;
     }
 
+pub left_failed : (size : ℕ) (a b : Watched Leaves) (part left right : Part) (place : Place) (e : TileError)
+    → IsPlaceOf part.start part.count place → 256 < place.at + place.count → AreHalves part left right
+    → Computes (IsTileOf left) size a b (IsPartHash left) (Err e) → Computes (IsTileOf part) size a b (IsPartHash part) (Err e)
+left_failed size a b part left right place e of wide h one =
+    record {
+      since = one.since;
+      given = tt;
+      refused = cause_more (IsTileOf left) (IsTileOf part) size a b e (λ l i tile. tile_left part left right place l i of wide h tile)
+          one.refused;
+    }
+
+pub right_failed : (size : ℕ) (a b c : Watched Leaves) (part left right : Part) (place : Place) (older : List ℕ) (e : TileError)
+    → IsPlaceOf part.start part.count place → 256 < place.at + place.count → AreHalves part left right
+    → Computes (IsTileOf left) size a b (IsPartHash left) (Ok older) → Computes (IsTileOf right) size b c (IsPartHash right) (Err e)
+    → Computes (IsTileOf part) size a c (IsPartHash part) (Err e)
+right_failed size a b c part left right place older e of wide h one two =
+    record {
+      since = since_then a b c one.since two.since;
+      given = tt;
+      refused = cause_behind (IsTileOf part) size a b c e one.since
+          (cause_more (IsTileOf right) (IsTileOf part) size b c e (λ l i tile. tile_right part left right place l i of wide h tile)
+          two.refused);
+    }
+
+pub part_failed : (size : ℕ) (a b c : Watched Leaves) (parts : List Part) (k : ℕ) (part : Part) (e : TileError) → k < length parts
+    → part ≡ get_or parts k part → Since a b → Computes (IsTileOf part) size b c (IsPartHash part) (Err e)
+    → Computes (OfParts parts) size a c (ArePartHashes parts) (Err e)
+part_failed size a b c parts k part e inside is since one =
+    record {
+      since = since_then a b c since one.since;
+      given = tt;
+      refused = cause_behind (OfParts parts) size a b c e since
+          (cause_more (IsTileOf part) (OfParts parts) size b c e (λ l i tile. (k, part, inside, sym is, tile)) one.refused);
+    }
+
 -- ---- a part in one tile
+
+own_tile : (part : Part) (place : Place) (level index : ℕ) → IsPlaceOf part.start part.count place → place.at + place.count ≤ 256
+    → IsThis place.level place.index level index → IsTileOf part level index
+own_tile part place level index of within same = rw (same.0, same.1) (tile_own part place of within)
+
+pub placed_ok : (size : ℕ) (old new : Watched Leaves) (part : Part) (place : Place) (result : Result (List ℕ) TileError)
+    → IsPlaceOf part.start part.count place → place.at + place.count ≤ 256
+    → Computes (IsThis place.level place.index) size old new (IsPlaceHash place) result
+    → Computes (IsTileOf part) size old new (IsPartHash part) result
+placed_ok size old new part place (Ok hash) of within c =
+    record {
+      since = c.since;
+      given = if_told old.told _ _ (λ leaves is held. rw (of.starts, of.counts) (is held)) c.given;
+      refused = tt;
+    }
+placed_ok size old new part place (Err e) of within c =
+    record {
+      since = c.since;
+      given = tt;
+      refused = cause_more (IsThis place.level place.index) (IsTileOf part) size old new e
+          (λ l i same. own_tile part place l i of within same) c.refused;
+    }
 
 some_left : (n count run : ℕ) → n ≡ count * run → 0 < n → 0 < count
 some_left n zero run e h = absurd (omega arith)

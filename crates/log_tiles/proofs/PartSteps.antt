@@ -8,22 +8,27 @@ use Rattle.sigstore_merkle.specs.Tree.{split}
 use Rattle.log_tiles.specs.Tiles.{leaves_at}
 use Rattle.log_tiles.specs.Proofs.{path_of, subproof_of}
 use Rattle.log_tiles.specs.Source.{Leaves}
-use Rattle.log_tiles.specs.Reading.{IsInside, AreHalves, ArePathParts, AreProofParts, part_hash}
+use Rattle.log_tiles.specs.Asked as step
+use Rattle.log_tiles.specs.Asked.{AreHalves, IsPathPart, IsProofPart}
+use Rattle.log_tiles.specs.Reading.{IsInside, ArePathParts, AreProofParts, part_hash}
 use Rattle.log_tiles.specs.declared.place.Part.{Part}
 use Rattle.log_tiles.proofs.Halves.{length_at, leaves_front, leaves_back}
 use Rattle.log_tiles.proofs.Paths.{path_few, path_left, path_right, subproof_same, subproof_left, subproof_right}
 
--- each part is in the tree
-none_inside : (size : ℕ) → All (IsInside size) []
-none_inside size k d h = absurd (omega arith)
+-- ---- what holds of each part
 
-all_more : (size : ℕ) (parts : List Part) (last : Part) → All (IsInside size) parts → IsInside size last
-    → All (IsInside size) (parts ++ last ∷ [])
-all_more size [] last all is zero d h = is
-all_more size [] last all is (suc k) d h = absurd (omega arith)
-all_more size (part ∷ parts) last all is zero d h = all zero d (omega arith)
-all_more size (part ∷ parts) last all is (suc k) d h =
-    all_more size parts last (λ i e l. all (suc i) e (omega (arith, l))) is k d (omega (arith, h))
+all_none : (P : Part → Type 0) → All P []
+all_none P k d h = absurd (omega arith)
+
+all_more : (P : Part → Type 0) (parts : List Part) (last : Part) → All P parts → P last → All P (parts ++ last ∷ [])
+all_more P [] last all is zero d h = is
+all_more P [] last all is (suc k) d h = absurd (omega arith)
+all_more P (part ∷ parts) last all is zero d h = all zero d (omega arith)
+all_more P (part ∷ parts) last all is (suc k) d h =
+    all_more P parts last (λ i e l. all (suc i) e (omega (arith, l))) is k d (omega (arith, h))
+
+all_map : (P Q : Part → Type 0) (parts : List Part) → ((part : Part) → P part → Q part) → All P parts → All Q parts
+all_map P Q parts f all k d h = f _ (all k d h)
 
 with_last : (leaves : Leaves) (parts : List Part) (last : Part) (before : Leaves) → map (part_hash leaves) parts ≡ before
     → map (part_hash leaves) (parts ++ last ∷ []) ≡ before ++ part_hash leaves last ∷ []
@@ -49,7 +54,8 @@ right_inside size part left right h fits =
 pub path_none : (index : ℕ) (part : Part) → part.count ≡ 1 → ArePathParts index part []
 path_none index part e =
     record {
-      inside = λ size fits. none_inside size;
+      asked = all_none (IsPathPart index part);
+      inside = λ size fits. all_none (IsInside size);
       path = λ leaves fits. sym (path_few index (leaves_at part.start part.count leaves)
           (omega (arith, length_at part.start part.count leaves fits)));
     }
@@ -62,7 +68,11 @@ path_in_left index part left right parts (Err e) h k below longer = tt
 path_in_left index part left right parts (Ok all) h k below longer =
     rw longer
     (record {
-      inside = λ size fits. all_more size parts right (below.inside size (left_inside size part left right h fits).0)
+      asked = all_more (IsPathPart index part) parts right
+          (all_map (IsPathPart index left) (IsPathPart index part) parts
+          (λ inner is. step.path_in_left index part left right inner h k is) below.asked)
+          (step.path_right index part left right h k);
+      inside = λ size fits. all_more (IsInside size) parts right (below.inside size (left_inside size part left right h fits).0)
           (right_inside size part left right h fits).1;
       path =
           λ leaves fits.
@@ -83,7 +93,11 @@ path_in_right index part left right parts (Err e) h k below longer = tt
 path_in_right index part left right parts (Ok all) h k below longer =
     rw longer
     (record {
-      inside = λ size fits. all_more size parts left (below.inside size (right_inside size part left right h fits).0)
+      asked = all_more (IsPathPart index part) parts left
+          (all_map (IsPathPart (index - left.count) right) (IsPathPart index part) parts
+          (λ inner is. step.path_in_right index part left right inner h k is) below.asked)
+          (step.path_left index part left right h k);
+      inside = λ size fits. all_more (IsInside size) parts left (below.inside size (right_inside size part left right h fits).0)
           (left_inside size part left right h fits).1;
       path =
           λ leaves fits.
@@ -104,7 +118,8 @@ path_in_right index part left right parts (Ok all) h k below longer =
 pub proof_whole : (first : ℕ) (part : Part) → 0 < first → first ≡ part.count → AreProofParts first true part []
 proof_whole first part h e =
     record {
-      inside = λ size fits. none_inside size;
+      asked = all_none (IsProofPart first true part);
+      inside = λ size fits. all_none (IsInside size);
       proof = λ leaves fits.
           sym (subproof_same first true (leaves_at part.start part.count leaves) h (e ∙ sym (length_at part.start part.count leaves fits)));
     }
@@ -115,7 +130,9 @@ proof_part first part (Err e) h same longer = tt
 proof_part first part (Ok all) h same longer =
     rw longer
     (record {
-      inside = λ size fits. all_more size [] part (none_inside size) (record { some = omega arith; inside = fits });
+      asked = all_more (IsProofPart first false part) [] part (all_none (IsProofPart first false part))
+          (step.proof_older first part same);
+      inside = λ size fits. all_more (IsInside size) [] part (all_none (IsInside size)) (record { some = omega arith; inside = fits });
       proof = λ leaves fits.
           sym (subproof_same first false (leaves_at part.start part.count leaves) h
           (same ∙ sym (length_at part.start part.count leaves fits)));
@@ -130,7 +147,11 @@ proof_in_left first whole part left right parts (Err e) h p q k below longer = t
 proof_in_left first whole part left right parts (Ok all) h p q k below longer =
     rw longer
     (record {
-      inside = λ size fits. all_more size parts right (below.inside size (left_inside size part left right h fits).0)
+      asked = all_more (IsProofPart first whole part) parts right
+          (all_map (IsProofPart first whole left) (IsProofPart first whole part) parts
+          (λ inner is. step.proof_in_left first whole part left right inner h k is) below.asked)
+          (step.proof_right first whole part left right h k);
+      inside = λ size fits. all_more (IsInside size) parts right (below.inside size (left_inside size part left right h fits).0)
           (right_inside size part left right h fits).1;
       proof =
           λ leaves fits.
@@ -152,7 +173,11 @@ proof_in_right first whole part left right parts (Err e) h p q k below longer = 
 proof_in_right first whole part left right parts (Ok all) h p q k below longer =
     rw longer
     (record {
-      inside = λ size fits. all_more size parts left (below.inside size (right_inside size part left right h fits).0)
+      asked = all_more (IsProofPart first whole part) parts left
+          (all_map (IsProofPart (first - left.count) false right) (IsProofPart first whole part) parts
+          (λ inner is. step.proof_in_right first whole part left right inner h k q is) below.asked)
+          (step.proof_left first whole part left right h k q);
+      inside = λ size fits. all_more (IsInside size) parts left (below.inside size (right_inside size part left right h fits).0)
           (left_inside size part left right h fits).1;
       proof =
           λ leaves fits.

@@ -1,6 +1,7 @@
 -- What a proof from tiles shows.
-use Rattle.std.proofs.Common.{◌≡◌, ℕ, ◌<◌, ◌≤◌, List, [], length, map, take, true, Ok}
-use Rattle.std.proofs.Common.{refl, sym, ◌∙◌, arith}
+use Rattle.std.proofs.Common.{◌≡◌, ℕ, ◌<◌, ◌≤◌, List, [], length, map, take, true, Ok, Err}
+use Rattle.std.proofs.Common.{refl, sym, ◌∙◌, arith, subst}
+use Rattle.std.specs.Prelude.{All}
 use Rattle.std.proofs.Math.Seq.{take-take}
 use Rattle.std.proofs.lemmas.List.{get_or-take}
 use Rattle.foundation.specs.Watched.{Watched, IfTold}
@@ -8,11 +9,13 @@ use Rattle.log_tiles.specs.Consistency.{AreSizes}
 use Rattle.log_tiles.specs.Whole.{tree_hash}
 use Rattle.log_tiles.specs.Proofs.{path_of, proof_of}
 use Rattle.log_tiles.specs.Source.{Leaves}
+use Rattle.log_tiles.specs.declared.error.TileError.{TileError}
+use Rattle.log_tiles.specs.Asked.{first_leaves, IsPathPart, IsProofPart, OfParts, OfPath, OfProof}
 use Rattle.log_tiles.specs.Reading.{Computes, ArePathParts, AreProofParts, ArePartHashes, part_hash}
 use Rattle.log_tiles.specs.declared.place.Part.{Part}
 use Rattle.log_tiles.specs.Proving.{IsPath, IsProof}
 use Rattle.log_tiles.proofs.TreeHashes.{front_length}
-use Rattle.log_tiles.proofs.Fetched.{if_told}
+use Rattle.log_tiles.proofs.Fetched.{if_told, cause_more}
 use Rattle.log_tiles.proofs.Rooted.{path_root, proof_root}
 
 pub is_path : (index size : ℕ) (leaves path : Leaves) → index < size → size ≤ length leaves → path ≡ path_of index (take size leaves)
@@ -50,11 +53,26 @@ path_given index size parts leaves items hashes inside is e held read =
 
 pub path_made : (index size : ℕ) (old new : Watched Leaves) (parts looked : List Part) (items hashes : Leaves) → index < size
     → ArePathParts index (record { start = 0; count = size }) parts → looked ≡ parts → items ≡ hashes
-    → Computes size old new (ArePartHashes looked) (Ok hashes) → IfTold old.told
+    → Computes (OfParts looked) size old new (ArePartHashes looked) (Ok hashes) → IfTold old.told
     (λ leaves. size ≤ length leaves → IsPath index size leaves items)
 path_made index size old new parts looked items hashes inside is l e c =
     if_told old.told _ _
     (λ leaves given held. path_given index size parts leaves items hashes inside is e held (rw l at (given held))) c.given
+
+pub path_failed : {V : Type 0} (index size : ℕ) (old new : Watched Leaves) (parts looked : List Part) (is : Leaves → V → Type 0)
+    (e : TileError)
+    → ArePathParts index (first_leaves size) parts → looked ≡ parts → Computes (OfParts looked) size old new (ArePartHashes looked) (Err e)
+    → Computes (OfPath index size) size old new is (Err e)
+path_failed index size old new parts looked is e are l c =
+    let all : All (IsPathPart index (first_leaves size)) looked = rw l are.asked in
+    record {
+      since = c.since;
+      given = tt;
+      refused = cause_more (OfParts looked) (OfPath index size) size old new e
+          (λ level tile any.
+          record { part = any.1; in_path = subst (IsPathPart index (first_leaves size)) any.3 (all any.0 any.1 any.2); of_part = any.4 })
+          c.refused;
+    }
 
 proof_given : (first second : ℕ) (parts : List Part) (leaves items hashes : Leaves) → AreSizes first second
     → AreProofParts first true (record { start = 0; count = second }) parts → items ≡ hashes → second ≤ length leaves
@@ -64,8 +82,23 @@ proof_given first second parts leaves items hashes sizes is e held read =
 
 pub proof_made : (first second : ℕ) (old new : Watched Leaves) (parts looked : List Part) (items hashes : Leaves) → AreSizes first second
     → AreProofParts first true (record { start = 0; count = second }) parts → looked ≡ parts → items ≡ hashes
-    → Computes second old new (ArePartHashes looked) (Ok hashes) → IfTold old.told
+    → Computes (OfParts looked) second old new (ArePartHashes looked) (Ok hashes) → IfTold old.told
     (λ leaves. second ≤ length leaves → IsProof first second leaves items)
 proof_made first second old new parts looked items hashes sizes is l e c =
     if_told old.told _ _
     (λ leaves given held. proof_given first second parts leaves items hashes sizes is e held (rw l at (given held))) c.given
+
+pub proof_failed : {V : Type 0} (first second : ℕ) (old new : Watched Leaves) (parts looked : List Part) (is : Leaves → V → Type 0)
+    (e : TileError)
+    → AreProofParts first true (first_leaves second) parts → looked ≡ parts → Computes (OfParts looked) second old new (ArePartHashes looked) (Err e)
+    → Computes (OfProof first second) second old new is (Err e)
+proof_failed first second old new parts looked is e are l c =
+    let all : All (IsProofPart first true (first_leaves second)) looked = rw l are.asked in
+    record {
+      since = c.since;
+      given = tt;
+      refused = cause_more (OfParts looked) (OfProof first second) second old new e
+          (λ level tile any.
+          record { part = any.1; in_proof = subst (IsProofPart first true (first_leaves second)) any.3 (all any.0 any.1 any.2); of_part = any.4 })
+          c.refused;
+    }

@@ -1,5 +1,5 @@
 -- Whether two signed checkpoints of a log (C2SP tlog-checkpoint) are of one growing tree (RFC 6962, section 2.1.2).
-use Rattle.std.specs.Prelude.{◌≡◌, ℕ, ◌≤◌, List, length, take, Option, Result, Ok, Err, IfOk, IfErr, ⊤}
+use Rattle.std.specs.Prelude.{◌≡◌, ℕ, ◌≤◌, List, length, take, Option, bytes_eq, if◌then◌else◌, Result, Ok, Err, IfOk, IfErr, ⊤}
 use Rattle.foundation.specs.Steps.{◌>>=◌}
 use Rattle.foundation.specs.Watched.{Watched, IfTold, Since}
 use Rattle.sigstore_keys.specs.Good.{Judge}
@@ -11,6 +11,7 @@ use Rattle.log_tiles.specs.Consistency.{AreConsistent, AreSizes}
 use Rattle.log_tiles.specs.Whole.{tree_hash}
 use Rattle.log_tiles.specs.Fault.{ConsistencyFault}
 use Rattle.log_tiles.specs.Source.{Leaves}
+use Rattle.log_tiles.specs.Asked.{OfProof}
 use Rattle.log_tiles.specs.Proving.{IsProof, ProofCause}
 use Rattle.log_tiles.specs.declared.error.WhichTree.{WhichTree}
 use Rattle.log_tiles.specs.declared.error.WhichTree.TheVariants.{First, Second}
@@ -39,14 +40,19 @@ pair_of first second = do
 abbrev pub signed_as : Judge → List ℕ → WhichTree → Checkpoint → Result ⊤ TileError
 signed_as accepts key which checkpoint = or_refusal (verified_of accepts key checkpoint) (refusal.Signature which)
 
--- the key is read, and both checkpoints are signed under it
+-- both checkpoints are of one log, as their first lines name it: one key may sign for several
+abbrev pub of_one_log : Checkpoint → Checkpoint → Result ⊤ TileError
+of_one_log older newer = if bytes_eq older.origin newer.origin then Ok tt else Err refusal.Origin
+
+-- the key is read, both checkpoints are signed under it, and they are of one log
 unfoldable pub pair_signed : Judge → List ℕ → Checkpoint → Checkpoint → Result ⊤ TileError
 pair_signed accepts key older newer = do
   _ ← or_refusal (spki_key_of key) refusal.Key
   _ ← signed_as accepts key First older
-  signed_as accepts key Second newer
+  _ ← signed_as accepts key Second newer
+  of_one_log older newer
 
--- two checkpoints that are signed under a key
+-- two checkpoints of one log that are signed under a key
 abbrev pub signed_pair : Judge → List ℕ → List ℕ → List ℕ → Result (Checkpoint × Checkpoint) TileError
 signed_pair accepts key first second = do
   pair ← pair_of first second
@@ -76,27 +82,29 @@ abbrev pub GrowthCause : Checkpoint → Checkpoint → Watched Leaves → Watche
 GrowthCause older newer old new refusal.PathLength = AreApart older newer old.told refusal.PathLength
 GrowthCause older newer old new (refusal.RootMismatch which computed) = AreApart older newer old.told (refusal.RootMismatch which computed)
 GrowthCause older newer old new e =
-    ProofCause (AreSizes older.tree_size newer.tree_size) older.tree_size newer.tree_size newer.tree_size old new e
+    ProofCause (AreSizes older.tree_size newer.tree_size) (OfProof older.tree_size newer.tree_size) older.tree_size newer.tree_size
+    newer.tree_size old new e
 
 -- ---- the whole
 
--- of two checkpoints that are signed under a key
+-- of two checkpoints of one log that are signed under a key
 pub record OfSigned (accepts : Judge) (key first second : List ℕ) (is : Checkpoint → Checkpoint → Type 0) : Type 0 where
   pub older : Checkpoint
   pub newer : Checkpoint
   pub signed : signed_pair accepts key first second ≡ Ok (older, newer)
   pub holds : is older newer
 
--- why two texts aren't joined: the first that they, the key, the signatures, the sizes, the tiles and the roots are refused for
+-- why two texts aren't joined: the first that they, the key, the signatures, the log, the sizes, the tiles and the roots are refused for
 abbrev pub AuditCause : Judge → List ℕ → List ℕ → List ℕ → Watched Leaves → Watched Leaves → TileError → Type 0
 AuditCause accepts key first second old new (refusal.Checkpoint which) =
     signed_pair accepts key first second ≡ Err (refusal.Checkpoint which)
 AuditCause accepts key first second old new (refusal.Signature which) = signed_pair accepts key first second ≡ Err (refusal.Signature which)
 AuditCause accepts key first second old new refusal.Key = signed_pair accepts key first second ≡ Err refusal.Key
+AuditCause accepts key first second old new refusal.Origin = signed_pair accepts key first second ≡ Err refusal.Origin
 AuditCause accepts key first second old new refusal.NoMemory = ⊤
 AuditCause accepts key first second old new e = OfSigned accepts key first second (λ older newer. GrowthCause older newer old new e)
 
--- what an audit promises: a proof of the tiles that joins two signed checkpoints, or why there is none
+-- what an audit promises: a proof of the tiles that joins two signed checkpoints of one log, or why there is none
 pub record Audits {V : Type 0} (accepts : Judge) (key first second : List ℕ) (old new : Watched Leaves) (items : V → Leaves)
     (result : Result V TileError) : Type 0 where
   pub since : Since old new

@@ -15,15 +15,16 @@ pub record Joins {V : Type 0} (older newer : Checkpoint) (old new : Watched Leav
   pub joined : IfOk result (λ proof. AreJoined older newer old.told (items proof))
   pub refused : IfErr result (GrowthCause older newer old new)
 
--- why two checkpoints aren't: the key or a signature is refused, or they aren't joined
+-- why two checkpoints aren't: the key or a signature is refused, they are of different logs, or they aren't joined
 abbrev pub SignedCause : Judge → List ℕ → Checkpoint → Checkpoint → Watched Leaves → Watched Leaves → TileError → Type 0
 SignedCause accepts key older newer old new refusal.Key = pair_signed accepts key older newer ≡ Err refusal.Key
 SignedCause accepts key older newer old new (refusal.Signature which) = pair_signed accepts key older newer ≡ Err (refusal.Signature which)
+SignedCause accepts key older newer old new refusal.Origin = pair_signed accepts key older newer ≡ Err refusal.Origin
 SignedCause accepts key older newer old new (refusal.Checkpoint which) = ⊥
 SignedCause accepts key older newer old new refusal.NoMemory = ⊤
 SignedCause accepts key older newer old new e = (pair_signed accepts key older newer ≡ Ok tt) × GrowthCause older newer old new e
 
--- what a call promises that joins two checkpoints where they are signed under a key
+-- what a call promises that joins two checkpoints where they are of one log and signed under a key
 pub record JoinsSigned {V : Type 0} (accepts : Judge) (key : List ℕ) (older newer : Checkpoint) (old new : Watched Leaves)
     (items : V → Leaves) (result : Result V TileError) : Type 0 where
   pub since : Since old new

@@ -5,6 +5,7 @@ pub mod Tiles
 pub mod Proofs
 pub mod Source
 pub mod Cause
+pub mod Asked
 pub mod Reading
 pub mod Proving
 pub mod Auditing

@@ -4,6 +4,10 @@ use Rattle.std.specs.Prelude.{ℕ, zero, suc, ◌+◌, ◌*◌, ◌^◌, List, [
 use Rattle.sigstore_rekor.specs.TilePath.{tile_path_of}
 use Rattle.log_tiles.specs.Whole.{tree_hash}
 
+-- some of its tiles, by level and index
+abbrev pub TileSet : Type 1
+TileSet = ℕ → ℕ → Type 0
+
 -- over how many leaves a hash of a level stands
 abbrev pub run_of : ℕ → ℕ
 run_of level = 256 ^ level

@@ -4,7 +4,8 @@ ghost use Rattle.sigstore_keys.specs.Key.{spki_key_of};
 ghost use Rattle.sigstore_entries.specs.declared.checkpoint.Checkpoint.{Checkpoint};
 ghost use Rattle.log_tiles.specs.Source.{Leaves};
 ghost use Rattle.log_tiles.specs.Proving.{IsProof, Serves, Gives};
-ghost use Rattle.log_tiles.specs.Auditing.{or_refusal, checkpoint_as, pair_of, signed_as, pair_signed, signed_pair, Audits, AreOfTree};
+ghost use Rattle.log_tiles.specs.Auditing.{or_refusal, checkpoint_as, pair_of, signed_as, of_one_log, pair_signed};
+ghost use Rattle.log_tiles.specs.Auditing.{signed_pair, Audits, AreOfTree};
 ghost use Rattle.log_tiles.specs.Joining.{Joins, JoinsSigned};
 ghost use Rattle.log_tiles.specs.declared.error.TileError.TheVariants as refusal;
 
@@ -75,7 +76,18 @@ fn check_signed<C: CryptoProvider>(
     }
 }
 
-// Whether both checkpoints are.
+// Whether both checkpoints are of one log.
+fn check_origins(older: &Checkpoint, newer: &Checkpoint) -> Result<(), TileError>
+    ensures { result ≡ of_one_log older.now newer.now }
+{
+    if older.origin() == newer.origin() {
+        Ok(())
+    } else {
+        Err(TileError::Origin)
+    }
+}
+
+// Whether both checkpoints are signed under the key, and of one log.
 #[tactic(auto, unfolding(crate::specs::Auditing::pair_signed))]
 fn check_pair<C: CryptoProvider>(
     alloc: Global,
@@ -90,7 +102,7 @@ fn check_pair<C: CryptoProvider>(
     let _ = read_key(alloc, key)?;
     check_signed(alloc, provider, key, WhichTree::First, older)?;
     check_signed(alloc, provider, key, WhichTree::Second, newer)?;
-    Ok(())
+    Ok(check_origins(older, newer)?)
 }
 
 // The proof between two checkpoints, where it is accepted for their roots.
@@ -116,7 +128,7 @@ fn joined<T: TileSource>(
     }
 }
 
-// The proof between two checkpoints that are signed.
+// The proof between two checkpoints of one log that are signed.
 fn signed_joined<C: CryptoProvider, T: TileSource>(
     alloc: Global,
     provider: &C,
@@ -134,7 +146,7 @@ fn signed_joined<C: CryptoProvider, T: TileSource>(
     }
 }
 
-// The proof between two texts, where they are signed checkpoints.
+// The proof between two texts, where they are signed checkpoints of one log.
 fn audited<C: CryptoProvider, T: TileSource>(
     alloc: Global,
     provider: &C,
@@ -154,8 +166,9 @@ fn audited<C: CryptoProvider, T: TileSource>(
 
 /// The consistency proof between two checkpoints of a log, from its tiles: the newer tree grew from the older one.
 /// Errors, in order: `Checkpoint` where the first text is no checkpoint, then the second; `Key` where the key isn't read;
-/// `Signature` where the first checkpoint isn't signed under it, then the second; `Sizes`, `TileAbsent`, `TileFailed` and
-/// `TileLength` of `consistency`; `PathLength` and `RootMismatch` of `verify_consistency`; and `NoMemory`.
+/// `Signature` where the first checkpoint isn't signed under it, then the second; `Origin` where they are of different logs;
+/// `Sizes`, `TileAbsent`, `TileFailed` and `TileLength` of `consistency`; `PathLength` and `RootMismatch` of
+/// `verify_consistency`; and `NoMemory`.
 pub fn audit<C: CryptoProvider, T: TileSource>(
     alloc: Global,
     provider: &C,

@@ -55,6 +55,8 @@ pub enum TileError {
     },
     /// An allocation was refused.
     NoMemory,
+    /// Two checkpoints are of different logs, as their first lines name them.
+    Origin,
 }
 
 impl TileError {
@@ -73,6 +75,7 @@ impl TileError {
             TileError::PathLength => 8,
             TileError::RootMismatch { .. } => 9,
             TileError::NoMemory => 10,
+            TileError::Origin => 11,
         }
     }
 
@@ -91,6 +94,7 @@ impl TileError {
             TileError::PathLength => "PathLength",
             TileError::RootMismatch { .. } => "RootMismatch",
             TileError::NoMemory => "NoMemory",
+            TileError::Origin => "Origin",
         }
     }
 }

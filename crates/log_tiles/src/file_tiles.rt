@@ -2,6 +2,7 @@
 ghost use Rattle.std.specs.Prelude.{◌≡◌, IfOk, string_bytes, option_map};
 ghost use Rattle.std.specs.Int.NonZero.{non_zero_u8_get};
 ghost use Rattle.log_tiles.specs.Tiles.{file_path_of};
+ghost use Rattle.log_tiles.specs.Source.{ReadsTile};
 ghost use Rattle.foundation.specs.Watched.{untold};
 
 use crate::source::{TileFault, TileSource};
@@ -34,15 +35,15 @@ impl<'r, X: Files + AllocGlobal> FileTiles<'r, X> {
     }
 }
 
-// The path of a tile's file.
-fn file_path(
+/// The file of a tile below a folder (C2SP tlog-tiles).
+pub fn tile_file(
     alloc: Global,
     dir: &str,
     level: u32,
     index: u64,
     width: Option<NonZeroU8>,
 ) -> Result<String, NoMemory>
-    ensures { IfOk result (λ path. string_bytes path ≡ file_path_of dir.now level index (option_map non_zero_u8_get width)) }
+    ensures named { IfOk result (λ path. string_bytes path ≡ file_path_of dir.now level index (option_map non_zero_u8_get width)) }
 {
     let path = tile_path(alloc, index, width)?;
     let path = path.as_str();
@@ -80,8 +81,12 @@ impl<X: Files + AllocGlobal> TileSource for FileTiles<'_, X> {
         level: u32,
         index: u64,
         width: Option<NonZeroU8>,
-    ) -> Result<Option<RekorV2Tile>, TileFault> {
-        let answer = match file_path(alloc, self.dir.as_str(), level, index, width) {
+    ) -> Result<Option<RekorV2Tile>, TileFault>
+        ensures reads { ReadsTile (untold self.old.faults) (untold self.new.faults)
+            level index (option_map non_zero_u8_get width) result }
+        ensures dir { self.new.dir ≡ self.old.dir }
+    {
+        let answer = match tile_file(alloc, self.dir.as_str(), level, index, width) {
             Ok(path) => read(self.rt, alloc, path.as_str(), level, index, width),
             Err(NoMemory) => Err(TileFault::NoMemory),
         };

@@ -21,7 +21,7 @@ mod whole;
 pub use auditing::audit;
 pub use compare::{Compared, compare_trees};
 pub use error::{TileError, WhichTree};
-pub use file_tiles::FileTiles;
+pub use file_tiles::{FileTiles, tile_file};
 pub use judge::verify_consistency;
 pub use memory_tiles::MemoryTiles;
 pub use proving::{consistency, inclusion};

@@ -1,5 +1,6 @@
 // The hash of a part of a log's tree, from its tiles.
 ghost use Rattle.std.specs.Prelude.{All};
+ghost use Rattle.log_tiles.specs.Asked.{IsTileOf, OfParts};
 ghost use Rattle.log_tiles.specs.Reading.{AreRead, IsInside, Computes, IsPartHash, ArePartHashes};
 
 use crate::error::TileError;
@@ -22,7 +23,7 @@ fn node<T: TileSource>(
     requires part { IsInside size part }
     requires read { AreRead (T.seen tiles.old).told size read.old }
     ensures read { AreRead (T.seen tiles.new).told size read.new }
-    ensures hash { Computes size (T.seen tiles.old) (T.seen tiles.new) (IsPartHash part) result }
+    ensures hash { Computes (IsTileOf part) size (T.seen tiles.old) (T.seen tiles.new) (IsPartHash part) result }
 {
     let place = place_of(part.start, part.count);
     if place.count <= 256 - place.at {
@@ -46,7 +47,7 @@ pub fn part_hashes<T: TileSource>(
     parts: &[Part],
 ) -> Result<Sequence<Sha256Hash>, TileError>
     requires parts { All (IsInside size) parts.now }
-    ensures { Computes size (T.seen tiles.old) (T.seen tiles.new) (ArePartHashes parts.now) result }
+    ensures { Computes (OfParts parts.now) size (T.seen tiles.old) (T.seen tiles.new) (ArePartHashes parts.now) result }
 {
     let mut read = Sequence::new(alloc);
     let mut hashes = Sequence::new(alloc);

@@ -1,9 +1,10 @@
 // Where the tiles of a log have the hash of a part of its tree (C2SP tlog-tiles).
-ghost use Rattle.std.specs.Prelude.{◌≡◌, ◌<◌, ◌+◌, ◌^◌, option_map};
+ghost use Rattle.std.specs.Prelude.{◌≡◌, ◌↔◌, IsTrue, ◌<◌, ◌+◌, ◌^◌, option_map};
 ghost use Rattle.std.specs.Int.NonZero.{non_zero_u8_get};
 ghost use Rattle.log_tiles.specs.Tiles.{count_of};
 ghost use Rattle.log_tiles.specs.Cause.{count_in};
-ghost use Rattle.log_tiles.specs.Reading.{IsPlace, IsPlaceOf, AreHalves};
+ghost use Rattle.log_tiles.specs.Asked.{IsPlaceOf, AreHalves};
+ghost use Rattle.log_tiles.specs.Reading.{IsPlace, StandsHigher};
 
 use crate::split::split;
 use std::num::NonZeroU8;
@@ -30,6 +31,14 @@ pub struct Place {
     pub count: u64,
 }
 
+// Whether hashes of the next level stand over these leaves and no others.
+fn stands_higher(start: u64, count: u64, level: u32, run: u64) -> bool
+    requires { 0 < run }
+    ensures { IsTrue result ↔ StandsHigher start count level run }
+{
+    level < 7 && run <= count / 256 && start % (run * 256) == 0 && count % (run * 256) == 0
+}
+
 /// The hashes of the highest level that stand over these leaves and no others.
 pub fn place_of(start: u64, count: u64) -> Place
     requires { 0 < count }
@@ -37,11 +46,7 @@ pub fn place_of(start: u64, count: u64) -> Place
 {
     let mut level = 0;
     let mut run = 1;
-    'levels: while level < 7
-        && run <= count / 256
-        && start % (run * 256) == 0
-        && count % (run * 256) == 0
-    {
+    'levels: while stands_higher(start, count, level, run) {
         run *= 256;
         level += 1;
     }

@@ -2,6 +2,7 @@
 ghost use Rattle.std.specs.Prelude.{◌<◌, OnOk};
 ghost use Rattle.log_tiles.specs.Consistency.{AreSizes};
 ghost use Rattle.log_tiles.specs.Source.{Leaves};
+ghost use Rattle.log_tiles.specs.Asked.{OfPath, OfProof};
 ghost use Rattle.log_tiles.specs.Reading.{Computes};
 ghost use Rattle.log_tiles.specs.Proving.{IsPath, IsProof, Proves, Serves, Gives};
 
@@ -22,7 +23,8 @@ fn leaf_path<T: TileSource>(
     size: u64,
 ) -> Result<Vec<Sha256Hash>, TileError>
     requires { index < size }
-    ensures { Computes size (T.seen tiles.old) (T.seen tiles.new) (λ leaves path. IsPath index size leaves path.items) result }
+    ensures { Computes (OfPath index size) size (T.seen tiles.old) (T.seen tiles.new)
+        (λ leaves path. IsPath index size leaves path.items) result }
 {
     let parts = path_parts(
         alloc,
@@ -44,7 +46,8 @@ fn growth_proof<T: TileSource>(
     second: u64,
 ) -> Result<Vec<Sha256Hash>, TileError>
     requires { AreSizes first second }
-    ensures { Computes second (T.seen tiles.old) (T.seen tiles.new) (λ leaves proof. IsProof first second leaves proof.items) result }
+    ensures { Computes (OfProof first second) second (T.seen tiles.old) (T.seen tiles.new)
+        (λ leaves proof. IsProof first second leaves proof.items) result }
 {
     let parts = proof_parts(
         alloc,
@@ -70,7 +73,7 @@ pub fn inclusion<T: TileSource>(
     size: u64,
 ) -> Result<Vec<Sha256Hash>, TileError>
     ensures inside { OnOk result (index < size) }
-    ensures path { Proves (index < size) index size size (T.seen tiles.old) (T.seen tiles.new)
+    ensures path { Proves (index < size) (OfPath index size) index size size (T.seen tiles.old) (T.seen tiles.new)
         (λ leaves path. IsPath index size leaves path.items) result }
     ensures served { (leaves : Leaves) → index < size → Serves leaves size (T.seen tiles.old) (T.seen tiles.new)
         → Gives (λ path. IsPath index size leaves path.items) result }
@@ -95,7 +98,8 @@ pub fn consistency<T: TileSource>(
     second: u64,
 ) -> Result<Vec<Sha256Hash>, TileError>
     ensures sizes { OnOk result (AreSizes first second) }
-    ensures proof { Proves (AreSizes first second) first second second (T.seen tiles.old) (T.seen tiles.new)
+    ensures proof { Proves (AreSizes first second) (OfProof first second) first second second (T.seen tiles.old)
+        (T.seen tiles.new)
         (λ leaves proof. IsProof first second leaves proof.items) result }
     ensures served { (leaves : Leaves) → AreSizes first second → Serves leaves second (T.seen tiles.old) (T.seen tiles.new)
         → Gives (λ proof. IsProof first second leaves proof.items) result }

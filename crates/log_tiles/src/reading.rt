@@ -4,7 +4,7 @@ ghost use Rattle.std.specs.Int.NonZero.{non_zero_u8_get};
 ghost use Rattle.log_tiles.specs.Tiles.{count_of, hashes_in};
 ghost use Rattle.log_tiles.specs.Source.{Leaves};
 ghost use Rattle.log_tiles.specs.declared.error.TileError.TheVariants.{NoMemory as Want};
-ghost use Rattle.log_tiles.specs.Reading.{IsPlace, IsRead, AreRead, LengthRefused, Fetches, Computes, IsPlaceHash, place_hash};
+ghost use Rattle.log_tiles.specs.Reading.{IsPlace, IsRead, AreRead, LengthRefused, Fetches, Computes, IsThis, IsPlaceHash, place_hash};
 
 use crate::error::TileError;
 use crate::place::{Place, width_in};
@@ -152,7 +152,8 @@ pub fn in_tile<T: TileSource>(
     requires place { IsPlace size place.now }
     requires read { AreRead (T.seen tiles.old).told size read.old }
     ensures read { AreRead (T.seen tiles.new).told size read.new }
-    ensures hash { Computes size (T.seen tiles.old) (T.seen tiles.new) (IsPlaceHash place.now) result }
+    ensures hash { Computes (IsThis place.now.level place.now.index) size (T.seen tiles.old) (T.seen tiles.new)
+        (IsPlaceHash place.now) result }
 {
     if let Some(tile) = find_in(read, place) {
         return Ok(hash_in(tile, place));
