@@ -18,6 +18,7 @@ use sigstore_types::{
 use std::alloc::Global;
 use std::num::NonZeroU8;
 use std::process::Abort;
+use std::slice;
 
 // The answer of a call by this name.
 pub(crate) fn answer<X: AllocGlobal + Abort>(rt: &X, call: &str, given: &str) -> String {
@@ -27,6 +28,8 @@ pub(crate) fn answer<X: AllocGlobal + Abort>(rt: &X, call: &str, given: &str) ->
         "policy" => policy_shown(rt, given),
         "acceptance" => accepted(rt, given),
         "handed" => handed(rt, given),
+        "stepwise" => stepwise(rt, given),
+        "hasher" => hashed(rt, given),
         _ => panic!(rt; "no call {call}"),
     }
 }
@@ -235,6 +238,7 @@ algorithm
 by
 signed
 told and signed
+material
 greatest length
 failing read";
 
@@ -282,6 +286,15 @@ fn told<X: AllocGlobal + Abort>(rt: &X, change: Change) -> Option<MessageDigest>
     }
 }
 
+// A public key; where a change names the material, a chain without certificates, which no text has.
+fn material<X: AllocGlobal>(rt: &X, change: Change) -> VerificationMaterialContent {
+    if change.part == "material" {
+        VerificationMaterialContent::X509CertificateChain(Sequence::new(rt.alloc()))
+    } else {
+        VerificationMaterialContent::PublicKey { hint: None }
+    }
+}
+
 // A bundle over what it tells and over the digest of what is signed.
 fn bundle<X: AllocGlobal + Abort>(rt: &X, change: Change) -> Bundle {
     let text = change.of("signed", change.of("told and signed", "hello"));
@@ -293,7 +306,7 @@ fn bundle<X: AllocGlobal + Abort>(rt: &X, change: Change) -> Bundle {
             signature,
         }),
         verification_material: VerificationMaterial {
-            content: VerificationMaterialContent::PublicKey { hint: None },
+            content: material(rt, change),
             tlog_entries: Sequence::new(rt.alloc()),
             rfc3161_timestamps: Sequence::new(rt.alloc()),
         },
@@ -330,6 +343,7 @@ fn judged<X: AllocGlobal + Abort>(rt: &X, row: &str) -> String {
 // with 2048 and with 1024 bits.
 const JUDGED: &str = "nothing |  | accepted
 log | wanted | Bundle
+material | no certificate | UnsupportedBundle
 key | MA== | Crypto
 key | MFkwEwYHKoZIzj0CAQYIKoZIzj0DAQcDQgEEAAAAAAAAAAAAAAAAAAAAAAAAAAAAAAAAAAAAAAAAAAAAAAAAAAAAAAAAAAAAAAAAAAAAAAAAAAAAAAAAAAAAAA== | Crypto
 key | MCowBQYDK2VwAyEAAAAAAAAAAAAAAAAAAAAAAAAAAAAAAAAAAAAAAAAAAAA= | UnsupportedArtifact
@@ -504,6 +518,44 @@ Ed25519 blob hello | accepted
 Ed25519 blob jello | SignatureInvalid
 Ed25519 SHA2_256 hello | UnsupportedArtifact";
 
+// The answer of the steps of a verification, over one digest of `hello` or over none.
+fn stepwise<X: AllocGlobal + Abort>(rt: &X, how: &str) -> String {
+    let (policy, bundle) = (policy(rt, UNCHANGED), bundle(rt, UNCHANGED));
+    let trust = no_trust(rt);
+    let verifier = good(rt, Verifier::new(rt.alloc(), &Echo, &Bare, &trust));
+    let ready = good(rt, prepare_reader(rt.alloc(), &bundle, &policy));
+    let (alloc, now) = (rt.alloc(), Timestamp::UNIX_EPOCH);
+    let answer = match artifact(rt, how, "hello") {
+        Artifact::Digest(digest) => {
+            verifier.judge_digests(alloc, ready, slice::from_ref(&digest), now)
+        }
+        Artifact::Blob(_) => verifier.judge_digests(alloc, ready, &[], now),
+    };
+    let answer = word(rt, "accepted", answer);
+    drop(verifier);
+    drop(bundle);
+    drop(policy);
+    answer
+}
+
+// A row: the algorithm of the digest that is handed in, or nothing, and the answer.
+const STEPWISE: &str = "SHA2_256 | accepted
+SHA2_512 | UnsupportedArtifact
+nothing | UnsupportedArtifact";
+
+fn hashed<X: AllocGlobal + Abort>(rt: &X, name: &str) -> String {
+    let algorithm = there(rt, HashAlgorithm::from_name(name));
+    word(
+        rt,
+        "made",
+        hashers_for(rt.alloc(), slice::from_ref(&algorithm)),
+    )
+}
+
+// A row: an algorithm, and whether there is a hasher of it.
+const HASHERS: &str = "SHA2_256 | made
+SHA3_256 | Crypto";
+
 #[test]
 fn verifications(rt: HostRuntime) {
     hold(&rt, "refusal", REFUSALS);
@@ -511,4 +563,6 @@ fn verifications(rt: HostRuntime) {
     hold(&rt, "policy", POLICIES);
     hold(&rt, "acceptance", ACCEPTANCE);
     hold(&rt, "handed", HANDED);
+    hold(&rt, "stepwise", STEPWISE);
+    hold(&rt, "hasher", HASHERS);
 }

@@ -9,6 +9,8 @@ use Rattle.sigstore_types_parts.specs.declared.hash_algorithm.HashAlgorithm.{Has
 use Rattle.sigstore_types_parts.specs.declared.error.TypesError.{TypesError}
 use Rattle.sigstore_types.specs.declared.bundle.Bundle.{Bundle}
 use Rattle.sigstore_types.specs.declared.content.SignatureContent.{SignatureContent}
+use Rattle.sigstore_types.specs.declared.material.VerificationMaterialContent.{VerificationMaterialContent}
+use Rattle.sigstore_types.specs.declared.material.VerificationMaterialContent.TheVariants as material
 use Rattle.sigstore_types.specs.declared.content.SignatureContent.TheVariants.{MessageSignature as OfMessage, DsseEnvelope as OfEnvelope}
 use Rattle.sigstore_types.specs.Bundle.{entries_in, tokens_in, structure_of}
 use Rattle.sigstore_keys.specs.declared.error.Error.{Error as CryptoError}
@@ -38,7 +40,7 @@ use Rattle.sigstore_judgement.specs.Evidence.{managed_evidence, owner_evidence, 
 use Rattle.sigstore_judgement.specs.Grounds.{Grounds, trust_in, Terms}
 use Rattle.sigstore_judgement.specs.Judged.{Ready, key_with, ready_with, claimed_of, ready_of, prepared_of, managed_vouched_of, intermediates_in, owner_vouched_of, vouched_of, judged_had, judged_of}
 use Rattle.sigstore_judgement.specs.Policy.{Meaning, PublicKey, Certificate}
-use Rattle.sigstore_judgement.specs.Signer.{Signer, Managed, Certified, key_in, certificate_in, keyed_of, named_of, managed_of, owner_of, signer_of, IsSigner}
+use Rattle.sigstore_judgement.specs.Signer.{Signer, Managed, Certified, key_in, material_in, certificate_in, keyed_of, named_of, managed_of, owner_of, signer_of, IsSigner}
 use Rattle.sigstore_judgement.specs.Tokens.{tokens_judged_of}
 use Rattle.sigstore_judgement.specs.Verified.{verified_of}
 use Rattle.sigstore_judgement.proofs.ClaimLaw.{bound_so, so_bound}
@@ -104,9 +106,10 @@ pub ok_info : {A : Type 0} (r : Result A CryptoError) (x : A) → by_info r ≡ 
 ok_info (Ok y) x h = cc
 ok_info (Err e) x h = cc
 
-keyed_means : (o : Option (List ℕ)) (x : ⊤) → keyed_of o ≡ Ok x → o ≡ None
-keyed_means None x h = refl
-keyed_means (Some certificate) x h = cc
+keyed_means : (content : VerificationMaterialContent) (x : ⊤) → keyed_of content ≡ Ok x → (hint : Option (List ℕ)) × (content ≡ material.PublicKey hint)
+keyed_means (material.PublicKey hint) x h = (hint, refl)
+keyed_means (material.Certificate certificate) x h = cc
+keyed_means (material.X509CertificateChain chain) x h = cc
 
 pub named_means : (o : Option (List ℕ)) (certificate : List ℕ) → named_of o ≡ Ok certificate → o ≡ Some certificate
 named_means None certificate h = cc
@@ -127,10 +130,12 @@ after_structure policy bundle = named_of (certificate_in bundle) >>= after_named
 pub signer_means : (policy : Meaning) (bundle : Bundle) (signer : Signer) → signer_of policy bundle ≡ Ok signer → IsSigner policy bundle signer
 unfolding managed_of owner_of
 signer_means (PublicKey policy) bundle signer h =
-    let k = step_ok (keyed_of (certificate_in bundle)) (λ _. after_keyed policy bundle) signer h in
+    let k = step_ok (keyed_of (material_in bundle)) (λ _. after_keyed policy bundle) signer h in
+    let key = keyed_means (material_in bundle) k.0 k.1 in
     let a = step_ok (by_types (structure_of bundle policy.verify_tlog)) (λ _. Ok (Managed policy)) signer k.2 in
     record {
-      keyed = keyed_means (certificate_in bundle) k.0 k.1;
+      hint = key.0;
+      keyed = key.1;
       structure = through_types (structure_of bundle policy.verify_tlog) a.0 a.1;
       is = sym (ok_same (Managed policy) signer a.2);
     }
@@ -150,7 +155,7 @@ signer_means (Certificate policy) bundle signer h =
 signer_passes : (policy : Meaning) (bundle : Bundle) (signer : Signer) → IsSigner policy bundle signer → signer_of policy bundle ≡ Ok signer
 unfolding managed_of owner_of
 signer_passes (PublicKey policy) bundle signer i =
-    ap (λ o. keyed_of o >>= λ _. after_keyed policy bundle) i.keyed
+    ap (λ content. keyed_of content >>= λ _. after_keyed policy bundle) i.keyed
     ∙ ap (λ r. by_types r >>= λ _. Ok (Managed policy)) i.structure ∙ ap Ok (sym i.is)
 signer_passes (Certificate policy) bundle signer i =
     ap (λ r. by_types r >>= λ _. after_structure policy bundle) i.structure

@@ -61,7 +61,7 @@ use Rattle.sigstore_judgement.specs.Grounds.{Grounds, trust_in, readings_in}
 use Rattle.sigstore_judgement.specs.Judged.{Ready, claimed_of, ready_of, prepared_of, managed_vouched_of, intermediates_in, owner_vouched_of, vouched_of, judged_had, judged_of}
 use Rattle.sigstore_judgement.specs.Policy.{Meaning, PublicKey, Certificate, asks_log, logs_asked}
 use Rattle.sigstore_judgement.specs.Promise as promise
-use Rattle.sigstore_judgement.specs.Signer.{Signer, Managed, Certified, key_in, certificate_in, keyed_of, named_of, signatory_of, managed_of, owner_of, signer_of, IsSigner}
+use Rattle.sigstore_judgement.specs.Signer.{Signer, Managed, Certified, key_in, material_in, certificate_in, keyed_of, named_of, signatory_of, managed_of, owner_of, signer_of, IsSigner}
 use Rattle.sigstore_judgement.specs.Tokens.{tokens_judged_of}
 use Rattle.sigstore_judgement.specs.Trust.{material_of}
 use Rattle.sigstore_judgement.specs.Verified.{promises_judged_of, some_time, verified_of, AreVerified}
@@ -70,6 +70,7 @@ use Rattle.sigstore_judgement.proofs.Accepts.{ok_crypto, named_means, signer_mea
 use Rattle.sigstore_judgement.proofs.ClaimLaw.{of_other}
 use Rattle.sigstore_judgement.proofs.DescribedCauses.{entries_undescribed}
 use Rattle.sigstore_judgement.proofs.EntryCauses.{among_first, among_later, Unlogged, Untimely, entries_unlogged}
+use Rattle.sigstore_judgement.proofs.ReadMaterial.{unkeyed, read_signs}
 use Rattle.sigstore_judgement.proofs.TokenLaw.{are_stamped, tokens_unstamped}
 use Rattle.sigstore_judgement.proofs.UsableCauses.{IsFault, material_fault}
 use Rattle.sigstore_judgement.proofs.VerifiedLaw.{each_told, Unpromised, promises_refused, none_there, none_joined, no_tokens, verified_means}
@@ -254,11 +255,11 @@ module _ (asked : Asked) (file : List ℕ) (source source' : Watched (List ℕ))
   unstructured reading read false asks e h = cc
 
   -- the policy is for a key, and there is a certificate
-  met : (reading : Bundle) → IsRead asked.bundle reading → (policy : PublicKeyVerificationPolicy) → asked.policy ≡ PublicKey policy → (o : Option (List ℕ)) → certificate_in reading ≡ o
-      → (e : Error) → keyed_of o ≡ Err e → Cause e
-  met reading read policy under None is e h = cc
-  met reading read policy under (Some certificate) is e h =
-      subst Cause (err_same verify.UnsupportedBundle e h) (inr (inl (record { policy = policy; under = under; reading = reading; read = read; certificate = certificate; has = is })))
+  met : (reading : Bundle) → IsRead asked.bundle reading → (policy : PublicKeyVerificationPolicy) → asked.policy ≡ PublicKey policy
+      → (e : Error) → keyed_of (material_in reading) ≡ Err e → Cause e
+  met reading read policy under e h =
+      let signs = read_signs asked.bundle reading read e h in
+      subst Cause (unkeyed (material_in reading) e h) (inr (inl (record { policy = policy; under = under; reading = reading; read = read; certificate = signs.0; has = signs.1 })))
 
   -- the policy is for certificates, and there is none
   unnamed : (reading : Bundle) → IsRead asked.bundle reading → (policy : VerificationPolicy) → asked.policy ≡ Certificate policy → (o : Option (List ℕ)) → certificate_in reading ≡ o
@@ -284,7 +285,7 @@ module _ (asked : Asked) (file : List ℕ) (source source' : Watched (List ℕ))
   nobody : (reading : Bundle) → IsRead asked.bundle reading → (policy : Meaning) → asked.policy ≡ policy → (e : Error) → signer_of policy reading ≡ Err e → Cause e
   unfolding managed_of owner_of
   nobody reading read (PublicKey policy) under e h =
-      refused_at (keyed_of (certificate_in reading)) _ e h (met reading read policy under (certificate_in reading) refl e) (λ v q l.
+      refused_at (keyed_of (material_in reading)) _ e h (met reading read policy under e) (λ v q l.
       refused_at (by_types (structure_of reading policy.verify_tlog)) _ e l (unstructured reading read policy.verify_tlog (ap asks_log under) e) (λ u p k. cc))
   nobody reading read (Certificate policy) under e h =
       refused_at (by_types (structure_of reading policy.verify_tlog)) _ e h (unstructured reading read policy.verify_tlog (ap asks_log under) e) (λ u p k.
@@ -586,7 +587,7 @@ module _ (asked : Asked) (file : List ℕ) (source source' : Watched (List ℕ))
     unfolding managed_vouched_of
     unvouched material kept (PublicKey policy) under signer i e h =
         let is : IsSigner asked.policy reading (Managed policy) =
-        subst (λ meaning. IsSigner meaning reading (Managed policy)) (sym under) (record { keyed = i.keyed; structure = i.structure; is = refl }) in
+        subst (λ meaning. IsSigner meaning reading (Managed policy)) (sym under) (record { hint = i.hint; keyed = i.keyed; structure = i.structure; is = refl }) in
         refused_at (log_judged_of (terms_of asked material).grounds (Managed policy) policy.verify_tlog (entries_in reading)) _ e
         (subst (λ signer. vouched_of (terms_of asked material).grounds signer reading ≡ Err e) i.is h)
         (unlogged material kept (Managed policy) is policy.verify_tlog (ap asks_log under) e) (λ promised p k.

@@ -1,5 +1,5 @@
 -- The digests that were taken of an artifact are the artifact's, for each algorithm that is needed.
-use Rattle.std.proofs.Common.{◌≡◌, ℕ, List, [], ◌∷◌, ◌++◌, Bool, true, false, ◌||◌, cond, if◌then◌else◌, Option, Some, None, option_map, find}
+use Rattle.std.proofs.Common.{◌≡◌, ℕ, List, [], ◌∷◌, ◌++◌, Bool, true, false, ◌||◌, ◌&&◌, cond, if◌then◌else◌, Option, Some, None, option_map, find}
 use Rattle.std.proofs.Common.{Result, Ok, refl, sym, ap, ◌∙◌, subst}
 use Rattle.std.specs.List.{list_any, list_all}
 use Rattle.std.specs.Prelude.{is_some}
@@ -21,7 +21,7 @@ use Rattle.sigstore_keys.specs.Digest.{is_hashed, digest_by, digests_by}
 use Rattle.sigstore_keys.specs.Good.{Judge}
 use Rattle.sigstore_keys.specs.Scheme.{digest_algorithm_of}
 use Rattle.sigstore_judgement.specs.declared.error.Error.{Error}
-use Rattle.sigstore_judgement.specs.Artifact.{Digests, Read, Digest, digest_of, digest_among}
+use Rattle.sigstore_judgement.specs.Artifact.{Digests, Read, Digest, digest_of, digest_among, has_each}
 use Rattle.sigstore_binding.specs.Rows.{Message}
 use Rattle.sigstore_judgement.specs.Claim.{Claim, OfDigest, OfStatement, stated_of, claim_of, algorithm_told, needed_of, is_digest, is_told, tells_digest, is_bound}
 use Rattle.sigstore_judgement.specs.Content.{signature_in, subject_by, subject_in, is_good_of, is_signed, signed_in, first_refusal, content_judged_of}
@@ -117,6 +117,48 @@ had_needed bytes a (b ∷ bs) h k =
     had_first bytes a b bs (same_algorithm b a) refl hashed.0
     (λ other. had_needed bytes a bs hashed.1 (or_later (same_algorithm a b) (list_any (same_algorithm a) bs) (same_sym a b ∙ other) k))
 
+-- and so each that is needed was taken
+one_taken : (bytes : List ℕ) (a b : HashAlgorithm) (bs : List HashAlgorithm) (t : Bool) → same_algorithm b a ≡ t
+    → (t ≡ false → is_some (digest_among (digests_by bs bytes) a) ≡ true) → is_some (digest_among (digests_by (b ∷ bs) bytes) a) ≡ true
+one_taken bytes a b bs true e later =
+    ap (λ t. is_some (option_map taken_by (cond t (Some (b, digest_by b bytes)) (find (λ (x : HashAlgorithm × List ℕ). same_algorithm x.0 a) (digests_by bs bytes))))) e
+one_taken bytes a b bs false e later =
+    ap (λ t. is_some (option_map taken_by (cond t (Some (b, digest_by b bytes)) (find (λ (x : HashAlgorithm × List ℕ). same_algorithm x.0 a) (digests_by bs bytes))))) e
+    ∙ later refl
+
+some_taken : (bytes : List ℕ) (a : HashAlgorithm) (needed : List HashAlgorithm) → list_any (same_algorithm a) needed ≡ true
+    → is_some (digest_among (digests_by needed bytes) a) ≡ true
+some_taken bytes a [] h = cc
+some_taken bytes a (b ∷ bs) h =
+    one_taken bytes a b bs (same_algorithm b a) refl
+    (λ other. some_taken bytes a bs (or_later (same_algorithm a b) (list_any (same_algorithm a) bs) (same_sym a b ∙ other) h))
+
+or_either : (t u : Bool) → u ≡ true → (t || u) ≡ true
+or_either true u h = refl
+or_either false u h = h
+
+both_true : (t u : Bool) → t ≡ true → u ≡ true → (t && u) ≡ true
+both_true true u h k = k
+both_true false u h k = cc
+
+first_of : (a : HashAlgorithm) (list : List HashAlgorithm) → list_any (same_algorithm a) (a ∷ list) ≡ true
+first_of a list = ap (λ t. t || list_any (same_algorithm a) list) (same_self a)
+
+later_of : (a b : HashAlgorithm) (list : List HashAlgorithm) → list_any (same_algorithm a) list ≡ true → list_any (same_algorithm a) (b ∷ list) ≡ true
+later_of a b list h = or_either (same_algorithm a b) (list_any (same_algorithm a) list) h
+
+all_taken : (bytes : List ℕ) (needed list : List HashAlgorithm)
+    → ((a : HashAlgorithm) → list_any (same_algorithm a) list ≡ true → list_any (same_algorithm a) needed ≡ true)
+    → has_each list (digest_among (digests_by needed bytes)) ≡ true
+all_taken bytes needed [] f = refl
+all_taken bytes needed (a ∷ list) f =
+    both_true (is_some (digest_among (digests_by needed bytes) a)) (has_each list (digest_among (digests_by needed bytes)))
+    (some_taken bytes a needed (f a (first_of a list)))
+    (all_taken bytes needed list (λ b h. f b (later_of b a list h)))
+
+pub each_taken : (needed : List HashAlgorithm) (bytes : List ℕ) → has_each needed (digest_among (digests_by needed bytes)) ≡ true
+each_taken needed bytes = all_taken bytes needed needed (λ a h. h)
+
 -- ---- what is needed
 
 or_kept : (t u v : Bool) → (u ≡ true → v ≡ true) → (t || u) ≡ true → (t || v) ≡ true
@@ -127,10 +169,6 @@ any_appended : (a b : HashAlgorithm) (list : List HashAlgorithm) → list_any (s
 any_appended a b [] h = cc
 any_appended a b (x ∷ xs) h =
     or_kept (same_algorithm a x) (list_any (same_algorithm a) xs) (list_any (same_algorithm a) (xs ++ b ∷ [])) (λ k. any_appended a b xs k) h
-
-or_either : (t u : Bool) → u ≡ true → (t || u) ≡ true
-or_either true u h = refl
-or_either false u h = h
 
 any_last : (a : HashAlgorithm) (list : List HashAlgorithm) → list_any (same_algorithm a) (list ++ a ∷ []) ≡ true
 any_last a [] = ap (λ t. t || false) (same_self a)

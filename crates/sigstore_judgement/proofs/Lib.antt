@@ -1,5 +1,6 @@
 pub mod Stages
 pub mod Accepts
+pub mod FirstChecks
 pub mod ClaimLaw
 pub mod DescribedCauses
 pub mod EntryCauses
@@ -8,6 +9,7 @@ pub mod EntryLaw
 pub mod TokenLaw
 pub mod VerifiedLaw
 pub mod LogRefusals
+mod ReadMaterial
 pub mod UsableCauses
 pub mod JudgeCauses
 pub mod Completing

@@ -12,6 +12,8 @@ use Rattle.sigstore_envelopes.specs.declared.statement.Subject.{Subject}
 use Rattle.sigstore_envelopes.specs.Statement.{statement_of_bytes, algorithms_of}
 use Rattle.sigstore_types.specs.declared.bundle.Bundle.{Bundle}
 use Rattle.sigstore_types.specs.declared.content.SignatureContent.{SignatureContent}
+use Rattle.sigstore_types.specs.declared.material.VerificationMaterialContent.{VerificationMaterialContent}
+use Rattle.sigstore_types.specs.declared.material.VerificationMaterialContent.TheVariants as material
 use Rattle.sigstore_types.specs.declared.content.SignatureContent.TheVariants.{MessageSignature as OfMessage, DsseEnvelope as OfEnvelope}
 use Rattle.sigstore_types.specs.Bundle.{entries_in, tokens_in, structure_of}
 use Rattle.sigstore_keys.specs.declared.error.Error.{Error as CryptoError}
@@ -38,7 +40,7 @@ use Rattle.sigstore_judgement.specs.Error.{error_of_crypto, error_of_info, error
 use Rattle.sigstore_judgement.specs.Grounds.{trust_in, Terms}
 use Rattle.sigstore_judgement.specs.Judged.{Ready, claimed_of, ready_of, prepared_of, managed_vouched_of, intermediates_in, owner_vouched_of, vouched_of, judged_had, judged_of}
 use Rattle.sigstore_judgement.specs.Policy.{Meaning, PublicKey, Certificate}
-use Rattle.sigstore_judgement.specs.Signer.{Signer, Managed, Certified, key_in, certificate_in, keyed_of, named_of, managed_of, owner_of, signer_of, IsSigner}
+use Rattle.sigstore_judgement.specs.Signer.{Signer, Managed, Certified, key_in, material_in, certificate_in, keyed_of, named_of, managed_of, owner_of, signer_of, IsSigner}
 use Rattle.sigstore_judgement.specs.Unlogged.{HasUnlogged, HasUntimely, LogRefusals}
 use Rattle.sigstore_judgement.specs.Tokens.{tokens_judged_of}
 use Rattle.sigstore_judgement.specs.Verified.{promises_judged_of, verified_of}
@@ -156,9 +158,10 @@ ready_no_log kind signer bundle e l h =
     refused_at (supported_of kind (signs_digest scheme bundle.content) (needed_of scheme claim)) _ e o
     (supported_no_log kind (signs_digest scheme bundle.content) (needed_of scheme claim) e l) (λ v s p. cc))) (λ claim t o. cc)))
 
-keyed_no_log : (o : Option (List ℕ)) (e : Error) → keyed_of o ≡ Err e → NoLog e
-keyed_no_log None e h = cc
-keyed_no_log (Some certificate) e h = subst NoLog (err_same verify.UnsupportedBundle e h) tt
+keyed_no_log : (content : VerificationMaterialContent) (e : Error) → keyed_of content ≡ Err e → NoLog e
+keyed_no_log (material.PublicKey hint) e h = cc
+keyed_no_log (material.Certificate certificate) e h = subst NoLog (err_same verify.UnsupportedBundle e h) tt
+keyed_no_log (material.X509CertificateChain chain) e h = subst NoLog (err_same verify.UnsupportedBundle e h) tt
 
 named_no_log : (o : Option (List ℕ)) (e : Error) → named_of o ≡ Err e → NoLog e
 named_no_log None e h = subst NoLog (err_same verify.InvalidBundle e h) tt
@@ -167,7 +170,7 @@ named_no_log (Some certificate) e h = cc
 signer_no_log : (policy : Meaning) (bundle : Bundle) (e : Error) → signer_of policy bundle ≡ Err e → NoLog e
 unfolding managed_of owner_of
 signer_no_log (PublicKey policy) bundle e h =
-    refused_at (keyed_of (certificate_in bundle)) _ e h (keyed_no_log (certificate_in bundle) e) (λ v q l.
+    refused_at (keyed_of (material_in bundle)) _ e h (keyed_no_log (material_in bundle) e) (λ v q l.
     refused_at (by_types (structure_of bundle policy.verify_tlog)) _ e l (types_no_log (structure_of bundle policy.verify_tlog) e) (λ u p k. cc))
 signer_no_log (Certificate policy) bundle e h =
     refused_at (by_types (structure_of bundle policy.verify_tlog)) _ e h (types_no_log (structure_of bundle policy.verify_tlog) e) (λ u p k.

@@ -1,6 +1,6 @@
 -- What is refused or accepted by the digests that were taken.
-use Rattle.std.proofs.Common.{◌≡◌, ◌≢◌, ℕ, List, [], ◌∷◌, ap, ◌∙◌, sym, subst, Option, Some, None, Result, Ok, Err, inl, inr, refl, true, IfOk, IfErr}
-use Rattle.std.specs.Prelude.{◌⊎◌, ◌≤◌}
+use Rattle.std.proofs.Common.{◌≡◌, ◌≢◌, ℕ, List, [], ◌∷◌, ap, ◌∙◌, sym, subst, Option, Some, None, Result, Ok, Err, inl, inr, refl, Bool, true, false, if◌then◌else◌, IfOk, IfErr}
+use Rattle.std.specs.Prelude.{◌⊎◌, ◌≤◌, ⊤}
 use Rattle.std.specs.List.{list_all}
 use Rattle.foundation.specs.Watched.{Watched}
 use Rattle.foundation.specs.Steps.{◌>>=◌}
@@ -10,22 +10,23 @@ use Rattle.sigstore_types.specs.Bundle.{entries_in}
 use Rattle.sigstore_keys.specs.Digest.{is_hashed, digests_by}
 use Rattle.sigstore_keys.specs.declared.reader.ReadError.{ReadError}
 use Rattle.sigstore_judgement.specs.declared.error.Error.{Error}
-use Rattle.sigstore_judgement.specs.declared.error.Error.TheVariants.{ArtifactRead, NoMemory}
+use Rattle.sigstore_judgement.specs.declared.error.Error.TheVariants.{ArtifactRead, UnsupportedArtifact, NoMemory}
 use Rattle.sigstore_judgement.specs.declared.report.VerificationResult.{VerificationResult}
-use Rattle.sigstore_judgement.specs.Artifact.{Artifact, Blob, Read, Digest, Digests, Kind, kind_of, read_kind, blob_kind, digest_of, bytes_of, digest_among}
+use Rattle.sigstore_judgement.specs.Artifact.{Artifact, Blob, Read, Digest, Digests, Kind, kind_of, read_kind, blob_kind, digest_of, bytes_of, digest_among, has_each}
 use Rattle.sigstore_judgement.specs.Claim.{claim_of, needed_of}
 use Rattle.sigstore_judgement.specs.Content.{signed_in, content_judged_of}
 use Rattle.sigstore_judgement.specs.Entries.{each_described_of, entries_described_of}
 use Rattle.sigstore_judgement.specs.Evidence.{report_of}
 use Rattle.sigstore_judgement.specs.Grounds.{Grounds, readings_in, Terms}
-use Rattle.sigstore_judgement.specs.Judged.{Ready, prepared_of, vouched_of, judged_had, judged_of, needed_in}
+use Rattle.sigstore_judgement.specs.Judged.{Ready, prepared_of, vouched_of, judged_had, given_of, judged_by, judged_of, needed_in}
 use Rattle.sigstore_judgement.specs.Policy.{Meaning}
-use Rattle.sigstore_judgement.specs.Promise.{ReadCause, Cause, VerifiesKept, VerifiesHanded}
+use Rattle.sigstore_judgement.specs.Promise.{ReadCause, Cause, WantsMemory, VerifiesKept, VerifiesHanded}
 use Rattle.sigstore_judgement.specs.Signer.{signatory_of}
 use Rattle.sigstore_judgement.specs.Taking.{Takes}
 use Rattle.sigstore_judgement.proofs.Accepts.{prepared_means, all_hashed}
+use Rattle.sigstore_judgement.proofs.FirstChecks.{prepared_passes}
 use Rattle.sigstore_judgement.proofs.Within.{took_nothing}
-use Rattle.sigstore_judgement.proofs.KnownArtifact.{AreAlike, judged_alike, taken_alike, one_alike}
+use Rattle.sigstore_judgement.proofs.KnownArtifact.{AreAlike, judged_alike, taken_alike, one_alike, each_taken}
 use Rattle.sigstore_judgement.proofs.Wanting.{wanting}
 
 -- what was prepared has what the bundle says
@@ -59,6 +60,14 @@ had_alike grounds ready bundle d d' b b' h same =
     ap (λ c. vouched_of grounds ready.signer bundle >>= λ evidence. c >>= λ _. entries_described_of grounds ready.signer bundle d (entries_in bundle) >>= λ _. Ok (report_of ready.signer evidence)) h
     ∙ ap (λ x. vouched_of grounds ready.signer bundle >>= λ evidence. content_judged_of grounds.crypto.accepts ready.key bundle.content ready.claim d' b' >>= λ _. x >>= λ _. Ok (report_of ready.signer evidence))
     (ap (λ signed. each_described_of (readings_in grounds.crypto) (signatory_of ready.signer) signed (entries_in bundle)) same)
+
+abbrev given_if : Bool → Result ⊤ Error
+given_if b = if b then Ok tt else Err UnsupportedArtifact
+
+-- where each digest that is needed is among those that a caller took, they are judged
+pub given_steps : (grounds : Grounds) (ready : Ready) (bundle : Bundle) (digest : Digests) → given_of ready.needed digest ≡ Ok tt
+    → judged_by grounds ready bundle digest ≡ judged_had grounds ready bundle digest None
+given_steps grounds ready bundle digest h = ap (λ r. r >>= λ _. judged_had grounds ready bundle digest None) h
 
 module _ (terms : Terms) (bundle : Bundle) where
   -- the whole judgement of what was prepared
@@ -103,12 +112,13 @@ module _ (terms : Terms) (bundle : Bundle) where
       ∙ by_taken ready None (digest_among digests) (digest_of (Read bytes)) (taken_same ready read_kind bytes digests refl p d)
 
   pub unprepared : (old new : Watched (List ℕ)) (max : ℕ) (e : Error) → old.faults ≤ new.faults → new ≡ old → (e ≢ NoMemory → prepared_of read_kind terms.policy bundle ≡ Err e)
-      → VerifiesKept terms bundle old new max (Err e)
-  unprepared old new max e l s f = record { later = l; within = took_nothing old new max s; accepted = tt; refused = wanting e (λ n. inl (record { unread = s; refusal = f n })) }
+      → WantsMemory terms bundle e → VerifiesKept terms bundle old new max (Err e)
+  unprepared old new max e l s f w =
+      record { later = l; within = took_nothing old new max s; accepted = tt; refused = wanting e (λ n. inl (record { unread = s; refusal = f n })); memory = w }
 
   pub reading_refused : (old new : Watched (List ℕ)) (max : ℕ) (ready : Ready) (e : Error) → prepared_of read_kind terms.policy bundle ≡ Ok ready
       → Takes old new max ready.needed (Err e) → VerifiesKept terms bundle old new max (Err e)
-  reading_refused old new max ready e p t = record { later = t.later; within = t.within; accepted = tt; refused = why t.refused }
+  reading_refused old new max ready e p t = record { later = t.later; within = t.within; accepted = tt; refused = why t.refused; memory = λ want. prepared_passes read_kind terms.policy bundle ready p }
     where
       why : (e ≡ NoMemory) ⊎ ((fault : ReadError) × (e ≡ ArtifactRead fault) × ReadCause old new max fault) → Cause terms bundle old new max e
       why (inl want) = inl want
@@ -124,6 +134,7 @@ module _ (terms : Terms) (bundle : Bundle) where
         within = t.within;
         accepted = tt;
         refused = wanting e (λ n. inr (inr (record { ready = ready; prepared = p; refusal = (w.0, w.1, read_judged w.0 ready digests p w.2 ∙ r n) })));
+        memory = λ want. prepared_passes read_kind terms.policy bundle ready p;
       }
 
   -- and accepted
@@ -141,20 +152,35 @@ module _ (terms : Terms) (bundle : Bundle) where
           w.2 ∙ ap (λ r. digests_by (needed_in r) w.0) (sym p),
         );
         refused = tt;
+        memory = tt;
       }
 
   -- ---- an artifact that is handed in
 
-  pub handed : (artifact : Artifact) (r had : Result VerificationResult Error) → judged_of terms bundle artifact ≡ had
-      → IfOk r (λ report. had ≡ Ok report) → IfErr r (λ e. e ≢ NoMemory → had ≡ Err e) → VerifiesHanded terms bundle artifact r
-  handed artifact (Ok report) had h a r = record { accepted = h ∙ a; refused = tt }
-  handed artifact (Err e) had h a r = record { accepted = tt; refused = λ n. h ∙ r n }
+  pub handed : (artifact : Artifact) (ready : Ready) (r had : Result VerificationResult Error) → prepared_of (kind_of artifact) terms.policy bundle ≡ Ok ready
+      → judged_of terms bundle artifact ≡ had → IfOk r (λ report. had ≡ Ok report) → IfErr r (λ e. e ≢ NoMemory → had ≡ Err e)
+      → VerifiesHanded terms bundle artifact r
+  handed artifact ready (Ok report) had p h a r = record { accepted = h ∙ a; refused = tt; memory = tt }
+  handed artifact ready (Err e) had p h a r =
+      record { accepted = tt; refused = λ n. h ∙ r n; memory = λ want. prepared_passes (kind_of artifact) terms.policy bundle ready p }
 
-  pub handed_unready : (artifact : Artifact) (e : Error) → (e ≢ NoMemory → prepared_of (kind_of artifact) terms.policy bundle ≡ Err e) → VerifiesHanded terms bundle artifact (Err e)
-  handed_unready artifact e f = record { accepted = tt; refused = λ n. unready artifact e (f n) }
+  pub handed_unready : (artifact : Artifact) (e : Error) → (e ≢ NoMemory → prepared_of (kind_of artifact) terms.policy bundle ≡ Err e) → WantsMemory terms bundle e
+      → VerifiesHanded terms bundle artifact (Err e)
+  handed_unready artifact e f w = record { accepted = tt; refused = λ n. unready artifact e (f n); memory = w }
 
-  pub handed_wanting : (artifact : Artifact) (e : Error) → e ≡ NoMemory → VerifiesHanded terms bundle artifact (Err e)
-  handed_wanting artifact e want = record { accepted = tt; refused = λ n. absurd (n want) }
+  pub handed_wanting : (artifact : Artifact) (ready : Ready) (e : Error) → prepared_of (kind_of artifact) terms.policy bundle ≡ Ok ready → e ≡ NoMemory
+      → VerifiesHanded terms bundle artifact (Err e)
+  handed_wanting artifact ready e p is =
+      record { accepted = tt; refused = λ n. absurd (n is); memory = λ want. prepared_passes (kind_of artifact) terms.policy bundle ready p }
+
+  -- ---- by digests that a caller took
+
+  -- those of the bytes by the algorithms that are needed are all among them
+  pub taken_judged : (ready : Ready) (digests : List (HashAlgorithm × List ℕ)) (bytes : List ℕ) → digests ≡ digests_by ready.needed bytes
+      → judged_by terms.grounds ready bundle (digest_among digests) ≡ judges ready digests None
+  taken_judged ready digests bytes d =
+      given_steps terms.grounds ready bundle (digest_among digests)
+      (ap given_if (ap (λ ds. has_each ready.needed (digest_among ds)) d ∙ each_taken ready.needed bytes))
 
   pub blob_judged : (bytes : List ℕ) (ready : Ready) (digests : List (HashAlgorithm × List ℕ)) → prepared_of blob_kind terms.policy bundle ≡ Ok ready
       → digests ≡ digests_by ready.needed bytes → judged_of terms bundle (Blob bytes) ≡ judges ready digests (Some bytes)

@@ -1,5 +1,6 @@
 -- An artifact as it is judged: its digests by algorithm, and for a blob its bytes.
-use Rattle.std.specs.Prelude.{ℕ, List, Bool, true, false, Option, Some, None, option_map, option_copied, find, if◌then◌else◌}
+use Rattle.std.specs.Prelude.{ℕ, List, Bool, true, false, Option, Some, None, is_some, option_map, option_copied, find, if◌then◌else◌}
+use Rattle.std.specs.List.{list_all}
 use Rattle.sigstore_types_parts.specs.HashAlgorithm.{same_algorithm}
 use Rattle.sigstore_types_parts.specs.declared.hash_algorithm.HashAlgorithm.{HashAlgorithm}
 use Rattle.sigstore_types_parts.specs.declared.hash_algorithm.Artifact.{Artifact as Given}
@@ -67,6 +68,10 @@ Digests = HashAlgorithm → Option (List ℕ)
 -- the digest by an algorithm among those that were taken
 abbrev pub digest_among : List (HashAlgorithm × List ℕ) → Digests
 digest_among digests algorithm = option_map (λ taken. taken.1) (find (λ taken. same_algorithm taken.0 algorithm) digests)
+
+-- each digest that is needed is among them
+abbrev pub has_each : List HashAlgorithm → Digests → Bool
+has_each needed digest = list_all (λ algorithm. is_some (digest algorithm)) needed
 
 -- what the code has of an artifact: digests, and its bytes where they are kept
 abbrev pub digest_had : KnownArtifact → Digests

@@ -1,5 +1,5 @@
 -- When a bundle is accepted, whoever signed it, by its artifact (Sigstore bundle format; FIPS 180-4, FIPS 186-5).
-use Rattle.std.specs.Prelude.{ℕ, List, [], Option, Result, Ok, Err}
+use Rattle.std.specs.Prelude.{ℕ, List, [], ⊤, Option, None, Result, Ok, Err, if◌then◌else◌}
 use Rattle.foundation.specs.Steps.{◌>>=◌}
 use Rattle.sigstore_types_parts.specs.declared.hash_algorithm.HashAlgorithm.{HashAlgorithm}
 use Rattle.sigstore_types.specs.declared.bundle.Bundle.{Bundle}
@@ -12,11 +12,12 @@ use Rattle.certificate_claims.specs.declared.certificate_info.CertificateInfo.{C
 use Rattle.sigstore_certificate.specs.declared.policy.VerificationPolicy.{VerificationPolicy}
 use Rattle.sigstore_certificate.specs.Certified.{certified_of}
 use Rattle.sigstore_judgement.specs.declared.error.Error.{Error}
+use Rattle.sigstore_judgement.specs.declared.error.Error.TheVariants.{UnsupportedArtifact}
 use Rattle.sigstore_judgement.specs.declared.evidence.Evidence.{Evidence}
 use Rattle.sigstore_judgement.specs.declared.judge.Ready.{Ready as Prepared}
 use Rattle.sigstore_judgement.specs.declared.policy.PublicKeyVerificationPolicy.{PublicKeyVerificationPolicy}
 use Rattle.sigstore_judgement.specs.declared.report.VerificationResult.{VerificationResult}
-use Rattle.sigstore_judgement.specs.Artifact.{Artifact, Digests, digest_of, bytes_of, Kind, kind_of, read_kind}
+use Rattle.sigstore_judgement.specs.Artifact.{Artifact, Digests, has_each, digest_of, bytes_of, Kind, kind_of, read_kind}
 use Rattle.sigstore_judgement.specs.Claim.{Claim, claim_as, claim_of, needed_of}
 use Rattle.sigstore_judgement.specs.Content.{scheme_of, signs_digest, supported_of, signature_in, content_judged_of}
 use Rattle.sigstore_judgement.specs.Entries.{log_judged_of, log_count_of, logs_judged_of, entries_described_of}
@@ -40,6 +41,10 @@ pub record Ready : Type 0 where
 -- what the code prepared
 abbrev pub ready_as : Prepared → Ready
 ready_as ready = record { signer = signer_as ready.signer; key = ready.key; claim = claim_as ready.claim; needed = ready.needed }
+
+-- and of which bundle
+abbrev pub bundle_in : Prepared → Bundle
+bundle_in ready = ready.bundle.now
 
 abbrev pub ready_with : Signer → VerificationKey → Claim → Ready
 ready_with signer key claim = record { signer = signer; key = key; claim = claim; needed = needed_of key.scheme claim }
@@ -104,6 +109,16 @@ judged_had grounds ready bundle digest bytes = do
   _ ← content_judged_of grounds.crypto.accepts ready.key bundle.content ready.claim digest bytes
   _ ← entries_described_of grounds ready.signer bundle digest (entries_in bundle)
   Ok (report_of ready.signer evidence)
+
+-- ---- by digests that a caller took
+
+-- each that is needed is among them: else a check would be passed over
+abbrev pub given_of : List HashAlgorithm → Digests → Result ⊤ Error
+given_of needed digest = if has_each needed digest then Ok tt else Err UnsupportedArtifact
+
+-- the judgement of what was prepared of a bundle, over them
+abbrev pub judged_by : Grounds → Ready → Bundle → Digests → Result VerificationResult Error
+judged_by grounds ready bundle digest = given_of ready.needed digest >>= λ _. judged_had grounds ready bundle digest None
 
 -- ---- the whole judgement
 

@@ -19,6 +19,7 @@ use Rattle.sigstore_judgement.specs.Grounds.{Terms, terms_with}
 use Rattle.sigstore_judgement.specs.Policy.{Meaning}
 use Rattle.sigstore_judgement.specs.Trust.{material_of}
 use Rattle.sigstore_judgement.specs.Judged.{Ready, prepared_of, judged_of, needed_by}
+use Rattle.sigstore_judgement.specs.Signer.{first_checks_of}
 
 -- the artifact is these bytes: a source that tells its bytes gave exactly them, up to its end
 pub record ReadWhole (old new : Watched (List ℕ)) (max : ℕ) (bytes : List ℕ) : Type 0 where
@@ -59,6 +60,10 @@ Cause terms bundle old new max e =
     (e ≡ NoMemory) ⊎ (BeforeReading terms bundle old new e
     ⊎ (InReading terms bundle old new max e ⊎ AfterReading terms bundle old new max e))
 
+-- out of memory only where the checks that need none pass
+abbrev pub WantsMemory : Terms → Bundle → Error → Type 0
+WantsMemory terms bundle e = e ≡ NoMemory → first_checks_of terms.policy bundle ≡ Ok tt
+
 -- the bytes were read to the end, and the bundle is accepted by their digests with this report
 pub record Accepted (terms : Terms) (bundle : Bundle) (old new : Watched (List ℕ)) (max : ℕ) (report : VerificationResult)
     (bytes : List ℕ) : Type 0 where
@@ -72,6 +77,7 @@ pub record Verifies (terms : Terms) (bundle : Bundle) (old new : Watched (List �
   pub within : TookWithin old new max
   pub accepted : IfOk result (λ report. (bytes : List ℕ) × Accepted terms bundle old new max report bytes)
   pub refused : IfErr result (Cause terms bundle old new max)
+  pub memory : IfErr result (WantsMemory terms bundle)
 
 -- the promise of one that keeps the digests: they are those that were needed, in their order, of the same bytes
 pub record VerifiesKept (terms : Terms) (bundle : Bundle) (old new : Watched (List ℕ)) (max : ℕ) (result : Result JudgedBundle Error) : Type 0 where
@@ -80,11 +86,13 @@ pub record VerifiesKept (terms : Terms) (bundle : Bundle) (old new : Watched (Li
   pub accepted : IfOk result (λ kept. (bytes : List ℕ) × Accepted terms bundle old new max kept.result bytes
       × (kept.digests ≡ digests_by (needed_by terms.policy bundle) bytes))
   pub refused : IfErr result (Cause terms bundle old new max)
+  pub memory : IfErr result (WantsMemory terms bundle)
 
 -- the promise of a verification of an artifact that is handed in: the judgement, or want of memory
 pub record VerifiesHanded (terms : Terms) (bundle : Bundle) (artifact : Artifact) (result : Result VerificationResult Error) : Type 0 where
   pub accepted : IfOk result (λ report. judged_of terms bundle artifact ≡ Ok report)
   pub refused : IfErr result (λ e. e ≢ NoMemory → judged_of terms bundle artifact ≡ Err e)
+  pub memory : IfErr result (WantsMemory terms bundle)
 
 -- the judgement under a trust file of which a verifier is made
 abbrev pub judged_under : Crypto → Timestamp → Meaning → TrustedRoot → Bundle → Artifact → Result VerificationResult Error

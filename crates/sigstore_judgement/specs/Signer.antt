@@ -3,6 +3,8 @@ use Rattle.std.specs.Prelude.{◌≡◌, ℕ, List, Bool, ⊤, Option, Some, Non
 use Rattle.foundation.specs.Steps.{◌>>=◌}
 use Rattle.sigstore_types_parts.specs.declared.time_range.TimeRange.{TimeRange}
 use Rattle.sigstore_types.specs.declared.bundle.Bundle.{Bundle}
+use Rattle.sigstore_types.specs.declared.material.VerificationMaterialContent.{VerificationMaterialContent}
+use Rattle.sigstore_types.specs.declared.material.VerificationMaterialContent.TheVariants as material
 use Rattle.sigstore_types.specs.Bundle.{structure_of, signing_certificate_of}
 use Rattle.certificate_claims.specs.declared.certificate_info.CertificateInfo.{CertificateInfo}
 use Rattle.certificate_claims.specs.Info.{info_of}
@@ -49,14 +51,20 @@ verifies_log (Certified policy info certificate) = policy.verify_tlog
 
 -- ---- who signed, under a policy: the policy's kind is looked at here alone
 
+-- the material with which the bundle says that it was signed: a public key, or certificates
+abbrev pub material_in : Bundle → VerificationMaterialContent
+material_in bundle = bundle.verification_material.content
+
 -- the certificate with which the bundle says that it was signed, where it has one
 abbrev pub certificate_in : Bundle → Option (List ℕ)
-certificate_in bundle = signing_certificate_of bundle.verification_material.content
+certificate_in bundle = signing_certificate_of (material_in bundle)
 
--- a bundle with a certificate isn't judged under a policy for a key: else what the certificate says would be passed over
-abbrev pub keyed_of : Option (List ℕ) → Result ⊤ Error
-keyed_of None = Ok tt
-keyed_of (Some certificate) = Err UnsupportedBundle
+-- Under a policy for a key the material is a public key. Certificates aren't judged so, not even an empty chain: what they say would be
+-- passed over.
+abbrev pub keyed_of : VerificationMaterialContent → Result ⊤ Error
+keyed_of (material.PublicKey hint) = Ok tt
+keyed_of (material.Certificate certificate) = Err UnsupportedBundle
+keyed_of (material.X509CertificateChain chain) = Err UnsupportedBundle
 
 -- and one without a certificate names nobody of whom the policy could ask anything
 abbrev pub named_of : Option (List ℕ) → Result (List ℕ) Error
@@ -67,7 +75,7 @@ named_of (Some certificate) = Ok certificate
 -- and the owner of a stolen key is never noticed.
 unfoldable pub managed_of : PublicKeyVerificationPolicy → Bundle → Result Signer Error
 managed_of policy bundle = do
-  _ ← keyed_of (certificate_in bundle)
+  _ ← keyed_of (material_in bundle)
   _ ← by_types (structure_of bundle policy.verify_tlog)
   Ok (Managed policy)
 
@@ -83,10 +91,17 @@ abbrev pub signer_of : Meaning → Bundle → Result Signer Error
 signer_of (Certificate policy) bundle = owner_of policy bundle
 signer_of (PublicKey policy) bundle = managed_of policy bundle
 
+-- Those of the checks that need no memory: where one of them refuses, no answer is out of memory.
+abbrev pub first_checks_of : Meaning → Bundle → Result ⊤ Error
+first_checks_of (PublicKey policy) bundle = keyed_of (material_in bundle) >>= λ _. by_types (structure_of bundle policy.verify_tlog)
+first_checks_of (Certificate policy) bundle =
+    by_types (structure_of bundle policy.verify_tlog) >>= λ _. named_of (certificate_in bundle) >>= λ _. Ok tt
+
 -- ---- the same without an order of checks
 
 pub record IsManaged (policy : PublicKeyVerificationPolicy) (bundle : Bundle) (signer : Signer) : Type 0 where
-  pub keyed : certificate_in bundle ≡ None
+  pub hint : Option (List ℕ)
+  pub keyed : material_in bundle ≡ material.PublicKey hint
   pub structure : structure_of bundle policy.verify_tlog ≡ Ok tt
   pub is : signer ≡ Managed policy
 

@@ -1,8 +1,9 @@
 // An artifact as it is handed in, and what is had of it.
-ghost use Rattle.std.specs.Prelude.{◌≡◌, find, option_copied};
+ghost use Rattle.std.specs.Prelude.{◌≡◌, ◌≢◌, find, option_copied, IfErr};
 ghost use Rattle.std.specs.List.{list_all};
 ghost use Rattle.sigstore_types_parts.specs.HashAlgorithm.{same_algorithm};
-ghost use Rattle.sigstore_judgement.specs.Artifact.{kind_in};
+ghost use Rattle.sigstore_judgement.specs.Artifact.{kind_in, digest_among, has_each};
+ghost use Rattle.sigstore_judgement.specs.Judged.{given_of};
 
 use crate::error::Error;
 use sigstore_keys::ArtifactHasher;
@@ -61,6 +62,30 @@ pub(crate) fn has_all(handed: ArtifactInput, needed: &[HashAlgorithm]) -> bool
         }
     }
     true
+}
+
+// Whether each digest that is needed is among those that were taken.
+fn has_each(needed: &[HashAlgorithm], digests: &[ArtifactDigest]) -> bool
+    ensures { result ≡ has_each needed.now (digest_among digests.now) }
+{
+    'each: for algorithm in needed {
+        if taken(digests, *algorithm).is_none() {
+            return false;
+        }
+    }
+    true
+}
+
+/// Each digest that is needed is among those that were taken. Else a check would have to be passed over.
+pub(crate) fn check_given(needed: &[HashAlgorithm], digests: &[ArtifactDigest]) -> Result<(), Error>
+    ensures exact { result ≡ given_of needed.now (digest_among digests.now) }
+    ensures never { IfErr result (λ e. e ≢ Error.NoMemory) }
+{
+    if has_each(needed, digests) {
+        Ok(())
+    } else {
+        Err(Error::UnsupportedArtifact)
+    }
 }
 
 // The digest by an algorithm among those that were taken.

@@ -24,7 +24,8 @@ pub(crate) enum Claim<'b> {
 
 // The payload is a statement: what was signed for another reader isn't taken for one.
 fn check_type(payload_type: &Text) -> Result<(), Error>
-    ensures { result ≡ typed_of payload_type.now }
+    ensures exact { result ≡ typed_of payload_type.now }
+    ensures never { IfErr result (λ e. e ≢ Error.NoMemory) }
 {
     if payload_type.as_str() == "application/vnd.in-toto+json" {
         Ok(())
@@ -77,6 +78,7 @@ fn check_statement(alloc: Global, statement: &Statement) -> Result<(), Error>
 fn stated(alloc: Global, envelope: &DsseEnvelope) -> Result<Statement, Error>
     ensures ok { IfOk result (λ statement. stated_of envelope.now ≡ Ok statement) }
     ensures err { IfErr result (λ e. e ≢ Error.NoMemory → stated_of envelope.now ≡ Err e) }
+    ensures memory { IfErr result (λ e. e ≡ Error.NoMemory → typed_of envelope.now.payload_type ≡ Ok tt) }
 {
     check_type(&envelope.payload_type)?;
     let statement = read_statement(alloc, &envelope.payload)?;

@@ -8,9 +8,9 @@ ghost use Rattle.sigstore_judgement.specs.Content.{signs_digest, supported_of};
 ghost use Rattle.sigstore_judgement.specs.Error.{by_crypto, by_certificate};
 ghost use Rattle.sigstore_judgement.specs.Evidence.{managed_evidence, owner_evidence, report_of};
 ghost use Rattle.sigstore_judgement.specs.Grounds.{grounds_by, trust_in};
-ghost use Rattle.sigstore_judgement.specs.Judged.{ready_as, ready_with, claimed_of, ready_of, prepared_of, managed_vouched_of, intermediates_in, owner_vouched_of, vouched_of, judged_had};
+ghost use Rattle.sigstore_judgement.specs.Judged.{ready_as, bundle_in, ready_with, claimed_of, ready_of, prepared_of, managed_vouched_of, intermediates_in, owner_vouched_of, vouched_of, judged_had};
 ghost use Rattle.sigstore_judgement.specs.Policy.{meaning_of};
-ghost use Rattle.sigstore_judgement.specs.Signer.{Managed, Certified, signer_as};
+ghost use Rattle.sigstore_judgement.specs.Signer.{Managed, Certified, signer_as, first_checks_of};
 
 use crate::artifact::{ArtifactInput, KnownArtifact};
 use crate::claim::{Claim, needed, read_claim};
@@ -33,10 +33,11 @@ use sigstore_types::{Bundle, SignatureContent};
 use sigstore_types_parts::{Armor, DerCertificate, DerPublicKey, HashAlgorithm};
 use std::alloc::Global;
 
-/// What was prepared for an artifact: who signed, their key under the scheme of this bundle, what it says of the
-/// artifact, and the digests of that which are needed.
+/// What was prepared of a bundle for an artifact: who signed, their key under the scheme of this bundle, what it says
+/// of the artifact, and the digests of that which are needed.
 #[derive(Drop)]
 pub struct Ready<'a> {
+    pub(crate) bundle: &'a Bundle,
     pub(crate) signer: Signing<'a>,
     pub(crate) key: VerificationKey,
     pub(crate) claim: Claim<'a>,
@@ -130,19 +131,22 @@ fn key_and_claim<'b>(
 /// file. Errors, in order: those of `who_signed`; `Crypto` for the signer's key and its scheme; those of `read_claim`;
 /// `UnsupportedArtifact` where the scheme signs the artifact itself and its bytes aren't kept; where a digest that is
 /// needed can't be had, `UnsupportedArtifact` if one was handed in and else `Crypto`.
-#[tactic(auto, unfolding(crate::specs::Judged::prepared_of))]
+#[tactic(auto, unfolding(crate::specs::Judged::prepared_of), using(crate::proofs::FirstChecks::signed_passes))]
 pub(crate) fn prepare<'a>(
     alloc: Global,
     handed: ArtifactInput,
     policy: PolicyKind<'a>,
     bundle: &'a Bundle,
 ) -> Result<Ready<'a>, Error>
+    ensures bundle { IfOk result (λ ready. bundle_in ready ≡ bundle.now) }
     ensures ok { IfOk result (λ ready. prepared_of (kind_in handed) (meaning_of policy.entry) bundle.now ≡ Ok (ready_as ready)) }
     ensures err { IfErr result (λ e. e ≢ Error.NoMemory → prepared_of (kind_in handed) (meaning_of policy.entry) bundle.now ≡ Err e) }
+    ensures memory { IfErr result (λ e. e ≡ Error.NoMemory → first_checks_of (meaning_of policy.entry) bundle.now ≡ Ok tt) }
 {
     let signer = who_signed(alloc, policy, bundle)?;
     match key_and_claim(alloc, handed, &signer, bundle) {
         Ok((key, claim, needed)) => Ok(Ready {
+            bundle,
             signer,
             key,
             claim,
@@ -282,15 +286,16 @@ fn accepted<C: CryptoProvider, M: Armor>(
     alloc: Global,
     grounds: &Grounds<'_, C, M>,
     ready: &Ready<'_>,
-    bundle: &Bundle,
     had: &KnownArtifact<'_>,
 ) -> Result<Evidence, Error>
     ensures ok { IfOk result (λ evidence.
-        judged_had (grounds_by C.CryptoProvider M.Armor grounds.now) (ready_as ready.now) bundle.now (digest_had had.now) (bytes_had had.now)
+        judged_had (grounds_by C.CryptoProvider M.Armor grounds.now) (ready_as ready.now) (bundle_in ready.now) (digest_had had.now) (bytes_had had.now)
         ≡ Ok (report_of (signer_as ready.now.signer) evidence)) }
     ensures err { IfErr result (λ e. e ≢ Error.NoMemory →
-        judged_had (grounds_by C.CryptoProvider M.Armor grounds.now) (ready_as ready.now) bundle.now (digest_had had.now) (bytes_had had.now) ≡ Err e) }
+        judged_had (grounds_by C.CryptoProvider M.Armor grounds.now) (ready_as ready.now) (bundle_in ready.now) (digest_had had.now) (bytes_had had.now)
+        ≡ Err e) }
 {
+    let bundle = ready.bundle;
     let evidence = vouched(alloc, grounds, &ready.signer, bundle)?;
     let opened = open_content(alloc, &bundle.content)?;
     judge_content(grounds.provider, &ready.key, &opened, &ready.claim, had)?;
@@ -307,15 +312,16 @@ pub(crate) fn judge<C: CryptoProvider, M: Armor>(
     alloc: Global,
     grounds: &Grounds<'_, C, M>,
     ready: Ready<'_>,
-    bundle: &Bundle,
     had: &KnownArtifact<'_>,
 ) -> Result<VerificationResult, Error>
     ensures ok { IfOk result (λ report.
-        judged_had (grounds_by C.CryptoProvider M.Armor grounds.now) (ready_as ready.entry) bundle.now (digest_had had.now) (bytes_had had.now) ≡ Ok report) }
+        judged_had (grounds_by C.CryptoProvider M.Armor grounds.now) (ready_as ready.entry) (bundle_in ready.entry) (digest_had had.now) (bytes_had had.now)
+        ≡ Ok report) }
     ensures err { IfErr result (λ e. e ≢ Error.NoMemory →
-        judged_had (grounds_by C.CryptoProvider M.Armor grounds.now) (ready_as ready.entry) bundle.now (digest_had had.now) (bytes_had had.now) ≡ Err e) }
+        judged_had (grounds_by C.CryptoProvider M.Armor grounds.now) (ready_as ready.entry) (bundle_in ready.entry) (digest_had had.now) (bytes_had had.now)
+        ≡ Err e) }
 {
-    match accepted(alloc, grounds, &ready, bundle, had) {
+    match accepted(alloc, grounds, &ready, had) {
         Ok(evidence) => Ok(report(ready.signer, evidence)),
         Err(e) => {
             drop(ready);

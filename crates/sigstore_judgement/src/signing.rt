@@ -3,14 +3,14 @@ ghost use Rattle.std.specs.Prelude.{◌≡◌, ◌≢◌, Ok, Err, IfOk, IfErr, 
 ghost use Rattle.sigstore_types.specs.Bundle.{structure_of};
 ghost use Rattle.certificate_claims.specs.Info.{info_of};
 ghost use Rattle.sigstore_judgement.specs.Error.{by_types, by_info};
-ghost use Rattle.sigstore_judgement.specs.Policy.{meaning_of};
-ghost use Rattle.sigstore_judgement.specs.Signer.{signer_as, key_in, validity_of, certificate_in, keyed_of, named_of, managed_of, owner_of, signer_of};
+ghost use Rattle.sigstore_judgement.specs.Policy.{meaning_of, Certificate};
+ghost use Rattle.sigstore_judgement.specs.Signer.{signer_as, key_in, validity_of, material_in, certificate_in, keyed_of, named_of, managed_of, owner_of, signer_of, first_checks_of};
 
 use crate::error::{CertificateError, Error, lowered};
 use crate::policy::{PolicyKind, PublicKeyVerificationPolicy};
 use certificate_claims::{CertificateInfo, parse_certificate_info};
 use sigstore_certificate::VerificationPolicy;
-use sigstore_types::{Bundle, validate_structure};
+use sigstore_types::{Bundle, VerificationMaterialContent, validate_structure};
 use sigstore_types_parts::{DerCertificate, DerPublicKey, TimeRange};
 use std::alloc::Global;
 
@@ -46,8 +46,10 @@ pub(crate) fn validity_of(info: &CertificateInfo) -> TimeRange
 
 // What the policy needs of the log is there: else a signature that was never logged passes, and the owner of
 // a stolen key is never noticed.
+#[tactic(auto, using(crate::proofs::FirstChecks::structure_never))]
 fn check_structure(bundle: &Bundle, verify_tlog: bool) -> Result<(), Error>
-    ensures { result ≡ by_types (structure_of bundle.now verify_tlog) }
+    ensures exact { result ≡ by_types (structure_of bundle.now verify_tlog) }
+    ensures never { IfErr result (λ e. e ≢ Error.NoMemory) }
 {
     match validate_structure(bundle, verify_tlog) {
         Ok(()) => Ok(()),
@@ -55,19 +57,22 @@ fn check_structure(bundle: &Bundle, verify_tlog: bool) -> Result<(), Error>
     }
 }
 
-// A bundle with a certificate isn't judged under a policy for a key: what the certificate says would be passed over.
+// A bundle of certificates isn't judged under a policy for a key: what they say would be passed over.
 fn check_keyed(bundle: &Bundle) -> Result<(), Error>
-    ensures { result ≡ keyed_of (certificate_in bundle.now) }
+    ensures exact { result ≡ keyed_of (material_in bundle.now) }
+    ensures never { IfErr result (λ e. e ≢ Error.NoMemory) }
 {
-    match bundle.signing_certificate() {
-        Some(_) => Err(Error::UnsupportedBundle),
-        None => Ok(()),
+    match &bundle.verification_material.content {
+        VerificationMaterialContent::PublicKey { .. } => Ok(()),
+        VerificationMaterialContent::Certificate(_) => Err(Error::UnsupportedBundle),
+        VerificationMaterialContent::X509CertificateChain(_) => Err(Error::UnsupportedBundle),
     }
 }
 
 // The certificate with which the bundle was signed.
 fn certificate_in(bundle: &Bundle) -> Result<&DerCertificate, Error>
-    ensures { MatchResult result (λ certificate. named_of (certificate_in bundle.now) ≡ Ok certificate.now) (λ e. named_of (certificate_in bundle.now) ≡ Err e) }
+    ensures exact { MatchResult result (λ certificate. named_of (certificate_in bundle.now) ≡ Ok certificate.now) (λ e. named_of (certificate_in bundle.now) ≡ Err e) }
+    ensures never { IfErr result (λ e. e ≢ Error.NoMemory) }
 {
     match bundle.signing_certificate() {
         Some(certificate) => Ok(certificate),
@@ -95,6 +100,7 @@ fn managed<'a>(
 ) -> Result<Signing<'a>, Error>
     ensures ok { IfOk result (λ signer. managed_of policy.now bundle.now ≡ Ok (signer_as signer)) }
     ensures err { IfErr result (λ e. managed_of policy.now bundle.now ≡ Err e) }
+    ensures never { IfErr result (λ e. e ≢ Error.NoMemory) }
 {
     check_keyed(bundle)?;
     check_structure(bundle, policy.verify_tlog)?;
@@ -110,6 +116,7 @@ fn owner<'a>(
 ) -> Result<Signing<'a>, Error>
     ensures ok { IfOk result (λ signer. owner_of policy.now bundle.now ≡ Ok (signer_as signer)) }
     ensures err { IfErr result (λ e. e ≢ Error.NoMemory → owner_of policy.now bundle.now ≡ Err e) }
+    ensures memory { IfErr result (λ e. e ≡ Error.NoMemory → first_checks_of (Certificate policy.now) bundle.now ≡ Ok tt) }
 {
     check_structure(bundle, policy.verify_tlog)?;
     let certificate = certificate_in(bundle)?;
@@ -117,8 +124,8 @@ fn owner<'a>(
     Ok(Signing::Certified(policy, info, certificate))
 }
 
-/// Who signed a bundle under a policy. Errors, in order: under a key `UnsupportedBundle` for a bundle with a
-/// certificate; `Bundle` where it lacks what the policy needs of the log; under a policy for certificates
+/// Who signed a bundle under a policy. Errors, in order: under a key `UnsupportedBundle` for a bundle of
+/// certificates; `Bundle` where it lacks what the policy needs of the log; under a policy for certificates
 /// `InvalidBundle` for a bundle without one, `Certificate` with `Malformed` where it isn't read.
 pub(crate) fn who_signed<'a>(
     alloc: Global,
@@ -127,6 +134,7 @@ pub(crate) fn who_signed<'a>(
 ) -> Result<Signing<'a>, Error>
     ensures ok { IfOk result (λ signer. signer_of (meaning_of policy.entry) bundle.now ≡ Ok (signer_as signer)) }
     ensures err { IfErr result (λ e. e ≢ Error.NoMemory → signer_of (meaning_of policy.entry) bundle.now ≡ Err e) }
+    ensures memory { IfErr result (λ e. e ≡ Error.NoMemory → first_checks_of (meaning_of policy.entry) bundle.now ≡ Ok tt) }
 {
     match policy {
         PolicyKind::Certificate(policy) => owner(alloc, policy, bundle),

@@ -1,25 +1,29 @@
 // The digests of an artifact, by all algorithms that are needed in one pass.
-ghost use Rattle.std.specs.Prelude.{◌≡◌, ◌⊎◌, true, false, [], IfOk, IfErr, Ok, Err};
+ghost use Rattle.std.specs.Prelude.{◌≡◌, true, [], IfOk, IfErr};
 ghost use Rattle.std.specs.List.{list_all};
 ghost use Rattle.sigstore_keys.specs.Digest.{is_hashed, digests_by};
 ghost use Rattle.sigstore_judgement.specs.Taken.{AreOf, Finalized};
-ghost use Rattle.sigstore_judgement.specs.Taking.{Takes};
+ghost use Rattle.sigstore_judgement.specs.Taking.{Unhashed, Takes};
 
+use crate::artifact::{ArtifactInput, has_all};
 use crate::error::Error;
 use foundation::Sequence;
 use sigstore_keys::{ArtifactHasher, ArtifactSource, HashUpdate, hash_reader};
 use sigstore_types_parts::{ArtifactDigest, HashAlgorithm};
 use std::alloc::Global;
 
-/// A hasher for each algorithm, in their order, none of which has seen anything. Errors: `Crypto` for an algorithm of
-/// SHA-3, which has none; `NoMemory`.
+/// A hasher for each algorithm, in their order, none of which has seen anything. Errors: `Crypto` where one is of SHA-3,
+/// which has none, and else `NoMemory`.
 pub fn hashers_for(
     alloc: Global,
     algorithms: &[HashAlgorithm],
 ) -> Result<Vec<ArtifactHasher>, Error>
     ensures ok { IfOk result (λ hashers. AreOf hashers.items algorithms.now []) }
-    ensures err { IfErr result (λ e. (e ≡ Error.NoMemory) ⊎ (list_all is_hashed algorithms.now ≡ false)) }
+    ensures err { IfErr result (Unhashed algorithms.now) }
 {
+    if !has_all(ArtifactInput::Read, algorithms) {
+        return Err(Error::Crypto);
+    }
     let mut hashers = Vec::new(alloc);
     'each: for algorithm in algorithms {
         let hasher = ArtifactHasher::new(*algorithm)?;

@@ -87,7 +87,7 @@ impl<'p, C: CryptoProvider, M: Armor> Verifier<'p, C, M> {
                         digests: digests.as_slice(),
                         bytes: None,
                     };
-                    match judge(alloc, &self.grounds(now), ready, bundle, &had) {
+                    match judge(alloc, &self.grounds(now), ready, &had) {
                         Ok(result) => Ok(JudgedBundle { result, digests }),
                         Err(e) => Err(e),
                     }
@@ -119,7 +119,7 @@ impl<'p, C: CryptoProvider, M: Armor> Verifier<'p, C, M> {
                         digests: digests.as_slice(),
                         bytes: Some(bytes),
                     };
-                    judge(alloc, &self.grounds(now), ready, bundle, &had)
+                    judge(alloc, &self.grounds(now), ready, &had)
                 }
                 Err(e) => {
                     drop(ready);
@@ -153,14 +153,14 @@ impl<'p, C: CryptoProvider, M: Armor> Verifier<'p, C, M> {
                     digests: slice::from_ref(digest),
                     bytes: None,
                 };
-                judge(alloc, &self.grounds(now), ready, bundle, &had)
+                judge(alloc, &self.grounds(now), ready, &had)
             }
             Err(e) => Err(e),
         }
     }
 
     /// Verifies the bundle over an artifact that is handed in. Errors, in order: under a key `UnsupportedBundle` for a
-    /// bundle with a certificate; `Bundle`; under a policy for certificates `InvalidBundle` for a bundle without one,
+    /// bundle of certificates; `Bundle`; under a policy for certificates `InvalidBundle` for a bundle without one,
     /// `Certificate` for one that isn't read; `Crypto` for the signer's key and its scheme; of an envelope
     /// `UnsupportedBundle` for its payload's type, `InvalidBundle` for its statement, `UnsupportedBundle` where no
     /// subject tells a digest that can be had; `UnsupportedArtifact` where the scheme signs a message's bytes themselves

@@ -1,12 +1,13 @@
 use Rattle.std.proofs.Common.{◌≡◌, ℕ, List, refl, sym, ap, subst, ◌∙◌, Ok, Err, None, true, Result}
 use Rattle.std.specs.List.{list_all}
 use Rattle.sigstore_types_parts.specs.declared.hash_algorithm.HashAlgorithm.{HashAlgorithm}
+use Rattle.sigstore_types.specs.declared.bundle.Bundle.{Bundle}
 use Rattle.sigstore_keys.specs.Digest.{is_hashed}
 use Rattle.sigstore_judgement.specs.declared.error.Error.{Error}
 use Rattle.sigstore_judgement.specs.declared.report.VerificationResult.{VerificationResult}
 use Rattle.sigstore_judgement.specs.Artifact.{read_kind, digest_among}
 use Rattle.sigstore_judgement.specs.Grounds.{Grounds, grounds_by, terms_by}
-use Rattle.sigstore_judgement.specs.Judged.{ready_as, judged_had}
+use Rattle.sigstore_judgement.specs.Judged.{ready_as, bundle_in, judged_had}
 use Rattle.sigstore_judgement.specs.Policy.{meaning_of}
 use Rattle.sigstore_judgement.specs.Taking.{Takes}
 use Rattle.sigstore_judgement.proofs.Stages.{judging_accepted, judging_refused, reading_refused, prepared_hashed}
@@ -21,12 +22,14 @@ returns-in-Ok-judge g c =
     let digests = c.in-Ok-read_digests.digests in
     let hashed : list_all is_hashed c.as_slice.result.now ≡ true =
     ap (list_all is_hashed) c.as_slice.ensures ∙ prepared_hashed read_kind terms.policy c.args.bundle.now ready refl c.in-Ok.ensures.ok in
-    let judges : Grounds → List (HashAlgorithm × List ℕ) → Result VerificationResult Error =
-    λ grounds taken. judged_had grounds ready c.args.bundle.now (digest_among taken) None in
+    let judges : Grounds → Bundle → List (HashAlgorithm × List ℕ) → Result VerificationResult Error =
+    λ grounds bundle taken. judged_had grounds ready bundle (digest_among taken) None in
+    let at = grounds_by g.C.CryptoProvider g.M.Armor c.grounds.result in
     judging_accepted terms c.args.bundle.now before after c.args.max ready digests c.in-Ok-judge.result c.in-Ok.ensures.ok
     (subst (λ l. Takes before after c.args.max l (Ok digests)) c.as_slice.ensures (c.in-Ok-read_digests.ensures hashed)) (
-    ap (λ grounds. judges grounds digests) (sym (c.grounds.ensures (meaning_of c.args.policy)))
-    ∙ ap (judges (grounds_by g.C.CryptoProvider g.M.Armor c.grounds.result)) (sym c.as_slice-in-Ok-read_digests.ensures)
+    ap (λ grounds. judges grounds c.args.bundle.now digests) (sym (c.grounds.ensures (meaning_of c.args.policy)))
+    ∙ ap (λ bundle. judges at bundle digests) (sym c.in-Ok.ensures.bundle)
+    ∙ ap (judges at (bundle_in c.in-Ok.ready)) (sym c.as_slice-in-Ok-read_digests.ensures)
     ∙ c.in-Ok-judge.ensures.ok
     )
 
@@ -39,12 +42,14 @@ returns-in-Err-judge g c =
     let digests = c.in-Ok-read_digests.digests in
     let hashed : list_all is_hashed c.as_slice.result.now ≡ true =
     ap (list_all is_hashed) c.as_slice.ensures ∙ prepared_hashed read_kind terms.policy c.args.bundle.now ready refl c.in-Ok.ensures.ok in
-    let judges : Grounds → List (HashAlgorithm × List ℕ) → Result VerificationResult Error =
-    λ grounds taken. judged_had grounds ready c.args.bundle.now (digest_among taken) None in
+    let judges : Grounds → Bundle → List (HashAlgorithm × List ℕ) → Result VerificationResult Error =
+    λ grounds bundle taken. judged_had grounds ready bundle (digest_among taken) None in
+    let at = grounds_by g.C.CryptoProvider g.M.Armor c.grounds.result in
     judging_refused terms c.args.bundle.now before after c.args.max ready digests c.in-Err-judge.e c.in-Ok.ensures.ok
     (subst (λ l. Takes before after c.args.max l (Ok digests)) c.as_slice.ensures (c.in-Ok-read_digests.ensures hashed)) (λ other.
-    ap (λ grounds. judges grounds digests) (sym (c.grounds.ensures (meaning_of c.args.policy)))
-    ∙ ap (judges (grounds_by g.C.CryptoProvider g.M.Armor c.grounds.result)) (sym c.as_slice-in-Ok-read_digests.ensures)
+    ap (λ grounds. judges grounds c.args.bundle.now digests) (sym (c.grounds.ensures (meaning_of c.args.policy)))
+    ∙ ap (λ bundle. judges at bundle digests) (sym c.in-Ok.ensures.bundle)
+    ∙ ap (judges at (bundle_in c.in-Ok.ready)) (sym c.as_slice-in-Ok-read_digests.ensures)
     ∙ c.in-Err-judge.ensures.err other
     )
 
