@@ -15,12 +15,18 @@ pub record Anchor : Type 0 where
   pub config : UpdaterConfig
   pub now : jiff.Timestamp
 
+abbrev pub anchor_by : Crypto → List ℕ → UpdaterConfig → jiff.Timestamp → Anchor
+anchor_by crypto root config now = record { crypto = crypto; root = root; config = config; now = now }
+
 -- and what is asked: the bundle's bytes, under which policy, and the greatest length of the artifact
 pub record VerifyInputs : Type 0 where
   pub anchor : Anchor
   pub policy : Meaning
   pub bundle : List ℕ
   pub max : ℕ
+
+abbrev pub inputs_by : Anchor → Meaning → List ℕ → ℕ → VerifyInputs
+inputs_by anchor policy bundle max = record { anchor = anchor; policy = policy; bundle = bundle; max = max }
 
 -- what is asked of a bundle under a chain's trust file
 abbrev pub asked_by : VerifyInputs → Asked
@@ -42,6 +48,12 @@ pub record Outside : Type 0 where
   pub repo : Watched Folders
   pub store : Watched Files
   pub source : Watched (List ℕ)
+
+abbrev pub places_by : Watched Folders → Watched Files → Places
+places_by repo store = record { repo = repo; store = store }
+
+abbrev pub outside_by : Watched Folders → Watched Files → Watched (List ℕ) → Outside
+outside_by repo store source = record { repo = repo; store = store; source = source }
 
 abbrev pub places_in : Outside → Places
 places_in outside = record { repo = outside.repo; store = outside.store }

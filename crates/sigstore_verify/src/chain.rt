@@ -4,7 +4,7 @@ ghost use Rattle.sigstore_keys.specs.Crypto.{crypto_by};
 ghost use Rattle.sigstore_tuf_rules.specs.Update.{first_root_of};
 ghost use Rattle.sigstore_tuf_rules.specs.Authorised.{crypto_in};
 ghost use Rattle.sigstore_verify.specs.FromRoot.{GivesChain};
-ghost use Rattle.sigstore_verify.specs.Inputs.{Anchor, Places};
+ghost use Rattle.sigstore_verify.specs.Inputs.{anchor_by, places_by};
 ghost use Rattle.sigstore_verify.specs.Promises.{PromisesChain};
 
 use jiff::Timestamp;
@@ -16,8 +16,8 @@ use sigstore_tuf::{
 use sigstore_types_parts::Armor;
 use std::alloc::Global;
 
-// The target that is the trust file.
-const TRUST_PATH: &str = "trusted_root.json";
+/// The target that is the trusted root.
+pub const TRUST_PATH: &str = "trusted_root.json";
 
 // The chain of documents that authorises the trust file, by a client that begins with this first root.
 fn chain_by<C: CryptoProvider, M: Armor, R: Repository, S: MetadataStore>(
@@ -30,7 +30,7 @@ fn chain_by<C: CryptoProvider, M: Armor, R: Repository, S: MetadataStore>(
 ) -> Result<TrustChain, sigstore_tuf_parts::Error>
     ensures { let crypto = crypto_in C.CryptoProvider M.Armor set.old in
         (root : List ℕ) → first_root_of crypto root ≡ Ok set.old.documents
-        → GivesChain (record { crypto = crypto; root = root; config = config.now; now = now })
+        → GivesChain (anchor_by crypto root config.now now)
         (R.seen repo.old) (R.seen repo.new) (S.seen store.old) (S.seen store.new) result }
 {
     if let Err(e) = attach_parts(alloc, set, store) {
@@ -57,7 +57,7 @@ fn trust_chain<C: CryptoProvider, M: Armor, R: Repository, S: MetadataStore>(
     now: Timestamp,
 ) -> Result<TrustChain, sigstore_tuf_parts::Error>
     ensures { let crypto = crypto_by C.CryptoProvider M.Armor provider.now armor.now in
-        GivesChain (record { crypto = crypto; root = root_bytes.now; config = config.now; now = now })
+        GivesChain (anchor_by crypto root_bytes.now config.now now)
         (R.seen repo.old) (R.seen repo.new) (S.seen store.old) (S.seen store.new) result }
 {
     match TrustedMetadataSet::from_root(alloc, provider, armor, root_bytes) {
@@ -85,10 +85,8 @@ pub fn chain_from_root<R: Repository, S: MetadataStore, C: CryptoProvider, M: Ar
     now: Timestamp,
 ) -> Result<TrustChain, sigstore_tuf_parts::Error>
     ensures { let crypto = crypto_by C.CryptoProvider M.Armor provider.now armor.now in
-        let anchor : Anchor = record { crypto = crypto; root = root_bytes.now; config = config.now; now = now } in
-        let before : Places = record { repo = R.seen repo.old; store = S.seen store.old } in
-        let after : Places = record { repo = R.seen repo.new; store = S.seen store.new } in
-        PromisesChain anchor before after result }
+        PromisesChain (anchor_by crypto root_bytes.now config.now now) (places_by (R.seen repo.old) (S.seen store.old))
+        (places_by (R.seen repo.new) (S.seen store.new)) result }
 {
     trust_chain(alloc, provider, armor, root_bytes, repo, store, config, now)
 }

@@ -2,7 +2,7 @@
 ghost use Rattle.std.specs.Prelude.{◌≡◌};
 ghost use Rattle.sigstore_keys.specs.Crypto.{crypto_by};
 ghost use Rattle.sigstore_verify.specs.FromRoot.{root_of_tuf, root_of_verify};
-ghost use Rattle.sigstore_verify.specs.Inputs.{Anchor, VerifyInputs, Outside};
+ghost use Rattle.sigstore_verify.specs.Inputs.{anchor_by, inputs_by, outside_by};
 ghost use Rattle.sigstore_verify.specs.Promises.{Promises};
 
 use crate::chain::chain_from_root;
@@ -95,11 +95,9 @@ pub fn verify_from_root<
     policy: &P,
 ) -> Result<Acceptance, RootFault>
     ensures { let crypto = crypto_by C.CryptoProvider M.Armor provider.now armor.now in
-        let anchor : Anchor = record { crypto = crypto; root = root_bytes.now; config = config; now = now } in
-        let given : VerifyInputs = record { anchor = anchor; policy = P.meant policy.now; bundle = bundle_bytes.now; max = max_artifact } in
-        let before : Outside = record { repo = R.seen repo.old; store = S.seen store.old; source = A.seen artifact.old } in
-        let after : Outside = record { repo = R.seen repo.new; store = S.seen store.new; source = A.seen artifact.new } in
-        Promises given before after result }
+        let given = inputs_by (anchor_by crypto root_bytes.now config now) (P.meant policy.now) bundle_bytes.now max_artifact in
+        Promises given (outside_by (R.seen repo.old) (S.seen store.old) (A.seen artifact.old))
+        (outside_by (R.seen repo.new) (S.seen store.new) (A.seen artifact.new)) result }
 {
     let chain = match chain_from_root(
         alloc, provider, armor, root_bytes, repo, store, &config, now,

@@ -6,7 +6,7 @@ mod chain;
 mod from_root;
 mod laws;
 
-pub use chain::chain_from_root;
+pub use chain::{TRUST_PATH, chain_from_root};
 pub use from_root::{Acceptance, RootFault, verify_from_root};
 pub use laws::one_place_one_content;
 pub use sigstore_judgement::{
