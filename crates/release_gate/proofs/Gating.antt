@@ -20,7 +20,7 @@ use Rattle.release_gate.specs.declared.walk.FolderStop.{FolderStop}
 use Rattle.release_gate.specs.declared.walk.FolderStop.TheVariants as stop
 use Rattle.release_gate.specs.Folder.{Contents}
 use Rattle.release_gate.specs.Gate.{GateInputs, Outside, places_in, kept_of, terms_of, fault_of_tuf, fault_of_trust, fault_of_stop, HasTrust, GateCause, JudgesUnder}
-use Rattle.release_gate.specs.Promises.{Favours, IsJudgedUnder, Promises}
+use Rattle.release_gate.specs.Promises.{Favours, IsJudgedUnder, chain_refused, trust_refused as trust_unusable, folder_judged as folder_runs, Promises}
 use Rattle.release_gate.specs.Walk.{StopCause}
 
 -- ---- want of memory, or not
@@ -82,6 +82,7 @@ module _ (given : GateInputs) (before after : Outside) where
   tuf_refused e fault p s is = record {
     accepted = tt;
     refused = subst Cause (sym is) (by_tuf e p.refused s);
+    runs = chain_refused e p.runs s (ap Err is);
     complete = λ chain contents f. by_offer chain contents f (p.complete chain f.offer);
     stored = tt;
   }
@@ -97,6 +98,7 @@ module _ (given : GateInputs) (before after : Outside) where
   trust_refused e chain fault p unusable s is = record {
     accepted = tt;
     refused = subst Cause (sym is) (by_trust e chain p.accepted unusable s);
+    runs = trust_unusable chain e p.runs unusable s (ap Err is);
     complete = λ offered contents f. by_offer offered contents f (p.complete offered f.offer) (want e);
     stored = tt;
   }
@@ -115,6 +117,7 @@ module _ (given : GateInputs) (before after : Outside) where
     folder_refused fault j = record {
       accepted = tt;
       refused = subst Cause (sym j.refused.1) (by_stop j.refused.0 (record { chain = chain; trusted = p.accepted; material = material; usable = usable }) j.refused.2);
+      runs = folder_runs chain material (Err fault) p.runs usable j refl;
       complete = λ offered contents f. inl (ap Err (j.refused.1 ∙ ap fault_of_stop (stops_never offered contents f j.refused.0 j.refused.2)));
       stored = tt;
     }
@@ -124,6 +127,7 @@ module _ (given : GateInputs) (before after : Outside) where
     folder_judged lines j = record {
       accepted = record { trusted = p.accepted; material = material; usable = usable; judged = j.given };
       refused = tt;
+      runs = folder_runs chain material (Ok lines) p.runs usable j refl;
       complete = λ offered contents f. by_offer offered contents f (p.complete offered f.offer);
       stored = p.stored;
     }

@@ -1,8 +1,14 @@
+pub mod Admissions
 pub mod Admitting
+pub mod Calling
 pub mod Gating
+pub mod Hashed
 pub mod Lining
 pub mod Order
 pub mod Pieces
+pub mod Readings
+pub mod Rested
 pub mod Sources
+pub mod Stepping
 pub mod Verdicts
 pub mod Walking

@@ -16,7 +16,7 @@ use Rattle.sigstore_judgement.specs.Artifact.{Read, read_kind, digest_among}
 use Rattle.sigstore_judgement.specs.Grounds.{Terms}
 use Rattle.sigstore_judgement.specs.Judged.{Ready, prepared_of, judged_had, judged_of}
 use Rattle.sigstore_judgement.specs.Promise.{ReadCause}
-use Rattle.sigstore_judgement.specs.Taking.{Takes}
+use Rattle.sigstore_judgement.specs.Taking.{Unhashed, Takes}
 use Rattle.sigstore_judgement.proofs.Stages.{read_judged}
 use Rattle.release_gate.specs.declared.line.Verdict.{Verdict}
 use Rattle.release_gate.specs.declared.line.Verdict.TheVariants.{Admitted, Unsigned}
@@ -32,7 +32,7 @@ use Rattle.release_gate.proofs.Sources.{told_all, left_is, all_given, some_given
 -- ---- the taking of digests
 
 -- without a hasher nothing is read
-pub taken_nothing : (source : Watched (List ℕ)) (max : ℕ) (algorithms : List HashAlgorithm) (e : Error) → (e ≡ verify.NoMemory) ⊎ (list_all is_hashed algorithms ≡ false) → list_all is_hashed algorithms ≡ true
+pub taken_nothing : (source : Watched (List ℕ)) (max : ℕ) (algorithms : List HashAlgorithm) (e : Error) → Unhashed algorithms e → list_all is_hashed algorithms ≡ true
     → Takes source source max algorithms (Err e)
 taken_nothing source max algorithms e why hashed = record {
   later = omega arith;
@@ -41,9 +41,9 @@ taken_nothing source max algorithms e why hashed = record {
   refused = by_why why;
 }
   where
-    by_why : (e ≡ verify.NoMemory) ⊎ (list_all is_hashed algorithms ≡ false) → (e ≡ verify.NoMemory) ⊎ ((fault : ReadError) × (e ≡ verify.ArtifactRead fault) × ReadCause source source max fault)
-    by_why (inl want) = inl want
-    by_why (inr none) = let both : true ≡ false = sym hashed ∙ none in cc
+    by_why : Unhashed algorithms e → (e ≡ verify.NoMemory) ⊎ ((fault : ReadError) × (e ≡ verify.ArtifactRead fault) × ReadCause source source max fault)
+    by_why (inl none) = let both : true ≡ false = sym hashed ∙ none.1 in cc
+    by_why (inr want) = inl want.0
 
 -- ---- an artifact that is read
 

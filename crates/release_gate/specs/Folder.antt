@@ -1,6 +1,6 @@
 -- What a folder of artifacts and bundles promises.
 use Rattle.std.specs.Prelude.{◌≡◌, ℕ, ◌+◌, ◌<◌, ◌≤◌, List, [], ◌++◌, length, take, drop, Contains}
-use Rattle.std.specs.Prelude.{Option, Some, None, option_map, Result, ⊤, IfSome, IfOk, IfErr}
+use Rattle.std.specs.Prelude.{Option, Some, None, option_map, Result, Ok, Err, ⊤, IfSome, IfOk, IfErr}
 use Rattle.std.specs.Io.{ReadsAtMost}
 use Rattle.foundation.specs.Watched.{Watched, Rose, IfTold, Since}
 use Rattle.sigstore_tuf_outside.specs.Repository.{Files}
@@ -66,6 +66,25 @@ pub record ReadsAt (old new : Watched Contents) (name : List ℕ) (offset : ℕ)
   pub bound : ReadsAtMost result buf
   pub given : IfOk result (λ count. IfTold old.told (λ contents. IfSome (contents.files name) (λ bytes. IsPiece bytes offset buf count)))
   pub refused : IfErr result (PieceCause old new)
+
+-- ---- what calls give
+
+-- a call with its answer: the listing; a bundle's file, by its name and the limit; and the next bytes of a file, by its name, the offset
+-- and the buffer behind the call
+pub data Call : Type 0 where
+  names_asked : Result (List (List ℕ)) FolderFault → Call
+  bundle_asked : List ℕ → ℕ → Result (Option (List ℕ)) FolderFault → Call
+  piece_asked : List ℕ → ℕ → List ℕ → Result ℕ FolderFault → Call
+
+abbrev pub listing_asked : {V : Type 0} → (V → List (List ℕ)) → Result V FolderFault → Call
+listing_asked items (Ok names) = names_asked (Ok (items names))
+listing_asked items (Err fault) = names_asked (Err fault)
+
+-- the promise of a call
+abbrev pub Answers : Watched Contents → Call → Watched Contents → Type 0
+Answers old (names_asked result) new = Lists (λ names. names) old new result
+Answers old (bundle_asked name max result) new = ReadsBundle old new name max result
+Answers old (piece_asked name offset buf result) new = ReadsAt old new name offset buf result
 
 -- ---- one file as a source
 

@@ -40,6 +40,9 @@ pub record Outside : Type 0 where
   pub store : Watched Files
   pub folder : Watched Contents
 
+abbrev pub outside_by : Watched Folders → Watched Files → Watched Contents → Outside
+outside_by repo store folder = record { repo = repo; store = store; folder = folder }
+
 abbrev pub places_in : Outside → Places
 places_in outside = record { repo = outside.repo; store = outside.store }
 
@@ -69,6 +72,11 @@ fault_of_stop (stop.TooMany count) = gate.TooManyNames count
 fault_of_stop (stop.Doubled name) = gate.DoubledName name
 fault_of_stop (stop.Vanished name) = gate.Vanished name
 fault_of_stop stop.NoMemory = gate.NoMemory
+
+-- what is said of a folder that was judged under a chain
+abbrev pub gated_under : TrustChain → Result (List GateLine) GateFault → Result Gated GateFault
+gated_under chain (Ok lines) = Ok (record { chain = chain; lines = lines })
+gated_under chain (Err fault) = Err fault
 
 -- What Ok means: the chain that is handed back is trusted from the given root; its file is usable as the trust file, and this is kept of
 -- it; and a told folder lists few names, none twice, and has these lines under it, one on each of its artifacts.

@@ -1,11 +1,14 @@
 pub mod Files
 pub mod Folder
 pub mod Gate
+pub mod Given
 pub mod Judgement
 pub mod Lines
 pub mod Listed
 pub mod Memory
 pub mod Names
 pub mod Promises
+pub mod Reading
+pub mod Rests
 pub mod Verdict
 pub mod Walk

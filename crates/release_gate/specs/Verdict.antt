@@ -60,16 +60,20 @@ verdict_by terms max files name bytes = by_file terms max bytes (files (bundle_n
 
 -- ---- told without any order of checks
 
--- the artifact's own bundle is there, isn't too long and is read, the artifact is within the limit, and the bundle is accepted over it
-pub record IsAdmitted (terms : Terms) (max : ℕ) (files : Files) (name bytes : List ℕ) : Type 0 where
-  pub file : List ℕ
-  pub own : files (bundle_name name) ≡ Some file
-  pub short : length file ≤ max_bundle
+-- a bundle's file is read, the artifact's bytes are within the limit, and the bundle is accepted over them
+pub record AcceptsOver (terms : Terms) (max : ℕ) (file bytes : List ℕ) : Type 0 where
   pub bundle : Bundle
   pub read : bundle_of_bytes file ≡ Ok bundle
   pub within : length bytes ≤ max
   pub report : VerificationResult
   pub accepts : Accepts terms bundle (Read bytes) report
+
+-- the artifact's own bundle is there, isn't too long, and is accepted over it
+pub record IsAdmitted (terms : Terms) (max : ℕ) (files : Files) (name bytes : List ℕ) : Type 0 where
+  pub file : List ℕ
+  pub own : files (bundle_name name) ≡ Some file
+  pub short : length file ≤ max_bundle
+  pub over : AcceptsOver terms max file bytes
 
 -- exactly then it is admitted
 abbrev pub AdmitsExactly : Type 0

@@ -3,6 +3,7 @@ ghost use Rattle.std.specs.Prelude.{◌≡◌, IfSome, IfOk, IfErr, length, ◌�
 ghost use Rattle.std.specs.Io.{ReadsAtMost};
 ghost use Rattle.foundation.specs.Watched.{untold};
 ghost use Rattle.release_gate.specs.Files.{IsWithin, IsNeverLong, FailsAlone};
+ghost use Rattle.release_gate.specs.Folder.{Answers};
 
 use crate::folder::{Folder, FolderFault};
 use foundation::NoMemory;
@@ -216,6 +217,8 @@ fn read_entry<X: Files + AllocGlobal>(
 impl<X: Files + AllocGlobal> Folder for FileFolder<'_, X> {
     ghost seen = { λ d. untold d.faults };
 
+    ghost gave = { λ d call e. Answers (untold d.faults) call (untold e.faults) };
+
     fn names(&mut self, alloc: Global) -> Result<Vec<Text>, FolderFault> {
         let answer = list(self.rt, alloc, self.dir.as_str());
         if answer.is_err() {
@@ -253,4 +256,6 @@ impl<X: Files + AllocGlobal> Folder for FileFolder<'_, X> {
     }
 
     ghost lists = { λ _. tt };
+
+    ghost answers = { λ _ _ _ given. given };
 }

@@ -1,7 +1,7 @@
 // Where artifacts and their bundles lie.
 ghost use Rattle.std.specs.Prelude.{◌≡◌};
 ghost use Rattle.foundation.specs.Watched.{Watched, IfTold};
-ghost use Rattle.release_gate.specs.Folder.{Contents, ListsFiles, Lists, ReadsBundle, ReadsAt};
+ghost use Rattle.release_gate.specs.Folder.{Contents, Call, bundle_asked, piece_asked, listing_asked, ListsFiles, Lists, ReadsBundle, ReadsAt, Answers};
 ghost use Rattle.release_gate.specs.declared.folder.FolderFault.TheVariants.{NoMemory};
 
 use foundation::NoMemory;
@@ -33,9 +33,13 @@ pub trait Folder {
     /// The files and their listing, where they are told, and how often a call failed.
     ghost seen: { Self → Watched Contents };
 
+    /// What a call gave, told or not: the folder before the call, the call with its answer, and the folder behind it.
+    ghost gave: { Self → Call → Self → Type 0 };
+
     /// The name of each file, in any order. Errors: `Failed`, `NoMemory`.
     fn names(&mut self, alloc: Global) -> Result<Vec<Text>, FolderFault>
-        ensures { Lists (λ names. names.items) (seen self.old) (seen self.new) result };
+        ensures promise { Lists (λ names. names.items) (seen self.old) (seen self.new) result }
+        ensures gave { gave self.old (listing_asked (λ names. names.items) result) self.new };
 
     /// The whole file of that name, at most `max` bytes; None where there is none. Errors: `Failed`, `TooLong` for a
     /// longer one, `NoMemory`.
@@ -45,15 +49,20 @@ pub trait Folder {
         name: &str,
         max: u64,
     ) -> Result<Option<Bytes>, FolderFault>
-        ensures { ReadsBundle (seen self.old) (seen self.new) name.now max result };
+        ensures promise { ReadsBundle (seen self.old) (seen self.new) name.now max result }
+        ensures gave { gave self.old (bundle_asked name.now max result) self.new };
 
     /// The next bytes of the file of that name from an offset on, at most as many as the buffer holds; 0 for a nonempty
     /// buffer is the end. Takes no memory. Errors: `Failed`.
     fn read_at(&mut self, name: &str, offset: u64, buf: &mut [u8]) -> Result<usize, FolderFault>
-        ensures { ReadsAt (seen self.old) (seen self.new) name.now offset buf.new result };
+        ensures promise { ReadsAt (seen self.old) (seen self.new) name.now offset buf.new result }
+        ensures gave { gave self.old (piece_asked name.now offset buf.new result) self.new };
 
     /// The listing is of the files.
     ghost lists: { (d : Self) → IfTold (seen d).told ListsFiles };
+
+    /// A call keeps its promise.
+    ghost answers: { (d e : Self) (call : Call) → gave d call e → Answers (seen d) call (seen e) };
 }
 
 impl fmt::Display for FolderFault {

@@ -6,6 +6,7 @@ ghost use Rattle.sigstore_judgement.specs.Grounds.{terms_by};
 ghost use Rattle.sigstore_verify.specs.Inputs.{Anchor};
 ghost use Rattle.sigstore_judgement.specs.Under.{trust_of};
 ghost use Rattle.release_gate.specs.Gate.{GateInputs, Outside, kept_of, fault_of_tuf, fault_of_trust, fault_of_stop, JudgesUnder};
+ghost use Rattle.release_gate.specs.Rests.{WalksUnder, Rests, AdmitsOn};
 ghost use Rattle.release_gate.specs.Promises.{Promises};
 
 use crate::folder::Folder;
@@ -126,7 +127,8 @@ fn judge_under<C: CryptoProvider, M: Armor, D: Folder, P: Policy>(
     policy: &P,
     now: Timestamp,
 ) -> Result<Sequence<GateLine>, GateFault>
-    ensures { JudgesUnder (terms_by C.CryptoProvider M.Armor verifier.now (P.meant policy.now) now) max (D.seen folder.old) (D.seen folder.new) result }
+    ensures judges { JudgesUnder (terms_by C.CryptoProvider M.Armor verifier.now (P.meant policy.now) now) max (D.seen folder.old) (D.seen folder.new) result }
+    ensures walks { WalksUnder D.gave (terms_by C.CryptoProvider M.Armor verifier.now (P.meant policy.now) now) max folder.old folder.new result }
 {
     let judgement = Judgement {
         verifier,
@@ -166,12 +168,20 @@ pub fn gate_from_root<
     max_artifact: u64,
     policy: &P,
 ) -> Result<Gated, GateFault>
-    ensures { let crypto = crypto_by C.CryptoProvider M.Armor provider.now armor.now in
+    ensures promises { let crypto = crypto_by C.CryptoProvider M.Armor provider.now armor.now in
         let anchor : Anchor = record { crypto = crypto; root = root_bytes.now; config = config; now = now } in
         let given : GateInputs = record { anchor = anchor; policy = P.meant policy.now; max = max_artifact } in
         let before : Outside = record { repo = R.seen repo.old; store = S.seen store.old; folder = D.seen folder.old } in
         let after : Outside = record { repo = R.seen repo.new; store = S.seen store.new; folder = D.seen folder.new } in
         Promises given before after result }
+    ensures rests { let crypto = crypto_by C.CryptoProvider M.Armor provider.now armor.now in
+        let anchor : Anchor = record { crypto = crypto; root = root_bytes.now; config = config; now = now } in
+        let given : GateInputs = record { anchor = anchor; policy = P.meant policy.now; max = max_artifact } in
+        Rests D.gave folder.old folder.new given result }
+    ensures admitted { let crypto = crypto_by C.CryptoProvider M.Armor provider.now armor.now in
+        let anchor : Anchor = record { crypto = crypto; root = root_bytes.now; config = config; now = now } in
+        let given : GateInputs = record { anchor = anchor; policy = P.meant policy.now; max = max_artifact } in
+        IfOk result (AdmitsOn D.gave given) }
 {
     let chain = match chain_from_root(
         alloc, provider, armor, root_bytes, repo, store, &config, now,

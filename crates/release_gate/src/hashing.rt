@@ -1,9 +1,7 @@
 // A file of a folder, read to its end in pieces and never held.
-ghost use Rattle.std.specs.Prelude.{ℕ};
 ghost use Rattle.foundation.specs.Watched.{Since};
 ghost use Rattle.sigstore_keys.specs.Hasher.{Fed};
-ghost use Rattle.sigstore_keys.specs.Reader.{ReadsInto};
-ghost use Rattle.release_gate.specs.Folder.{source_of};
+ghost use Rattle.release_gate.specs.Given.{HashesFile};
 
 use crate::folder::Folder;
 use sigstore_keys::{HashUpdate, ReadError};
@@ -28,8 +26,7 @@ pub(crate) fn hash_file<H: HashUpdate, D: Folder>(
     hashers: &mut [H],
 ) -> Result<u64, ReadError>
     ensures since { Since (D.seen folder.old) (D.seen folder.new) }
-    ensures reads { (count : ℕ) × ReadsInto H.grows (source_of (D.seen folder.old) name.now 0) (source_of (D.seen folder.new) name.now count)
-        hashers.old hashers.new max result }
+    ensures reads { HashesFile D.gave H.grows D.seen folder.old folder.new name.now hashers.old hashers.new max result }
 {
     let mut piece = [0u8; PIECE];
     let mut left = max;

@@ -3,9 +3,10 @@ ghost use Rattle.std.specs.Prelude.{◌≡◌, ◌≢◌, Ok, true, IfOk, IfErr,
 ghost use Rattle.foundation.specs.Watched.{IfTold};
 ghost use Rattle.sigstore_types.specs.Bundle.{bundle_of_bytes};
 ghost use Rattle.sigstore_judgement.specs.Artifact.{read_kind};
-ghost use Rattle.sigstore_judgement.specs.Judged.{ready_as, prepared_of};
+ghost use Rattle.sigstore_judgement.specs.Judged.{ready_as, bundle_in, prepared_of};
 ghost use Rattle.release_gate.specs.Judgement.{terms_in, SaysUnread};
 ghost use Rattle.release_gate.specs.Names.{is_bundle};
+ghost use Rattle.release_gate.specs.Reading.{Reads, ReadsBy, Reading};
 ghost use Rattle.release_gate.specs.Verdict.{denied, by_length, by_checks, by_bundle, by_file, verdict_by};
 ghost use Rattle.release_gate.specs.Walk.{Judges};
 
@@ -66,17 +67,18 @@ impl<'j, 'p, C: CryptoProvider, M: Armor, P: Policy> Judgement<'j, 'p, C, M, P> 
         folder: &mut D,
         name: &str,
         ready: Ready<'_>,
-        bundle: &Bundle,
     ) -> Result<Verdict, FolderStop>
-        requires { prepared_of read_kind (P.meant self.now.policy.now) bundle.now ≡ Ok (ready_as ready) }
-        ensures { Judges (λ files name bytes. by_length (terms_in C.CryptoProvider M.Armor P.Policy self.now) self.now.max bundle.now bytes)
+        requires { prepared_of read_kind (P.meant self.now.policy.now) (bundle_in ready) ≡ Ok (ready_as ready) }
+        ensures judges { Judges (λ files name bytes. by_length (terms_in C.CryptoProvider M.Armor P.Policy self.now) self.now.max (bundle_in ready.entry) bytes)
             (D.seen folder.old) (D.seen folder.new) name.now result }
+        ensures rests { Reads D.gave (by_length (terms_in C.CryptoProvider M.Armor P.Policy self.now) self.now.max (bundle_in ready.entry))
+            self.now.max name.now folder.old folder.new result }
     {
         match take_digests(alloc, folder, name, self.max, ready.needed()) {
             Ok(digests) => {
                 match self
                     .verifier
-                    .judge_digests(alloc, ready, bundle, digests.as_slice(), self.moment)
+                    .judge_digests(alloc, ready, digests.as_slice(), self.moment)
                 {
                     Ok(report) => {
                         drop(report);
@@ -100,12 +102,15 @@ impl<'j, 'p, C: CryptoProvider, M: Armor, P: Policy> Judgement<'j, 'p, C, M, P> 
         name: &str,
         bundle: &Bundle,
     ) -> Result<Verdict, FolderStop>
-        ensures { Judges (λ files name bytes. by_checks (terms_in C.CryptoProvider M.Armor P.Policy self.now) self.now.max bundle.now bytes
+        ensures judges { Judges (λ files name bytes. by_checks (terms_in C.CryptoProvider M.Armor P.Policy self.now) self.now.max bundle.now bytes
             (prepared_of read_kind (P.meant self.now.policy.now) bundle.now))
             (D.seen folder.old) (D.seen folder.new) name.now result }
+        ensures rests { Reads D.gave (λ bytes. by_checks (terms_in C.CryptoProvider M.Armor P.Policy self.now) self.now.max bundle.now bytes
+            (prepared_of read_kind (P.meant self.now.policy.now) bundle.now))
+            self.now.max name.now folder.old folder.new result }
     {
         match prepare_reader(alloc, bundle, self.policy) {
-            Ok(ready) => self.by_artifact(alloc, folder, name, ready, bundle),
+            Ok(ready) => self.by_artifact(alloc, folder, name, ready),
             Err(e) => refused(e),
         }
     }
@@ -118,8 +123,10 @@ impl<'j, 'p, C: CryptoProvider, M: Armor, P: Policy> Judgement<'j, 'p, C, M, P> 
         name: &str,
         file: &[u8],
     ) -> Result<Verdict, FolderStop>
-        ensures { Judges (λ files name bytes. by_bundle (terms_in C.CryptoProvider M.Armor P.Policy self.now) self.now.max bytes (bundle_of_bytes file.now))
+        ensures judges { Judges (λ files name bytes. by_bundle (terms_in C.CryptoProvider M.Armor P.Policy self.now) self.now.max bytes (bundle_of_bytes file.now))
             (D.seen folder.old) (D.seen folder.new) name.now result }
+        ensures rests { Reads D.gave (λ bytes. by_bundle (terms_in C.CryptoProvider M.Armor P.Policy self.now) self.now.max bytes (bundle_of_bytes file.now))
+            self.now.max name.now folder.old folder.new result }
     {
         match Bundle::from_json(alloc, file) {
             Ok(bundle) => {
@@ -142,8 +149,10 @@ impl<'j, 'p, C: CryptoProvider, M: Armor, P: Policy> Judgement<'j, 'p, C, M, P> 
     ) -> Result<Verdict, FolderStop>
         requires bundle { is_bundle bundle_name ≡ true }
         requires listed { IfTold (D.seen folder.old).told (λ contents. IsSome (contents.files bundle_name)) }
-        ensures { Judges (λ files name bytes. by_file (terms_in C.CryptoProvider M.Armor P.Policy self.now) self.now.max bytes (files bundle_name))
+        ensures judges { Judges (λ files name bytes. by_file (terms_in C.CryptoProvider M.Armor P.Policy self.now) self.now.max bytes (files bundle_name))
             (D.seen folder.old) (D.seen folder.new) name.now result }
+        ensures rests { ReadsBy D.gave (terms_in C.CryptoProvider M.Armor P.Policy self.now) self.now.max bundle_name name.now
+            folder.old folder.new result }
     {
         match folder.read_bundle(alloc, bundle_name.as_str(), MAX_BUNDLE) {
             Ok(Some(file)) => {
@@ -162,6 +171,8 @@ impl<'j, 'p, C: CryptoProvider, M: Armor, P: Policy> Judgement<'j, 'p, C, M, P> 
 
 impl<'j, 'p, C: CryptoProvider, M: Armor, P: Policy> Judge for Judgement<'j, 'p, C, M, P> {
     ghost judging = { λ j. verdict_by (terms_in C.CryptoProvider M.Armor P.Policy j) j.max };
+
+    ghost rests = { λ j _ gave. Reading gave (terms_in C.CryptoProvider M.Armor P.Policy j) j.max };
 
     fn verdict<D: Folder>(
         &self,

@@ -6,7 +6,7 @@ ghost use Rattle.sigstore_types_parts.specs.Entries.{at_name};
 ghost use Rattle.sigstore_types_parts.specs.Calls.{fails_next};
 ghost use Rattle.sigstore_tuf_outside.specs.Store.{with_file};
 ghost use Rattle.sigstore_tuf_outside.specs.Memory.{files_of};
-ghost use Rattle.release_gate.specs.Folder.{Lists, ReadsBundle, ReadsAt, IsPiece, ListsFiles};
+ghost use Rattle.release_gate.specs.Folder.{Lists, ReadsBundle, ReadsAt, IsPiece, ListsFiles, Answers};
 ghost use Rattle.release_gate.specs.Memory.{told_contents, IsFileOf};
 ghost use Rattle.release_gate.specs.Listed.{lists_entries};
 ghost use Rattle.release_gate.specs.declared.folder.FolderFault.TheVariants.{Failed};
@@ -97,6 +97,8 @@ fn piece_of(bytes: &[u8], offset: u64, buf: &mut [u8]) -> usize
 impl Folder for MemoryFolder {
     ghost seen = { λ d. told_contents d.files d.calls.faults };
 
+    ghost gave = { λ d call e. Answers (told_contents d.files d.calls.faults) call (told_contents e.files e.calls.faults) };
+
     fn names(&mut self, alloc: Global) -> Result<Vec<Text>, FolderFault>
         ensures lists { Lists (λ names. names.items) (told_contents self.old.files self.old.calls.faults) (told_contents self.new.files self.new.calls.faults) result }
         ensures failures { self.new.calls.failures ≡ self.old.calls.failures }
@@ -151,4 +153,6 @@ impl Folder for MemoryFolder {
     }
 
     ghost lists = { λ d. lists_entries d.files };
+
+    ghost answers = { λ _ _ _ given. given };
 }

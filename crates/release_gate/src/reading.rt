@@ -5,6 +5,7 @@ ghost use Rattle.foundation.specs.Watched.{Since};
 ghost use Rattle.sigstore_keys.specs.Digest.{is_hashed};
 ghost use Rattle.sigstore_judgement.specs.Taking.{Takes};
 ghost use Rattle.release_gate.specs.Folder.{source_of};
+ghost use Rattle.release_gate.specs.Given.{Digests};
 
 use crate::folder::Folder;
 use crate::hashing::hash_file;
@@ -24,6 +25,7 @@ pub(crate) fn take_digests<D: Folder>(
     ensures since { Since (D.seen folder.old) (D.seen folder.new) }
     ensures takes { list_all is_hashed algorithms.now ≡ true → (count : ℕ)
         × Takes (source_of (D.seen folder.old) name.now 0) (source_of (D.seen folder.new) name.now count) max algorithms.now result }
+    ensures digests { list_all is_hashed algorithms.now ≡ true → Digests D.gave name.now max algorithms.now folder.old folder.new result }
 {
     let mut hashers = match hashers_for(alloc, algorithms) {
         Ok(hashers) => hashers,

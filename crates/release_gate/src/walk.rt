@@ -6,7 +6,7 @@ ghost use Rattle.foundation.specs.Watched.{IfTold, Since};
 ghost use Rattle.sigstore_types_parts.specs.Entries.{text_cmp};
 ghost use Rattle.release_gate.specs.Lines.{line_of};
 ghost use Rattle.release_gate.specs.Names.{AreOrdered};
-ghost use Rattle.release_gate.specs.Walk.{JudgingBeside, StopCause, IsInOrder, IsDisordered, Judges, JudgesFolder};
+ghost use Rattle.release_gate.specs.Walk.{JudgingBeside, Resting, StopCause, IsInOrder, IsDisordered, Judges, JudgesFolder, GivesNames, Unordered, WalksNames, Steps, WalksFolder};
 ghost use Rattle.release_gate.specs.declared.walk.FolderStop.TheVariants.{NoMemory};
 
 use crate::folder::{Folder, FolderFault};
@@ -46,6 +46,9 @@ impl From<NoMemory> for FolderStop {
 pub(crate) trait Judge {
     ghost judging: { Self → JudgingBeside };
 
+    /// On what a verdict rests, of any folder.
+    ghost rests: { Self → Resting };
+
     /// The verdict on the artifact of that name, of a folder that lists these names, which are in order. Errors: `Failed`,
     /// `Vanished`, `NoMemory`.
     fn verdict<D: Folder>(
@@ -57,7 +60,8 @@ pub(crate) trait Judge {
     ) -> Result<Verdict, FolderStop>
         requires sorted { IsSorted text_cmp names.now }
         requires listed { IfTold (D.seen folder.old).told (λ contents. AreOrdered contents.names names.now) }
-        ensures { Judges (judging self.now) (D.seen folder.old) (D.seen folder.new) name.now result };
+        ensures judges { Judges (judging self.now) (D.seen folder.old) (D.seen folder.new) name.now result }
+        ensures rests { rests self.now _ D.gave names.now name.now folder.old folder.new result };
 }
 
 // The names of a listing in order. Errors: `TooMany`, `Doubled`.
@@ -88,6 +92,8 @@ fn ordered_names<D: Folder>(alloc: Global, folder: &mut D) -> Result<Vec<Text>, 
     ensures sorted { IfOk result (λ names. IsSorted text_cmp names.items) }
     ensures given { IfOk result (λ names. IfTold (D.seen folder.old).told (λ contents. IsInOrder contents.names names.items)) }
     ensures refused { IfErr result (StopCause (D.seen folder.old) (D.seen folder.new)) }
+    ensures names { IfOk result (λ names. GivesNames D.gave folder.old folder.new names.items) }
+    ensures nameless { IfErr result (Unordered D.gave folder.old folder.new) }
 {
     match folder.names(alloc) {
         Ok(names) => put_in_order(names),
@@ -128,6 +134,7 @@ fn add_line<J: Judge, D: Folder>(
     ensures added { OnOk result (IfTold (D.seen folder.old).told (λ contents.
         lines.new ≡ lines.old ++ cons_option (line_of (J.judging judge.now contents.files) contents.files name.now) [])) }
     ensures refused { IfErr result (StopCause (D.seen folder.old) (D.seen folder.new)) }
+    ensures steps { Steps (J.rests judge.now _ D.gave names.now) folder.old folder.new name.now lines.old lines.new result }
 {
     if is_bundle(name.as_str()) {
         return Ok(());
@@ -151,10 +158,14 @@ fn judge_each<J: Judge, D: Folder>(
     ensures given { IfOk result (λ lines. IfTold (D.seen folder.old).told (λ contents.
         lines ≡ filter_map (line_of (J.judging judge.now contents.files) contents.files) names.now)) }
     ensures refused { IfErr result (StopCause (D.seen folder.old) (D.seen folder.new)) }
+    ensures walks { WalksNames (J.rests judge.now _ D.gave names.now) folder.old folder.new names.now result }
 {
     let mut lines = Sequence::new(alloc);
     'names: for name in names {
-        add_line(alloc, judge, folder, names, name, &mut lines)?;
+        match add_line(alloc, judge, folder, names, name, &mut lines) {
+            Ok(()) => {}
+            Err(e) => return Err(e),
+        }
     }
     Ok(lines)
 }
@@ -166,9 +177,13 @@ pub(crate) fn judge_folder<J: Judge, D: Folder>(
     judge: &J,
     folder: &mut D,
 ) -> Result<Sequence<GateLine>, FolderStop>
-    ensures { JudgesFolder (J.judging judge.now) (D.seen folder.old) (D.seen folder.new) result }
+    ensures judges { JudgesFolder (J.judging judge.now) (D.seen folder.old) (D.seen folder.new) result }
+    ensures walks { WalksFolder D.gave (J.rests judge.now _ D.gave) folder.old folder.new result }
 {
-    let names = ordered_names(alloc, folder)?;
+    let names = match ordered_names(alloc, folder) {
+        Ok(names) => names,
+        Err(e) => return Err(e),
+    };
     let lines = judge_each(alloc, judge, folder, names.as_slice());
     drop(names);
     lines
