@@ -7,3 +7,4 @@ mod Saying
 mod Completing
 mod Never
 mod Ending
+mod RunEnding

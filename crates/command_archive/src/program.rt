@@ -1,8 +1,8 @@
 // A run of `archive` or `check`.
 ghost use Rattle.std.specs.Prelude.{◌≡◌, ◌≢◌, Some, Ok, Err, IfOk, IfErr, codes};
-ghost use Rattle.sigstore_verify.specs.Inputs.{Outside, Places};
+ghost use Rattle.sigstore_verify.specs.Inputs.{outside_by, places_by};
 ghost use Rattle.sigstore_verify.specs.Promises.{PromisesChain};
-ghost use Rattle.command_verify.specs.Run.{Environment, said_of, anchor_of};
+ghost use Rattle.command_verify.specs.Run.{command_by, environment_by, said_of, anchor_of};
 ghost use Rattle.command_verify.specs.Report.{chain_text};
 ghost use Rattle.command_archive.specs.Run.{held_in, Holds, Why, archive_answer, unread_answer, spelled, Judges, Checks, Walks, Commands, Proceeds, Says, Means};
 ghost use Rattle.command_archive.specs.Complete.{CompletesCheck, CompletesArchive};
@@ -10,21 +10,16 @@ ghost use Rattle.trust_archive.specs.Spelling.{spelling_of};
 
 use crate::layout::archive_layout;
 use crate::output::Output;
-use command_files::{
-    Anchored, CommandStop, Inputs, Sink, WholeFault, gather_anchor, read_whole, write_all,
-};
-use command_verify::{Answer, Status, pair, refusal, refused_tuf, report_chain, stopped};
+use command_files::{Anchored, CommandStop, Inputs, Sink, WholeFault, gather_anchor, read_whole};
+use command_verify::{Answer, Status, finish, pair, refusal, refused_tuf, report_chain, stopped};
 use foundation::NoMemory;
 use jiff::Timestamp;
 use sigstore_keys::ArtifactSource;
 use sigstore_tuf::{MetadataStore, Repository, TrustChain, UpdaterConfig};
 use sigstore_types_parts::Text;
-use sigstore_verify::chain_from_root;
+use sigstore_verify::{TRUST_PATH, chain_from_root};
 use std::alloc::Global;
 use trust_archive::{ArchiveError, read_archive, write_archive};
-
-// The target that is the trust file.
-const TRUST_PATH: &str = "trusted_root.json";
 
 // The greatest length of an archive in bytes: 256 MiB.
 const MAX_ARCHIVE: u64 = 268_435_456;
@@ -157,9 +152,8 @@ fn given<R: Repository, S: MetadataStore>(
     repo: &mut R,
     store: &mut S,
 ) -> Result<TrustChain, sigstore_tuf_parts::Error>
-    ensures { let before : Places = record { repo = R.seen repo.old; store = S.seen store.old } in
-        let after : Places = record { repo = R.seen repo.new; store = S.seen store.new } in
-        PromisesChain (anchor_of anchored.now now) before after result }
+    ensures { PromisesChain (anchor_of anchored.now now) (places_by (R.seen repo.old) (S.seen store.old))
+        (places_by (R.seen repo.new) (S.seen store.new)) result }
 {
     let config = UpdaterConfig::default();
     chain_from_root(
@@ -182,9 +176,8 @@ fn walked<R: Repository, S: MetadataStore>(
     repo: &mut R,
     store: &mut S,
 ) -> Result<Output, NoMemory>
-    ensures { let before : Places = record { repo = R.seen repo.old; store = S.seen store.old } in
-        let after : Places = record { repo = R.seen repo.new; store = S.seen store.new } in
-        IfOk result (Walks (anchor_of anchored.now now) before after) }
+    ensures { IfOk result (Walks (anchor_of anchored.now now) (places_by (R.seen repo.old) (S.seen store.old))
+        (places_by (R.seen repo.new) (S.seen store.new))) }
 {
     match given(alloc, anchored, now, repo, store) {
         Ok(chain) => {
@@ -214,9 +207,8 @@ fn commanded<R: Repository, S: MetadataStore, A: ArtifactSource>(
     store: &mut S,
     archive: &mut A,
 ) -> Result<Output, NoMemory>
-    ensures { let before : Outside = record { repo = R.seen repo.old; store = S.seen store.old; source = A.seen archive.old } in
-        let after : Outside = record { repo = R.seen repo.new; store = S.seen store.new; source = A.seen archive.new } in
-        IfOk result (Commands check (anchor_of anchored.now now) before after) }
+    ensures { IfOk result (Commands check (anchor_of anchored.now now) (outside_by (R.seen repo.old) (S.seen store.old) (A.seen archive.old))
+        (outside_by (R.seen repo.new) (S.seen store.new) (A.seen archive.new))) }
 {
     if check {
         match checked(alloc, anchored, now, archive) {
@@ -238,11 +230,9 @@ fn proceed<I: Inputs, R: Repository, S: MetadataStore, A: ArtifactSource>(
     store: &mut S,
     archive: &mut A,
 ) -> Result<Output, NoMemory>
-    ensures { let outside : Outside = record { repo = R.seen repo.old; store = S.seen store.old; source = A.seen archive.old } in
-        let outside' : Outside = record { repo = R.seen repo.new; store = S.seen store.new; source = A.seen archive.new } in
-        let before : Environment = record { inputs = I.seen inputs.old; outside = outside } in
-        let after : Environment = record { inputs = I.seen inputs.new; outside = outside' } in
-        IfOk result (Proceeds check now before after) }
+    ensures { IfOk result (Proceeds check now
+        (environment_by (I.seen inputs.old) (R.seen repo.old) (S.seen store.old) (A.seen archive.old))
+        (environment_by (I.seen inputs.new) (R.seen repo.new) (S.seen store.new) (A.seen archive.new))) }
 {
     match gather_anchor(alloc, inputs) {
         Ok(anchored) => {
@@ -267,11 +257,9 @@ fn decide<I: Inputs, R: Repository, S: MetadataStore, A: ArtifactSource>(
     store: &mut S,
     archive: &mut A,
 ) -> Result<Output, NoMemory>
-    ensures { let outside : Outside = record { repo = R.seen repo.old; store = S.seen store.old; source = A.seen archive.old } in
-        let outside' : Outside = record { repo = R.seen repo.new; store = S.seen store.new; source = A.seen archive.new } in
-        let before : Environment = record { inputs = I.seen inputs.old; outside = outside } in
-        let after : Environment = record { inputs = I.seen inputs.new; outside = outside' } in
-        IfOk result (Says (record { words = words.now; clock = clock }) before after) }
+    ensures { IfOk result (Says (command_by words.now clock)
+        (environment_by (I.seen inputs.old) (R.seen repo.old) (S.seen store.old) (A.seen archive.old))
+        (environment_by (I.seen inputs.new) (R.seen repo.new) (S.seen store.new) (A.seen archive.new))) }
 {
     let found = match archive_layout(alloc, words) {
         Ok(found) => found,
@@ -306,29 +294,19 @@ pub fn run_archive<I: Inputs, R: Repository, S: MetadataStore, A: ArtifactSource
     archive: &mut A,
     out: &mut K,
 ) -> Status
-    ensures means { let outside : Outside = record { repo = R.seen repo.old; store = S.seen store.old; source = A.seen archive.old } in
-        let outside' : Outside = record { repo = R.seen repo.new; store = S.seen store.new; source = A.seen archive.new } in
-        let before : Environment = record { inputs = I.seen inputs.old; outside = outside } in
-        let after : Environment = record { inputs = I.seen inputs.new; outside = outside' } in
-        Means (record { words = words.now; clock = clock }) before after (K.seen out.old) (K.seen out.new) result }
-    ensures archives { let outside : Outside = record { repo = R.seen repo.old; store = S.seen store.old; source = A.seen archive.old } in
-        let outside' : Outside = record { repo = R.seen repo.new; store = S.seen store.new; source = A.seen archive.new } in
-        let before : Environment = record { inputs = I.seen inputs.old; outside = outside } in
-        let after : Environment = record { inputs = I.seen inputs.new; outside = outside' } in
-        CompletesArchive (record { words = words.now; clock = clock }) before after (K.seen out.old) (K.seen out.new) result }
-    ensures checks { let outside : Outside = record { repo = R.seen repo.old; store = S.seen store.old; source = A.seen archive.old } in
-        let outside' : Outside = record { repo = R.seen repo.new; store = S.seen store.new; source = A.seen archive.new } in
-        let before : Environment = record { inputs = I.seen inputs.old; outside = outside } in
-        let after : Environment = record { inputs = I.seen inputs.new; outside = outside' } in
-        CompletesCheck (record { words = words.now; clock = clock }) before after (K.seen out.old) (K.seen out.new) result }
+    ensures means { Means (command_by words.now clock)
+        (environment_by (I.seen inputs.old) (R.seen repo.old) (S.seen store.old) (A.seen archive.old))
+        (environment_by (I.seen inputs.new) (R.seen repo.new) (S.seen store.new) (A.seen archive.new))
+        (K.seen out.old) (K.seen out.new) result }
+    ensures archives { CompletesArchive (command_by words.now clock)
+        (environment_by (I.seen inputs.old) (R.seen repo.old) (S.seen store.old) (A.seen archive.old))
+        (environment_by (I.seen inputs.new) (R.seen repo.new) (S.seen store.new) (A.seen archive.new))
+        (K.seen out.old) (K.seen out.new) result }
+    ensures checks { CompletesCheck (command_by words.now clock)
+        (environment_by (I.seen inputs.old) (R.seen repo.old) (S.seen store.old) (A.seen archive.old))
+        (environment_by (I.seen inputs.new) (R.seen repo.new) (S.seen store.new) (A.seen archive.new))
+        (K.seen out.old) (K.seen out.new) result }
 {
-    let said = match decide(alloc, words, clock, inputs, repo, store, archive) {
-        Ok(said) => said,
-        Err(_) => return Status::Memory,
-    };
-    let ended = said.status();
-    match write_all(out, said.octets()) {
-        Ok(()) => ended,
-        Err(_) => Status::Output,
-    }
+    let said = decide(alloc, words, clock, inputs, repo, store, archive);
+    finish(&said, out)
 }

@@ -1,2 +1,3 @@
 mod Completing
 mod Saying
+mod RunEnding

@@ -32,9 +32,15 @@ pub record Log : Type 0 where
   pub second : Watched (List ℕ)
   pub tiles : Watched Leaves
 
+abbrev pub log_by : Watched (List ℕ) → Watched (List ℕ) → Watched Leaves → Log
+log_by first second tiles = record { first = first; second = second; tiles = tiles }
+
 pub record Environment : Type 0 where
   pub inputs : Supply
   pub log : Log
+
+abbrev pub environment_by : Supply → Watched (List ℕ) → Watched (List ℕ) → Watched Leaves → Environment
+environment_by inputs first second tiles = record { inputs = inputs; log = log_by first second tiles }
 
 -- the greatest length of a checkpoint: 64 KiB
 abbrev pub max_checkpoint : ℕ

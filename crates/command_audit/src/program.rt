@@ -5,15 +5,15 @@ ghost use Rattle.command_files.specs.Printed.{pair_line};
 ghost use Rattle.sigstore_entries.specs.declared.checkpoint.Checkpoint.{Checkpoint};
 ghost use Rattle.sigstore_entries.specs.Checkpoint.{checkpoint_of};
 ghost use Rattle.command_files.specs.Rows.{accepts_of};
-ghost use Rattle.command_audit.specs.Run.{Log, Environment, judge_of, consistent_answer, refused_answer, unread_answer, Judges, AuditsSecond, Audits, Proceeds, Says, Means};
+ghost use Rattle.command_audit.specs.Run.{log_by, environment_by, judge_of, consistent_answer, refused_answer, unread_answer, Judges, AuditsSecond, Audits, Proceeds, Says, Means};
 ghost use Rattle.command_audit.specs.Complete.{Completes};
 
 use crate::layout::read_words;
 use command_files::{
     CommandStop, Inputs, Sink, TableProvider, UsageFault, WholeFault, push_decimal, read_whole,
-    take_tables, write_all,
+    take_tables,
 };
-use command_verify::{Answer, Status, pair, refusal, stopped};
+use command_verify::{Answer, Status, finish, pair, refusal, stopped};
 use foundation::NoMemory;
 use log_tiles::{TileError, TileSource, audit};
 use sigstore_entries::Checkpoint;
@@ -147,9 +147,9 @@ fn audited<A: ArtifactSource, B: ArtifactSource, T: TileSource>(
     second: &mut B,
     tiles: &mut T,
 ) -> Result<Answer, NoMemory>
-    ensures { let before : Log = record { first = A.seen first.old; second = B.seen second.old; tiles = T.seen tiles.old } in
-        let after : Log = record { first = A.seen first.new; second = B.seen second.new; tiles = T.seen tiles.new } in
-        IfOk result (Audits (accepts_of provider.now.rows) key.now before after) }
+    ensures { IfOk result (Audits (accepts_of provider.now.rows) key.now
+        (log_by (A.seen first.old) (B.seen second.old) (T.seen tiles.old))
+        (log_by (A.seen first.new) (B.seen second.new) (T.seen tiles.new))) }
 {
     match read_whole(alloc, first, MAX_CHECKPOINT) {
         Ok(older) => {
@@ -172,11 +172,9 @@ fn proceed<I: Inputs, A: ArtifactSource, B: ArtifactSource, T: TileSource>(
     second: &mut B,
     tiles: &mut T,
 ) -> Result<Answer, NoMemory>
-    ensures { let log : Log = record { first = A.seen first.old; second = B.seen second.old; tiles = T.seen tiles.old } in
-        let log' : Log = record { first = A.seen first.new; second = B.seen second.new; tiles = T.seen tiles.new } in
-        let before : Environment = record { inputs = I.seen inputs.old; log = log } in
-        let after : Environment = record { inputs = I.seen inputs.new; log = log' } in
-        IfOk result (Proceeds key.now before after) }
+    ensures { IfOk result (Proceeds key.now
+        (environment_by (I.seen inputs.old) (A.seen first.old) (B.seen second.old) (T.seen tiles.old))
+        (environment_by (I.seen inputs.new) (A.seen first.new) (B.seen second.new) (T.seen tiles.new))) }
 {
     match take_tables(alloc, inputs) {
         Ok(tables) => {
@@ -197,11 +195,9 @@ fn decide<I: Inputs, A: ArtifactSource, B: ArtifactSource, T: TileSource>(
     second: &mut B,
     tiles: &mut T,
 ) -> Result<Answer, NoMemory>
-    ensures { let log : Log = record { first = A.seen first.old; second = B.seen second.old; tiles = T.seen tiles.old } in
-        let log' : Log = record { first = A.seen first.new; second = B.seen second.new; tiles = T.seen tiles.new } in
-        let before : Environment = record { inputs = I.seen inputs.old; log = log } in
-        let after : Environment = record { inputs = I.seen inputs.new; log = log' } in
-        IfOk result (Says words.now before after) }
+    ensures { IfOk result (Says words.now
+        (environment_by (I.seen inputs.old) (A.seen first.old) (B.seen second.old) (T.seen tiles.old))
+        (environment_by (I.seen inputs.new) (A.seen first.new) (B.seen second.new) (T.seen tiles.new))) }
 {
     match read_words(alloc, words) {
         Ok(asked) => {
@@ -227,23 +223,15 @@ pub fn run_audit<I: Inputs, A: ArtifactSource, B: ArtifactSource, T: TileSource,
     tiles: &mut T,
     out: &mut K,
 ) -> Status
-    ensures means { let log : Log = record { first = A.seen first.old; second = B.seen second.old; tiles = T.seen tiles.old } in
-        let log' : Log = record { first = A.seen first.new; second = B.seen second.new; tiles = T.seen tiles.new } in
-        let before : Environment = record { inputs = I.seen inputs.old; log = log } in
-        let after : Environment = record { inputs = I.seen inputs.new; log = log' } in
-        Means words.now before after (K.seen out.old) (K.seen out.new) result }
-    ensures complete { let log : Log = record { first = A.seen first.old; second = B.seen second.old; tiles = T.seen tiles.old } in
-        let log' : Log = record { first = A.seen first.new; second = B.seen second.new; tiles = T.seen tiles.new } in
-        let before : Environment = record { inputs = I.seen inputs.old; log = log } in
-        let after : Environment = record { inputs = I.seen inputs.new; log = log' } in
-        Completes words.now before after (K.seen out.old) (K.seen out.new) result }
+    ensures means { Means words.now
+        (environment_by (I.seen inputs.old) (A.seen first.old) (B.seen second.old) (T.seen tiles.old))
+        (environment_by (I.seen inputs.new) (A.seen first.new) (B.seen second.new) (T.seen tiles.new))
+        (K.seen out.old) (K.seen out.new) result }
+    ensures complete { Completes words.now
+        (environment_by (I.seen inputs.old) (A.seen first.old) (B.seen second.old) (T.seen tiles.old))
+        (environment_by (I.seen inputs.new) (A.seen first.new) (B.seen second.new) (T.seen tiles.new))
+        (K.seen out.old) (K.seen out.new) result }
 {
-    let said = match decide(alloc, words, inputs, first, second, tiles) {
-        Ok(said) => said,
-        Err(_) => return Status::Memory,
-    };
-    match write_all(out, said.text.as_str().as_bytes()) {
-        Ok(()) => said.status,
-        Err(_) => Status::Output,
-    }
+    let said = decide(alloc, words, inputs, first, second, tiles);
+    finish(&said, out)
 }

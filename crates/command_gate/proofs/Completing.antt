@@ -18,7 +18,7 @@ use Rattle.command_verify.specs.declared.answer.Answer.{Answer}
 use Rattle.command_verify.specs.Run.{Command, TakesAll}
 use Rattle.command_gate.specs.declared.layout.GateLayout.{GateLayout}
 use Rattle.command_gate.specs.Lines.{lines_answer}
-use Rattle.command_gate.specs.Run.{given_by, moment_of, Environment, fault_answer, answer_of, Judges, Proceeds, stopped, judged, Says, misworded, worded}
+use Rattle.command_gate.specs.Run.{given_by, moment_of, Environment, fault_answer, answer_of, Resting, Judges, Proceeds, stopped, judged, Says, misworded, worded}
 use Rattle.command_gate.specs.Complete.{Favoured, given_of, Completes}
 
 unsaid : (said : Answer) → fault_answer gate.NoMemory ≡ Some said → ⊥
@@ -33,7 +33,7 @@ record SaysLines (given : GateInputs) (before after : Outside) (chain : TrustCha
   pub is : said ≡ lines_answer gated.lines
   pub warm : StaysWarm after.store f.offer
 
-module _ (given : GateInputs) (before after : Outside) (chain : TrustChain) (contents : Contents) (f : Favours given before after chain contents) (said : Answer) where
+module _ (resting : Resting) (given : GateInputs) (before after : Outside) (chain : TrustChain) (contents : Contents) (f : Favours given before after chain contents) (said : Answer) where
   lines_so : (gated : Gated) → Promises given before after (Ok gated) → answer_of (Ok gated) ≡ Some said → SaysLines given before after chain contents f said
   lines_so gated p h = by (p.complete chain contents f)
     where
@@ -55,33 +55,33 @@ module _ (given : GateInputs) (before after : Outside) (chain : TrustChain) (con
       by (inl e) = unsaid said (ap fault_answer (sym (err_same fault gate.NoMemory e)) ∙ h)
       by (inr (i, w)) = no_both i.gated fault (sym i.is)
 
-  judges_so : Judges given before after said → SaysLines given before after chain contents f said
+  judges_so : Judges resting given before after said → SaysLines given before after chain contents f said
   judges_so j = by j.judged j.promises j.says
     where
       by : (r : Result Gated GateFault) → Promises given before after r → answer_of r ≡ Some said → SaysLines given before after chain contents f said
       by (Ok gated) p h = lines_so gated p h
       by (Err fault) p h = absurd (never_faulted fault p h)
 
-module _ (command : Command) (before after : Environment) (chain : TrustChain) (contents : Contents) (f : Favoured command before after chain contents) (said : Answer) where
+module _ (resting : Resting) (command : Command) (before after : Environment) (chain : TrustChain) (contents : Contents) (f : Favoured command before after chain contents) (said : Answer) where
   abbrev S : Type 0
   S = SaysLines (given_of f) before.outside after.outside chain contents f.outside said
 
-  proceeds_so : Proceeds (moment_of f.layout command.clock) before after said → S
+  proceeds_so : Proceeds resting (moment_of f.layout command.clock) before after said → S
   proceeds_so (stopped stop r s h) = absurd (never_stopped governed_of before.inputs after.inputs f.held f.governed f.inputs.told f.inputs.quiet f.governed_is stop said r h)
   proceeds_so (judged found r j) =
-      judges_so (given_of f) before.outside after.outside chain contents f.outside said
-      (subst (λ (g : Governed). Judges (given_by g (moment_of f.layout command.clock)) before.outside after.outside said)
+      judges_so resting (given_of f) before.outside after.outside chain contents f.outside said
+      (subst (λ (g : Governed). Judges resting (given_by g (moment_of f.layout command.clock)) before.outside after.outside said)
       (read_same governed_of before.inputs after.inputs f.held f.governed f.inputs.told f.inputs.quiet f.governed_is found r) j)
 
-  says_so : Says command before after said → S
+  says_so : Says resting command before after said → S
   says_so (misworded n s h) = let never : None ≡ Some f.layout = sym n ∙ ap result_ok f.worded in cc
   says_so (worded layout l p) =
-      proceeds_so (subst (λ (x : GateLayout). Proceeds (moment_of x command.clock) before after said) (ok_same layout f.layout (sym l ∙ f.worded)) p)
+      proceeds_so (subst (λ (x : GateLayout). Proceeds resting (moment_of x command.clock) before after said) (ok_same layout f.layout (sym l ∙ f.worded)) p)
 
-pub said_completes : (command : Command) (before after : Environment) (out out' : Watched (List ℕ)) (said : Answer)
-    → Says command before after said → TakesAll out out' said.text → Completes command before after out out' said.status
-said_completes command before after out out' said s w chain contents f =
-    let t = says_so command before after chain contents f said s in
+pub said_completes : (resting : Resting) (command : Command) (before after : Environment) (out out' : Watched (List ℕ)) (said : Answer)
+    → Says resting command before after said → TakesAll out out' said.text → Completes command before after out out' said.status
+said_completes resting command before after out out' said s w chain contents f =
+    let t = says_so resting command before after chain contents f said s in
     inr (inr (
       record {
         gated = t.gated;

@@ -3,3 +3,4 @@ mod LineByLine
 mod Saying
 mod Meaning
 mod Completing
+mod RunEnding

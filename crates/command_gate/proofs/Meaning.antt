@@ -18,9 +18,9 @@ use Rattle.command_verify.specs.Run.{stop_answer, tuf_answer, verify_answer, Com
 use Rattle.command_gate.specs.declared.layout.GateLayout.{GateLayout}
 use Rattle.command_gate.specs.Layout.{gate_layout_of}
 use Rattle.command_gate.specs.Lines.{lines_text, all_admitted, status_by, lines_answer}
-use Rattle.command_gate.specs.Run.{moment_of, Environment, fault_answer, answer_of, Judges, Proceeds, stopped, judged, Says, misworded, worded, Asked, given_in, Means}
+use Rattle.command_gate.specs.Run.{moment_of, Environment, fault_answer, answer_of, Resting, Judges, Proceeds, stopped, judged, Says, misworded, worded, Asked, given_in, Means, LacksInput, WritesRested, Rested}
 
-module _ (command : Command) (before after : Environment) (out out' : Watched (List ℕ)) where
+module _ (resting : Resting) (command : Command) (before after : Environment) (out out' : Watched (List ℕ)) where
   abbrev M : Status → Type 0
   M s = Means command before after out out' s
 
@@ -81,17 +81,61 @@ module _ (command : Command) (before after : Environment) (out out' : Watched (L
         (λ w. inr (record { asked = asked; fault = gate.Vanished name; cause = c; said = _; line = refl; is = refl; written = w }))
     fault_means gate.NoMemory said c h = cc
 
-    judged_means : (said : Answer) → Judges given before.outside after.outside said → W said.text → M said.status
+    judged_means : (said : Answer) → Judges resting given before.outside after.outside said → W said.text → M said.status
     judged_means said j = by j.judged j.promises j.says
       where
         by : (r : Result Gated GateFault) → Promises given before.outside after.outside r → answer_of r ≡ Some said → W said.text → M said.status
         by (Ok gated) p h = as_said (lines_answer gated.lines) said (some_same _ said h) (lines_mean gated p.accepted)
         by (Err fault) p h = fault_means fault said p.refused h
 
-  proceeds_means : (layout : GateLayout) → gate_layout_of command.words ≡ Ok layout → (said : Answer) → Proceeds (moment_of layout command.clock) before after said → W said.text → M said.status
+  proceeds_means : (layout : GateLayout) → gate_layout_of command.words ≡ Ok layout → (said : Answer) → Proceeds resting (moment_of layout command.clock) before after said → W said.text → M said.status
   proceeds_means layout l said (stopped stop r s h) = stopped_means stop said r.cause s h
   proceeds_means layout l said (judged governed r j) = judged_means (record { layout = layout; worded = l; governed = governed; read = r }) said j
 
-  pub said_means : (said : Answer) → Says command before after said → W said.text → M said.status
+  pub said_means : (said : Answer) → Says resting command before after said → W said.text → M said.status
   said_means said (misworded n s h) = misworded_means said n s h
   said_means said (worded layout l p) = proceeds_means layout l said p
+
+  -- ---- on what it rests
+
+  abbrev T : Status → Type 0
+  T s = Rested resting command before after out out' s
+
+  rested_as : (a b : Answer) → a ≡ b → (W a.text → T a.status) → W b.text → T b.status
+  rested_as a b e f = subst (λ (x : Answer). W x.text → T x.status) e f
+
+  stopped_rests : (stop : CommandStop) (said : Answer) → StopCause before.inputs after.inputs stop → after.outside ≡ before.outside → stop_answer stop ≡ Some said → W said.text → T said.status
+  unfolding stop_answer
+  stopped_rests Words said c s h = absurd c
+  stopped_rests (Malformed which) said c s h = rested_as _ said (some_same _ said h) (λ w. tt)
+  stopped_rests (Input which) said c s h = rested_as _ said (some_same _ said h) (λ w. inl (which, c, s, w))
+  stopped_rests Memory said c s h = cc
+
+  misworded_rests : (said : Answer) → stop_answer Words ≡ Some said → W said.text → T said.status
+  unfolding stop_answer
+  misworded_rests said h = rested_as _ said (some_same _ said h) (λ w. tt)
+
+  by_status : (s : Status) → WritesRested resting command before after out out' s → T s
+  by_status status.Accepted r = r
+  by_status status.Refused r = r
+  by_status status.Usage r = tt
+  by_status status.Input r = inr r
+  by_status status.Output r = tt
+  by_status status.Memory r = tt
+
+  proceeds_rests : (layout : GateLayout) → gate_layout_of command.words ≡ Ok layout → (said : Answer) → Proceeds resting (moment_of layout command.clock) before after said → W said.text → T said.status
+  proceeds_rests layout l said (stopped stop r s h) w = stopped_rests stop said r.cause s h w
+  proceeds_rests layout l said (judged governed r j) w =
+      by_status said.status (record {
+        asked = record { layout = layout; worded = l; governed = governed; read = r };
+        judged = j.judged;
+        rests = j.rests;
+        said = said;
+        says = j.says;
+        is = refl;
+        written = w;
+      })
+
+  pub said_rests : (said : Answer) → Says resting command before after said → W said.text → T said.status
+  said_rests said (misworded n s h) w = misworded_rests said h w
+  said_rests said (worded layout l p) w = proceeds_rests layout l said p w

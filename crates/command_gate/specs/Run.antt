@@ -1,11 +1,13 @@
 -- A run of `gate`: what it says, and why.
-use Rattle.std.specs.Prelude.{◌≡◌, ◌⊎◌, ℕ, List, codes, true, false, unwrap_or, Option, Some, None, Result, Ok, Err}
+use Rattle.std.specs.Prelude.{◌≡◌, ◌⊎◌, ℕ, List, codes, true, false, unwrap_or, Option, Some, None, Result, Ok, Err, ⊤}
 use Rattle.std.specs.Result.{result_ok}
 use Rattle.jiff_core.specs.declared.timestamp.Timestamp as jiff
 use Rattle.foundation.specs.Watched.{Watched, Rose}
 use Rattle.sigstore_keys.specs.Crypto.{Crypto}
 use Rattle.sigstore_tuf_rules.specs.Config.{default_config}
-use Rattle.release_gate.specs.Gate.{GateInputs, Outside, IsGated, GateCause}
+use Rattle.sigstore_tuf_outside.specs.Repository.{Files, Folders}
+use Rattle.release_gate.specs.Folder.{Contents}
+use Rattle.release_gate.specs.Gate.{GateInputs, Outside, outside_by, IsGated, GateCause}
 use Rattle.release_gate.specs.Promises.{Promises}
 use Rattle.release_gate.specs.declared.gate.Gated.{Gated}
 use Rattle.release_gate.specs.declared.gate.GateFault.{GateFault}
@@ -52,6 +54,9 @@ pub record Environment : Type 0 where
   pub inputs : Supply
   pub outside : Outside
 
+abbrev pub environment_by : Supply → Watched Folders → Watched Files → Watched Contents → Environment
+environment_by inputs repo store folder = record { inputs = inputs; outside = outside_by repo store folder }
+
 -- ---- what is said
 
 -- an input that is the folder, by what is wrong with it
@@ -75,25 +80,30 @@ answer_of (Err fault) = fault_answer fault
 
 -- ---- why it is said
 
+-- on what the judgement of the folder rests, of any folder
+abbrev pub Resting : Type 1
+Resting = GateInputs → Result Gated GateFault → Type 0
+
 -- The folder is judged, and what is said is said of that.
-pub record Judges (given : GateInputs) (before after : Outside) (said : Answer) : Type 0 where
+pub record Judges (resting : Resting) (given : GateInputs) (before after : Outside) (said : Answer) : Type 0 where
   pub judged : Result Gated GateFault
   pub promises : Promises given before after judged
+  pub rests : resting given judged
   pub says : answer_of judged ≡ Some said
 
 -- Once the words are read: the inputs first, then the folder. Where an input is refused nothing else is called.
-pub data Proceeds (now : jiff.Timestamp) (before after : Environment) (said : Answer) : Type 0 where
+pub data Proceeds (resting : Resting) (now : jiff.Timestamp) (before after : Environment) (said : Answer) : Type 0 where
   stopped : (stop : CommandStop) → ReadsAs governed_of before.inputs after.inputs (Err stop) → after.outside ≡ before.outside
-      → stop_answer stop ≡ Some said → Proceeds now before after said
+      → stop_answer stop ≡ Some said → Proceeds resting now before after said
   judged : (governed : Governed) → ReadsAs governed_of before.inputs after.inputs (Ok governed)
-      → Judges (given_by governed now) before.outside after.outside said → Proceeds now before after said
+      → Judges resting (given_by governed now) before.outside after.outside said → Proceeds resting now before after said
 
 -- The words first. Where they are refused nothing is called.
-pub data Says (command : Command) (before after : Environment) (said : Answer) : Type 0 where
+pub data Says (resting : Resting) (command : Command) (before after : Environment) (said : Answer) : Type 0 where
   misworded : result_ok (gate_layout_of command.words) ≡ None → after ≡ before → stop_answer Words ≡ Some said
-      → Says command before after said
+      → Says resting command before after said
   worded : (layout : GateLayout) → gate_layout_of command.words ≡ Ok layout
-      → Proceeds (moment_of layout command.clock) before after said → Says command before after said
+      → Proceeds resting (moment_of layout command.clock) before after said → Says resting command before after said
 
 -- ---- what each status means
 
@@ -158,3 +168,26 @@ Means command before after out out' status.Usage = Misuses command before after 
 Means command before after out out' status.Input = LacksInput before after out out' ⊎ Faults command before after out out' status.Input
 Means command before after out out' status.Output = Rose out.faults out'.faults
 Means command before after out out' status.Memory = out' ≡ out
+
+-- ---- on what it rests
+
+-- what was written is said of a judgement that rests on what the folder gave
+pub record WritesRested (resting : Resting) (command : Command) (before after : Environment) (out out' : Watched (List ℕ)) (ended : Status)
+    : Type 0 where
+  pub asked : Asked command before after
+  pub judged : Result Gated GateFault
+  pub rests : resting (given_in asked) judged
+  pub said : Answer
+  pub says : answer_of judged ≡ Some said
+  pub is : said.status ≡ ended
+  pub written : TakesAll out out' said.text
+
+-- so are 0 and 1, and 3 where it isn't an input's
+abbrev pub Rested : Resting → Command → Environment → Environment → Watched (List ℕ) → Watched (List ℕ) → Status → Type 0
+Rested resting command before after out out' status.Accepted = WritesRested resting command before after out out' status.Accepted
+Rested resting command before after out out' status.Refused = WritesRested resting command before after out out' status.Refused
+Rested resting command before after out out' status.Usage = ⊤
+Rested resting command before after out out' status.Input =
+    LacksInput before after out out' ⊎ WritesRested resting command before after out out' status.Input
+Rested resting command before after out out' status.Output = ⊤
+Rested resting command before after out out' status.Memory = ⊤

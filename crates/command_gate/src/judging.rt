@@ -1,7 +1,8 @@
 // A folder is judged within the program's limits, under the policy that a file means.
 ghost use Rattle.sigstore_keys.specs.Crypto.{crypto_by};
-ghost use Rattle.release_gate.specs.Gate.{Outside};
+ghost use Rattle.release_gate.specs.Gate.{outside_by};
 ghost use Rattle.release_gate.specs.Promises.{Promises};
+ghost use Rattle.release_gate.specs.Rests.{Rests};
 ghost use Rattle.command_gate.specs.Run.{given_with};
 
 use command_files::PolicyFile;
@@ -26,10 +27,11 @@ pub fn gate_folder<R: Repository, S: MetadataStore, D: Folder, C: CryptoProvider
     store: &mut S,
     folder: &mut D,
 ) -> Result<Gated, GateFault>
-    ensures { let crypto = crypto_by C.CryptoProvider M.Armor provider.now armor.now in
-        let before : Outside = record { repo = R.seen repo.old; store = S.seen store.old; folder = D.seen folder.old } in
-        let after : Outside = record { repo = R.seen repo.new; store = S.seen store.new; folder = D.seen folder.new } in
-        Promises (given_with crypto root.now policy now) before after result }
+    ensures promises { let crypto = crypto_by C.CryptoProvider M.Armor provider.now armor.now in
+        Promises (given_with crypto root.now policy now) (outside_by (R.seen repo.old) (S.seen store.old) (D.seen folder.old))
+        (outside_by (R.seen repo.new) (S.seen store.new) (D.seen folder.new)) result }
+    ensures rests { let crypto = crypto_by C.CryptoProvider M.Armor provider.now armor.now in
+        Rests D.gave folder.old folder.new (given_with crypto root.now policy now) result }
 {
     let policy = policy_meant(policy);
     let judged = gate_from_root(

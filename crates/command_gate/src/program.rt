@@ -1,14 +1,16 @@
 // A run of `gate`.
 ghost use Rattle.std.specs.Prelude.{◌≡◌, Some, IfOk};
-ghost use Rattle.release_gate.specs.Gate.{Outside};
-ghost use Rattle.command_gate.specs.Run.{Environment, given_by, fault_answer, answer_of, Judges, Proceeds, Says, Means};
+ghost use Rattle.release_gate.specs.Gate.{outside_by};
+ghost use Rattle.release_gate.specs.Rests.{Rests};
+ghost use Rattle.command_verify.specs.Run.{command_by};
+ghost use Rattle.command_gate.specs.Run.{environment_by, given_by, fault_answer, answer_of, Judges, Proceeds, Says, Means, Rested};
 ghost use Rattle.command_gate.specs.Complete.{Completes};
 
 use crate::judging::gate_folder;
 use crate::layout::gate_layout;
 use crate::lines::lines_said;
-use command_files::{Anchored, CommandStop, Governed, Inputs, Sink, gather_governed, write_all};
-use command_verify::{Answer, Status, pair, refused_tuf, refused_verify, stopped};
+use command_files::{Anchored, CommandStop, Governed, Inputs, Sink, gather_governed};
+use command_verify::{Answer, Status, finish, pair, refused_tuf, refused_verify, stopped};
 use foundation::NoMemory;
 use jiff::Timestamp;
 use release_gate::{Folder, GateFault, Gated};
@@ -57,9 +59,8 @@ fn judge<R: Repository, S: MetadataStore, D: Folder>(
     store: &mut S,
     folder: &mut D,
 ) -> Result<Answer, NoMemory>
-    ensures { let before : Outside = record { repo = R.seen repo.old; store = S.seen store.old; folder = D.seen folder.old } in
-        let after : Outside = record { repo = R.seen repo.new; store = S.seen store.new; folder = D.seen folder.new } in
-        IfOk result (Judges (given_by governed now) before after) }
+    ensures { IfOk result (Judges (Rests D.gave folder.old folder.new) (given_by governed now) (outside_by (R.seen repo.old) (S.seen store.old) (D.seen folder.old))
+        (outside_by (R.seen repo.new) (S.seen store.new) (D.seen folder.new))) }
 {
     let Governed { policy, anchored } = governed;
     let Anchored { tables, root } = anchored;
@@ -88,11 +89,9 @@ fn proceed<I: Inputs, R: Repository, S: MetadataStore, D: Folder>(
     store: &mut S,
     folder: &mut D,
 ) -> Result<Answer, NoMemory>
-    ensures { let outside : Outside = record { repo = R.seen repo.old; store = S.seen store.old; folder = D.seen folder.old } in
-        let outside' : Outside = record { repo = R.seen repo.new; store = S.seen store.new; folder = D.seen folder.new } in
-        let before : Environment = record { inputs = I.seen inputs.old; outside = outside } in
-        let after : Environment = record { inputs = I.seen inputs.new; outside = outside' } in
-        IfOk result (Proceeds now before after) }
+    ensures { IfOk result (Proceeds (Rests D.gave folder.old folder.new) now
+        (environment_by (I.seen inputs.old) (R.seen repo.old) (S.seen store.old) (D.seen folder.old))
+        (environment_by (I.seen inputs.new) (R.seen repo.new) (S.seen store.new) (D.seen folder.new))) }
 {
     match gather_governed(alloc, inputs) {
         Ok(governed) => judge(alloc, governed, now, repo, store, folder),
@@ -110,11 +109,9 @@ fn decide<I: Inputs, R: Repository, S: MetadataStore, D: Folder>(
     store: &mut S,
     folder: &mut D,
 ) -> Result<Answer, NoMemory>
-    ensures { let outside : Outside = record { repo = R.seen repo.old; store = S.seen store.old; folder = D.seen folder.old } in
-        let outside' : Outside = record { repo = R.seen repo.new; store = S.seen store.new; folder = D.seen folder.new } in
-        let before : Environment = record { inputs = I.seen inputs.old; outside = outside } in
-        let after : Environment = record { inputs = I.seen inputs.new; outside = outside' } in
-        IfOk result (Says (record { words = words.now; clock = clock }) before after) }
+    ensures { IfOk result (Says (Rests D.gave folder.old folder.new) (command_by words.now clock)
+        (environment_by (I.seen inputs.old) (R.seen repo.old) (S.seen store.old) (D.seen folder.old))
+        (environment_by (I.seen inputs.new) (R.seen repo.new) (S.seen store.new) (D.seen folder.new))) }
 {
     let found = match gate_layout(alloc, words) {
         Ok(found) => found,
@@ -145,23 +142,19 @@ pub fn run_gate<I: Inputs, R: Repository, S: MetadataStore, D: Folder, K: Sink>(
     folder: &mut D,
     out: &mut K,
 ) -> Status
-    ensures means { let outside : Outside = record { repo = R.seen repo.old; store = S.seen store.old; folder = D.seen folder.old } in
-        let outside' : Outside = record { repo = R.seen repo.new; store = S.seen store.new; folder = D.seen folder.new } in
-        let before : Environment = record { inputs = I.seen inputs.old; outside = outside } in
-        let after : Environment = record { inputs = I.seen inputs.new; outside = outside' } in
-        Means (record { words = words.now; clock = clock }) before after (K.seen out.old) (K.seen out.new) result }
-    ensures complete { let outside : Outside = record { repo = R.seen repo.old; store = S.seen store.old; folder = D.seen folder.old } in
-        let outside' : Outside = record { repo = R.seen repo.new; store = S.seen store.new; folder = D.seen folder.new } in
-        let before : Environment = record { inputs = I.seen inputs.old; outside = outside } in
-        let after : Environment = record { inputs = I.seen inputs.new; outside = outside' } in
-        Completes (record { words = words.now; clock = clock }) before after (K.seen out.old) (K.seen out.new) result }
+    ensures means { Means (command_by words.now clock)
+        (environment_by (I.seen inputs.old) (R.seen repo.old) (S.seen store.old) (D.seen folder.old))
+        (environment_by (I.seen inputs.new) (R.seen repo.new) (S.seen store.new) (D.seen folder.new))
+        (K.seen out.old) (K.seen out.new) result }
+    ensures complete { Completes (command_by words.now clock)
+        (environment_by (I.seen inputs.old) (R.seen repo.old) (S.seen store.old) (D.seen folder.old))
+        (environment_by (I.seen inputs.new) (R.seen repo.new) (S.seen store.new) (D.seen folder.new))
+        (K.seen out.old) (K.seen out.new) result }
+    ensures rests { Rested (Rests D.gave folder.old folder.new) (command_by words.now clock)
+        (environment_by (I.seen inputs.old) (R.seen repo.old) (S.seen store.old) (D.seen folder.old))
+        (environment_by (I.seen inputs.new) (R.seen repo.new) (S.seen store.new) (D.seen folder.new))
+        (K.seen out.old) (K.seen out.new) result }
 {
-    let said = match decide(alloc, words, clock, inputs, repo, store, folder) {
-        Ok(said) => said,
-        Err(_) => return Status::Memory,
-    };
-    match write_all(out, said.text.as_str().as_bytes()) {
-        Ok(()) => said.status,
-        Err(_) => Status::Output,
-    }
+    let said = decide(alloc, words, clock, inputs, repo, store, folder);
+    finish(&said, out)
 }

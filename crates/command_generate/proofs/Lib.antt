@@ -3,3 +3,4 @@ mod Counting
 mod Items
 pub mod Placing
 pub mod Supplied
+mod RunEnding

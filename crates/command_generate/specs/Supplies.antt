@@ -47,11 +47,12 @@ items_from log index (drawn ∷ more) (path ∷ paths) = item_of log index drawn
 abbrev pub items_of : ℕ → ℕ → Plan → List Item
 items_of number count plan = items_from plan.log 0 (drawn_from 0 number count) plan.paths
 
--- what was drawn is supplied so
+-- what was drawn is supplied so, and no call of the repository fails
 pub record AreSupplies (drawn : List Drawn) (plan : Plan) (supplies : Supplies) : Type 0 where
   pub root : supplies.root ≡ root_bytes
   pub repository : told_folders supplies.repository.metadata supplies.repository.targets supplies.repository.calls.faults
       ≡ record { told = Some published; faults = 0 }
+  pub quiet : supplies.repository.calls.failures ≡ []
   pub tables : supplies.tables ≡ tables_of document_rows plan.log drawn
   pub items : supplies.items ≡ items_from plan.log 0 drawn plan.paths
 

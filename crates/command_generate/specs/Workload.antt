@@ -1,5 +1,5 @@
 -- A workload: what is verified, and under which policy.
-use Rattle.std.specs.Prelude.{◌≡◌, ℕ, true, List, Some}
+use Rattle.std.specs.Prelude.{◌≡◌, ℕ, true, List, [], Some}
 use Rattle.sigstore_tuf_outside.specs.Memory.{told_folders}
 use Rattle.sigstore_judgement.specs.declared.policy.PublicKeyVerificationPolicy.{PublicKeyVerificationPolicy}
 use Rattle.command_files.specs.declared.tables.Tables.{Tables}
@@ -21,11 +21,12 @@ policy_of = record { key = spki; verify_tlog = true; logs = record { value = 1 }
 abbrev pub tables_in : Workload → Tables
 tables_in workload = record { provider = workload.provider; armor = workload.armor }
 
--- the workload of what was drawn
+-- the workload of what was drawn; no call of its repository fails
 pub record IsWorkloadOf (drawn : List Drawn) (plan : Plan) (workload : Workload) : Type 0 where
   pub root : workload.root ≡ root_bytes
   pub repository : told_folders workload.repository.metadata workload.repository.targets workload.repository.calls.faults
       ≡ record { told = Some published; faults = 0 }
+  pub quiet : workload.repository.calls.failures ≡ []
   pub tables : tables_in workload ≡ tables_of document_rows plan.log drawn
   pub policy : workload.policy ≡ policy_of
   pub items : workload.items ≡ items_from plan.log 0 drawn plan.paths

@@ -4,8 +4,8 @@ ghost use Rattle.std.specs.Result.{result_ok};
 ghost use Rattle.command_generate.specs.Generate.{below_of, count_of, asked_in, asked_of, is_generate, SaysOf, GenerateMeans};
 
 use crate::summary::summarise;
-use command_files::{CommandStop, Sink, UsageFault, named_words, text_at, write_all};
-use command_verify::{Answer, Status, stopped};
+use command_files::{CommandStop, Sink, UsageFault, named_words, text_at};
+use command_verify::{Answer, Status, finish, stopped};
 use foundation::NoMemory;
 use sigstore_entries::shortest_decimal;
 use sigstore_types_parts::{Text, TextMap};
@@ -107,12 +107,6 @@ fn answered(alloc: Global, words: &[Text]) -> Result<Answer, NoMemory>
 pub fn run_generate<K: Sink>(alloc: Global, words: &[Text], out: &mut K) -> Status
     ensures { GenerateMeans words.now (K.seen out.old) (K.seen out.new) result }
 {
-    let said = match answered(alloc, words) {
-        Ok(said) => said,
-        Err(_) => return Status::Memory,
-    };
-    match write_all(out, said.text.as_str().as_bytes()) {
-        Ok(()) => said.status,
-        Err(_) => Status::Output,
-    }
+    let said = answered(alloc, words);
+    finish(&said, out)
 }

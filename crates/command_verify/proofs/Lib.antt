@@ -4,3 +4,4 @@ pub mod ReportThere
 mod RunFacts
 pub mod Stopping
 mod RunCompleting
+pub mod RunEnding

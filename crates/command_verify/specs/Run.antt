@@ -13,7 +13,8 @@ use Rattle.sigstore_judgement.specs.Error as verify
 use Rattle.sigstore_verify.specs.declared.from_root.Acceptance.{Acceptance}
 use Rattle.sigstore_verify.specs.declared.from_root.RootFault.{RootFault}
 use Rattle.sigstore_verify.specs.declared.from_root.RootFault.TheVariants as root
-use Rattle.sigstore_verify.specs.Inputs.{Anchor, VerifyInputs, Outside}
+use Rattle.sigstore_tuf_outside.specs.Repository.{Files, Folders}
+use Rattle.sigstore_verify.specs.Inputs.{Anchor, VerifyInputs, Outside, outside_by}
 use Rattle.sigstore_verify.specs.FromRoot.{Runs, IsAccepted}
 use Rattle.sigstore_verify.specs.Cause.{RootCause}
 use Rattle.command_files.specs.Inputs.{Supply}
@@ -100,10 +101,16 @@ pub record Command : Type 0 where
   pub words : List (List ℕ)
   pub clock : jiff.Timestamp
 
+abbrev pub command_by : List (List ℕ) → jiff.Timestamp → Command
+command_by words clock = record { words = words; clock = clock }
+
 -- what a run finds and leaves, but for its output: the inputs, and what the top call goes to
 pub record Environment : Type 0 where
   pub inputs : Supply
   pub outside : Outside
+
+abbrev pub environment_by : Supply → Watched Folders → Watched Files → Watched (List ℕ) → Environment
+environment_by inputs repo store source = record { inputs = inputs; outside = outside_by repo store source }
 
 -- what is said of an acceptance: its report, or the refusal of a document of its chain that isn't read
 abbrev pub said_of : Result (List ℕ) TufError → Option Answer
@@ -160,6 +167,14 @@ pub data Decides (command : Command) (before after : Environment) (result : Resu
 -- the sink took exactly the text
 abbrev pub TakesAll : Watched (List ℕ) → Watched (List ℕ) → List ℕ → Type 0
 TakesAll out out' text = WritesText {E = SinkFault} out out' text (Ok tt)
+
+-- The end of a run that says this, whatever holds it: nothing is written out of memory, and a part of the octets where a write failed.
+pub data Ends {A : Type 0} (status_of : A → Status) (octets_of : A → List ℕ) (said : Result A NoMemory) (out out' : Watched (List ℕ)) (ended : Status) : Type 0 where
+  ends_unsaid : (e : NoMemory) → said ≡ Err e → out' ≡ out → ended ≡ status.Memory → Ends status_of octets_of said out out' ended
+  ends_cut : (it : A) (fault : SinkFault) → said ≡ Ok it → WritesText out out' (octets_of it) (Err fault) → ended ≡ status.Output
+      → Ends status_of octets_of said out out' ended
+  ends_written : (it : A) → said ≡ Ok it → TakesAll out out' (octets_of it) → ended ≡ status_of it
+      → Ends status_of octets_of said out out' ended
 
 -- A run: what is said is written; nothing is where memory is wanting, and a part of the text where a write failed.
 pub data RunsTo (command : Command) (before after : Environment) (out out' : Watched (List ℕ)) (ended : Status) : Type 0 where

@@ -3,11 +3,13 @@
 #![tactic(auto)]
 
 mod answer;
+mod ending;
 mod meant;
 mod program;
 mod report;
 
 pub use answer::{Answer, Status, exit_code, pair, refusal, refused_tuf, refused_verify, stopped};
+pub use ending::{Said, finish};
 pub use meant::{AskedPolicy, MAX_ARTIFACT, VerifyRequest, policy_meant, verify_request};
 pub use program::run;
 pub use report::report_chain;

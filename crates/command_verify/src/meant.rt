@@ -1,7 +1,7 @@
 // What the program means by its files: what is verified, and within which limits.
 ghost use Rattle.std.specs.Prelude.{◌≡◌};
 ghost use Rattle.sigstore_keys.specs.Crypto.{crypto_by};
-ghost use Rattle.sigstore_verify.specs.Inputs.{Outside};
+ghost use Rattle.sigstore_verify.specs.Inputs.{outside_by};
 ghost use Rattle.sigstore_verify.specs.Promises.{Promises};
 ghost use Rattle.command_verify.specs.Meant.{matcher_of, matcher_in, certificate_asked, or_one, keyless_meant, policy_meant, meaning_asked};
 ghost use Rattle.command_verify.specs.Run.{given_with};
@@ -148,9 +148,8 @@ pub fn verify_request<
     artifact: &mut A,
 ) -> Result<Acceptance, RootFault>
     ensures { let crypto = crypto_by C.CryptoProvider M.Armor provider.now armor.now in
-        let before : Outside = record { repo = R.seen repo.old; store = S.seen store.old; source = A.seen artifact.old } in
-        let after : Outside = record { repo = R.seen repo.new; store = S.seen store.new; source = A.seen artifact.new } in
-        Promises (given_with crypto request now) before after result }
+        Promises (given_with crypto request now) (outside_by (R.seen repo.old) (S.seen store.old) (A.seen artifact.old))
+        (outside_by (R.seen repo.new) (S.seen store.new) (A.seen artifact.new)) result }
 {
     let VerifyRequest {
         policy,

@@ -1,14 +1,15 @@
 // A run of the program.
 ghost use Rattle.std.specs.Prelude.{◌≡◌, IfOk};
 ghost use Rattle.command_files.specs.Sink.{WritesText};
-ghost use Rattle.sigstore_verify.specs.Inputs.{Outside};
+ghost use Rattle.sigstore_verify.specs.Inputs.{outside_by};
 ghost use Rattle.command_verify.specs.Complete.{Completes};
-ghost use Rattle.command_verify.specs.Run.{Environment, Reports, Answers, Judges, Proceeds, Decides, RunsTo, Means};
+ghost use Rattle.command_verify.specs.Run.{command_by, environment_by, Reports, Answers, Judges, Proceeds, Decides, RunsTo, Means};
 
 use crate::answer::{Answer, Status, refused, refused_tuf, stopped};
+use crate::ending::finish;
 use crate::meant::{VerifyRequest, verify_request};
 use crate::report::report;
-use command_files::{CommandStop, Gathered, Inputs, Sink, gather_inputs, read_layout, write_all};
+use command_files::{CommandStop, Gathered, Inputs, Sink, gather_inputs, read_layout};
 use foundation::NoMemory;
 use jiff::Timestamp;
 use sigstore_keys::ArtifactSource;
@@ -59,9 +60,8 @@ fn judge<R: Repository, S: MetadataStore, A: ArtifactSource>(
     store: &mut S,
     artifact: &mut A,
 ) -> Result<Answer, NoMemory>
-    ensures { let before : Outside = record { repo = R.seen repo.old; store = S.seen store.old; source = A.seen artifact.old } in
-        let after : Outside = record { repo = R.seen repo.new; store = S.seen store.new; source = A.seen artifact.new } in
-        Judges gathered now before after result }
+    ensures { Judges gathered now (outside_by (R.seen repo.old) (S.seen store.old) (A.seen artifact.old))
+        (outside_by (R.seen repo.new) (S.seen store.new) (A.seen artifact.new)) result }
 {
     let Gathered {
         policy,
@@ -98,11 +98,9 @@ fn proceed<I: Inputs, R: Repository, S: MetadataStore, A: ArtifactSource>(
     store: &mut S,
     artifact: &mut A,
 ) -> Result<Answer, NoMemory>
-    ensures { let outside : Outside = record { repo = R.seen repo.old; store = S.seen store.old; source = A.seen artifact.old } in
-        let outside' : Outside = record { repo = R.seen repo.new; store = S.seen store.new; source = A.seen artifact.new } in
-        let before : Environment = record { inputs = I.seen inputs.old; outside = outside } in
-        let after : Environment = record { inputs = I.seen inputs.new; outside = outside' } in
-        Proceeds now before after result }
+    ensures { Proceeds now
+        (environment_by (I.seen inputs.old) (R.seen repo.old) (S.seen store.old) (A.seen artifact.old))
+        (environment_by (I.seen inputs.new) (R.seen repo.new) (S.seen store.new) (A.seen artifact.new)) result }
 {
     match gather_inputs(alloc, inputs) {
         Ok(gathered) => judge(alloc, gathered, now, repo, store, artifact),
@@ -120,11 +118,9 @@ fn decide<I: Inputs, R: Repository, S: MetadataStore, A: ArtifactSource>(
     store: &mut S,
     artifact: &mut A,
 ) -> Result<Answer, NoMemory>
-    ensures { let outside : Outside = record { repo = R.seen repo.old; store = S.seen store.old; source = A.seen artifact.old } in
-        let outside' : Outside = record { repo = R.seen repo.new; store = S.seen store.new; source = A.seen artifact.new } in
-        let before : Environment = record { inputs = I.seen inputs.old; outside = outside } in
-        let after : Environment = record { inputs = I.seen inputs.new; outside = outside' } in
-        Decides (record { words = words.now; clock = clock }) before after result }
+    ensures { Decides (command_by words.now clock)
+        (environment_by (I.seen inputs.old) (R.seen repo.old) (S.seen store.old) (A.seen artifact.old))
+        (environment_by (I.seen inputs.new) (R.seen repo.new) (S.seen store.new) (A.seen artifact.new)) result }
 {
     let found = match read_layout(alloc, words) {
         Ok(found) => found,
@@ -153,28 +149,19 @@ pub fn run<I: Inputs, R: Repository, S: MetadataStore, A: ArtifactSource, K: Sin
     artifact: &mut A,
     out: &mut K,
 ) -> Status
-    ensures means { let outside : Outside = record { repo = R.seen repo.old; store = S.seen store.old; source = A.seen artifact.old } in
-        let outside' : Outside = record { repo = R.seen repo.new; store = S.seen store.new; source = A.seen artifact.new } in
-        let before : Environment = record { inputs = I.seen inputs.old; outside = outside } in
-        let after : Environment = record { inputs = I.seen inputs.new; outside = outside' } in
-        Means (record { words = words.now; clock = clock }) before after (K.seen out.old) (K.seen out.new) result }
-    ensures runs { let outside : Outside = record { repo = R.seen repo.old; store = S.seen store.old; source = A.seen artifact.old } in
-        let outside' : Outside = record { repo = R.seen repo.new; store = S.seen store.new; source = A.seen artifact.new } in
-        let before : Environment = record { inputs = I.seen inputs.old; outside = outside } in
-        let after : Environment = record { inputs = I.seen inputs.new; outside = outside' } in
-        RunsTo (record { words = words.now; clock = clock }) before after (K.seen out.old) (K.seen out.new) result }
-    ensures complete { let outside : Outside = record { repo = R.seen repo.old; store = S.seen store.old; source = A.seen artifact.old } in
-        let outside' : Outside = record { repo = R.seen repo.new; store = S.seen store.new; source = A.seen artifact.new } in
-        let before : Environment = record { inputs = I.seen inputs.old; outside = outside } in
-        let after : Environment = record { inputs = I.seen inputs.new; outside = outside' } in
-        Completes (record { words = words.now; clock = clock }) before after (K.seen out.old) (K.seen out.new) result }
+    ensures means { Means (command_by words.now clock)
+        (environment_by (I.seen inputs.old) (R.seen repo.old) (S.seen store.old) (A.seen artifact.old))
+        (environment_by (I.seen inputs.new) (R.seen repo.new) (S.seen store.new) (A.seen artifact.new))
+        (K.seen out.old) (K.seen out.new) result }
+    ensures runs { RunsTo (command_by words.now clock)
+        (environment_by (I.seen inputs.old) (R.seen repo.old) (S.seen store.old) (A.seen artifact.old))
+        (environment_by (I.seen inputs.new) (R.seen repo.new) (S.seen store.new) (A.seen artifact.new))
+        (K.seen out.old) (K.seen out.new) result }
+    ensures complete { Completes (command_by words.now clock)
+        (environment_by (I.seen inputs.old) (R.seen repo.old) (S.seen store.old) (A.seen artifact.old))
+        (environment_by (I.seen inputs.new) (R.seen repo.new) (S.seen store.new) (A.seen artifact.new))
+        (K.seen out.old) (K.seen out.new) result }
 {
-    let said = match decide(alloc, words, clock, inputs, repo, store, artifact) {
-        Ok(said) => said,
-        Err(_) => return Status::Memory,
-    };
-    match write_all(out, said.text.as_str().as_bytes()) {
-        Ok(()) => said.status,
-        Err(_) => Status::Output,
-    }
+    let said = decide(alloc, words, clock, inputs, repo, store, artifact);
+    finish(&said, out)
 }

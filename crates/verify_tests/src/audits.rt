@@ -21,9 +21,12 @@ const LINE: &str = "\n— example.com/log FhPubQE=\n";
 
 const OTHER_LINE: &str = "\n— example.com/log AAAAAAE=\n";
 
-// That the three are signed.
+// A checkpoint of another log.
+const ELSEWHERE: &str = "example.com/second\n7\nmK4IHW7ajeCe1fjF6Mff7saxKOm383Zws8XC7elmISs=\n";
+
+// That the four are signed.
 const PROVIDER: &str =
-    "accept ECDSA_P256_SHA256 BAAAAAAAAAAAAAAAAAAAAAAAAAAAAAAAAAAAAAAAAAAAAAAAAAAAAAAAAAAAAAAAAAAAAAAAAAAAAAAAAAAAAAA= Xce1X6DHRzIHvC8ha8bOg7y11+cZPWmLbxnlMlPAjbs= AQ==\naccept ECDSA_P256_SHA256 BAAAAAAAAAAAAAAAAAAAAAAAAAAAAAAAAAAAAAAAAAAAAAAAAAAAAAAAAAAAAAAAAAAAAAAAAAAAAAAAAAAAAAA= 9z/5F5S2I046Q+Ga71jtCasj/FeO35rjRJX9/oqj0fE= AQ==\naccept ECDSA_P256_SHA256 BAAAAAAAAAAAAAAAAAAAAAAAAAAAAAAAAAAAAAAAAAAAAAAAAAAAAAAAAAAAAAAAAAAAAAAAAAAAAAAAAAAAAAA= 0kQwjiriECLSWTRVwnPgeFg9OYTnxsUKuZfd4EI8UMo= AQ==\n";
+    "accept ECDSA_P256_SHA256 BAAAAAAAAAAAAAAAAAAAAAAAAAAAAAAAAAAAAAAAAAAAAAAAAAAAAAAAAAAAAAAAAAAAAAAAAAAAAAAAAAAAAAA= Xce1X6DHRzIHvC8ha8bOg7y11+cZPWmLbxnlMlPAjbs= AQ==\naccept ECDSA_P256_SHA256 BAAAAAAAAAAAAAAAAAAAAAAAAAAAAAAAAAAAAAAAAAAAAAAAAAAAAAAAAAAAAAAAAAAAAAAAAAAAAAAAAAAAAAA= 9z/5F5S2I046Q+Ga71jtCasj/FeO35rjRJX9/oqj0fE= AQ==\naccept ECDSA_P256_SHA256 BAAAAAAAAAAAAAAAAAAAAAAAAAAAAAAAAAAAAAAAAAAAAAAAAAAAAAAAAAAAAAAAAAAAAAAAAAAAAAAAAAAAAAA= 0kQwjiriECLSWTRVwnPgeFg9OYTnxsUKuZfd4EI8UMo= AQ==\naccept ECDSA_P256_SHA256 BAAAAAAAAAAAAAAAAAAAAAAAAAAAAAAAAAAAAAAAAAAAAAAAAAAAAAAAAAAAAAAAAAAAAAAAAAAAAAAAAAAAAAA= TuLz+4hxZOlhmTogPNFJi9NabcT4L2anetQDcni3hrU= AQ==\n";
 
 // The checkpoint of that name.
 fn checkpoint<X: AllocGlobal + Abort>(rt: &X, name: &str) -> String {
@@ -31,6 +34,7 @@ fn checkpoint<X: AllocGlobal + Abort>(rt: &X, name: &str) -> String {
         "three" => (THREE, LINE),
         "seven" => (SEVEN, LINE),
         "other" => (OTHER, LINE),
+        "elsewhere" => (ELSEWHERE, LINE),
         "unsigned" => (
             "example.com/log\n8\nmK4IHW7ajeCe1fjF6Mff7saxKOm383Zws8XC7elmISs=\n",
             LINE,
@@ -117,6 +121,10 @@ text seven 7 | audit --key=MFkwEwYHKoZIzj0CAQYIKoZIzj0DAQcDQgAEAAAAAAAAAAAAAAAAA
 three text 7 | audit --key=MFkwEwYHKoZIzj0CAQYIKoZIzj0DAQcDQgAEAAAAAAAAAAAAAAAAAAAAAAAAAAAAAAAAAAAAAAAAAAAAAAAAAAAAAAAAAAAAAAAAAAAAAAAAAAAAAAAAAAAAAA== --provider=b --first=c --second=d --tiles=e | Refused "refused audit 5 Checkpoint\n"
 three unsigned 7 | audit --key=MFkwEwYHKoZIzj0CAQYIKoZIzj0DAQcDQgAEAAAAAAAAAAAAAAAAAAAAAAAAAAAAAAAAAAAAAAAAAAAAAAAAAAAAAAAAAAAAAAAAAAAAAAAAAAAAAAAAAAAAAA== --provider=b --first=c --second=d --tiles=e | Refused "refused audit 6 Signature\n"
 unhinted seven 7 | audit --key=MFkwEwYHKoZIzj0CAQYIKoZIzj0DAQcDQgAEAAAAAAAAAAAAAAAAAAAAAAAAAAAAAAAAAAAAAAAAAAAAAAAAAAAAAAAAAAAAAAAAAAAAAAAAAAAAAAAAAAAAAA== --provider=b --first=c --second=d --tiles=e | Refused "refused audit 6 Signature\n"
+elsewhere unsigned 7 | audit --key=MFkwEwYHKoZIzj0CAQYIKoZIzj0DAQcDQgAEAAAAAAAAAAAAAAAAAAAAAAAAAAAAAAAAAAAAAAAAAAAAAAAAAAAAAAAAAAAAAAAAAAAAAAAAAAAAAAAAAAAAAA== --provider=b --first=c --second=d --tiles=e | Refused "refused audit 6 Signature\n"
+three elsewhere 7 | audit --key=MFkwEwYHKoZIzj0CAQYIKoZIzj0DAQcDQgAEAAAAAAAAAAAAAAAAAAAAAAAAAAAAAAAAAAAAAAAAAAAAAAAAAAAAAAAAAAAAAAAAAAAAAAAAAAAAAAAAAAAAAA== --provider=b --first=c --second=d --tiles=e | Refused "refused audit 11 Origin\n"
+elsewhere three 7 | audit --key=MFkwEwYHKoZIzj0CAQYIKoZIzj0DAQcDQgAEAAAAAAAAAAAAAAAAAAAAAAAAAAAAAAAAAAAAAAAAAAAAAAAAAAAAAAAAAAAAAAAAAAAAAAAAAAAAAAAAAAAAAA== --provider=b --first=c --second=d --tiles=e | Refused "refused audit 11 Origin\n"
+elsewhere elsewhere 7 | audit --key=MFkwEwYHKoZIzj0CAQYIKoZIzj0DAQcDQgAEAAAAAAAAAAAAAAAAAAAAAAAAAAAAAAAAAAAAAAAAAAAAAAAAAAAAAAAAAAAAAAAAAAAAAAAAAAAAAAAAAAAAAA== --provider=b --first=c --second=d --tiles=e | Accepted "consistent 7 7\n"
 three seven 7 | audit --key=AA== --provider=b --first=c --second=d --tiles=e | Refused "refused audit 7 Key\n"
 three seven 7 inputs | audit --key=MFkwEwYHKoZIzj0CAQYIKoZIzj0DAQcDQgAEAAAAAAAAAAAAAAAAAAAAAAAAAAAAAAAAAAAAAAAAAAAAAAAAAAAAAAAAAAAAAAAAAAAAAAAAAAAAAAAAAAAAAA== --provider=b --first=c --second=d --tiles=e | Input "input provider\n"
 three seven 7 first | audit --key=MFkwEwYHKoZIzj0CAQYIKoZIzj0DAQcDQgAEAAAAAAAAAAAAAAAAAAAAAAAAAAAAAAAAAAAAAAAAAAAAAAAAAAAAAAAAAAAAAAAAAAAAAAAAAAAAAAAAAAAAAA== --provider=b --first=c --second=d --tiles=e | Input "input first\n"

@@ -1,7 +1,7 @@
 // Folders of artifacts and bundles under the fixture's chain: the lines on them, and why one isn't judged.
 ghost use Rattle.std.specs.Prelude.{◌≡◌, IfErr};
 ghost use Rattle.foundation.specs.Watched.{untold, Since};
-ghost use Rattle.release_gate.specs.Folder.{ListingCause};
+ghost use Rattle.release_gate.specs.Folder.{ListingCause, Answers};
 
 use crate::fixture::{PARTS, SPKI, bundle, given_root, provider, repository, root, targets};
 use crate::tables::{
@@ -180,6 +180,8 @@ fn names_and<D: Folder>(alloc: Global, folder: &mut D, more: &str) -> Result<Vec
 impl Folder for Listing {
     ghost seen = { λ d. untold d.folder.calls.faults };
 
+    ghost gave = { λ d call e. Answers (untold d.folder.calls.faults) call (untold e.folder.calls.faults) };
+
     fn names(&mut self, alloc: Global) -> Result<Vec<Text>, FolderFault> {
         match names_and(alloc, &mut self.folder, self.more.as_str()) {
             Ok(names) => Ok(names),
@@ -203,6 +205,8 @@ impl Folder for Listing {
     }
 
     ghost lists = { λ _. tt };
+
+    ghost answers = { λ _ _ _ given. given };
 }
 
 // One octet more than a bundle may have, where one of these files asks for them.

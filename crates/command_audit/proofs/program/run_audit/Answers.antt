@@ -1,15 +1,8 @@
-use Rattle.std.proofs.Common.{Ok, ◌∙◌, subst, refl}
-use Rattle.command_files.specs.Sink.{WritesText}
-use Rattle.command_files.specs.declared.sink.SinkFault.{SinkFault}
-use Rattle.command_audit.proofs.Saying.{said_means, said_completes}
+use Rattle.command_audit.proofs.RunEnding.{end_means, end_completes}
 use Rattle.command_audit.proofs.program.run_audit.Goals as goal
 
-pub returns-in-Ok-write_all-clause-means : goal.returns-in-Ok-write_all-clause-means
-returns-in-Ok-write_all-clause-means g c =
-    said_means _ _ _ _ _ c.in-Ok.said _ c.in-Ok.ensures
-    (subst (λ t. WritesText {E = SinkFault} (g.K.Sink.seen c.args.out.now) (g.K.Sink.seen c.write_all.new.out) t (Ok tt)) (c.as_bytes.ensures.value ∙ c.as_str.ensures) c.in-Ok-write_all.ensures) refl
+pub returns-clause-means : goal.returns-clause-means
+returns-clause-means g c = end_means _ _ _ _ _ _ _ c.decide-said.ensures c.finish.ensures
 
-pub returns-in-Ok-write_all-clause-complete : goal.returns-in-Ok-write_all-clause-complete
-returns-in-Ok-write_all-clause-complete g c =
-    said_completes _ _ _ _ _ c.in-Ok.said _ c.in-Ok.ensures
-    (subst (λ t. WritesText {E = SinkFault} (g.K.Sink.seen c.args.out.now) (g.K.Sink.seen c.write_all.new.out) t (Ok tt)) (c.as_bytes.ensures.value ∙ c.as_str.ensures) c.in-Ok-write_all.ensures) refl
+pub returns-clause-complete : goal.returns-clause-complete
+returns-clause-complete g c = end_completes _ _ _ _ _ _ _ c.decide-said.ensures c.finish.ensures
