@@ -1,74 +1,46 @@
-# Completes the words of `ratmanganese`, `verify-real` and `fetch-repository` in bash.
+# Completes the words of `ratmanganese`, `verify-real` and `fetch-repository` in bash. bench/words writes this file by scripts/words.json.
 _ratmanganese() {
-    local word=${COMP_WORDS[COMP_CWORD]} before=${COMP_WORDS[COMP_CWORD - 1]} command names name
-    command=${COMP_WORDS[0]##*/}
+    local word=${COMP_WORDS[COMP_CWORD]} before=${COMP_WORDS[COMP_CWORD - 1]} host=${COMP_WORDS[0]##*/} name='' names='' paths=''
     COMPREPLY=()
     # (bash parts a word at `=`)
     if [ "$word" = = ]; then
         name=$before word=
     elif [ "$before" = = ]; then
         name=${COMP_WORDS[COMP_CWORD - 2]}
-    else
-        name=
     fi
     case $name in
-    --repository | --store | --folder | --tiles)
-        mapfile -t COMPREPLY < <(compgen -d -- "$word")
-        compopt -o filenames
-        return
-        ;;
-    --root | --bundle | --artifact | --archive | --first | --second | --policy | --provider | --refused)
-        mapfile -t COMPREPLY < <(compgen -f -- "$word")
-        compopt -o filenames
-        return
-        ;;
+    --repository | --store | --folder | --tiles) paths=-d ;;
+    --root | --bundle | --artifact | --archive | --first | --second | --policy | --provider | --refused) paths=-f ;;
     --*) return ;;
+    *)
+        case $host:$COMP_CWORD:${COMP_WORDS[1]} in
+        ratmanganese:1:*) names="verify questions gate gate-questions archive check audit generate explain build install version help" ;;
+        ratmanganese:*:verify) names="--root= --repository= --store= --bundle= --artifact= --policy= --provider= --now=" ;;
+        ratmanganese:*:questions) names="--root= --repository= --store= --bundle= --artifact= --policy= --refused= --now=" ;;
+        ratmanganese:*:gate) names="--root= --repository= --store= --folder= --policy= --provider= --now=" ;;
+        ratmanganese:*:gate-questions) names="--root= --repository= --store= --folder= --policy= --refused= --now=" ;;
+        ratmanganese:*:archive) names="--root= --repository= --store= --provider= --now=" ;;
+        ratmanganese:*:check) names="--root= --archive= --provider= --now=" ;;
+        ratmanganese:*:audit) names="--key= --provider= --first= --second= --tiles=" ;;
+        ratmanganese:*:generate) names="--number= --count=" ;;
+        ratmanganese:2:explain) names="tuf verify archive audit gate status" ;;
+        ratmanganese:*:install) paths=-d ;;
+        verify-real:1:*) names="--root= --repository= --store= --bundle= --artifact= --policy= --now= --json --help gate archive check audit" ;;
+        verify-real:*:gate) names="--root= --repository= --store= --folder= --policy= --now= --json --help" ;;
+        verify-real:*:archive) names="--root= --repository= --store= --now= --help" ;;
+        verify-real:*:check) names="--root= --archive= --now= --help" ;;
+        verify-real:*:audit) names="--key= --first= --second= --tiles= --help" ;;
+        verify-real:*) names="--root= --repository= --store= --bundle= --artifact= --policy= --now= --json --help" ;;
+        fetch-repository:*) if [[ $word == -* ]]; then names="--root= --seconds= --help"; else paths=-d; fi ;;
+        esac
+        ;;
     esac
-    names="--root= --repository= --store= --bundle= --artifact= --policy= --now="
-    if [ "$command" = fetch-repository ]; then
-        names="--root= --seconds= --help"
-        if [[ $word != -* ]]; then
-            mapfile -t COMPREPLY < <(compgen -d -- "$word")
-            compopt -o filenames
-            return
-        fi
-    elif [ "$command" = verify-real ]; then
-        case ${COMP_WORDS[1]} in
-        gate) names="--root= --repository= --store= --folder= --policy= --now= --json --help" ;;
-        archive) names="--root= --repository= --store= --now= --help" ;;
-        check) names="--root= --archive= --now= --help" ;;
-        audit) names="--key= --first= --second= --tiles= --help" ;;
-        *)
-            names="$names --json --help"
-            [ "$COMP_CWORD" != 1 ] || names="$names gate archive check audit"
-            ;;
-        esac
-    elif [ "$COMP_CWORD" = 1 ]; then
-        mapfile -t COMPREPLY < <(compgen -W "verify questions gate gate-questions archive check audit generate explain build install version help" -- "$word")
+    if [ -n "$paths" ]; then
+        mapfile -t COMPREPLY < <(compgen "$paths" -- "$word")
+        compopt -o filenames
         return
-    else
-        case ${COMP_WORDS[1]} in
-        verify) names="$names --provider=" ;;
-        questions) names="$names --refused=" ;;
-        gate) names="--root= --repository= --store= --folder= --policy= --now= --provider=" ;;
-        gate-questions) names="--root= --repository= --store= --folder= --policy= --now= --refused=" ;;
-        archive) names="--root= --repository= --store= --now= --provider=" ;;
-        check) names="--root= --archive= --now= --provider=" ;;
-        audit) names="--key= --first= --second= --tiles= --provider=" ;;
-        generate) names="--number= --count=" ;;
-        explain)
-            [ "$COMP_CWORD" != 2 ] || mapfile -t COMPREPLY < <(compgen -W "tuf verify archive audit gate status" -- "$word")
-            return
-            ;;
-        install)
-            mapfile -t COMPREPLY < <(compgen -d -- "$word")
-            compopt -o filenames
-            return
-            ;;
-        *) return ;;
-        esac
     fi
     mapfile -t COMPREPLY < <(compgen -W "$names" -- "$word")
-    [[ ${COMPREPLY[0]} != *= ]] || compopt -o nospace
+    [[ ${COMPREPLY[0]-} != *= ]] || compopt -o nospace
 }
 complete -F _ratmanganese ratmanganese verify-real fetch-repository
