@@ -1,2 +1,4 @@
 mod GateMeaning
 mod Meaning
+mod GateEnding
+mod RunEnding

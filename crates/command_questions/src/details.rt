@@ -1,8 +1,8 @@
 // What a refusal holds beside its number and its name.
 use crate::last_asked::LastAsked;
 use crate::reading_store::ReadingStore;
-use command_files::{Gathered, Inputs, Sink, gather_inputs, read_layout, write_all};
-use command_verify::{Status, VerifyRequest, verify_request};
+use command_files::{Gathered, Inputs, Sink, gather_inputs, read_layout};
+use command_verify::{Answer, Status, VerifyRequest, finish, verify_request};
 use foundation::{Duplicate, NoMemory};
 use jiff::Timestamp;
 use sigstore_keys::ArtifactSource;
@@ -94,6 +94,39 @@ fn judged_details<R: Repository, S: MetadataStore, A: ArtifactSource>(
     text
 }
 
+// What ends a run without a text.
+fn silent(alloc: Global, status: Status) -> Answer {
+    Answer {
+        status,
+        text: Text::from_string(String::new(alloc)),
+    }
+}
+
+// The words, then the inputs and the verification.
+fn decide<I: Inputs, R: Repository, S: MetadataStore, A: ArtifactSource>(
+    alloc: Global,
+    words: &[Text],
+    clock: Timestamp,
+    inputs: &mut I,
+    repo: &mut LastAsked<R>,
+    store: &mut S,
+    artifact: &mut A,
+) -> Result<Answer, NoMemory> {
+    let now = match read_layout(alloc, words)? {
+        Some(layout) => layout.now.unwrap_or(clock),
+        None => return Ok(silent(alloc, Status::Usage)),
+    };
+    let gathered = match gather_inputs(alloc, inputs) {
+        Ok(gathered) => gathered,
+        Err(_) => return Ok(silent(alloc, Status::Input)),
+    };
+    let text = judged_details(alloc, gathered, now, repo, store, artifact)?;
+    Ok(Answer {
+        status: Status::Accepted,
+        text: Text::from_string(text),
+    })
+}
+
 /// Verifies once more, and writes all that a refusal holds, as Debug prints it: roles, versions, counts, and of a
 /// bundle or a trust file the member that is misread; behind a refusal of the documents the file that was asked
 /// for last. Nothing is written where the bundle is accepted. It is for a reader's eye: no contract speaks of
@@ -109,20 +142,6 @@ pub fn run_details<I: Inputs, R: Repository, S: MetadataStore, A: ArtifactSource
     artifact: &mut A,
     out: &mut K,
 ) -> Status {
-    let now = match read_layout(alloc, words) {
-        Ok(Some(layout)) => layout.now.unwrap_or(clock),
-        Ok(None) => return Status::Usage,
-        Err(_) => return Status::Memory,
-    };
-    let gathered = match gather_inputs(alloc, inputs) {
-        Ok(gathered) => gathered,
-        Err(_) => return Status::Input,
-    };
-    let Ok(text) = judged_details(alloc, gathered, now, repo, store, artifact) else {
-        return Status::Memory;
-    };
-    match write_all(out, text.as_bytes()) {
-        Ok(()) => Status::Accepted,
-        Err(_) => Status::Output,
-    }
+    let said = decide(alloc, words, clock, inputs, repo, store, artifact);
+    finish(&said, out)
 }

@@ -1,17 +1,18 @@
 // A run that notes what the judgement of a folder asks.
 ghost use Rattle.std.specs.Prelude.{◌≡◌, IfOk};
-ghost use Rattle.release_gate.specs.Gate.{Outside};
+ghost use Rattle.release_gate.specs.Gate.{outside_by};
 ghost use Rattle.release_gate.specs.Promises.{Promises};
 ghost use Rattle.question_notes.specs.Believing.{believing};
 ghost use Rattle.command_verify.specs.declared.answer.Status.TheVariants.{Accepted};
-ghost use Rattle.command_gate.specs.Run.{Environment, given_with};
+ghost use Rattle.command_verify.specs.Run.{command_by};
+ghost use Rattle.command_gate.specs.Run.{environment_by, given_with};
 ghost use Rattle.command_questions.specs.GateMeans.{Asks, Proceeds, Decides, RunsTo, WritesRows};
 
 use crate::program::questions_text;
 use crate::reading_store::ReadingStore;
-use command_files::{Anchored, CommandStop, Governed, Inputs, Sink, gather_governed, write_all};
+use command_files::{Anchored, CommandStop, Governed, Inputs, Sink, gather_governed};
 use command_gate::{asked_gate_layout, gate_folder};
-use command_verify::{Answer, Status, stopped};
+use command_verify::{Answer, Status, finish, stopped};
 use foundation::NoMemory;
 use jiff::Timestamp;
 use question_notes::{Noted, Notes, NotingArmor, NotingProvider};
@@ -30,9 +31,8 @@ fn gate_noting<R: Repository, S: MetadataStore, D: Folder>(
     store: &mut S,
     folder: &mut D,
 ) -> Result<Gated, GateFault>
-    ensures { let before : Outside = record { repo = R.seen repo.old; store = S.seen store.old; folder = D.seen folder.old } in
-        let after : Outside = record { repo = R.seen repo.new; store = S.seen store.new; folder = D.seen folder.new } in
-        Promises (given_with (believing governed.anchored.tables.provider.rows) governed.anchored.root governed.policy now) before after result }
+    ensures { Promises (given_with (believing governed.anchored.tables.provider.rows) governed.anchored.root governed.policy now) (outside_by (R.seen repo.old) (S.seen store.old) (D.seen folder.old))
+        (outside_by (R.seen repo.new) (S.seen store.new) (D.seen folder.new)) result }
 {
     let Governed { policy, anchored } = governed;
     let Anchored { tables, root } = anchored;
@@ -61,9 +61,8 @@ fn asked<R: Repository, S: MetadataStore, D: Folder>(
     store: &mut S,
     folder: &mut D,
 ) -> Result<Noted, NoMemory>
-    ensures { let before : Outside = record { repo = R.seen repo.old; store = S.seen store.old; folder = D.seen folder.old } in
-        let after : Outside = record { repo = R.seen repo.new; store = S.seen store.new; folder = D.seen folder.new } in
-        IfOk result (λ noted. Asks governed now before after) }
+    ensures { IfOk result (λ noted. Asks governed now (outside_by (R.seen repo.old) (S.seen store.old) (D.seen folder.old))
+        (outside_by (R.seen repo.new) (S.seen store.new) (D.seen folder.new))) }
 {
     let notes = Notes::new(alloc);
     let judged = gate_noting(alloc, &notes, governed, now, repo, store, folder);
@@ -87,11 +86,9 @@ fn proceed<I: Inputs, R: Repository, S: MetadataStore, D: Folder>(
     store: &mut S,
     folder: &mut D,
 ) -> Result<Answer, NoMemory>
-    ensures { let outside : Outside = record { repo = R.seen repo.old; store = S.seen store.old; folder = D.seen folder.old } in
-        let outside' : Outside = record { repo = R.seen repo.new; store = S.seen store.new; folder = D.seen folder.new } in
-        let before : Environment = record { inputs = I.seen inputs.old; outside = outside } in
-        let after : Environment = record { inputs = I.seen inputs.new; outside = outside' } in
-        IfOk result (Proceeds now before after) }
+    ensures { IfOk result (Proceeds now
+        (environment_by (I.seen inputs.old) (R.seen repo.old) (S.seen store.old) (D.seen folder.old))
+        (environment_by (I.seen inputs.new) (R.seen repo.new) (S.seen store.new) (D.seen folder.new))) }
 {
     match gather_governed(alloc, inputs) {
         Ok(governed) => match asked(alloc, governed, now, repo, store, folder) {
@@ -115,11 +112,9 @@ fn decide<I: Inputs, R: Repository, S: MetadataStore, D: Folder>(
     store: &mut S,
     folder: &mut D,
 ) -> Result<Answer, NoMemory>
-    ensures { let outside : Outside = record { repo = R.seen repo.old; store = S.seen store.old; folder = D.seen folder.old } in
-        let outside' : Outside = record { repo = R.seen repo.new; store = S.seen store.new; folder = D.seen folder.new } in
-        let before : Environment = record { inputs = I.seen inputs.old; outside = outside } in
-        let after : Environment = record { inputs = I.seen inputs.new; outside = outside' } in
-        IfOk result (Decides (record { words = words.now; clock = clock }) before after) }
+    ensures { IfOk result (Decides (command_by words.now clock)
+        (environment_by (I.seen inputs.old) (R.seen repo.old) (S.seen store.old) (D.seen folder.old))
+        (environment_by (I.seen inputs.new) (R.seen repo.new) (S.seen store.new) (D.seen folder.new))) }
 {
     let found = match asked_gate_layout(alloc, words) {
         Ok(found) => found,
@@ -156,23 +151,15 @@ pub fn run_gate_questions<I: Inputs, R: Repository, S: MetadataStore, D: Folder,
     folder: &mut D,
     out: &mut K,
 ) -> Status
-    ensures runs { let outside : Outside = record { repo = R.seen repo.old; store = ⟦<ReadingStore<S> as MetadataStore>⟧.seen store.old; folder = D.seen folder.old } in
-        let outside' : Outside = record { repo = R.seen repo.new; store = ⟦<ReadingStore<S> as MetadataStore>⟧.seen store.new; folder = D.seen folder.new } in
-        let before : Environment = record { inputs = I.seen inputs.old; outside = outside } in
-        let after : Environment = record { inputs = I.seen inputs.new; outside = outside' } in
-        RunsTo (record { words = words.now; clock = clock }) before after (K.seen out.old) (K.seen out.new) result }
-    ensures rows { let outside : Outside = record { repo = R.seen repo.old; store = ⟦<ReadingStore<S> as MetadataStore>⟧.seen store.old; folder = D.seen folder.old } in
-        let outside' : Outside = record { repo = R.seen repo.new; store = ⟦<ReadingStore<S> as MetadataStore>⟧.seen store.new; folder = D.seen folder.new } in
-        let before : Environment = record { inputs = I.seen inputs.old; outside = outside } in
-        let after : Environment = record { inputs = I.seen inputs.new; outside = outside' } in
-        result ≡ Accepted → WritesRows (record { words = words.now; clock = clock }) before after (K.seen out.old) (K.seen out.new) }
+    ensures runs { RunsTo (command_by words.now clock)
+        (environment_by (I.seen inputs.old) (R.seen repo.old) (⟦<ReadingStore<S> as MetadataStore>⟧.seen store.old) (D.seen folder.old))
+        (environment_by (I.seen inputs.new) (R.seen repo.new) (⟦<ReadingStore<S> as MetadataStore>⟧.seen store.new) (D.seen folder.new))
+        (K.seen out.old) (K.seen out.new) result }
+    ensures rows { result ≡ Accepted → WritesRows (command_by words.now clock)
+        (environment_by (I.seen inputs.old) (R.seen repo.old) (⟦<ReadingStore<S> as MetadataStore>⟧.seen store.old) (D.seen folder.old))
+        (environment_by (I.seen inputs.new) (R.seen repo.new) (⟦<ReadingStore<S> as MetadataStore>⟧.seen store.new) (D.seen folder.new))
+        (K.seen out.old) (K.seen out.new) }
 {
-    let said = match decide(alloc, words, clock, inputs, repo, store, folder) {
-        Ok(said) => said,
-        Err(_) => return Status::Memory,
-    };
-    match write_all(out, said.text.as_str().as_bytes()) {
-        Ok(()) => said.status,
-        Err(_) => Status::Output,
-    }
+    let said = decide(alloc, words, clock, inputs, repo, store, folder);
+    finish(&said, out)
 }

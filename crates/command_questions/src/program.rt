@@ -1,17 +1,15 @@
 // A run that notes what a verification asks.
 ghost use Rattle.std.specs.Prelude.{◌≡◌, IfOk, string_bytes};
-ghost use Rattle.sigstore_verify.specs.Inputs.{Outside};
+ghost use Rattle.sigstore_verify.specs.Inputs.{outside_by};
 ghost use Rattle.sigstore_verify.specs.FromRoot.{Runs};
 ghost use Rattle.question_notes.specs.Believing.{believing};
 ghost use Rattle.command_questions.specs.Means.{IsQuestions, Asks, Proceeds, Decides, RunsTo, WritesRows};
-ghost use Rattle.command_verify.specs.Run.{given_with, request_of, Environment};
+ghost use Rattle.command_verify.specs.Run.{command_by, environment_by, given_with, request_of};
 ghost use Rattle.command_verify.specs.declared.answer.Status.TheVariants.{Accepted};
 
 use crate::reading_store::ReadingStore;
-use command_files::{
-    CommandStop, Gathered, Inputs, Sink, gather_inputs, read_asked_layout, write_all,
-};
-use command_verify::{Answer, Status, VerifyRequest, stopped, verify_request};
+use command_files::{CommandStop, Gathered, Inputs, Sink, gather_inputs, read_asked_layout};
+use command_verify::{Answer, Status, VerifyRequest, finish, stopped, verify_request};
 use foundation::NoMemory;
 use jiff::Timestamp;
 use question_notes::{Noted, Notes, NotingArmor, NotingProvider};
@@ -31,9 +29,8 @@ fn verify_noting<R: Repository, S: MetadataStore, A: ArtifactSource>(
     store: &mut S,
     artifact: &mut A,
 ) -> Result<Acceptance, RootFault>
-    ensures { let before : Outside = record { repo = R.seen repo.old; store = S.seen store.old; source = A.seen artifact.old } in
-        let after : Outside = record { repo = R.seen repo.new; store = S.seen store.new; source = A.seen artifact.new } in
-        Runs (given_with (believing gathered.tables.provider.rows) (request_of gathered) now) before after result }
+    ensures { Runs (given_with (believing gathered.tables.provider.rows) (request_of gathered) now) (outside_by (R.seen repo.old) (S.seen store.old) (A.seen artifact.old))
+        (outside_by (R.seen repo.new) (S.seen store.new) (A.seen artifact.new)) result }
 {
     let Gathered {
         policy,
@@ -70,9 +67,8 @@ fn asked<R: Repository, S: MetadataStore, A: ArtifactSource>(
     store: &mut S,
     artifact: &mut A,
 ) -> Result<Noted, NoMemory>
-    ensures { let before : Outside = record { repo = R.seen repo.old; store = S.seen store.old; source = A.seen artifact.old } in
-        let after : Outside = record { repo = R.seen repo.new; store = S.seen store.new; source = A.seen artifact.new } in
-        IfOk result (λ noted. Asks gathered now before after) }
+    ensures { IfOk result (λ noted. Asks gathered now (outside_by (R.seen repo.old) (S.seen store.old) (A.seen artifact.old))
+        (outside_by (R.seen repo.new) (S.seen store.new) (A.seen artifact.new))) }
 {
     let notes = Notes::new(alloc);
     let judged = verify_noting(alloc, &notes, gathered, now, repo, store, artifact);
@@ -110,11 +106,9 @@ fn proceed<I: Inputs, R: Repository, S: MetadataStore, A: ArtifactSource>(
     store: &mut S,
     artifact: &mut A,
 ) -> Result<Answer, NoMemory>
-    ensures { let outside : Outside = record { repo = R.seen repo.old; store = S.seen store.old; source = A.seen artifact.old } in
-        let outside' : Outside = record { repo = R.seen repo.new; store = S.seen store.new; source = A.seen artifact.new } in
-        let before : Environment = record { inputs = I.seen inputs.old; outside = outside } in
-        let after : Environment = record { inputs = I.seen inputs.new; outside = outside' } in
-        IfOk result (Proceeds now before after) }
+    ensures { IfOk result (Proceeds now
+        (environment_by (I.seen inputs.old) (R.seen repo.old) (S.seen store.old) (A.seen artifact.old))
+        (environment_by (I.seen inputs.new) (R.seen repo.new) (S.seen store.new) (A.seen artifact.new))) }
 {
     match gather_inputs(alloc, inputs) {
         Ok(gathered) => match asked(alloc, gathered, now, repo, store, artifact) {
@@ -138,11 +132,9 @@ fn decide<I: Inputs, R: Repository, S: MetadataStore, A: ArtifactSource>(
     store: &mut S,
     artifact: &mut A,
 ) -> Result<Answer, NoMemory>
-    ensures { let outside : Outside = record { repo = R.seen repo.old; store = S.seen store.old; source = A.seen artifact.old } in
-        let outside' : Outside = record { repo = R.seen repo.new; store = S.seen store.new; source = A.seen artifact.new } in
-        let before : Environment = record { inputs = I.seen inputs.old; outside = outside } in
-        let after : Environment = record { inputs = I.seen inputs.new; outside = outside' } in
-        IfOk result (Decides (record { words = words.now; clock = clock }) before after) }
+    ensures { IfOk result (Decides (command_by words.now clock)
+        (environment_by (I.seen inputs.old) (R.seen repo.old) (S.seen store.old) (A.seen artifact.old))
+        (environment_by (I.seen inputs.new) (R.seen repo.new) (S.seen store.new) (A.seen artifact.new))) }
 {
     let found = match read_asked_layout(alloc, words) {
         Ok(found) => found,
@@ -179,23 +171,15 @@ pub fn run_questions<I: Inputs, R: Repository, S: MetadataStore, A: ArtifactSour
     artifact: &mut A,
     out: &mut K,
 ) -> Status
-    ensures runs { let outside : Outside = record { repo = R.seen repo.old; store = ⟦<ReadingStore<S> as MetadataStore>⟧.seen store.old; source = A.seen artifact.old } in
-        let outside' : Outside = record { repo = R.seen repo.new; store = ⟦<ReadingStore<S> as MetadataStore>⟧.seen store.new; source = A.seen artifact.new } in
-        let before : Environment = record { inputs = I.seen inputs.old; outside = outside } in
-        let after : Environment = record { inputs = I.seen inputs.new; outside = outside' } in
-        RunsTo (record { words = words.now; clock = clock }) before after (K.seen out.old) (K.seen out.new) result }
-    ensures rows { let outside : Outside = record { repo = R.seen repo.old; store = ⟦<ReadingStore<S> as MetadataStore>⟧.seen store.old; source = A.seen artifact.old } in
-        let outside' : Outside = record { repo = R.seen repo.new; store = ⟦<ReadingStore<S> as MetadataStore>⟧.seen store.new; source = A.seen artifact.new } in
-        let before : Environment = record { inputs = I.seen inputs.old; outside = outside } in
-        let after : Environment = record { inputs = I.seen inputs.new; outside = outside' } in
-        result ≡ Accepted → WritesRows (record { words = words.now; clock = clock }) before after (K.seen out.old) (K.seen out.new) }
+    ensures runs { RunsTo (command_by words.now clock)
+        (environment_by (I.seen inputs.old) (R.seen repo.old) (⟦<ReadingStore<S> as MetadataStore>⟧.seen store.old) (A.seen artifact.old))
+        (environment_by (I.seen inputs.new) (R.seen repo.new) (⟦<ReadingStore<S> as MetadataStore>⟧.seen store.new) (A.seen artifact.new))
+        (K.seen out.old) (K.seen out.new) result }
+    ensures rows { result ≡ Accepted → WritesRows (command_by words.now clock)
+        (environment_by (I.seen inputs.old) (R.seen repo.old) (⟦<ReadingStore<S> as MetadataStore>⟧.seen store.old) (A.seen artifact.old))
+        (environment_by (I.seen inputs.new) (R.seen repo.new) (⟦<ReadingStore<S> as MetadataStore>⟧.seen store.new) (A.seen artifact.new))
+        (K.seen out.old) (K.seen out.new) }
 {
-    let said = match decide(alloc, words, clock, inputs, repo, store, artifact) {
-        Ok(said) => said,
-        Err(_) => return Status::Memory,
-    };
-    match write_all(out, said.text.as_str().as_bytes()) {
-        Ok(()) => said.status,
-        Err(_) => Status::Output,
-    }
+    let said = decide(alloc, words, clock, inputs, repo, store, artifact);
+    finish(&said, out)
 }
