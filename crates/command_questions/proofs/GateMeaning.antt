@@ -4,23 +4,16 @@ use Rattle.std.specs.Result.{result_ok}
 use Rattle.foundation.specs.Watched.{Watched}
 use Rattle.foundation.specs.Results.{some_same}
 use Rattle.jiff_core.specs.declared.timestamp.Timestamp as jiff
-use Rattle.release_gate.specs.Gate.{Outside}
-use Rattle.release_gate.specs.Promises.{Promises}
-use Rattle.release_gate.specs.declared.gate.Gated.{Gated}
-use Rattle.release_gate.specs.declared.gate.GateFault.{GateFault}
-use Rattle.command_files.specs.declared.gather.Governed.{Governed}
 use Rattle.command_files.specs.declared.gather.CommandStop.{CommandStop}
 use Rattle.command_files.specs.declared.gather.CommandStop.TheVariants as stop
-use Rattle.command_files.specs.declared.tables.TableProvider.{TableProvider}
 use Rattle.command_files.specs.declared.usage_fault.UsageFault.{UsageFault}
-use Rattle.question_notes.specs.Believing.{believing}
 use Rattle.command_verify.specs.declared.answer.Status.{Status}
 use Rattle.command_verify.specs.declared.answer.Status.TheVariants.{Accepted, Usage, Input}
 use Rattle.command_verify.specs.declared.answer.Answer.{Answer}
 use Rattle.command_verify.specs.Run.{stop_answer, TakesAll, Command}
 use Rattle.command_gate.specs.declared.layout.GateLayout.{GateLayout}
 use Rattle.command_gate.specs.Layout.{asked_gate_layout_of}
-use Rattle.command_gate.specs.Run.{Environment, given_with}
+use Rattle.command_gate.specs.Run.{Environment}
 use Rattle.command_questions.specs.GateMeans.{Proceeds, rows, stopped, Decides, misworded, worded, RunsTo, unwritten, cut, written, WritesRows}
 
 -- what is said of a stop doesn't end as questions do
@@ -40,15 +33,6 @@ found_layout words layout h = by (asked_gate_layout_of words) h
     by : (r : Result GateLayout UsageFault) → Some layout ≡ result_ok r → r ≡ Ok layout
     by (Ok x) h = ap Ok (sym (some_same layout x h))
     by (Err e) h = cc
-
--- the provider that notes refuses the rows that it was made with, and the root is the inputs'
-pub gated_believing : (governed : Governed) (now : jiff.Timestamp) (before after : Outside) (result : Result Gated GateFault)
-    (root : List ℕ) (held : TableProvider) → root ≡ governed.anchored.root → held ≡ governed.anchored.tables.provider
-    → Promises (given_with (believing held.rows) root governed.policy now) before after result
-    → Promises (given_with (believing governed.anchored.tables.provider.rows) governed.anchored.root governed.policy now) before after result
-gated_believing governed now before after result root held r h promises =
-    subst (λ (t : TableProvider). Promises (given_with (believing t.rows) governed.anchored.root governed.policy now) before after result) h
-    (subst (λ (x : List ℕ). Promises (given_with (believing held.rows) x governed.policy now) before after result) r promises)
 
 -- the moment, as it was taken
 pub at_moment : (taken now : jiff.Timestamp) (before after : Environment) (said : Answer) → taken ≡ now

@@ -2,3 +2,5 @@ mod GateMeaning
 mod Meaning
 mod GateEnding
 mod RunEnding
+mod Sufficing
+mod SufficingForFolder

@@ -4,13 +4,6 @@ use Rattle.std.specs.Result.{result_ok}
 use Rattle.foundation.specs.Watched.{Watched}
 use Rattle.foundation.specs.Results.{some_same}
 use Rattle.jiff_core.specs.declared.timestamp.Timestamp as jiff
-use Rattle.command_files.specs.declared.tables.TableProvider.{TableProvider}
-use Rattle.sigstore_verify.specs.declared.from_root.Acceptance.{Acceptance}
-use Rattle.sigstore_verify.specs.declared.from_root.RootFault.{RootFault}
-use Rattle.sigstore_verify.specs.Inputs.{Outside}
-use Rattle.sigstore_verify.specs.FromRoot.{Runs}
-use Rattle.sigstore_verify.specs.Promises.{Promises}
-use Rattle.question_notes.specs.Believing.{believing}
 use Rattle.command_files.specs.Layout.{asked_layout_of}
 use Rattle.command_files.specs.declared.layout.Layout.{Layout}
 use Rattle.command_files.specs.declared.gather.CommandStop.{CommandStop}
@@ -19,8 +12,7 @@ use Rattle.command_files.specs.declared.usage_fault.UsageFault.{UsageFault}
 use Rattle.command_verify.specs.declared.answer.Status.{Status}
 use Rattle.command_verify.specs.declared.answer.Status.TheVariants.{Accepted, Usage, Input}
 use Rattle.command_verify.specs.declared.answer.Answer.{Answer}
-use Rattle.command_verify.specs.declared.meant.VerifyRequest.{VerifyRequest}
-use Rattle.command_verify.specs.Run.{stop_answer, TakesAll, given_with, Command, Environment}
+use Rattle.command_verify.specs.Run.{stop_answer, TakesAll, Command, Environment}
 use Rattle.command_questions.specs.Means.{Proceeds, rows, stopped, Decides, misworded, worded, RunsTo, unwritten, cut, written, WritesRows}
 
 -- what is said of a stop doesn't end as questions do
@@ -40,14 +32,6 @@ found_layout words layout h = by (asked_layout_of words) h
     by : (r : Result Layout UsageFault) → Some layout ≡ result_ok r → r ≡ Ok layout
     by (Ok x) h = ap Ok (sym (some_same layout x h))
     by (Err e) h = cc
-
--- the provider that notes refuses the rows that it was made with
-pub ran_believing : (request : VerifyRequest) (now : jiff.Timestamp) (before after : Outside) (result : Result Acceptance RootFault)
-    (held given : TableProvider) → held ≡ given
-    → Promises (given_with (believing held.rows) request now) before after result
-    → Runs (given_with (believing given.rows) request now) before after result
-ran_believing request now before after result held given same promises =
-    subst (λ t. Runs (given_with (believing t.rows) request now) before after result) same promises.runs
 
 -- the moment, as it was taken
 pub at_moment : (taken now : jiff.Timestamp) (before after : Environment) (said : Answer) → taken ≡ now

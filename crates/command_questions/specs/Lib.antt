@@ -1,2 +1,3 @@
 pub mod GateMeans
 pub mod Means
+pub mod Suffice

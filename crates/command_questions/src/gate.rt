@@ -10,7 +10,8 @@ ghost use Rattle.command_questions.specs.GateMeans.{Asks, Proceeds, Decides, Run
 
 use crate::program::questions_text;
 use crate::reading_store::ReadingStore;
-use command_files::{Anchored, CommandStop, Governed, Inputs, Sink, gather_governed};
+use crate::suffice::sufficient_for_folder;
+use command_files::{Anchored, CommandStop, Governed, Inputs, PolicyFile, Sink, gather_governed};
 use command_gate::{asked_gate_layout, gate_folder};
 use command_verify::{Answer, Status, finish, stopped};
 use foundation::NoMemory;
@@ -21,38 +22,35 @@ use sigstore_tuf::{MetadataStore, Repository};
 use sigstore_types_parts::Text;
 use std::alloc::Global;
 
-// Judges the folder, refuses what the tables hold, and notes what else it asks.
+// Judges the folder, refuses what the tables of the notes hold, and notes what else it asks.
 fn gate_noting<R: Repository, S: MetadataStore, D: Folder>(
     alloc: Global,
-    notes: &Notes,
-    governed: Governed,
+    notes: &Notes<'_>,
+    policy: PolicyFile,
+    root: &[u8],
     now: Timestamp,
     repo: &mut R,
     store: &mut S,
     folder: &mut D,
 ) -> Result<Gated, GateFault>
-    ensures { Promises (given_with (believing governed.anchored.tables.provider.rows) governed.anchored.root governed.policy now) (outside_by (R.seen repo.old) (S.seen store.old) (D.seen folder.old))
+    ensures { Promises (given_with (believing notes.now.refused.now.rows) root.now policy now) (outside_by (R.seen repo.old) (S.seen store.old) (D.seen folder.old))
         (outside_by (R.seen repo.new) (S.seen store.new) (D.seen folder.new)) result }
 {
-    let Governed { policy, anchored } = governed;
-    let Anchored { tables, root } = anchored;
-    let provider = NotingProvider::new(notes, &tables.provider);
-    let judged = gate_folder(
+    gate_folder(
         alloc,
         policy,
-        root.as_bytes(),
-        &provider,
+        root,
+        &NotingProvider::new(notes),
         &NotingArmor::new(notes),
         now,
         repo,
         store,
         folder,
-    );
-    drop(tables);
-    judged
+    )
 }
 
-// What the judgement of a folder asks; its verdicts are thrown away.
+// What the judgement of a folder asks, which suffices for the chain of documents that it came to; its verdicts are thrown
+// away.
 fn asked<R: Repository, S: MetadataStore, D: Folder>(
     alloc: Global,
     governed: Governed,
@@ -61,20 +59,26 @@ fn asked<R: Repository, S: MetadataStore, D: Folder>(
     store: &mut S,
     folder: &mut D,
 ) -> Result<Noted, NoMemory>
-    ensures { IfOk result (λ noted. Asks governed now (outside_by (R.seen repo.old) (S.seen store.old) (D.seen folder.old))
+    ensures { IfOk result (λ noted. Asks governed now noted.tables (outside_by (R.seen repo.old) (S.seen store.old) (D.seen folder.old))
         (outside_by (R.seen repo.new) (S.seen store.new) (D.seen folder.new))) }
 {
-    let notes = Notes::new(alloc);
-    let judged = gate_noting(alloc, &notes, governed, now, repo, store, folder);
-    let wants_memory = matches!(&judged, Err(GateFault::NoMemory));
+    let Governed { policy, anchored } = governed;
+    let Anchored { tables, root } = anchored;
+    let notes = Notes::new(alloc, &tables.provider);
+    let judged = gate_noting(
+        alloc,
+        &notes,
+        policy,
+        root.as_bytes(),
+        now,
+        repo,
+        store,
+        folder,
+    );
+    let noted = sufficient_for_folder(alloc, notes, root.as_bytes(), now, &judged);
     drop(judged);
-    if wants_memory {
-        return Err(NoMemory);
-    }
-    match notes.into_noted() {
-        Some(noted) => Ok(noted),
-        None => Err(NoMemory),
-    }
+    drop(tables);
+    noted
 }
 
 // The inputs, then the questions.
@@ -139,8 +143,9 @@ fn decide<I: Inputs, R: Repository, S: MetadataStore, D: Folder>(
 /// Notes what the judgement of a folder asks, over these words, inputs and objects of the outside, where the signatures
 /// of the file `refused` aren't good and all others are, and writes it as a provider file: each question of all
 /// artifacts once, in the order in which they were asked, as many as a provider file may hold. Nothing is judged: the
-/// status is never Refused, and Accepted says that the questions were written. Status 4 where a write failed, 5 where
-/// memory was wanting; then nothing was written.
+/// status is never Refused, and Accepted says that the questions were written, and that the chain of documents that
+/// the run came to is trusted by them alone. Status 4 where a write failed, 5 where memory was wanting, or a provider file
+/// has no room for a question that is needed; then nothing was written.
 pub fn run_gate_questions<I: Inputs, R: Repository, S: MetadataStore, D: Folder, K: Sink>(
     alloc: Global,
     words: &[Text],

@@ -8,6 +8,8 @@ mod gate;
 mod last_asked;
 mod program;
 mod reading_store;
+mod request;
+mod suffice;
 
 pub use details::run_details;
 pub use gate::run_gate_questions;

@@ -4,61 +4,53 @@ ghost use Rattle.sigstore_verify.specs.Inputs.{outside_by};
 ghost use Rattle.sigstore_verify.specs.FromRoot.{Runs};
 ghost use Rattle.question_notes.specs.Believing.{believing};
 ghost use Rattle.command_questions.specs.Means.{IsQuestions, Asks, Proceeds, Decides, RunsTo, WritesRows};
-ghost use Rattle.command_verify.specs.Run.{command_by, environment_by, given_with, request_of};
+ghost use Rattle.command_questions.specs.Suffice.{inputs_of};
+ghost use Rattle.command_verify.specs.Run.{command_by, environment_by};
 ghost use Rattle.command_verify.specs.declared.answer.Status.TheVariants.{Accepted};
 
 use crate::reading_store::ReadingStore;
+use crate::request::Request;
+use crate::suffice::sufficient;
 use command_files::{CommandStop, Gathered, Inputs, Sink, gather_inputs, read_asked_layout};
-use command_verify::{Answer, Status, VerifyRequest, finish, stopped, verify_request};
+use command_verify::{Answer, MAX_ARTIFACT, Status, finish, policy_meant, stopped};
 use foundation::NoMemory;
 use jiff::Timestamp;
 use question_notes::{Noted, Notes, NotingArmor, NotingProvider};
 use sigstore_keys::ArtifactSource;
-use sigstore_tuf::{MetadataStore, Repository};
+use sigstore_tuf::{MetadataStore, Repository, UpdaterConfig};
 use sigstore_types_parts::Text;
-use sigstore_verify::{Acceptance, RootFault};
+use sigstore_verify::{Acceptance, RootFault, verify_from_root};
 use std::alloc::Global;
 
-// Runs the verification, refuses what the tables hold, and notes what else it asks.
+// Runs the verification, refuses what the tables of the notes hold, and notes what else it asks.
 fn verify_noting<R: Repository, S: MetadataStore, A: ArtifactSource>(
     alloc: Global,
-    notes: &Notes,
-    gathered: Gathered,
-    now: Timestamp,
+    notes: &Notes<'_>,
+    request: &Request<'_>,
     repo: &mut R,
     store: &mut S,
     artifact: &mut A,
 ) -> Result<Acceptance, RootFault>
-    ensures { Runs (given_with (believing gathered.tables.provider.rows) (request_of gathered) now) (outside_by (R.seen repo.old) (S.seen store.old) (A.seen artifact.old))
+    ensures { Runs (inputs_of (believing notes.now.refused.now.rows) request.now) (outside_by (R.seen repo.old) (S.seen store.old) (A.seen artifact.old))
         (outside_by (R.seen repo.new) (S.seen store.new) (A.seen artifact.new)) result }
 {
-    let Gathered {
-        policy,
-        tables,
-        root,
-        bundle,
-    } = gathered;
-    let request = VerifyRequest {
-        policy,
-        root,
-        bundle,
-    };
-    let provider = NotingProvider::new(notes, &tables.provider);
-    let judged = verify_request(
+    verify_from_root(
         alloc,
-        request,
-        &provider,
+        &NotingProvider::new(notes),
         &NotingArmor::new(notes),
-        now,
+        request.root,
         repo,
         store,
+        UpdaterConfig::default(),
+        request.moment,
+        request.bundle,
         artifact,
-    );
-    drop(tables);
-    judged
+        MAX_ARTIFACT,
+        request.policy,
+    )
 }
 
-// What a verification asks; its verdict is thrown away.
+// What a verification asks, which suffices for what it came to; its verdict is thrown away.
 fn asked<R: Repository, S: MetadataStore, A: ArtifactSource>(
     alloc: Global,
     gathered: Gathered,
@@ -67,20 +59,28 @@ fn asked<R: Repository, S: MetadataStore, A: ArtifactSource>(
     store: &mut S,
     artifact: &mut A,
 ) -> Result<Noted, NoMemory>
-    ensures { IfOk result (λ noted. Asks gathered now (outside_by (R.seen repo.old) (S.seen store.old) (A.seen artifact.old))
+    ensures { IfOk result (λ noted. Asks gathered now noted.tables (outside_by (R.seen repo.old) (S.seen store.old) (A.seen artifact.old))
         (outside_by (R.seen repo.new) (S.seen store.new) (A.seen artifact.new))) }
 {
-    let notes = Notes::new(alloc);
-    let judged = verify_noting(alloc, &notes, gathered, now, repo, store, artifact);
-    let wants_memory = matches!(&judged, Err(RootFault::NoMemory));
+    let Gathered {
+        policy,
+        tables,
+        root,
+        bundle,
+    } = gathered;
+    let policy = policy_meant(policy);
+    let request = Request {
+        policy: &policy,
+        root: root.as_bytes(),
+        bundle: bundle.as_bytes(),
+        moment: now,
+    };
+    let notes = Notes::new(alloc, &tables.provider);
+    let judged = verify_noting(alloc, &notes, &request, repo, store, artifact);
+    let noted = sufficient(alloc, notes, &request, &judged);
     drop(judged);
-    if wants_memory {
-        return Err(NoMemory);
-    }
-    match notes.into_noted() {
-        Some(noted) => Ok(noted),
-        None => Err(NoMemory),
-    }
+    drop(tables);
+    noted
 }
 
 /// What is said of the questions that were noted: the text of a provider file.
@@ -159,8 +159,10 @@ fn decide<I: Inputs, R: Repository, S: MetadataStore, A: ArtifactSource>(
 /// Notes what a verification over these words, inputs and objects of the outside asks where the signatures of the
 /// file `refused` aren't good and all others are, and writes it as a provider file: each question once, in the
 /// order in which they were asked. Nothing is judged: the status
-/// is never Refused, and Accepted says that the questions were written. Status 4 where a write failed, 5
-/// where memory was wanting; then nothing was written.
+/// is never Refused, and Accepted says that the questions were written, and that they suffice: the chain of documents that
+/// the run came to is trusted by them alone, and the bundle that it accepted is accepted by them alone. Status 4 where a
+/// write failed, 5 where memory was wanting, or a provider file has no room for a question that is needed; then nothing was
+/// written.
 pub fn run_questions<I: Inputs, R: Repository, S: MetadataStore, A: ArtifactSource, K: Sink>(
     alloc: Global,
     words: &[Text],

@@ -1,5 +1,5 @@
 -- What a line more makes of what was noted.
-use Rattle.std.proofs.Common.{◌≡◌, ℕ, List, [], ◌++◌, true, false, is_some, Option, Some, None, option_copied, Bor, codes, refl, sym, ap, ◌∙◌, subst}
+use Rattle.std.proofs.Common.{◌≡◌, ℕ, List, [], ◌++◌, length, true, false, is_some, Option, Some, None, option_copied, Bor, codes, refl, sym, ap, ◌∙◌, subst}
 use Rattle.std.proofs.lemmas.Str.Ascii.{IsAscii-nil}
 use Rattle.std.specs.BTreeMap.{insert_entry}
 use Rattle.base64.specs.GeneralPurpose.{IsBytes}
@@ -13,7 +13,7 @@ use Rattle.command_files.specs.declared.tables.TableProvider.{TableProvider}
 use Rattle.question_notes.specs.Lines.{armor_line, accept_line}
 use Rattle.question_notes.specs.Reads.{IsReadAs}
 use Rattle.sigstore_pem.specs.Pem.{content_of, key_label, certificate_label}
-use Rattle.question_notes.specs.Notes.{Seen, keys_with, certificates_with, row_of, rows_with, key_noted, certificate_noted, signature_noted, Asked, nothing, one_key, one_certificate, one_signature}
+use Rattle.question_notes.specs.Notes.{Seen, keys_with, certificates_with, row_of, rows_with, has_room, key_noted, certificate_noted, signature_noted, Asked, nothing, one_key, one_certificate, one_signature}
 use Rattle.question_notes.proofs.ReadFacts.{ascii_is_file, key_read, certificate_read, signature_read}
 
 -- no line yet
@@ -67,24 +67,24 @@ none_asked text tables e f = subst (λ t. Asked (record { tables = tables; text 
 
 -- a key more was asked
 pub key_asked : (before after text der : List ℕ) (tables : Tables) (rows : ArmorRows) (k v : List ℕ) → Asked (record { tables = tables; text = before }) → after ≡ before ++ armor_line (codes "key") text der
-    → rows ≡ insert_entry text_cmp tables.armor.keys k v → k ≡ text → v ≡ der → is_der text ≡ false → is_some (at_name text tables.armor.keys) ≡ false → content_of key_label text ≡ Some der
+    → rows ≡ insert_entry text_cmp tables.armor.keys k v → k ≡ text → v ≡ der → is_der text ≡ false → is_some (at_name text tables.armor.keys) ≡ false → has_room before (length text) (length der) 0 ≡ true → content_of key_label text ≡ Some der
     → Asked (record { tables = record { provider = tables.provider; armor = record { keys = rows; certificates = tables.armor.certificates } }; text = after })
-key_asked before after text der tables rows k v asked e put is holds other new held =
+key_asked before after text der tables rows k v asked e put is holds other new room held =
     let same : rows ≡ insert_entry text_cmp tables.armor.keys text der = same_put tables.armor.keys rows text der k v put is holds in
     let seen : Seen = record { tables = tables; text = before } in
-    let noted : key_noted text der seen ≡ record { tables = keys_with text der tables; text = before ++ armor_line (codes "key") text der } = rw (other, new) refl in
+    let noted : key_noted text der seen ≡ record { tables = keys_with text der tables; text = before ++ armor_line (codes "key") text der } = rw (other, new, room) refl in
     subst (λ t. Asked (record { tables = record { provider = tables.provider; armor = record { keys = rows; certificates = tables.armor.certificates } }; text = t })) (sym e)
     (subst (λ held. Asked (record { tables = record { provider = tables.provider; armor = record { keys = held; certificates = tables.armor.certificates } }; text = before ++ armor_line (codes "key") text der })) (sym same)
     (subst Asked noted (one_key seen text der asked held)))
 
 -- a certificate more was asked
 pub certificate_asked : (before after text der : List ℕ) (tables : Tables) (rows : ArmorRows) (k v : List ℕ) → Asked (record { tables = tables; text = before }) → after ≡ before ++ armor_line (codes "certificate") text der
-    → rows ≡ insert_entry text_cmp tables.armor.certificates k v → k ≡ text → v ≡ der → is_der text ≡ false → is_some (at_name text tables.armor.certificates) ≡ false → content_of certificate_label text ≡ Some der
+    → rows ≡ insert_entry text_cmp tables.armor.certificates k v → k ≡ text → v ≡ der → is_der text ≡ false → is_some (at_name text tables.armor.certificates) ≡ false → has_room before (length text) (length der) 0 ≡ true → content_of certificate_label text ≡ Some der
     → Asked (record { tables = record { provider = tables.provider; armor = record { keys = tables.armor.keys; certificates = rows } }; text = after })
-certificate_asked before after text der tables rows k v asked e put is holds other new held =
+certificate_asked before after text der tables rows k v asked e put is holds other new room held =
     let same : rows ≡ insert_entry text_cmp tables.armor.certificates text der = same_put tables.armor.certificates rows text der k v put is holds in
     let seen : Seen = record { tables = tables; text = before } in
-    let noted : certificate_noted text der seen ≡ record { tables = certificates_with text der tables; text = before ++ armor_line (codes "certificate") text der } = rw (other, new) refl in
+    let noted : certificate_noted text der seen ≡ record { tables = certificates_with text der tables; text = before ++ armor_line (codes "certificate") text der } = rw (other, new, room) refl in
     subst (λ t. Asked (record { tables = record { provider = tables.provider; armor = record { keys = tables.armor.keys; certificates = rows } }; text = t })) (sym e)
     (subst (λ held. Asked (record { tables = record { provider = tables.provider; armor = record { keys = tables.armor.keys; certificates = held } }; text = before ++ armor_line (codes "certificate") text der })) (sym same)
     (subst Asked noted (one_certificate seen text der asked held)))
@@ -92,11 +92,12 @@ certificate_asked before after text der tables rows k v asked e put is holds oth
 -- a signature more was asked
 pub signature_asked : (before after : List ℕ) (s : SigningScheme) (key subject signature : List ℕ) (tables : Tables) (provider : TableProvider) (row : AcceptRow) → Asked (record { tables = tables; text = before })
     → after ≡ before ++ accept_line s key subject signature → provider.rows ≡ with_accept_row tables.provider.rows row → row ≡ row_of s key subject signature
-    → is_subject s subject ≡ true → accepts_of tables.provider.rows s key subject signature ≡ false → Asked (record { tables = record { provider = provider; armor = tables.armor }; text = after })
-signature_asked before after s key subject signature tables provider row asked e put is fits new =
+    → is_subject s subject ≡ true → accepts_of tables.provider.rows s key subject signature ≡ false
+    → has_room before (length key) (length subject) (length signature) ≡ true → Asked (record { tables = record { provider = provider; armor = tables.armor }; text = after })
+signature_asked before after s key subject signature tables provider row asked e put is fits new room =
     let same : provider.rows ≡ with_accept_row tables.provider.rows (row_of s key subject signature) = put ∙ ap (with_accept_row tables.provider.rows) is in
     let seen : Seen = record { tables = tables; text = before } in
-    let noted : signature_noted s key subject signature seen ≡ record { tables = rows_with (row_of s key subject signature) tables; text = before ++ accept_line s key subject signature } = rw (fits, new) refl in
+    let noted : signature_noted s key subject signature seen ≡ record { tables = rows_with (row_of s key subject signature) tables; text = before ++ accept_line s key subject signature } = rw (fits, new, room) refl in
     subst (λ t. Asked (record { tables = record { provider = provider; armor = tables.armor }; text = t })) (sym e)
     (subst (λ rows. Asked (record { tables = record { provider = record { rows = rows }; armor = tables.armor }; text = before ++ accept_line s key subject signature })) (sym same)
     (subst Asked noted (one_signature seen s key subject signature asked)))

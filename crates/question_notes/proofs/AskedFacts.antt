@@ -1,5 +1,5 @@
 -- What holds of whatever may be noted.
-use Rattle.std.proofs.Common.{◌≡◌, ℕ, List, ◌++◌, Bool, true, false, cond, not, ◌||◌, is_some, codes, Some, refl, sym, ap, ◌∙◌}
+use Rattle.std.proofs.Common.{◌≡◌, ℕ, List, ◌++◌, length, Bool, true, false, cond, not, ◌||◌, is_some, codes, Some, refl, sym, ap, ◌∙◌}
 use Rattle.std.proofs.Math.Logic.{∥∥₁_elim}
 use Rattle.std.proofs.Props.{props}
 use Rattle.std.proofs.lemmas.Map.Lookups.{exact_bytes}
@@ -11,7 +11,7 @@ use Rattle.command_files.proofs.RowFacts.{equal_of, found}
 use Rattle.sigstore_pem.specs.Pem.{content_of, key_label, certificate_label}
 use Rattle.question_notes.specs.Lines.{armor_line, accept_line}
 use Rattle.question_notes.specs.Holds.{Hold, TextsHold, HasRowsAlone}
-use Rattle.question_notes.specs.Notes.{Seen, keys_with, certificates_with, row_of, rows_with, Asked, nothing, one_key, one_certificate, one_signature}
+use Rattle.question_notes.specs.Notes.{Seen, keys_with, certificates_with, row_of, rows_with, has_room, Asked, nothing, one_key, one_certificate, one_signature}
 use Rattle.question_notes.proofs.ReadFacts.{key_line_more, certificate_line_more, signature_line_more}
 
 either : (P : Seen → Type 0) (b : Bool) (x y : Seen) → P x → P y → P (cond b x y)
@@ -31,17 +31,17 @@ texts_hold : (seen : Seen) → Asked seen → TextsHold seen.tables
 texts_hold seen nothing = record { keys = λ text der h. cc h; certificates = λ text der h. cc h }
 texts_hold seen (one_key before text der asked held) =
     let all : TextsHold before.tables = texts_hold before asked in
-    either (λ s. TextsHold s.tables) (is_der text || is_some (at_name text before.tables.armor.keys)) before
+    either (λ s. TextsHold s.tables) (is_der text || is_some (at_name text before.tables.armor.keys) || not (has_room before.text (length text) (length der) 0)) before
     (record { tables = keys_with text der before.tables; text = before.text ++ armor_line (codes "key") text der }) all
     (record { keys = hold_more key_label text der before.tables.armor.keys held all.keys; certificates = all.certificates })
 texts_hold seen (one_certificate before text der asked held) =
     let all : TextsHold before.tables = texts_hold before asked in
-    either (λ s. TextsHold s.tables) (is_der text || is_some (at_name text before.tables.armor.certificates)) before
+    either (λ s. TextsHold s.tables) (is_der text || is_some (at_name text before.tables.armor.certificates) || not (has_room before.text (length text) (length der) 0)) before
     (record { tables = certificates_with text der before.tables; text = before.text ++ armor_line (codes "certificate") text der }) all
     (record { keys = all.keys; certificates = hold_more certificate_label text der before.tables.armor.certificates held all.certificates })
 texts_hold seen (one_signature before scheme key subject signature asked) =
     let all : TextsHold before.tables = texts_hold before asked in
-    either (λ s. TextsHold s.tables) (not (is_subject scheme subject) || accepts_of before.tables.provider.rows scheme key subject signature) before
+    either (λ s. TextsHold s.tables) (not (is_subject scheme subject) || accepts_of before.tables.provider.rows scheme key subject signature || not (has_room before.text (length key) (length subject) (length signature))) before
     (record { tables = rows_with (row_of scheme key subject signature) before.tables; text = before.text ++ accept_line scheme key subject signature }) all
     (record { keys = all.keys; certificates = all.certificates })
 
@@ -50,15 +50,15 @@ rows_alone : (seen : Seen) → Asked seen → HasRowsAlone seen.text
 rows_alone seen nothing = refl
 rows_alone seen (one_key before text der asked held) =
     let all : HasRowsAlone before.text = rows_alone before asked in
-    either (λ s. HasRowsAlone s.text) (is_der text || is_some (at_name text before.tables.armor.keys)) before
+    either (λ s. HasRowsAlone s.text) (is_der text || is_some (at_name text before.tables.armor.keys) || not (has_room before.text (length text) (length der) 0)) before
     (record { tables = keys_with text der before.tables; text = before.text ++ armor_line (codes "key") text der }) all (key_line_more before.text text der all)
 rows_alone seen (one_certificate before text der asked held) =
     let all : HasRowsAlone before.text = rows_alone before asked in
-    either (λ s. HasRowsAlone s.text) (is_der text || is_some (at_name text before.tables.armor.certificates)) before
+    either (λ s. HasRowsAlone s.text) (is_der text || is_some (at_name text before.tables.armor.certificates) || not (has_room before.text (length text) (length der) 0)) before
     (record { tables = certificates_with text der before.tables; text = before.text ++ armor_line (codes "certificate") text der }) all (certificate_line_more before.text text der all)
 rows_alone seen (one_signature before scheme key subject signature asked) =
     let all : HasRowsAlone before.text = rows_alone before asked in
-    either (λ s. HasRowsAlone s.text) (not (is_subject scheme subject) || accepts_of before.tables.provider.rows scheme key subject signature) before
+    either (λ s. HasRowsAlone s.text) (not (is_subject scheme subject) || accepts_of before.tables.provider.rows scheme key subject signature || not (has_room before.text (length key) (length subject) (length signature))) before
     (record { tables = rows_with (row_of scheme key subject signature) before.tables; text = before.text ++ accept_line scheme key subject signature }) all
     (signature_line_more before.text scheme key subject signature all)
 

@@ -1,7 +1,7 @@
 // What one more question adds to what was noted.
-ghost use Rattle.std.specs.Prelude.{◌≡◌, [], Some, IfOk, string_bytes};
+ghost use Rattle.std.specs.Prelude.{◌≡◌, [], length, Some, IfOk, string_bytes};
 ghost use Rattle.command_files.specs.Tables.{no_rows};
-ghost use Rattle.question_notes.specs.Notes.{key_noted, certificate_noted, signature_noted};
+ghost use Rattle.question_notes.specs.Notes.{has_room, key_noted, certificate_noted, signature_noted};
 ghost use Rattle.question_notes.specs.Seen.{seen_of};
 ghost use Rattle.sigstore_pem.specs.Pem.{content_of, key_label, certificate_label};
 
@@ -12,6 +12,19 @@ use foundation::NoMemory;
 use sigstore_keys::SigningScheme;
 use sigstore_types_parts::Bytes;
 use std::alloc::Global;
+
+// The greatest length of a provider file in bytes.
+const LIMIT: usize = 16_777_216;
+
+// Whether a text has room for a line of these three fields.
+fn has_room(text: &str, a: &[u8], b: &[u8], c: &[u8]) -> bool
+    ensures { result ≡ has_room text.now (length a.now) (length b.now) (length c.now) }
+{
+    if text.len() > LIMIT || a.len() > LIMIT || b.len() > LIMIT || c.len() > LIMIT {
+        return false;
+    }
+    text.len() + (2 * (a.len() + b.len() + c.len()) + 64) <= LIMIT
+}
 
 impl Noted {
     /// Nothing was noted; takes no memory.
@@ -25,12 +38,15 @@ impl Noted {
         }
     }
 
-    /// Notes that an armoured text holds a key, where the text isn't noted yet and can be a row's.
+    /// Notes that an armoured text holds a key, where the text isn't noted yet, can be a row's and has room.
     pub fn with_key(self, alloc: Global, text: &[u8], der: &[u8]) -> Result<Noted, NoMemory>
         requires { content_of key_label text.now ≡ Some der.now }
         ensures { IfOk result (λ noted. seen_of noted ≡ key_noted text.now der.now (seen_of self)) }
     {
-        if is_der(text) || self.tables.armor.keys.get(text).is_some() {
+        if is_der(text)
+            || self.tables.armor.keys.get(text).is_some()
+            || !has_room(self.text.as_str(), text, der, &[])
+        {
             return Ok(self);
         }
         let Noted {
@@ -48,12 +64,15 @@ impl Noted {
         })
     }
 
-    /// Notes that an armoured text holds a certificate, where the text isn't noted yet and can be a row's.
+    /// Notes that an armoured text holds a certificate, where the text isn't noted yet, can be a row's and has room.
     pub fn with_certificate(self, alloc: Global, text: &[u8], der: &[u8]) -> Result<Noted, NoMemory>
         requires { content_of certificate_label text.now ≡ Some der.now }
         ensures { IfOk result (λ noted. seen_of noted ≡ certificate_noted text.now der.now (seen_of self)) }
     {
-        if is_der(text) || self.tables.armor.certificates.get(text).is_some() {
+        if is_der(text)
+            || self.tables.armor.certificates.get(text).is_some()
+            || !has_room(self.text.as_str(), text, der, &[])
+        {
             return Ok(self);
         }
         let Noted {
@@ -71,8 +90,8 @@ impl Noted {
         })
     }
 
-    /// Notes the question whether a signature is good, where it isn't noted yet and its subject is one
-    /// that the scheme can have.
+    /// Notes the question whether a signature is good, where it isn't noted yet, its subject is one
+    /// that the scheme can have, and its line has room.
     pub fn with_signature(
         self,
         alloc: Global,
@@ -89,6 +108,7 @@ impl Noted {
                 .tables
                 .provider
                 .accepts(scheme, key, subject, signature)
+            || !has_room(self.text.as_str(), key, subject, signature)
         {
             return Ok(self);
         }

@@ -10,12 +10,12 @@ use std::alloc::Global;
 /// Reads and writes texts as `PemArmor` does, and notes each text that holds a key or a certificate.
 #[derive(Drop)]
 pub struct NotingArmor<'a> {
-    notes: &'a Notes,
+    notes: &'a Notes<'a>,
 }
 
 impl<'a> NotingArmor<'a> {
     /// An armour that notes here.
-    pub fn new(notes: &'a Notes) -> NotingArmor<'a> {
+    pub fn new(notes: &'a Notes<'a>) -> NotingArmor<'a> {
         NotingArmor { notes }
     }
 }

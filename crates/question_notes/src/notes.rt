@@ -1,31 +1,47 @@
 // Where questions are noted behind a shared reference.
-ghost use Rattle.std.specs.Prelude.{◌≡◌, Some};
+ghost use Rattle.std.specs.Prelude.{◌≡◌, Some, false};
+ghost use Rattle.command_files.specs.Rows.{accepts_of};
 ghost use Rattle.sigstore_pem.specs.Pem.{content_of, key_label, certificate_label};
 
 use crate::noted::Noted;
+use command_files::TableProvider;
 use foundation::NoMemory;
 use sigstore_keys::SigningScheme;
 use std::alloc::Global;
 use std::cell::RefCell;
 
-// The greatest length of a provider file in bytes.
-const LIMIT: usize = 16_777_216;
-
-/// The questions that were asked so far, as many as a provider file may be long; none at all once memory
-/// was wanting at one. No contract sees what is noted here, but for what holds of every `Noted`.
+/// The questions that were asked so far, but those that a table answers, as many as a provider file may be long; none
+/// at all once memory was wanting at one. No contract sees what is noted here, but for what holds of every `Noted`.
 #[derive(Drop)]
-pub struct Notes {
+pub struct Notes<'a> {
     alloc: Global,
+    refused: &'a TableProvider,
     held: RefCell<Option<Noted>>,
 }
 
-impl Notes {
-    /// No questions.
-    pub fn new(alloc: Global) -> Notes {
+impl<'a> Notes<'a> {
+    /// No questions; those of this table, whose signatures are refused, won't be noted.
+    pub fn new(alloc: Global, refused: &'a TableProvider) -> Notes<'a>
+        ensures { result.refused.now ≡ refused.now }
+    {
         Notes {
             alloc,
+            refused,
             held: RefCell::new(Some(Noted::new(alloc))),
         }
+    }
+
+    /// Whether the table has the question, so that its answer is known.
+    pub fn refuses(
+        &self,
+        scheme: SigningScheme,
+        key: &[u8],
+        subject: &[u8],
+        signature: &[u8],
+    ) -> bool
+        ensures { result ≡ accepts_of self.now.refused.now.rows scheme key.now subject.now signature.now }
+    {
+        self.refused.accepts(scheme, key, subject, signature)
     }
 
     fn take(&self) -> Option<Noted> {
@@ -33,18 +49,6 @@ impl Notes {
             Ok(held) => held,
             Err(_) => None,
         }
-    }
-
-    // What was noted, where a line of fields with so many octets would make no provider file too long. A
-    // stranger's document may have thousands of signatures, each of which asks for all of it once more.
-    fn take_for(&self, octets: usize) -> Option<Noted> {
-        let noted = self.take()?;
-        let line = octets.saturating_mul(2).saturating_add(64);
-        if noted.text.len().saturating_add(line) > LIMIT {
-            self.put(Ok(noted));
-            return None;
-        }
-        Some(noted)
     }
 
     fn put(&self, noted: Result<Noted, NoMemory>) {
@@ -57,7 +61,7 @@ impl Notes {
     pub fn note_key(&self, text: &[u8], der: &[u8])
         requires { content_of key_label text.now ≡ Some der.now }
     {
-        if let Some(noted) = self.take_for(text.len().saturating_add(der.len())) {
+        if let Some(noted) = self.take() {
             self.put(noted.with_key(self.alloc, text, der));
         }
     }
@@ -66,24 +70,22 @@ impl Notes {
     pub fn note_certificate(&self, text: &[u8], der: &[u8])
         requires { content_of certificate_label text.now ≡ Some der.now }
     {
-        if let Some(noted) = self.take_for(text.len().saturating_add(der.len())) {
+        if let Some(noted) = self.take() {
             self.put(noted.with_certificate(self.alloc, text, der));
         }
     }
 
-    /// Notes the question whether a signature is good.
+    /// Notes the question whether a signature is good, which the table doesn't answer.
     pub fn note_signature(
         &self,
         scheme: SigningScheme,
         key: &[u8],
         subject: &[u8],
         signature: &[u8],
-    ) {
-        let octets = key
-            .len()
-            .saturating_add(subject.len())
-            .saturating_add(signature.len());
-        if let Some(noted) = self.take_for(octets) {
+    )
+        requires { accepts_of self.now.refused.now.rows scheme key.now subject.now signature.now ≡ false }
+    {
+        if let Some(noted) = self.take() {
             self.put(noted.with_signature(self.alloc, scheme, key, subject, signature));
         }
     }

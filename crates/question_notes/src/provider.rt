@@ -3,7 +3,6 @@ ghost use Rattle.std.specs.Prelude.{◌≡◌, not};
 ghost use Rattle.command_files.specs.Rows.{accepts_of};
 
 use crate::notes::Notes;
-use command_files::TableProvider;
 use sigstore_keys::{CryptoProvider, SigningScheme, sha256, sha384, sha512};
 use sigstore_types_parts::HashAlgorithm;
 
@@ -11,22 +10,21 @@ use sigstore_types_parts::HashAlgorithm;
 /// question: what is judged by it is no verdict.
 #[derive(Drop)]
 pub struct NotingProvider<'a> {
-    notes: &'a Notes,
-    refused: &'a TableProvider,
+    notes: &'a Notes<'a>,
 }
 
 impl<'a> NotingProvider<'a> {
-    /// A provider that notes here, and refuses the rows of this table.
-    pub fn new(notes: &'a Notes, refused: &'a TableProvider) -> NotingProvider<'a>
-        ensures { result.refused.now ≡ refused.now }
+    /// A provider that notes here, and refuses the rows of the table that these notes leave out.
+    pub fn new(notes: &'a Notes<'a>) -> NotingProvider<'a>
+        ensures { result.notes.now ≡ notes.now }
     {
-        NotingProvider { notes, refused }
+        NotingProvider { notes }
     }
 
     fn answer(&self, scheme: SigningScheme, key: &[u8], subject: &[u8], signature: &[u8]) -> bool
-        ensures { result ≡ not (accepts_of self.now.refused.now.rows scheme key.now subject.now signature.now) }
+        ensures { result ≡ not (accepts_of self.now.notes.now.refused.now.rows scheme key.now subject.now signature.now) }
     {
-        if self.refused.accepts(scheme, key, subject, signature) {
+        if self.notes.refuses(scheme, key, subject, signature) {
             return false;
         }
         self.notes.note_signature(scheme, key, subject, signature);
@@ -35,7 +33,7 @@ impl<'a> NotingProvider<'a> {
 }
 
 impl CryptoProvider for NotingProvider<'_> {
-    ghost accepts = { λ p scheme key subject signature. not (accepts_of p.refused.now.rows scheme key subject signature) };
+    ghost accepts = { λ p scheme key subject signature. not (accepts_of p.notes.now.refused.now.rows scheme key subject signature) };
 
     fn verify_raw(
         &self,

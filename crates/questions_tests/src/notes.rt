@@ -33,7 +33,7 @@ fn ask<X: Abort>(rt: &X, provider: &NotingProvider<'_>, call: &str, text: &str) 
 }
 
 // Reads a text, in which `;` stands for the end of a line.
-fn read<X: AllocGlobal + Abort>(rt: &X, notes: &Notes, call: &str, text: &str) {
+fn read<X: AllocGlobal + Abort>(rt: &X, notes: &Notes<'_>, call: &str, text: &str) {
     let text = good(rt, text.replace(rt.alloc(), ';', "\n"));
     let armor = NotingArmor::new(notes);
     let answer = if call == "key" {
@@ -45,35 +45,29 @@ fn read<X: AllocGlobal + Abort>(rt: &X, notes: &Notes, call: &str, text: &str) {
     drop(text);
 }
 
-// Makes the calls over a table of refused signatures; a signature that isn't accepted is told by `no;`.
-fn make<X: AllocGlobal + Abort>(rt: &X, notes: &Notes, refused: &str, calls: &str) -> String {
-    let tables = good(rt, read_provider(rt.alloc(), refused.as_bytes()));
+// Makes the calls; a signature that isn't accepted is told by `no;`.
+fn make<X: AllocGlobal + Abort>(rt: &X, notes: &Notes<'_>, calls: &str) -> String {
     let mut told = String::new(rt.alloc());
     for call in calls.split(", ") {
         let (call, text) = halves(rt, call, " ");
         match call {
             "key" | "certificate" => read(rt, notes, call, text),
             _ => {
-                if !ask(
-                    rt,
-                    &NotingProvider::new(notes, &tables.provider),
-                    call,
-                    text,
-                ) {
+                if !ask(rt, &NotingProvider::new(&*notes), call, text) {
                     good(rt, told.push_str("no;"));
                 }
             }
         }
     }
-    drop(tables);
     told
 }
 
-// The text of what is noted of these calls, with `;` in the place of each line feed; `nothing` where there
-// is none.
+// The text of what is noted of these calls over a table of refused signatures, with `;` in the place of each
+// line feed; `nothing` where there is none.
 fn noted<X: AllocGlobal + Abort>(rt: &X, refused: &str, calls: &str) -> String {
-    let notes = Notes::new(rt.alloc());
-    let mut told = make(rt, &notes, refused, calls);
+    let tables = good(rt, read_provider(rt.alloc(), refused.as_bytes()));
+    let notes = Notes::new(rt.alloc(), &tables.provider);
+    let mut told = make(rt, &notes, calls);
     let noted = there(rt, notes.into_noted());
     if noted.text.is_empty() {
         good(rt, told.push_str("nothing"));
@@ -82,6 +76,7 @@ fn noted<X: AllocGlobal + Abort>(rt: &X, refused: &str, calls: &str) -> String {
         good(rt, told.push_str(text.as_str()));
     }
     drop(noted);
+    drop(tables);
     told
 }
 

@@ -1,6 +1,9 @@
-use Rattle.command_questions.proofs.GateMeaning.{gated_believing}
+use Rattle.std.proofs.Common.{ap}
+use Rattle.question_notes.specs.declared.notes.Notes.{Notes}
+use Rattle.command_questions.proofs.SufficingForFolder.{gated_noting}
 use Rattle.command_questions.proofs.gate.gate_noting.Goals as goal
 
 pub returns : goal.returns
 returns g c =
-    gated_believing c.args.governed c.args.now _ _ _ _ c.new-provider.result.refused.now c.as_bytes.ensures c.new-provider.ensures c.gate_folder-judged.ensures.promises
+    gated_noting c.args.root.now c.args.policy c.args.now _ _ _ c.new.result.notes.now.refused.now c.args.notes.now.refused.now
+    (ap (λ (n : Notes). n.refused.now) c.new.ensures) c.gate_folder.ensures.promises

@@ -1,0 +1,214 @@
+// Whether the rows that were noted suffice: what the run came to is judged once more by them alone. No contract sees what
+// a shared cell holds, so that this, and no count of questions, says that none is lacking.
+ghost use Rattle.std.specs.Prelude.{◌≡◌, Ok, OnOk, IfOk};
+ghost use Rattle.sigstore_judgement.specs.Grounds.{terms_by};
+ghost use Rattle.sigstore_types.specs.TrustedRoot.{trusted_root_of_bytes};
+ghost use Rattle.command_files.specs.Tables.{crypto_of};
+ghost use Rattle.command_verify.specs.Meant.{meaning_asked};
+ghost use Rattle.command_verify.specs.Run.{anchor_of};
+ghost use Rattle.command_questions.specs.Suffice.{inputs_of, IsTrustedAlone, IsAcceptedOver, IsAcceptedAlone, Suffice, SufficeForFolder};
+
+use crate::request::Request;
+use command_files::Tables;
+use foundation::NoMemory;
+use jiff::Timestamp;
+use question_notes::{Noted, Notes};
+use release_gate::{GateFault, Gated};
+use sigstore_judgement::prepare_reader;
+use sigstore_keys::CryptoProvider;
+use sigstore_tuf::{TrustChain, UpdaterConfig};
+use sigstore_types::{Bundle, TrustedRoot};
+use sigstore_types_parts::{Armor, ArtifactDigest};
+use sigstore_verify::{Acceptance, RootFault, Verifier};
+use std::alloc::Global;
+use trust_archive::{read_archive, write_archive};
+
+// The target that is the trust file.
+const TRUST_PATH: &str = "trusted_root.json";
+
+// A chain of documents, which is trusted by these rows alone; else a row is lacking, for which there was no memory or no
+// room.
+fn check_chain(
+    alloc: Global,
+    tables: &Tables,
+    root: &[u8],
+    now: Timestamp,
+    chain: &TrustChain,
+) -> Result<(), NoMemory>
+    ensures { OnOk result (IsTrustedAlone (anchor_of (record { tables = tables.now; root = root.now }) now) chain.now) }
+{
+    let Ok(archive) = write_archive(alloc, chain) else {
+        return Err(NoMemory);
+    };
+    let config = UpdaterConfig::default();
+    match read_archive(
+        alloc,
+        &tables.provider,
+        &tables.armor,
+        root,
+        TRUST_PATH,
+        config.max_delegations,
+        now,
+        archive.as_bytes(),
+    ) {
+        Ok(again) => {
+            drop(again);
+            Ok(())
+        }
+        Err(_) => Err(NoMemory),
+    }
+}
+
+// A bundle, which is accepted over these digests of its artifact.
+fn check_digests<C: CryptoProvider, M: Armor>(
+    alloc: Global,
+    verifier: &Verifier<'_, C, M>,
+    request: &Request<'_>,
+    bundle: &Bundle,
+    digests: &[ArtifactDigest],
+) -> Result<(), NoMemory>
+    ensures { OnOk result (IsAcceptedOver (terms_by C.CryptoProvider M.Armor verifier.now (meaning_asked request.now.policy.now) request.now.moment) bundle.now digests.now) }
+{
+    let Ok(ready) = prepare_reader(alloc, bundle, request.policy) else {
+        return Err(NoMemory);
+    };
+    match verifier.judge_digests(alloc, ready, digests, request.moment) {
+        Ok(report) => {
+            drop(report);
+            Ok(())
+        }
+        Err(_) => Err(NoMemory),
+    }
+}
+
+// An acceptance, whose bundle is accepted by these rows alone.
+fn check_bundle(
+    alloc: Global,
+    tables: &Tables,
+    request: &Request<'_>,
+    accepted: &Acceptance,
+    trust: &TrustedRoot,
+) -> Result<(), NoMemory>
+    requires { trusted_root_of_bytes accepted.now.chain.file ≡ Ok trust.now }
+    ensures { OnOk result (IsAcceptedAlone (inputs_of (crypto_of tables.now) request.now) accepted.now) }
+{
+    let Ok(bundle) = Bundle::from_json(alloc, request.bundle) else {
+        return Err(NoMemory);
+    };
+    let checked = match Verifier::new(alloc, &tables.provider, &tables.armor, trust) {
+        Ok(verifier) => {
+            check_digests(
+                alloc,
+                &verifier,
+                request,
+                &bundle,
+                accepted.digests.as_slice(),
+            )
+        }
+        Err(_) => Err(NoMemory),
+    };
+    drop(bundle);
+    checked
+}
+
+// An acceptance, whose chain is trusted and whose bundle is accepted by these rows alone.
+fn check_accepted(
+    alloc: Global,
+    tables: &Tables,
+    request: &Request<'_>,
+    accepted: &Acceptance,
+) -> Result<(), NoMemory>
+    ensures { OnOk result (Suffice (inputs_of (crypto_of tables.now) request.now) (Ok accepted.now)) }
+{
+    check_chain(alloc, tables, request.root, request.moment, &accepted.chain)?;
+    let Ok(trust) = TrustedRoot::from_json(alloc, accepted.chain.file.as_bytes()) else {
+        return Err(NoMemory);
+    };
+    let checked = check_bundle(alloc, tables, request, accepted, &trust);
+    drop(trust);
+    checked
+}
+
+// What a verification came to, for which these rows suffice.
+fn check_judged(
+    alloc: Global,
+    tables: &Tables,
+    request: &Request<'_>,
+    judged: &Result<Acceptance, RootFault>,
+) -> Result<(), NoMemory>
+    ensures { OnOk result (Suffice (inputs_of (crypto_of tables.now) request.now) judged.now) }
+{
+    match judged {
+        Ok(accepted) => check_accepted(alloc, tables, request, accepted),
+        Err(RootFault::Verify { chain, .. }) => {
+            check_chain(alloc, tables, request.root, request.moment, chain)
+        }
+        Err(RootFault::Tuf(_)) => Ok(()),
+        Err(RootFault::NoMemory) => Err(NoMemory),
+    }
+}
+
+// What the judgement of a folder came to, for which these rows suffice.
+fn check_gated(
+    alloc: Global,
+    tables: &Tables,
+    root: &[u8],
+    now: Timestamp,
+    judged: &Result<Gated, GateFault>,
+) -> Result<(), NoMemory>
+    ensures { OnOk result (SufficeForFolder (anchor_of (record { tables = tables.now; root = root.now }) now) judged.now) }
+{
+    match judged {
+        Ok(gated) => check_chain(alloc, tables, root, now, &gated.chain),
+        Err(GateFault::Trust { chain, .. }) => check_chain(alloc, tables, root, now, chain),
+        Err(GateFault::Tuf(_)) => Ok(()),
+        Err(GateFault::FolderFailed) => Ok(()),
+        Err(GateFault::DoubledName { .. }) => Ok(()),
+        Err(GateFault::TooManyNames { .. }) => Ok(()),
+        Err(GateFault::Vanished { .. }) => Ok(()),
+        Err(GateFault::NoMemory) => Err(NoMemory),
+    }
+}
+
+// What was noted, which suffices for what a verification came to; `NoMemory` where it doesn't.
+pub(crate) fn sufficient(
+    alloc: Global,
+    notes: Notes<'_>,
+    request: &Request<'_>,
+    judged: &Result<Acceptance, RootFault>,
+) -> Result<Noted, NoMemory>
+    ensures { IfOk result (λ noted. Suffice (inputs_of (crypto_of noted.tables) request.now) judged.now) }
+{
+    let Some(noted) = notes.into_noted() else {
+        return Err(NoMemory);
+    };
+    match check_judged(alloc, &noted.tables, request, judged) {
+        Ok(()) => Ok(noted),
+        Err(e) => {
+            drop(noted);
+            Err(e)
+        }
+    }
+}
+
+// The same of the judgement of a folder.
+pub(crate) fn sufficient_for_folder(
+    alloc: Global,
+    notes: Notes<'_>,
+    root: &[u8],
+    now: Timestamp,
+    judged: &Result<Gated, GateFault>,
+) -> Result<Noted, NoMemory>
+    ensures { IfOk result (λ noted. SufficeForFolder (anchor_of (record { tables = noted.tables; root = root.now }) now) judged.now) }
+{
+    let Some(noted) = notes.into_noted() else {
+        return Err(NoMemory);
+    };
+    match check_gated(alloc, &noted.tables, root, now, judged) {
+        Ok(()) => Ok(noted),
+        Err(e) => {
+            drop(noted);
+            Err(e)
+        }
+    }
+}
