@@ -1,11 +1,12 @@
 -- The policy file: the first line says who signs, each line after it asks for something or passes something over.
-use Rattle.std.specs.Prelude.{ℕ, List, [], ◌∷◌, ◌++◌, bytes_eq, codes, Bool, true, false, nat_eq, nat_le, ◌&&◌, not, if◌then◌else◌, Option, Some, None, option_map, Result, Ok, Err, ok_or}
+use Rattle.std.specs.Prelude.{ℕ, List, [], ◌∷◌, ◌++◌, bytes_eq, codes, Bool, false, nat_eq, nat_le, ◌&&◌, not, if◌then◌else◌, Option, Some, None, option_map, Result, Ok, Err, ok_or}
 use Rattle.std.specs.List.{list_any}
 use Rattle.foundation.specs.Steps.{◌>>=◌}
 use Rattle.sigstore_entries.specs.Checkpoint.{shortest_of}
 use Rattle.sigstore_keys.specs.declared.log_ids.LogThreshold.{LogThreshold}
-use Rattle.sigstore_policy.specs.Certificate.{without_sct}
-use Rattle.sigstore_policy.specs.declared.certificate.CertificatePolicy.TheVariants.{Skip, Verify}
+use Rattle.sigstore_policy.specs.Certificate.{without_sct, bare}
+use Rattle.sigstore_policy.specs.PublicKey.{keyed}
+use Rattle.sigstore_policy.specs.declared.certificate.CertificatePolicy.TheVariants.{Skip}
 use Rattle.sigstore_policy.specs.declared.certificate.IdentityMatcher.{IdentityMatcher}
 use Rattle.sigstore_policy.specs.declared.certificate.IdentityMatcher.TheVariants.{Exact, Email, Uri, EmailLike, UriLike}
 use Rattle.sigstore_policy.specs.declared.certificate.VerificationPolicy.{VerificationPolicy}
@@ -112,28 +113,13 @@ applied (PublicKey policy) line = keyed_by policy line >>= λ next. Ok (PublicKe
 
 -- ---- the file
 
--- what is asked by the word `keyless` alone: all is verified, over whatever names
-abbrev pub bare : VerificationPolicy
-bare = record {
-  identity = None;
-  issuer = None;
-  verify_tlog = true;
-  certificate = Verify true;
-  scts = record { value = 1 };
-  logs = record { value = 1 };
-}
-
--- what is asked by a key alone
-abbrev pub keyed : List ℕ → PublicKeyVerificationPolicy
-keyed key = record { key = key; verify_tlog = true; logs = record { value = 1 } }
-
 -- the line of a key: the word `key`, a blank and the base64 of the key
 abbrev pub key_line_of : List ℕ → Result PublicKeyVerificationPolicy UsageFault
 key_line_of line = do
   parts ← ok_or (cut_of 32 line) Usage
   if bytes_eq parts.0 (codes "key") then (spelled_of parts.1 >>= λ key. Ok (keyed key)) else Err Usage
 
--- the first line: `keyless`, or the line of a key
+-- the first line: `keyless`, by which all is verified but names, or the line of a key
 abbrev pub first_line_of : List ℕ → Result SigningPolicy UsageFault
 first_line_of line =
     if bytes_eq line (codes "keyless") then Ok (Certificate bare)

@@ -1,7 +1,7 @@
 // The policy file.
 ghost use Rattle.std.specs.Prelude.{◌≡◌, ◌≢◌, Ok, Err, IfOk, IfErr, OnOk, Some};
 ghost use Rattle.command_files.specs.Policy.{name_of, is_among, once, threshold_in, threshold_of, rest_of, identity_as, identity_of, row_of, line_of};
-ghost use Rattle.command_files.specs.Policy.{bare, key_line_of, first_line_of, asked_by, keyed_by, applied, begun_of, later_line_of, policy_line_of, policy_of};
+ghost use Rattle.command_files.specs.Policy.{key_line_of, first_line_of, asked_by, keyed_by, applied, begun_of, later_line_of, policy_line_of, policy_of};
 
 use crate::fields::spelled;
 use crate::lines::{ByLine, cut, take_file};
@@ -209,13 +209,6 @@ fn apply(policy: &mut SigningPolicy, line: PolicyLine) -> Result<(), UsageFault>
 
 // ---- the file
 
-// What is asked by the word `keyless` alone.
-fn bare() -> VerificationPolicy
-    ensures { result ≡ bare }
-{
-    VerificationPolicy::any_identity()
-}
-
 fn key_line(alloc: Global, line: &str) -> Result<PublicKeyVerificationPolicy, UsageFault>
     ensures ok { IfOk result (λ p. key_line_of line.now ≡ Ok p) }
     ensures err { IfErr result (λ e. e ≢ UsageFault.NoMemory → key_line_of line.now ≡ Err e) }
@@ -234,7 +227,7 @@ fn first_line(alloc: Global, line: &str) -> Result<SigningPolicy, UsageFault>
     ensures err { IfErr result (λ e. e ≢ UsageFault.NoMemory → first_line_of line.now ≡ Err e) }
 {
     if line == "keyless" {
-        return Ok(SigningPolicy::Certificate(bare()));
+        return Ok(SigningPolicy::Certificate(VerificationPolicy::any_identity()));
     }
     match key_line(alloc, line) {
         Ok(policy) => Ok(SigningPolicy::PublicKey(policy)),

@@ -2,3 +2,4 @@ pub mod Certificate
 pub mod Pattern
 pub mod Piece
 pub mod Policy
+pub mod PublicKey

@@ -1,9 +1,9 @@
 // What is asked of a signing certificate.
-ghost use Rattle.std.specs.Prelude.{◌≡◌, max, true, false, None, Some, IfOk, option_copied};
+ghost use Rattle.std.specs.Prelude.{◌≡◌, max, false, Some, IfOk, option_copied};
 ghost use Rattle.std.specs.Int.NonZero.{non_zero_u8_get};
-ghost use Rattle.sigstore_policy.specs.declared.certificate.CertificatePolicy.TheVariants.{Skip, Verify};
+ghost use Rattle.sigstore_policy.specs.declared.certificate.CertificatePolicy.TheVariants.{Skip};
 ghost use Rattle.sigstore_policy.specs.declared.certificate.IdentityMatcher.TheVariants.{Exact};
-ghost use Rattle.sigstore_policy.specs.Certificate.{matcher_of, matches, shown, verifies_chain, verifies_sct, without_sct};
+ghost use Rattle.sigstore_policy.specs.Certificate.{matcher_of, matches, shown, verifies_chain, verifies_sct, without_sct, bare};
 
 use crate::pattern::matches_like;
 use certificate_claims::SubjectAltName;
@@ -174,31 +174,16 @@ impl Duplicate for VerificationPolicy {
 impl VerificationPolicy {
     /// A policy that asks for an identity and its issuer, and verifies all.
     pub fn new(identity: IdentityMatcher, issuer: Text) -> VerificationPolicy
-        ensures identity { result.identity ≡ Some identity }
-        ensures issuer { result.issuer ≡ Some issuer }
-        ensures log { result.verify_tlog ≡ true }
-        ensures certificate { result.certificate ≡ Verify true }
-        ensures scts { result.scts.value ≡ 1 }
-        ensures logs { result.logs.value ≡ 1 }
+        ensures { result ≡ record bare { identity = Some identity; issuer = Some issuer } }
     {
-        VerificationPolicy {
-            identity: Some(identity),
-            issuer: Some(issuer),
-            verify_tlog: true,
-            certificate: CertificatePolicy::Verify { verify_sct: true },
-            scts: LogThreshold::one(),
-            logs: LogThreshold::one(),
-        }
+        VerificationPolicy::any_identity()
+            .require_identity(identity)
+            .require_issuer(issuer)
     }
 
     /// A policy that asks for no name, and verifies all else.
     pub fn any_identity() -> VerificationPolicy
-        ensures identity { result.identity ≡ None }
-        ensures issuer { result.issuer ≡ None }
-        ensures log { result.verify_tlog ≡ true }
-        ensures certificate { result.certificate ≡ Verify true }
-        ensures scts { result.scts.value ≡ 1 }
-        ensures logs { result.logs.value ≡ 1 }
+        ensures { result ≡ bare }
     {
         VerificationPolicy {
             identity: None,
@@ -212,136 +197,73 @@ impl VerificationPolicy {
 
     /// The same policy with an identity that is asked for.
     pub fn require_identity(self, identity: IdentityMatcher) -> VerificationPolicy
-        ensures identity { result.identity ≡ Some identity }
-        ensures issuer { result.issuer ≡ self.issuer }
-        ensures log { result.verify_tlog ≡ self.verify_tlog }
-        ensures certificate { result.certificate ≡ self.certificate }
-        ensures scts { result.scts ≡ self.scts }
-        ensures logs { result.logs ≡ self.logs }
+        ensures { result ≡ record self { identity = Some identity } }
     {
         VerificationPolicy {
             identity: Some(identity),
-            issuer: self.issuer,
-            verify_tlog: self.verify_tlog,
-            certificate: self.certificate,
-            scts: self.scts,
-            logs: self.logs,
+            ..self
         }
     }
 
     /// The same policy with an issuer that is asked for.
     pub fn require_issuer(self, issuer: Text) -> VerificationPolicy
-        ensures identity { result.identity ≡ self.identity }
-        ensures issuer { result.issuer ≡ Some issuer }
-        ensures log { result.verify_tlog ≡ self.verify_tlog }
-        ensures certificate { result.certificate ≡ self.certificate }
-        ensures scts { result.scts ≡ self.scts }
-        ensures logs { result.logs ≡ self.logs }
+        ensures { result ≡ record self { issuer = Some issuer } }
     {
         VerificationPolicy {
-            identity: self.identity,
             issuer: Some(issuer),
-            verify_tlog: self.verify_tlog,
-            certificate: self.certificate,
-            scts: self.scts,
-            logs: self.logs,
+            ..self
         }
     }
 
     /// The same policy without the transparency log, so that a signature may never have been logged.
     pub fn skip_tlog_unsafe(self) -> VerificationPolicy
-        ensures identity { result.identity ≡ self.identity }
-        ensures issuer { result.issuer ≡ self.issuer }
-        ensures log { result.verify_tlog ≡ false }
-        ensures certificate { result.certificate ≡ self.certificate }
-        ensures scts { result.scts ≡ self.scts }
-        ensures logs { result.logs ≡ self.logs }
+        ensures { result ≡ record self { verify_tlog = false } }
     {
         VerificationPolicy {
-            identity: self.identity,
-            issuer: self.issuer,
             verify_tlog: false,
-            certificate: self.certificate,
-            scts: self.scts,
-            logs: self.logs,
+            ..self
         }
     }
 
     /// The same policy without the certificate's path, window and timestamp; the names are still asked for.
     pub fn skip_certificate_chain(self) -> VerificationPolicy
-        ensures identity { result.identity ≡ self.identity }
-        ensures issuer { result.issuer ≡ self.issuer }
-        ensures log { result.verify_tlog ≡ self.verify_tlog }
-        ensures certificate { result.certificate ≡ Skip }
-        ensures scts { result.scts ≡ self.scts }
-        ensures logs { result.logs ≡ self.logs }
+        ensures { result ≡ record self { certificate = Skip } }
     {
         VerificationPolicy {
-            identity: self.identity,
-            issuer: self.issuer,
-            verify_tlog: self.verify_tlog,
             certificate: CertificatePolicy::Skip,
-            scts: self.scts,
-            logs: self.logs,
+            ..self
         }
     }
 
     /// The same policy without the timestamp of a log of certificates; one that verifies no path stays so.
     pub fn skip_sct(self) -> VerificationPolicy
-        ensures identity { result.identity ≡ self.identity }
-        ensures issuer { result.issuer ≡ self.issuer }
-        ensures log { result.verify_tlog ≡ self.verify_tlog }
-        ensures certificate { result.certificate ≡ without_sct self.certificate }
-        ensures scts { result.scts ≡ self.scts }
-        ensures logs { result.logs ≡ self.logs }
+        ensures { result ≡ record self { certificate = without_sct self.certificate } }
     {
         VerificationPolicy {
-            identity: self.identity,
-            issuer: self.issuer,
-            verify_tlog: self.verify_tlog,
             certificate: self.certificate.without_sct(),
-            scts: self.scts,
-            logs: self.logs,
+            ..self
         }
     }
 
     /// The same policy with a number of different logs of certificates that have to have promised the certificate; where
     /// that isn't verified, none has to.
     pub fn require_scts(self, count: NonZeroU8) -> VerificationPolicy
-        ensures identity { result.identity ≡ self.identity }
-        ensures issuer { result.issuer ≡ self.issuer }
-        ensures log { result.verify_tlog ≡ self.verify_tlog }
-        ensures certificate { result.certificate ≡ self.certificate }
-        ensures scts { result.scts.value ≡ non_zero_u8_get count }
-        ensures logs { result.logs ≡ self.logs }
+        ensures { result ≡ record self { scts = record { value = non_zero_u8_get count } } }
     {
         VerificationPolicy {
-            identity: self.identity,
-            issuer: self.issuer,
-            verify_tlog: self.verify_tlog,
-            certificate: self.certificate,
             scts: LogThreshold::new(count),
-            logs: self.logs,
+            ..self
         }
     }
 
     /// The same policy with a number of different transparency logs in which the entries have to stand; where the log
     /// isn't verified, none has to.
     pub fn require_logs(self, count: NonZeroU8) -> VerificationPolicy
-        ensures identity { result.identity ≡ self.identity }
-        ensures issuer { result.issuer ≡ self.issuer }
-        ensures log { result.verify_tlog ≡ self.verify_tlog }
-        ensures certificate { result.certificate ≡ self.certificate }
-        ensures scts { result.scts ≡ self.scts }
-        ensures logs { result.logs.value ≡ non_zero_u8_get count }
+        ensures { result ≡ record self { logs = record { value = non_zero_u8_get count } } }
     {
         VerificationPolicy {
-            identity: self.identity,
-            issuer: self.issuer,
-            verify_tlog: self.verify_tlog,
-            certificate: self.certificate,
-            scts: self.scts,
             logs: LogThreshold::new(count),
+            ..self
         }
     }
 

@@ -1,6 +1,7 @@
 // What is asked where the signer holds a key.
-ghost use Rattle.std.specs.Prelude.{◌≡◌, max, true, false};
+ghost use Rattle.std.specs.Prelude.{◌≡◌, max, false};
 ghost use Rattle.std.specs.Int.NonZero.{non_zero_u8_get};
+ghost use Rattle.sigstore_policy.specs.PublicKey.{keyed};
 
 use foundation::{Duplicate, NoMemory};
 use sigstore_keys::LogThreshold;
@@ -30,9 +31,7 @@ impl Duplicate for PublicKeyVerificationPolicy {
 impl PublicKeyVerificationPolicy {
     /// A policy that verifies the log.
     pub fn new(key: DerPublicKey) -> PublicKeyVerificationPolicy
-        ensures key { result.key ≡ key }
-        ensures log { result.verify_tlog ≡ true }
-        ensures logs { result.logs.value ≡ 1 }
+        ensures { result ≡ keyed key }
     {
         PublicKeyVerificationPolicy {
             key,
@@ -43,28 +42,22 @@ impl PublicKeyVerificationPolicy {
 
     /// The same policy without the log, so that a signature may never have been logged.
     pub fn skip_tlog_unsafe(self) -> PublicKeyVerificationPolicy
-        ensures key { result.key ≡ self.key }
-        ensures log { result.verify_tlog ≡ false }
-        ensures logs { result.logs ≡ self.logs }
+        ensures { result ≡ record self { verify_tlog = false } }
     {
         PublicKeyVerificationPolicy {
-            key: self.key,
             verify_tlog: false,
-            logs: self.logs,
+            ..self
         }
     }
 
     /// The same policy with a number of different transparency logs in which the entries have to stand; where the log
     /// isn't verified, none has to.
     pub fn require_logs(self, count: NonZeroU8) -> PublicKeyVerificationPolicy
-        ensures key { result.key ≡ self.key }
-        ensures log { result.verify_tlog ≡ self.verify_tlog }
-        ensures logs { result.logs.value ≡ non_zero_u8_get count }
+        ensures { result ≡ record self { logs = record { value = non_zero_u8_get count } } }
     {
         PublicKeyVerificationPolicy {
-            key: self.key,
-            verify_tlog: self.verify_tlog,
             logs: LogThreshold::new(count),
+            ..self
         }
     }
 
