@@ -7,6 +7,7 @@ ghost use Rattle.cms_envelope.specs.AuthenticatedData.{authenticated_tail, tail_
 use crate::enveloped_data::{OriginatorInfo, RecipientInfos};
 use cms_parts::content_info::CmsVersion;
 use cms_parts::signed_data::EncapsulatedContentInfo;
+use cms_parts::tags;
 use der_core::{
     Der, DerError, OctetString, Reader, Tag, append_implicit_optional, read_implicit_optional,
     read_value, tag,
@@ -45,7 +46,7 @@ fn append_tail(
     value.encap_content_info.encode_into(alloc, out)?;
     append_implicit_optional(
         alloc,
-        Tag(tag::CONSTRUCTED_2),
+        Tag(tags::CONSTRUCTED_2),
         Tag(tag::SET),
         &value.auth_attrs,
         out,
@@ -64,7 +65,7 @@ impl Der for AuthenticatedData {
     ghost grammar = { authenticated_data_type.grammar };
 
     fn accepts(tag: Tag) -> bool {
-        tag.0 == tag::SEQUENCE
+        tag.0 == 48
     }
 
     fn from_contents(
@@ -85,14 +86,14 @@ impl Der for AuthenticatedData {
             mac_alg: read_value(alloc, &mut reader)?,
             digest_alg: read_implicit_optional(
                 alloc,
-                Tag(tag::CONSTRUCTED_1),
+                Tag(tags::CONSTRUCTED_1),
                 Tag(tag::SEQUENCE),
                 &mut reader,
             )?,
             encap_content_info: read_value(alloc, &mut reader)?,
             auth_attrs: read_implicit_optional(
                 alloc,
-                Tag(tag::CONSTRUCTED_2),
+                Tag(tags::CONSTRUCTED_2),
                 Tag(tag::SET),
                 &mut reader,
             )?,
@@ -125,7 +126,7 @@ impl Der for AuthenticatedData {
         self.mac_alg.encode_into(alloc, &mut out)?;
         append_implicit_optional(
             alloc,
-            Tag(tag::CONSTRUCTED_1),
+            Tag(tags::CONSTRUCTED_1),
             Tag(tag::SEQUENCE),
             &self.digest_alg,
             &mut out,

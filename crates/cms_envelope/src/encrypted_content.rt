@@ -1,6 +1,7 @@
 // Encrypted content.
 ghost use Rattle.cms_envelope.specs.EncryptedContent.{encrypted_content_info_type};
 
+use cms_parts::tags;
 use der_core::{
     Der, DerError, ObjectIdentifier, OctetString, Reader, Tag, append_implicit_optional,
     read_implicit_optional, read_value, tag,
@@ -22,7 +23,7 @@ impl Der for EncryptedContentInfo {
     ghost grammar = { encrypted_content_info_type.grammar };
 
     fn accepts(tag: Tag) -> bool {
-        tag.0 == tag::SEQUENCE
+        tag.0 == 48
     }
 
     fn from_contents(
@@ -36,7 +37,7 @@ impl Der for EncryptedContentInfo {
             content_enc_alg: read_value(alloc, &mut reader)?,
             encrypted_content: read_implicit_optional(
                 alloc,
-                Tag(tag::PRIMITIVE_0),
+                Tag(tags::PRIMITIVE_0),
                 Tag(tag::OCTET_STRING),
                 &mut reader,
             )?,
@@ -54,7 +55,7 @@ impl Der for EncryptedContentInfo {
         self.content_enc_alg.encode_into(alloc, &mut out)?;
         append_implicit_optional(
             alloc,
-            Tag(tag::PRIMITIVE_0),
+            Tag(tags::PRIMITIVE_0),
             Tag(tag::OCTET_STRING),
             &self.encrypted_content,
             &mut out,

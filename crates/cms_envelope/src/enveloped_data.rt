@@ -14,6 +14,7 @@ pub use crate::key_transport::{EncryptedKey, KeyTransRecipientInfo, RecipientIde
 use cms_parts::content_info::CmsVersion;
 use cms_parts::revocation::RevocationInfoChoices;
 use cms_parts::signed_data::CertificateSet;
+use cms_parts::tags;
 use der_core::{
     Der, DerError, OctetString, Reader, SetOfVec, Tag, append_implicit_optional,
     read_implicit_optional, read_value, tag,
@@ -36,7 +37,7 @@ impl Der for EnvelopedData {
     ghost grammar = { enveloped_data_type.grammar };
 
     fn accepts(tag: Tag) -> bool {
-        tag.0 == tag::SEQUENCE
+        tag.0 == 48
     }
 
     fn from_contents(alloc: Global, _tag: Tag, contents: &[u8]) -> Result<EnvelopedData, DerError> {
@@ -53,7 +54,7 @@ impl Der for EnvelopedData {
             encrypted_content: read_value(alloc, &mut reader)?,
             unprotected_attrs: read_implicit_optional(
                 alloc,
-                Tag(tag::CONSTRUCTED_1),
+                Tag(tags::CONSTRUCTED_1),
                 Tag(tag::SET),
                 &mut reader,
             )?,
@@ -79,7 +80,7 @@ impl Der for EnvelopedData {
         self.encrypted_content.encode_into(alloc, &mut out)?;
         append_implicit_optional(
             alloc,
-            Tag(tag::CONSTRUCTED_1),
+            Tag(tags::CONSTRUCTED_1),
             Tag(tag::SET),
             &self.unprotected_attrs,
             &mut out,
@@ -113,7 +114,7 @@ impl Der for OriginatorInfo {
     ghost grammar = { originator_info_type.grammar };
 
     fn accepts(tag: Tag) -> bool {
-        tag.0 == tag::SEQUENCE
+        tag.0 == 48
     }
 
     fn from_contents(
@@ -131,7 +132,7 @@ impl Der for OriginatorInfo {
             )?,
             crls: read_implicit_optional(
                 alloc,
-                Tag(tag::CONSTRUCTED_1),
+                Tag(tags::CONSTRUCTED_1),
                 Tag(tag::SET),
                 &mut reader,
             )?,
@@ -154,7 +155,7 @@ impl Der for OriginatorInfo {
         )?;
         append_implicit_optional(
             alloc,
-            Tag(tag::CONSTRUCTED_1),
+            Tag(tags::CONSTRUCTED_1),
             Tag(tag::SET),
             &self.crls,
             &mut out,
@@ -182,7 +183,7 @@ impl Der for RecipientInfos {
     ghost grammar = { recipient_infos_type.grammar };
 
     fn accepts(tag: Tag) -> bool {
-        tag.0 == tag::SET
+        tag.0 == 49
     }
 
     fn from_contents(alloc: Global, tag: Tag, contents: &[u8]) -> Result<RecipientInfos, DerError> {
@@ -225,29 +226,25 @@ impl Der for RecipientInfo {
     ghost grammar = { recipient_info_type.grammar };
 
     fn accepts(tag: Tag) -> bool {
-        tag.0 == tag::SEQUENCE
-            || tag.0 == tag::CONSTRUCTED_1
-            || tag.0 == tag::CONSTRUCTED_2
-            || tag.0 == tag::CONSTRUCTED_3
-            || tag.0 == tag::CONSTRUCTED_4
+        tag.0 == 48 || tag.0 == 161 || tag.0 == 162 || tag.0 == 163 || tag.0 == 164
     }
 
     fn from_contents(alloc: Global, tag: Tag, contents: &[u8]) -> Result<RecipientInfo, DerError> {
-        if tag.0 == tag::SEQUENCE {
+        if tag.0 == 48 {
             Ok(RecipientInfo::Ktri(KeyTransRecipientInfo::from_contents(alloc, tag, contents)?))
-        } else if tag.0 == tag::CONSTRUCTED_1 {
+        } else if tag.0 == 161 {
             Ok(RecipientInfo::Kari(KeyAgreeRecipientInfo::from_contents(
                 alloc,
                 Tag(tag::SEQUENCE),
                 contents,
             )?))
-        } else if tag.0 == tag::CONSTRUCTED_2 {
+        } else if tag.0 == 162 {
             Ok(RecipientInfo::Kekri(KekRecipientInfo::from_contents(
                 alloc,
                 Tag(tag::SEQUENCE),
                 contents,
             )?))
-        } else if tag.0 == tag::CONSTRUCTED_3 {
+        } else if tag.0 == 163 {
             Ok(RecipientInfo::Pwri(PasswordRecipientInfo::from_contents(
                 alloc,
                 Tag(tag::SEQUENCE),
@@ -265,10 +262,10 @@ impl Der for RecipientInfo {
     fn tag(&self) -> Tag {
         match self {
             RecipientInfo::Ktri(_) => Tag(tag::SEQUENCE),
-            RecipientInfo::Kari(_) => Tag(tag::CONSTRUCTED_1),
-            RecipientInfo::Kekri(_) => Tag(tag::CONSTRUCTED_2),
+            RecipientInfo::Kari(_) => Tag(tags::CONSTRUCTED_1),
+            RecipientInfo::Kekri(_) => Tag(tags::CONSTRUCTED_2),
             RecipientInfo::Pwri(_) => Tag(tag::CONSTRUCTED_3),
-            RecipientInfo::Ori(_) => Tag(tag::CONSTRUCTED_4),
+            RecipientInfo::Ori(_) => Tag(tags::CONSTRUCTED_4),
         }
     }
 

@@ -4,6 +4,7 @@ ghost use Rattle.cms_envelope.specs.KeyAgreement.{key_agree_recipient_identifier
 use crate::key_transport::EncryptedKey;
 use cms_parts::cert::IssuerAndSerialNumber;
 use cms_parts::content_info::CmsVersion;
+use cms_parts::tags;
 use der_core::{
     BitString, Der, DerError, GeneralizedTime, OctetString, Reader, Tag, append_explicit,
     append_explicit_optional, append_optional, read_explicit, read_explicit_optional,
@@ -33,7 +34,7 @@ impl Der for KeyAgreeRecipientInfo {
     ghost grammar = { key_agree_recipient_info_type.grammar };
 
     fn accepts(tag: Tag) -> bool {
-        tag.0 == tag::SEQUENCE
+        tag.0 == 48
     }
 
     fn from_contents(
@@ -45,7 +46,7 @@ impl Der for KeyAgreeRecipientInfo {
         let value = KeyAgreeRecipientInfo {
             version: read_value(alloc, &mut reader)?,
             originator: read_explicit(alloc, Tag(tag::CONSTRUCTED_0), &mut reader)?,
-            ukm: read_explicit_optional(alloc, Tag(tag::CONSTRUCTED_1), &mut reader)?,
+            ukm: read_explicit_optional(alloc, Tag(tags::CONSTRUCTED_1), &mut reader)?,
             key_enc_alg: read_value(alloc, &mut reader)?,
             recipient_enc_keys: read_value(alloc, &mut reader)?,
         };
@@ -60,7 +61,7 @@ impl Der for KeyAgreeRecipientInfo {
         let mut out = OctetString::empty(alloc);
         self.version.encode_into(alloc, &mut out)?;
         append_explicit(alloc, Tag(tag::CONSTRUCTED_0), &self.originator, &mut out)?;
-        append_explicit_optional(alloc, Tag(tag::CONSTRUCTED_1), &self.ukm, &mut out)?;
+        append_explicit_optional(alloc, Tag(tags::CONSTRUCTED_1), &self.ukm, &mut out)?;
         self.key_enc_alg.encode_into(alloc, &mut out)?;
         self.recipient_enc_keys.encode_into(alloc, &mut out)?;
         Ok(out)
@@ -95,7 +96,7 @@ impl Der for OriginatorIdentifierOrKey {
     ghost grammar = { originator_identifier_or_key_type.grammar };
 
     fn accepts(tag: Tag) -> bool {
-        tag.0 == tag::SEQUENCE || tag.0 == tag::PRIMITIVE_0 || tag.0 == tag::CONSTRUCTED_1
+        tag.0 == 48 || tag.0 == 128 || tag.0 == 161
     }
 
     fn from_contents(
@@ -103,11 +104,11 @@ impl Der for OriginatorIdentifierOrKey {
         tag: Tag,
         contents: &[u8],
     ) -> Result<OriginatorIdentifierOrKey, DerError> {
-        if tag.0 == tag::SEQUENCE {
+        if tag.0 == 48 {
             Ok(OriginatorIdentifierOrKey::IssuerAndSerialNumber(
                 IssuerAndSerialNumber::from_contents(alloc, tag, contents)?,
             ))
-        } else if tag.0 == tag::PRIMITIVE_0 {
+        } else if tag.0 == 128 {
             Ok(OriginatorIdentifierOrKey::SubjectKeyIdentifier(SubjectKeyIdentifier::from_contents(
                 alloc,
                 Tag(tag::OCTET_STRING),
@@ -125,8 +126,8 @@ impl Der for OriginatorIdentifierOrKey {
     fn tag(&self) -> Tag {
         match self {
             OriginatorIdentifierOrKey::IssuerAndSerialNumber(_) => Tag(tag::SEQUENCE),
-            OriginatorIdentifierOrKey::SubjectKeyIdentifier(_) => Tag(tag::PRIMITIVE_0),
-            OriginatorIdentifierOrKey::OriginatorKey(_) => Tag(tag::CONSTRUCTED_1),
+            OriginatorIdentifierOrKey::SubjectKeyIdentifier(_) => Tag(tags::PRIMITIVE_0),
+            OriginatorIdentifierOrKey::OriginatorKey(_) => Tag(tags::CONSTRUCTED_1),
         }
     }
 
@@ -168,7 +169,7 @@ impl Der for OriginatorPublicKey {
     ghost grammar = { originator_public_key_type.grammar };
 
     fn accepts(tag: Tag) -> bool {
-        tag.0 == tag::SEQUENCE
+        tag.0 == 48
     }
 
     fn from_contents(
@@ -218,7 +219,7 @@ impl Der for RecipientEncryptedKey {
     ghost grammar = { recipient_encrypted_key_type.grammar };
 
     fn accepts(tag: Tag) -> bool {
-        tag.0 == tag::SEQUENCE
+        tag.0 == 48
     }
 
     fn from_contents(
@@ -269,7 +270,7 @@ impl Der for KeyAgreeRecipientIdentifier {
     ghost grammar = { key_agree_recipient_identifier_type.grammar };
 
     fn accepts(tag: Tag) -> bool {
-        tag.0 == tag::SEQUENCE || tag.0 == tag::CONSTRUCTED_0
+        tag.0 == 48 || tag.0 == 160
     }
 
     fn from_contents(
@@ -277,7 +278,7 @@ impl Der for KeyAgreeRecipientIdentifier {
         tag: Tag,
         contents: &[u8],
     ) -> Result<KeyAgreeRecipientIdentifier, DerError> {
-        if tag.0 == tag::SEQUENCE {
+        if tag.0 == 48 {
             Ok(KeyAgreeRecipientIdentifier::IssuerAndSerialNumber(
                 IssuerAndSerialNumber::from_contents(alloc, tag, contents)?,
             ))
@@ -332,7 +333,7 @@ impl Der for RecipientKeyIdentifier {
     ghost grammar = { recipient_key_identifier_type.grammar };
 
     fn accepts(tag: Tag) -> bool {
-        tag.0 == tag::SEQUENCE
+        tag.0 == 48
     }
 
     fn from_contents(

@@ -3,6 +3,7 @@ ghost use Rattle.cms_envelope.specs.KeyTransport.{key_trans_recipient_info_type,
 
 use cms_parts::cert::IssuerAndSerialNumber;
 use cms_parts::content_info::CmsVersion;
+use cms_parts::tags;
 use der_core::{Der, DerError, OctetString, Reader, Tag, read_value, tag};
 use foundation::{Duplicate, NoMemory};
 use std::alloc::Global;
@@ -24,7 +25,7 @@ impl Der for KeyTransRecipientInfo {
     ghost grammar = { key_trans_recipient_info_type.grammar };
 
     fn accepts(tag: Tag) -> bool {
-        tag.0 == tag::SEQUENCE
+        tag.0 == 48
     }
 
     fn from_contents(
@@ -81,7 +82,7 @@ impl Der for RecipientIdentifier {
     ghost grammar = { recipient_identifier_type.grammar };
 
     fn accepts(tag: Tag) -> bool {
-        tag.0 == tag::SEQUENCE || tag.0 == tag::PRIMITIVE_0
+        tag.0 == 48 || tag.0 == 128
     }
 
     fn from_contents(
@@ -89,7 +90,7 @@ impl Der for RecipientIdentifier {
         tag: Tag,
         contents: &[u8],
     ) -> Result<RecipientIdentifier, DerError> {
-        if tag.0 == tag::SEQUENCE {
+        if tag.0 == 48 {
             Ok(RecipientIdentifier::IssuerAndSerialNumber(IssuerAndSerialNumber::from_contents(
                 alloc, tag, contents,
             )?))
@@ -105,7 +106,7 @@ impl Der for RecipientIdentifier {
     fn tag(&self) -> Tag {
         match self {
             RecipientIdentifier::IssuerAndSerialNumber(_) => Tag(tag::SEQUENCE),
-            RecipientIdentifier::SubjectKeyIdentifier(_) => Tag(tag::PRIMITIVE_0),
+            RecipientIdentifier::SubjectKeyIdentifier(_) => Tag(tags::PRIMITIVE_0),
         }
     }
 

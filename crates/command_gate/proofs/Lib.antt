@@ -1,3 +1,4 @@
+mod Naming
 mod LineByLine
 mod Saying
 mod Meaning

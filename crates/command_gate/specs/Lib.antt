@@ -1,4 +1,5 @@
 pub mod Complete
 pub mod Layout
 pub mod Lines
+pub mod Names
 pub mod Run

@@ -1,3 +1,6 @@
+mod GateMeaning
 mod Meaning
+mod GateEnding
+mod RunEnding
 mod Sufficing
 mod SufficingForFolder

@@ -1,3 +1,4 @@
+pub mod Meant
 pub mod Report
 pub mod Run
 pub mod Complete

@@ -5,9 +5,7 @@ use certificate_claims::parse_certificate_info;
 use command_files::{TableProvider, read_provider};
 use jiff::Timestamp;
 use path_core::Anchor;
-use sigstore_certificate::{
-    DigitallySigned, Presented, TrustedAuthorities, VerificationPolicy, judge_certificate,
-};
+use sigstore_certificate::{DigitallySigned, VerificationPolicy, judge_certificate};
 use sigstore_keys::{Keyring, SigningScheme, VerificationKey, sha256, verify_signature};
 use sigstore_types::{DerCertificate, DerPublicKey, SignatureBytes};
 use std::process::Abort;
@@ -43,12 +41,12 @@ fn logs<X: AllocGlobal + Abort>(rt: &X) -> Keyring {
     logs
 }
 
-// The answer for the certificate under a root, with the intermediate beside it, for a signature at some times.
+// The answer for the certificate under a root, with the intermediate beside it, for a signature at a moment.
 fn judged<X: AllocGlobal + Abort>(
     rt: &X,
     provider: &TableProvider,
     root: &str,
-    times: &[Timestamp],
+    now: &str,
 ) -> String {
     let (leaf, between, root) = (
         certificate(rt, "leaf"),
@@ -58,22 +56,17 @@ fn judged<X: AllocGlobal + Abort>(
     let info = good(rt, parse_certificate_info(rt.alloc(), &leaf));
     let anchor = good(rt, Anchor::from_certificate(rt.alloc(), &root, None));
     let (logs, policy) = (logs(rt), VerificationPolicy::any_identity());
-    let authorities = TrustedAuthorities {
-        anchors: slice::from_ref(&anchor),
-        ct_logs: &logs,
-    };
-    let presented = Presented {
-        info: &info,
-        leaf: &leaf,
-        intermediates: slice::from_ref(&between),
-    };
+    let time = good(rt, now.parse::<Timestamp>());
     let answer = judge_certificate(
         rt.alloc(),
         provider,
-        &authorities,
+        slice::from_ref(&anchor),
+        &logs,
         &policy,
-        &presented,
-        times,
+        &info,
+        &leaf,
+        slice::from_ref(&between),
+        slice::from_ref(&time),
     );
     drop(info);
     drop(anchor);
@@ -130,12 +123,8 @@ fn certificates_are_judged(rt: HostRuntime) {
     for row in JUDGED.lines() {
         let (given, wanted) = there(&rt, row.split_once(" | "));
         let (root, now) = there(&rt, given.split_once(" "));
-        let time = good(&rt, now.parse::<Timestamp>());
-        let answer = judged(&rt, &tables.provider, root, slice::from_ref(&time));
-        check(&rt, row, wanted, answer);
+        check(&rt, row, wanted, judged(&rt, &tables.provider, root, now));
     }
-    let untimed = judged(&rt, &tables.provider, "root", &[]);
-    check(&rt, "no time", "Err(NoTime)", untimed);
     assert!(rt; is_signed(&rt, &tables.provider, "intermediate"));
     assert!(rt; !is_signed(&rt, &tables.provider, "other_intermediate"));
     drop(tables);

@@ -13,21 +13,11 @@ use crate::error::{TileError, WhichTree};
 use crate::judge::verify_consistency;
 use crate::proving::consistency;
 use crate::source::TileSource;
-use foundation::Sequence;
 use sigstore_entries::Checkpoint;
 use sigstore_keys::{CryptoProvider, Error, VerificationKey};
 use sigstore_log::CheckpointVerifyExt;
 use sigstore_types_parts::{DerPublicKey, Sha256Hash, TypesError};
 use std::alloc::Global;
-
-/// What an audit found of two checkpoints: the size of the older one's tree, that of the newer one's, and the consistency
-/// proof between them.
-#[derive(PartialEq, Drop)]
-pub struct Growth {
-    pub first: u64,
-    pub second: u64,
-    pub proof: Sequence<Sha256Hash>,
-}
 
 // The checkpoint that a text is.
 fn read_as(alloc: Global, which: WhichTree, text: &[u8]) -> Result<Checkpoint, TileError>
@@ -115,34 +105,30 @@ fn check_pair<C: CryptoProvider>(
     Ok(check_origins(older, newer)?)
 }
 
-// The sizes of two checkpoints with the proof between them, where it is accepted for their roots.
+// The proof between two checkpoints, where it is accepted for their roots.
 fn joined<T: TileSource>(
     alloc: Global,
     older: &Checkpoint,
     newer: &Checkpoint,
     tiles: &mut T,
-) -> Result<Growth, TileError>
-    ensures { Joins older.now newer.now (T.seen tiles.old) (T.seen tiles.new) result }
+) -> Result<Vec<Sha256Hash>, TileError>
+    ensures { Joins older.now newer.now (T.seen tiles.old) (T.seen tiles.new) (λ proof. proof.items) result }
 {
-    let (first, second) = (older.tree_size(), newer.tree_size());
-    let proof = consistency(alloc, tiles, first, second)?;
+    let sizes = (older.tree_size(), newer.tree_size());
+    let proof = consistency(alloc, tiles, sizes.0, sizes.1)?;
     match verify_consistency(
-        first,
+        sizes.0,
         older.root_hash(),
-        second,
+        sizes.1,
         newer.root_hash(),
         proof.as_slice(),
     ) {
-        Ok(()) => Ok(Growth {
-            first,
-            second,
-            proof: Sequence::from_vec(proof),
-        }),
+        Ok(()) => Ok(proof),
         Err(e) => Err(e),
     }
 }
 
-// The same of two checkpoints of one log that are signed.
+// The proof between two checkpoints of one log that are signed.
 fn signed_joined<C: CryptoProvider, T: TileSource>(
     alloc: Global,
     provider: &C,
@@ -150,8 +136,9 @@ fn signed_joined<C: CryptoProvider, T: TileSource>(
     older: &Checkpoint,
     newer: &Checkpoint,
     tiles: &mut T,
-) -> Result<Growth, TileError>
-    ensures { JoinsSigned (C.accepts provider.now) key.now older.now newer.now (T.seen tiles.old) (T.seen tiles.new) result }
+) -> Result<Vec<Sha256Hash>, TileError>
+    ensures { JoinsSigned (C.accepts provider.now) key.now older.now newer.now (T.seen tiles.old) (T.seen tiles.new)
+        (λ proof. proof.items) result }
 {
     match check_pair(alloc, provider, key, older, newer) {
         Ok(()) => joined(alloc, older, newer, tiles),
@@ -159,7 +146,7 @@ fn signed_joined<C: CryptoProvider, T: TileSource>(
     }
 }
 
-// The same of two texts, where they are signed checkpoints of one log.
+// The proof between two texts, where they are signed checkpoints of one log.
 fn audited<C: CryptoProvider, T: TileSource>(
     alloc: Global,
     provider: &C,
@@ -167,8 +154,9 @@ fn audited<C: CryptoProvider, T: TileSource>(
     first: &[u8],
     second: &[u8],
     tiles: &mut T,
-) -> Result<Growth, TileError>
-    ensures { Audits (C.accepts provider.now) key.now first.now second.now (T.seen tiles.old) (T.seen tiles.new) result }
+) -> Result<Vec<Sha256Hash>, TileError>
+    ensures { Audits (C.accepts provider.now) key.now first.now second.now (T.seen tiles.old) (T.seen tiles.new) (λ proof. proof.items)
+        result }
 {
     match read_pair(alloc, first, second) {
         Ok((older, newer)) => signed_joined(alloc, provider, key, &older, &newer, tiles),
@@ -176,7 +164,7 @@ fn audited<C: CryptoProvider, T: TileSource>(
     }
 }
 
-/// The sizes of two checkpoints of a log, and the consistency proof between them from its tiles: the newer tree grew from the older one.
+/// The consistency proof between two checkpoints of a log, from its tiles: the newer tree grew from the older one.
 /// Errors, in order: `Checkpoint` where the first text is no checkpoint, then the second; `Key` where the key isn't read;
 /// `Signature` where the first checkpoint isn't signed under it, then the second; `Origin` where they are of different logs;
 /// `Sizes`, `TileAbsent`, `TileFailed` and `TileLength` of `consistency`; `PathLength` and `RootMismatch` of
@@ -188,12 +176,13 @@ pub fn audit<C: CryptoProvider, T: TileSource>(
     first: &[u8],
     second: &[u8],
     tiles: &mut T,
-) -> Result<Growth, TileError>
-    ensures audits { Audits (C.accepts provider.now) key.now first.now second.now (T.seen tiles.old) (T.seen tiles.new) result }
+) -> Result<Vec<Sha256Hash>, TileError>
+    ensures audits { Audits (C.accepts provider.now) key.now first.now second.now (T.seen tiles.old) (T.seen tiles.new)
+        (λ proof. proof.items) result }
     ensures served { (leaves : Leaves) (older newer : Checkpoint)
         → signed_pair (C.accepts provider.now) key.now first.now second.now ≡ Ok (older, newer)
         → AreOfTree older newer leaves → Serves leaves newer.tree_size (T.seen tiles.old) (T.seen tiles.new)
-        → Gives (λ found. IsProof older.tree_size newer.tree_size leaves found.proof) result }
+        → Gives (λ proof. IsProof older.tree_size newer.tree_size leaves proof.items) result }
 {
     audited(alloc, provider, key, first, second, tiles)
 }

@@ -57,11 +57,6 @@ pub enum TileError {
     NoMemory,
     /// Two checkpoints are of different logs, as their first lines name them.
     Origin,
-    /// A tree of this size has no leaf at this index.
-    IndexOutOfTree {
-        index: u64,
-        size: u64,
-    },
 }
 
 impl TileError {
@@ -81,7 +76,6 @@ impl TileError {
             TileError::RootMismatch { .. } => 9,
             TileError::NoMemory => 10,
             TileError::Origin => 11,
-            TileError::IndexOutOfTree { .. } => 12,
         }
     }
 
@@ -101,7 +95,6 @@ impl TileError {
             TileError::RootMismatch { .. } => "RootMismatch",
             TileError::NoMemory => "NoMemory",
             TileError::Origin => "Origin",
-            TileError::IndexOutOfTree { .. } => "IndexOutOfTree",
         }
     }
 }

@@ -7,4 +7,3 @@ pub mod Judging
 pub mod Pairs
 pub mod Room
 pub mod FirstPath
-pub mod Counting

@@ -1,3 +1,4 @@
+pub mod Policy
 pub mod Error
 pub mod Names
 pub mod Scts

@@ -2,7 +2,6 @@
 #![tactic(auto)]
 
 mod artifact;
-mod asked;
 mod claim;
 mod content;
 mod entries;
@@ -11,7 +10,7 @@ mod evidence;
 mod grounds;
 mod judge;
 mod laws;
-mod names;
+mod policy;
 mod prepared;
 mod report;
 mod signing;
@@ -22,7 +21,6 @@ mod under;
 mod verified;
 mod verifier;
 
-pub use asked::{Asked, Case};
 pub use error::{CertificateError, Error, TimestampError, TransparencyLogError};
 pub use evidence::Evidence;
 pub use judge::Ready;
@@ -30,15 +28,13 @@ pub use laws::{
     accepts_exactly, blob_and_reader_agree, log_refusals_have_causes, one_log_suffices,
     usable_exactly,
 };
-pub use names::refusal_name;
+pub use policy::{Policy, PolicyKind, PublicKeyVerificationPolicy};
 pub use prepared::prepare_reader;
 pub use report::{JudgedBundle, VerificationResult};
-pub use sigstore_certificate::{DigitallySigned, SctRule};
-pub use sigstore_policy::{
-    CertificatePolicy, IdentityMatcher, Policy, PolicyKind, PublicKeyVerificationPolicy,
-    SigningPolicy, VerificationPolicy,
+pub use sigstore_certificate::{
+    CertificatePolicy, DigitallySigned, IdentityMatcher, SctRule, VerificationPolicy,
 };
 pub use taking::{finalize_all, hashers_for};
 pub use trust::Material;
-pub use under::{judge_bundle, read_trust};
+pub use under::judge_bundle;
 pub use verifier::{Verifier, verify};

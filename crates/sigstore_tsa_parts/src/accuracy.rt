@@ -1,6 +1,7 @@
 // How exact a time is.
 ghost use Rattle.sigstore_tsa_parts.specs.Types.{accuracy_type};
 
+use cms_parts::tags;
 use der_core::{
     Der, DerError, OctetString, Reader, Tag, append_implicit_optional, append_optional,
     read_implicit_optional, read_optional, tag,
@@ -21,7 +22,7 @@ impl Der for Accuracy {
     ghost grammar = { accuracy_type.grammar };
 
     fn accepts(tag: Tag) -> bool {
-        tag.0 == tag::SEQUENCE
+        tag.0 == 48
     }
 
     fn from_contents(alloc: Global, _tag: Tag, contents: &[u8]) -> Result<Accuracy, DerError> {
@@ -30,7 +31,7 @@ impl Der for Accuracy {
             seconds: read_optional(alloc, &mut reader)?,
             millis: read_implicit_optional(
                 alloc,
-                Tag(tag::PRIMITIVE_0),
+                Tag(tags::PRIMITIVE_0),
                 Tag(tag::INTEGER),
                 &mut reader,
             )?,
@@ -53,7 +54,7 @@ impl Der for Accuracy {
         append_optional(alloc, &self.seconds, &mut out)?;
         append_implicit_optional(
             alloc,
-            Tag(tag::PRIMITIVE_0),
+            Tag(tags::PRIMITIVE_0),
             Tag(tag::INTEGER),
             &self.millis,
             &mut out,

@@ -1,3 +1,4 @@
+pub mod Lying
 pub mod Memory
 pub mod Repository
 pub mod Store

@@ -5,6 +5,7 @@
 mod file_repository;
 mod file_store;
 mod folder;
+mod lying_repository;
 mod memory_repository;
 mod memory_store;
 mod name;
@@ -14,6 +15,7 @@ mod store;
 
 pub use file_repository::FileRepository;
 pub use file_store::FileStore;
+pub use lying_repository::{LyingRepository, Reply};
 pub use memory_repository::MemoryRepository;
 pub use memory_store::MemoryStore;
 pub use no_store::NoStore;

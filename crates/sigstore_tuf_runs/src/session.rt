@@ -1,13 +1,14 @@
 // What a client's call is given.
 
-use sigstore_keys::{CryptoProvider, Providers};
+use sigstore_keys::CryptoProvider;
 use sigstore_tuf_rules::UpdaterConfig;
 use sigstore_types_parts::Armor;
 
-/// Who decides signatures and who reads PEM, the limits, and the moment.
+/// Who decides signatures, the limits, and the moment.
 #[derive(Drop)]
 pub struct Session<'s, C: CryptoProvider, M: Armor> {
-    pub providers: Providers<'s, C, M>,
+    pub provider: &'s C,
+    pub armor: &'s M,
     pub config: &'s UpdaterConfig,
     pub moment: jiff::Timestamp,
 }

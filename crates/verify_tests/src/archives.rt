@@ -2,7 +2,8 @@
 use crate::fixture::{PARTS, inputs, measured, repository, root, store, targets};
 use crate::tables::{Change, bytes, change_in, failures, good, hold, text_of, there, words};
 use command_archive::run_archive;
-use command_files::{CommandLine, MemorySink, Status};
+use command_files::MemorySink;
+use command_verify::Status;
 use jiff::Timestamp;
 use sigstore_keys::MemorySource;
 use std::num::NonZeroU32;
@@ -35,13 +36,11 @@ fn ended<X: AllocGlobal + Abort>(
     let failures = failures(rt, change.of("artifact fails", ""));
     let mut archive = MemorySource::new(bytes(rt, octets), step, failures);
     let words = words(rt, line);
-    let line = CommandLine {
-        words: &words,
-        clock: Timestamp::UNIX_EPOCH,
-    };
+    let clock = Timestamp::UNIX_EPOCH;
     let status = run_archive(
         rt.alloc(),
-        &line,
+        &words,
+        clock,
         &mut inputs,
         &mut repo,
         &mut store,

@@ -4,7 +4,6 @@ use crate::fault::Fault;
 use crate::handed::{is_handed, push_alone};
 use crate::objects::Objects;
 use crate::world::World;
-use command_files::CommandLine;
 use command_verify::run;
 use jiff::Timestamp;
 use serde_json::Value;
@@ -47,10 +46,8 @@ fn run_over(alloc: Global, world: &World, text: &mut String) -> Result<u64, Faul
     let mut objects = Objects::new(alloc, world)?;
     let status = run(
         alloc,
-        &CommandLine {
-            words: &words,
-            clock: Timestamp::UNIX_EPOCH,
-        },
+        &words,
+        Timestamp::UNIX_EPOCH,
         &mut objects.inputs,
         &mut objects.repository,
         &mut objects.store,

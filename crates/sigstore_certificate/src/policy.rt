@@ -1,0 +1,374 @@
+// What is asked of a signing certificate.
+ghost use Rattle.std.specs.Prelude.{◌≡◌, max, true, false, None, Some, option_copied};
+ghost use Rattle.std.specs.Int.NonZero.{non_zero_u8_get};
+ghost use Rattle.sigstore_certificate.specs.declared.policy.CertificatePolicy.TheVariants.{Skip, Verify};
+ghost use Rattle.sigstore_certificate.specs.declared.policy.IdentityMatcher.TheVariants.{Exact};
+ghost use Rattle.sigstore_certificate.specs.Names.{matches};
+ghost use Rattle.sigstore_certificate.specs.Policy.{matcher_of, shown, verifies_chain, verifies_sct, without_sct};
+
+use certificate_claims::SubjectAltName;
+use foundation::{Duplicate, NoMemory};
+use sigstore_keys::LogThreshold;
+use sigstore_types_parts::Text;
+use std::alloc::Global;
+use std::fmt;
+use std::num::NonZeroU8;
+
+/// An identity that is asked for.
+#[derive(Debug, PartialEq, Eq, Drop)]
+pub enum IdentityMatcher {
+    /// The text of an identity of either sort.
+    Exact(Text),
+    /// A mail address.
+    Email(Text),
+    /// A uniform resource identifier.
+    Uri(Text),
+}
+
+/// What of a certificate is verified.
+#[derive(Clone, Copy, Debug, PartialEq, Eq, Drop)]
+pub enum CertificatePolicy {
+    /// Neither its path, nor its window, nor its timestamp: whoever writes a certificate can put any name into it.
+    Skip,
+    /// Its path and its window, and the timestamp of a log of certificates, where that is asked for.
+    Verify { verify_sct: bool },
+}
+
+/// What is asked of a certificate, and whether the transparency log is verified.
+#[derive(Debug, PartialEq, Drop)]
+pub struct VerificationPolicy {
+    /// Whom it has to name; without one it may name anyone.
+    pub identity: Option<IdentityMatcher>,
+    /// Who has to have vouched for the identity; without one it may be anyone.
+    pub issuer: Option<Text>,
+    /// Whether the transparency log is verified.
+    pub verify_tlog: bool,
+    /// What of the certificate is verified.
+    pub certificate: CertificatePolicy,
+    /// How many different logs of certificates have to have promised it, where that is verified.
+    pub scts: LogThreshold,
+    /// How many different transparency logs the entries have to stand in, where the log is verified.
+    pub logs: LogThreshold,
+}
+
+impl Duplicate for IdentityMatcher {
+    fn duplicate(&self, alloc: Global) -> Result<IdentityMatcher, NoMemory> {
+        match self {
+            IdentityMatcher::Exact(text) => Ok(IdentityMatcher::Exact(text.duplicate(alloc)?)),
+            IdentityMatcher::Email(text) => Ok(IdentityMatcher::Email(text.duplicate(alloc)?)),
+            IdentityMatcher::Uri(text) => Ok(IdentityMatcher::Uri(text.duplicate(alloc)?)),
+        }
+    }
+}
+
+impl From<Text> for IdentityMatcher {
+    ghost from_gives = { λ text matcher. matcher ≡ Exact text };
+
+    fn from(text: Text) -> IdentityMatcher {
+        IdentityMatcher::Exact(text)
+    }
+}
+
+impl From<SubjectAltName> for IdentityMatcher {
+    ghost from_gives = { λ name matcher. matcher ≡ matcher_of name };
+
+    fn from(name: SubjectAltName) -> IdentityMatcher {
+        match name {
+            SubjectAltName::Email(text) => IdentityMatcher::Email(text),
+            SubjectAltName::Uri(text) => IdentityMatcher::Uri(text),
+        }
+    }
+}
+
+impl fmt::Display for IdentityMatcher {
+    ghost output = { λ matcher. Some (shown matcher) };
+
+    fn fmt<W: fmt::Write>(&self, f: &mut fmt::Formatter<W>) -> fmt::Result {
+        match self {
+            IdentityMatcher::Exact(text) => fmt::Display::fmt(text, f),
+            IdentityMatcher::Email(text) => write!(f, "email {text}"),
+            IdentityMatcher::Uri(text) => write!(f, "URI {text}"),
+        }
+    }
+}
+
+impl IdentityMatcher {
+    /// Whether an identity is the one that is asked for: the texts are equal octet by octet, and it is of the sort
+    /// that is asked for, where one is.
+    pub fn matches(&self, identity: &SubjectAltName) -> bool
+        ensures { result ≡ matches self.now identity.now }
+    {
+        match (self, identity) {
+            (IdentityMatcher::Exact(text), SubjectAltName::Email(actual)) => text == actual,
+            (IdentityMatcher::Exact(text), SubjectAltName::Uri(actual)) => text == actual,
+            (IdentityMatcher::Email(text), SubjectAltName::Email(actual)) => text == actual,
+            (IdentityMatcher::Uri(text), SubjectAltName::Uri(actual)) => text == actual,
+            _ => false,
+        }
+    }
+}
+
+impl CertificatePolicy {
+    /// Whether the path and the window are verified.
+    pub fn verifies_chain(&self) -> bool
+        ensures { result ≡ verifies_chain self.now }
+    {
+        match self {
+            CertificatePolicy::Skip => false,
+            CertificatePolicy::Verify { .. } => true,
+        }
+    }
+
+    /// Whether the timestamp of a log of certificates is verified.
+    pub fn verifies_sct(&self) -> bool
+        ensures { result ≡ verifies_sct self.now }
+    {
+        match self {
+            CertificatePolicy::Skip => false,
+            CertificatePolicy::Verify { verify_sct } => *verify_sct,
+        }
+    }
+
+    // The same without that timestamp.
+    fn without_sct(self) -> CertificatePolicy
+        ensures { result ≡ without_sct self }
+    {
+        match self {
+            CertificatePolicy::Skip => CertificatePolicy::Skip,
+            CertificatePolicy::Verify { .. } => CertificatePolicy::Verify { verify_sct: false },
+        }
+    }
+}
+
+impl Duplicate for VerificationPolicy {
+    fn duplicate(&self, alloc: Global) -> Result<VerificationPolicy, NoMemory> {
+        Ok(VerificationPolicy {
+            identity: self.identity.duplicate(alloc)?,
+            issuer: self.issuer.duplicate(alloc)?,
+            verify_tlog: self.verify_tlog,
+            certificate: self.certificate,
+            scts: self.scts,
+            logs: self.logs,
+        })
+    }
+}
+
+impl VerificationPolicy {
+    /// A policy that asks for an identity and its issuer, and verifies all.
+    pub fn new(identity: IdentityMatcher, issuer: Text) -> VerificationPolicy
+        ensures identity { result.identity ≡ Some identity }
+        ensures issuer { result.issuer ≡ Some issuer }
+        ensures log { result.verify_tlog ≡ true }
+        ensures certificate { result.certificate ≡ Verify true }
+        ensures scts { result.scts.value ≡ 1 }
+        ensures logs { result.logs.value ≡ 1 }
+    {
+        VerificationPolicy {
+            identity: Some(identity),
+            issuer: Some(issuer),
+            verify_tlog: true,
+            certificate: CertificatePolicy::Verify { verify_sct: true },
+            scts: LogThreshold::one(),
+            logs: LogThreshold::one(),
+        }
+    }
+
+    /// A policy that asks for no name, and verifies all else.
+    pub fn any_identity() -> VerificationPolicy
+        ensures identity { result.identity ≡ None }
+        ensures issuer { result.issuer ≡ None }
+        ensures log { result.verify_tlog ≡ true }
+        ensures certificate { result.certificate ≡ Verify true }
+        ensures scts { result.scts.value ≡ 1 }
+        ensures logs { result.logs.value ≡ 1 }
+    {
+        VerificationPolicy {
+            identity: None,
+            issuer: None,
+            verify_tlog: true,
+            certificate: CertificatePolicy::Verify { verify_sct: true },
+            scts: LogThreshold::one(),
+            logs: LogThreshold::one(),
+        }
+    }
+
+    /// The same policy with an identity that is asked for.
+    pub fn require_identity(self, identity: IdentityMatcher) -> VerificationPolicy
+        ensures identity { result.identity ≡ Some identity }
+        ensures issuer { result.issuer ≡ self.issuer }
+        ensures log { result.verify_tlog ≡ self.verify_tlog }
+        ensures certificate { result.certificate ≡ self.certificate }
+        ensures scts { result.scts ≡ self.scts }
+        ensures logs { result.logs ≡ self.logs }
+    {
+        VerificationPolicy {
+            identity: Some(identity),
+            issuer: self.issuer,
+            verify_tlog: self.verify_tlog,
+            certificate: self.certificate,
+            scts: self.scts,
+            logs: self.logs,
+        }
+    }
+
+    /// The same policy with an issuer that is asked for.
+    pub fn require_issuer(self, issuer: Text) -> VerificationPolicy
+        ensures identity { result.identity ≡ self.identity }
+        ensures issuer { result.issuer ≡ Some issuer }
+        ensures log { result.verify_tlog ≡ self.verify_tlog }
+        ensures certificate { result.certificate ≡ self.certificate }
+        ensures scts { result.scts ≡ self.scts }
+        ensures logs { result.logs ≡ self.logs }
+    {
+        VerificationPolicy {
+            identity: self.identity,
+            issuer: Some(issuer),
+            verify_tlog: self.verify_tlog,
+            certificate: self.certificate,
+            scts: self.scts,
+            logs: self.logs,
+        }
+    }
+
+    /// The same policy without the transparency log, so that a signature may never have been logged.
+    pub fn skip_tlog_unsafe(self) -> VerificationPolicy
+        ensures identity { result.identity ≡ self.identity }
+        ensures issuer { result.issuer ≡ self.issuer }
+        ensures log { result.verify_tlog ≡ false }
+        ensures certificate { result.certificate ≡ self.certificate }
+        ensures scts { result.scts ≡ self.scts }
+        ensures logs { result.logs ≡ self.logs }
+    {
+        VerificationPolicy {
+            identity: self.identity,
+            issuer: self.issuer,
+            verify_tlog: false,
+            certificate: self.certificate,
+            scts: self.scts,
+            logs: self.logs,
+        }
+    }
+
+    /// The same policy without the certificate's path, window and timestamp; the names are still asked for.
+    pub fn skip_certificate_chain(self) -> VerificationPolicy
+        ensures identity { result.identity ≡ self.identity }
+        ensures issuer { result.issuer ≡ self.issuer }
+        ensures log { result.verify_tlog ≡ self.verify_tlog }
+        ensures certificate { result.certificate ≡ Skip }
+        ensures scts { result.scts ≡ self.scts }
+        ensures logs { result.logs ≡ self.logs }
+    {
+        VerificationPolicy {
+            identity: self.identity,
+            issuer: self.issuer,
+            verify_tlog: self.verify_tlog,
+            certificate: CertificatePolicy::Skip,
+            scts: self.scts,
+            logs: self.logs,
+        }
+    }
+
+    /// The same policy without the timestamp of a log of certificates; one that verifies no path stays so.
+    pub fn skip_sct(self) -> VerificationPolicy
+        ensures identity { result.identity ≡ self.identity }
+        ensures issuer { result.issuer ≡ self.issuer }
+        ensures log { result.verify_tlog ≡ self.verify_tlog }
+        ensures certificate { result.certificate ≡ without_sct self.certificate }
+        ensures scts { result.scts ≡ self.scts }
+        ensures logs { result.logs ≡ self.logs }
+    {
+        VerificationPolicy {
+            identity: self.identity,
+            issuer: self.issuer,
+            verify_tlog: self.verify_tlog,
+            certificate: self.certificate.without_sct(),
+            scts: self.scts,
+            logs: self.logs,
+        }
+    }
+
+    /// The same policy with a number of different logs of certificates that have to have promised the certificate; where
+    /// that isn't verified, none has to.
+    pub fn require_scts(self, count: NonZeroU8) -> VerificationPolicy
+        ensures identity { result.identity ≡ self.identity }
+        ensures issuer { result.issuer ≡ self.issuer }
+        ensures log { result.verify_tlog ≡ self.verify_tlog }
+        ensures certificate { result.certificate ≡ self.certificate }
+        ensures scts { result.scts.value ≡ non_zero_u8_get count }
+        ensures logs { result.logs ≡ self.logs }
+    {
+        VerificationPolicy {
+            identity: self.identity,
+            issuer: self.issuer,
+            verify_tlog: self.verify_tlog,
+            certificate: self.certificate,
+            scts: LogThreshold::new(count),
+            logs: self.logs,
+        }
+    }
+
+    /// The same policy with a number of different transparency logs in which the entries have to stand; where the log
+    /// isn't verified, none has to.
+    pub fn require_logs(self, count: NonZeroU8) -> VerificationPolicy
+        ensures identity { result.identity ≡ self.identity }
+        ensures issuer { result.issuer ≡ self.issuer }
+        ensures log { result.verify_tlog ≡ self.verify_tlog }
+        ensures certificate { result.certificate ≡ self.certificate }
+        ensures scts { result.scts ≡ self.scts }
+        ensures logs { result.logs.value ≡ non_zero_u8_get count }
+    {
+        VerificationPolicy {
+            identity: self.identity,
+            issuer: self.issuer,
+            verify_tlog: self.verify_tlog,
+            certificate: self.certificate,
+            scts: self.scts,
+            logs: LogThreshold::new(count),
+        }
+    }
+
+    /// The identity that is asked for.
+    pub fn identity(&self) -> Option<&IdentityMatcher>
+        ensures { option_copied result ≡ self.now.identity }
+    {
+        self.identity.as_ref()
+    }
+
+    /// The issuer that is asked for.
+    pub fn issuer(&self) -> Option<&str>
+        ensures { option_copied result ≡ self.now.issuer }
+    {
+        match &self.issuer {
+            Some(issuer) => Some(issuer.as_str()),
+            None => None,
+        }
+    }
+
+    /// Whether the transparency log is verified.
+    pub fn verifies_tlog(&self) -> bool
+        ensures { result ≡ self.now.verify_tlog }
+    {
+        self.verify_tlog
+    }
+
+    /// What of the certificate is verified.
+    pub fn certificate(&self) -> &CertificatePolicy
+        ensures { result.now ≡ self.now.certificate }
+    {
+        &self.certificate
+    }
+
+    /// How many different logs of certificates have to have promised the certificate, where that is verified.
+    pub fn scts(&self) -> NonZeroU8
+        ensures { non_zero_u8_get result ≡ max 1 self.now.scts.value }
+    {
+        self.scts.get()
+    }
+
+    /// How many different transparency logs the entries have to stand in, where the log is verified.
+    pub fn logs(&self) -> NonZeroU8
+        ensures { non_zero_u8_get result ≡ max 1 self.now.logs.value }
+    {
+        self.logs.get()
+    }
+}

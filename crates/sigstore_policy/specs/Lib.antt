@@ -1,5 +1,0 @@
-pub mod Certificate
-pub mod Pattern
-pub mod Piece
-pub mod Policy
-pub mod PublicKey
