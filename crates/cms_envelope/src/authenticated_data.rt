@@ -7,7 +7,6 @@ ghost use Rattle.cms_envelope.specs.AuthenticatedData.{authenticated_tail, tail_
 use crate::enveloped_data::{OriginatorInfo, RecipientInfos};
 use cms_parts::content_info::CmsVersion;
 use cms_parts::signed_data::EncapsulatedContentInfo;
-use cms_parts::tags;
 use der_core::{
     Der, DerError, OctetString, Reader, Tag, append_implicit_optional, read_implicit_optional,
     read_value, tag,
@@ -46,7 +45,7 @@ fn append_tail(
     value.encap_content_info.encode_into(alloc, out)?;
     append_implicit_optional(
         alloc,
-        Tag(tags::CONSTRUCTED_2),
+        Tag(tag::CONSTRUCTED_2),
         Tag(tag::SET),
         &value.auth_attrs,
         out,
@@ -65,7 +64,7 @@ impl Der for AuthenticatedData {
     ghost grammar = { authenticated_data_type.grammar };
 
     fn accepts(tag: Tag) -> bool {
-        tag.0 == 48
+        tag.0 == tag::SEQUENCE
     }
 
     fn from_contents(
@@ -86,14 +85,14 @@ impl Der for AuthenticatedData {
             mac_alg: read_value(alloc, &mut reader)?,
             digest_alg: read_implicit_optional(
                 alloc,
-                Tag(tags::CONSTRUCTED_1),
+                Tag(tag::CONSTRUCTED_1),
                 Tag(tag::SEQUENCE),
                 &mut reader,
             )?,
             encap_content_info: read_value(alloc, &mut reader)?,
             auth_attrs: read_implicit_optional(
                 alloc,
-                Tag(tags::CONSTRUCTED_2),
+                Tag(tag::CONSTRUCTED_2),
                 Tag(tag::SET),
                 &mut reader,
             )?,
@@ -126,7 +125,7 @@ impl Der for AuthenticatedData {
         self.mac_alg.encode_into(alloc, &mut out)?;
         append_implicit_optional(
             alloc,
-            Tag(tags::CONSTRUCTED_1),
+            Tag(tag::CONSTRUCTED_1),
             Tag(tag::SEQUENCE),
             &self.digest_alg,
             &mut out,

@@ -20,7 +20,7 @@ impl Der for CompressedData {
     ghost grammar = { compressed_data_type.grammar };
 
     fn accepts(tag: Tag) -> bool {
-        tag.0 == 48
+        tag.0 == tag::SEQUENCE
     }
 
     fn from_contents(

@@ -24,7 +24,7 @@ impl Der for DigestedData {
     ghost grammar = { digested_data_type.grammar };
 
     fn accepts(tag: Tag) -> bool {
-        tag.0 == 48
+        tag.0 == tag::SEQUENCE
     }
 
     fn from_contents(alloc: Global, _tag: Tag, contents: &[u8]) -> Result<DigestedData, DerError> {

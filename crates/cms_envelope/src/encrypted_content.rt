@@ -1,7 +1,6 @@
 // Encrypted content.
 ghost use Rattle.cms_envelope.specs.EncryptedContent.{encrypted_content_info_type};
 
-use cms_parts::tags;
 use der_core::{
     Der, DerError, ObjectIdentifier, OctetString, Reader, Tag, append_implicit_optional,
     read_implicit_optional, read_value, tag,
@@ -23,7 +22,7 @@ impl Der for EncryptedContentInfo {
     ghost grammar = { encrypted_content_info_type.grammar };
 
     fn accepts(tag: Tag) -> bool {
-        tag.0 == 48
+        tag.0 == tag::SEQUENCE
     }
 
     fn from_contents(
@@ -37,7 +36,7 @@ impl Der for EncryptedContentInfo {
             content_enc_alg: read_value(alloc, &mut reader)?,
             encrypted_content: read_implicit_optional(
                 alloc,
-                Tag(tags::PRIMITIVE_0),
+                Tag(tag::PRIMITIVE_0),
                 Tag(tag::OCTET_STRING),
                 &mut reader,
             )?,
@@ -55,7 +54,7 @@ impl Der for EncryptedContentInfo {
         self.content_enc_alg.encode_into(alloc, &mut out)?;
         append_implicit_optional(
             alloc,
-            Tag(tags::PRIMITIVE_0),
+            Tag(tag::PRIMITIVE_0),
             Tag(tag::OCTET_STRING),
             &self.encrypted_content,
             &mut out,

@@ -3,7 +3,6 @@ ghost use Rattle.cms_envelope.specs.EncryptedData.{encrypted_data_type};
 
 use crate::encrypted_content::EncryptedContentInfo;
 use cms_parts::content_info::CmsVersion;
-use cms_parts::tags;
 use der_core::{
     Der, DerError, OctetString, Reader, Tag, append_implicit_optional, read_implicit_optional,
     read_value, tag,
@@ -24,7 +23,7 @@ impl Der for EncryptedData {
     ghost grammar = { encrypted_data_type.grammar };
 
     fn accepts(tag: Tag) -> bool {
-        tag.0 == 48
+        tag.0 == tag::SEQUENCE
     }
 
     fn from_contents(alloc: Global, _tag: Tag, contents: &[u8]) -> Result<EncryptedData, DerError> {
@@ -34,7 +33,7 @@ impl Der for EncryptedData {
             enc_content_info: read_value(alloc, &mut reader)?,
             unprotected_attrs: read_implicit_optional(
                 alloc,
-                Tag(tags::CONSTRUCTED_1),
+                Tag(tag::CONSTRUCTED_1),
                 Tag(tag::SET),
                 &mut reader,
             )?,
@@ -52,7 +51,7 @@ impl Der for EncryptedData {
         self.enc_content_info.encode_into(alloc, &mut out)?;
         append_implicit_optional(
             alloc,
-            Tag(tags::CONSTRUCTED_1),
+            Tag(tag::CONSTRUCTED_1),
             Tag(tag::SET),
             &self.unprotected_attrs,
             &mut out,

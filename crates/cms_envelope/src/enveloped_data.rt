@@ -14,7 +14,6 @@ pub use crate::key_transport::{EncryptedKey, KeyTransRecipientInfo, RecipientIde
 use cms_parts::content_info::CmsVersion;
 use cms_parts::revocation::RevocationInfoChoices;
 use cms_parts::signed_data::CertificateSet;
-use cms_parts::tags;
 use der_core::{
     Der, DerError, OctetString, Reader, SetOfVec, Tag, append_implicit_optional,
     read_implicit_optional, read_value, tag,
@@ -37,7 +36,7 @@ impl Der for EnvelopedData {
     ghost grammar = { enveloped_data_type.grammar };
 
     fn accepts(tag: Tag) -> bool {
-        tag.0 == 48
+        tag.0 == tag::SEQUENCE
     }
 
     fn from_contents(alloc: Global, _tag: Tag, contents: &[u8]) -> Result<EnvelopedData, DerError> {
@@ -54,7 +53,7 @@ impl Der for EnvelopedData {
             encrypted_content: read_value(alloc, &mut reader)?,
             unprotected_attrs: read_implicit_optional(
                 alloc,
-                Tag(tags::CONSTRUCTED_1),
+                Tag(tag::CONSTRUCTED_1),
                 Tag(tag::SET),
                 &mut reader,
             )?,
@@ -80,7 +79,7 @@ impl Der for EnvelopedData {
         self.encrypted_content.encode_into(alloc, &mut out)?;
         append_implicit_optional(
             alloc,
-            Tag(tags::CONSTRUCTED_1),
+            Tag(tag::CONSTRUCTED_1),
             Tag(tag::SET),
             &self.unprotected_attrs,
             &mut out,
@@ -114,7 +113,7 @@ impl Der for OriginatorInfo {
     ghost grammar = { originator_info_type.grammar };
 
     fn accepts(tag: Tag) -> bool {
-        tag.0 == 48
+        tag.0 == tag::SEQUENCE
     }
 
     fn from_contents(
@@ -132,7 +131,7 @@ impl Der for OriginatorInfo {
             )?,
             crls: read_implicit_optional(
                 alloc,
-                Tag(tags::CONSTRUCTED_1),
+                Tag(tag::CONSTRUCTED_1),
                 Tag(tag::SET),
                 &mut reader,
             )?,
@@ -155,7 +154,7 @@ impl Der for OriginatorInfo {
         )?;
         append_implicit_optional(
             alloc,
-            Tag(tags::CONSTRUCTED_1),
+            Tag(tag::CONSTRUCTED_1),
             Tag(tag::SET),
             &self.crls,
             &mut out,
@@ -183,7 +182,7 @@ impl Der for RecipientInfos {
     ghost grammar = { recipient_infos_type.grammar };
 
     fn accepts(tag: Tag) -> bool {
-        tag.0 == 49
+        tag.0 == tag::SET
     }
 
     fn from_contents(alloc: Global, tag: Tag, contents: &[u8]) -> Result<RecipientInfos, DerError> {
@@ -226,25 +225,29 @@ impl Der for RecipientInfo {
     ghost grammar = { recipient_info_type.grammar };
 
     fn accepts(tag: Tag) -> bool {
-        tag.0 == 48 || tag.0 == 161 || tag.0 == 162 || tag.0 == 163 || tag.0 == 164
+        tag.0 == tag::SEQUENCE
+            || tag.0 == tag::CONSTRUCTED_1
+            || tag.0 == tag::CONSTRUCTED_2
+            || tag.0 == tag::CONSTRUCTED_3
+            || tag.0 == tag::CONSTRUCTED_4
     }
 
     fn from_contents(alloc: Global, tag: Tag, contents: &[u8]) -> Result<RecipientInfo, DerError> {
-        if tag.0 == 48 {
+        if tag.0 == tag::SEQUENCE {
             Ok(RecipientInfo::Ktri(KeyTransRecipientInfo::from_contents(alloc, tag, contents)?))
-        } else if tag.0 == 161 {
+        } else if tag.0 == tag::CONSTRUCTED_1 {
             Ok(RecipientInfo::Kari(KeyAgreeRecipientInfo::from_contents(
                 alloc,
                 Tag(tag::SEQUENCE),
                 contents,
             )?))
-        } else if tag.0 == 162 {
+        } else if tag.0 == tag::CONSTRUCTED_2 {
             Ok(RecipientInfo::Kekri(KekRecipientInfo::from_contents(
                 alloc,
                 Tag(tag::SEQUENCE),
                 contents,
             )?))
-        } else if tag.0 == 163 {
+        } else if tag.0 == tag::CONSTRUCTED_3 {
             Ok(RecipientInfo::Pwri(PasswordRecipientInfo::from_contents(
                 alloc,
                 Tag(tag::SEQUENCE),
@@ -262,10 +265,10 @@ impl Der for RecipientInfo {
     fn tag(&self) -> Tag {
         match self {
             RecipientInfo::Ktri(_) => Tag(tag::SEQUENCE),
-            RecipientInfo::Kari(_) => Tag(tags::CONSTRUCTED_1),
-            RecipientInfo::Kekri(_) => Tag(tags::CONSTRUCTED_2),
+            RecipientInfo::Kari(_) => Tag(tag::CONSTRUCTED_1),
+            RecipientInfo::Kekri(_) => Tag(tag::CONSTRUCTED_2),
             RecipientInfo::Pwri(_) => Tag(tag::CONSTRUCTED_3),
-            RecipientInfo::Ori(_) => Tag(tags::CONSTRUCTED_4),
+            RecipientInfo::Ori(_) => Tag(tag::CONSTRUCTED_4),
         }
     }
 

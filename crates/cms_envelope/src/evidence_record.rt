@@ -3,7 +3,6 @@ ghost use Rattle.cms_envelope.specs.EvidenceRecord.{archive_time_stamp_type, enc
 
 use crate::tsd_version::TsdVersion;
 use cms_parts::content_info::ContentInfo;
-use cms_parts::tags;
 use der_core::{
     Any, Der, DerError, ObjectIdentifier, OctetString, Reader, Tag, append_explicit_optional,
     read_explicit_optional, read_value, tag,
@@ -38,7 +37,7 @@ impl Der for EvidenceRecord {
     ghost grammar = { evidence_record_type.grammar };
 
     fn accepts(tag: Tag) -> bool {
-        tag.0 == 48
+        tag.0 == tag::SEQUENCE
     }
 
     fn from_contents(
@@ -51,7 +50,7 @@ impl Der for EvidenceRecord {
             version: read_value(alloc, &mut reader)?,
             digest_algorithm: read_value(alloc, &mut reader)?,
             crypto_infos: read_explicit_optional(alloc, Tag(tag::CONSTRUCTED_0), &mut reader)?,
-            encryption_info: read_explicit_optional(alloc, Tag(tags::CONSTRUCTED_1), &mut reader)?,
+            encryption_info: read_explicit_optional(alloc, Tag(tag::CONSTRUCTED_1), &mut reader)?,
             archive_timestamp_sequence: read_value(alloc, &mut reader)?,
         };
         reader.end(value)
@@ -68,7 +67,7 @@ impl Der for EvidenceRecord {
         append_explicit_optional(alloc, Tag(tag::CONSTRUCTED_0), &self.crypto_infos, &mut out)?;
         append_explicit_optional(
             alloc,
-            Tag(tags::CONSTRUCTED_1),
+            Tag(tag::CONSTRUCTED_1),
             &self.encryption_info,
             &mut out,
         )?;
@@ -103,7 +102,7 @@ impl Der for EncryptionInfo {
     ghost grammar = { encryption_info_type.grammar };
 
     fn accepts(tag: Tag) -> bool {
-        tag.0 == 48
+        tag.0 == tag::SEQUENCE
     }
 
     fn from_contents(
@@ -155,7 +154,7 @@ impl Der for ArchiveTimeStamp {
     ghost grammar = { archive_time_stamp_type.grammar };
 
     fn accepts(tag: Tag) -> bool {
-        tag.0 == 48
+        tag.0 == tag::SEQUENCE
     }
 
     fn from_contents(
@@ -166,8 +165,8 @@ impl Der for ArchiveTimeStamp {
         let mut reader = Reader::new(contents);
         let value = ArchiveTimeStamp {
             digest_algorithm: read_explicit_optional(alloc, Tag(tag::CONSTRUCTED_0), &mut reader)?,
-            attributes: read_explicit_optional(alloc, Tag(tags::CONSTRUCTED_1), &mut reader)?,
-            reduced_hashtree: read_explicit_optional(alloc, Tag(tags::CONSTRUCTED_2), &mut reader)?,
+            attributes: read_explicit_optional(alloc, Tag(tag::CONSTRUCTED_1), &mut reader)?,
+            reduced_hashtree: read_explicit_optional(alloc, Tag(tag::CONSTRUCTED_2), &mut reader)?,
             time_stamp: read_value(alloc, &mut reader)?,
         };
         reader.end(value)
@@ -185,10 +184,10 @@ impl Der for ArchiveTimeStamp {
             &self.digest_algorithm,
             &mut out,
         )?;
-        append_explicit_optional(alloc, Tag(tags::CONSTRUCTED_1), &self.attributes, &mut out)?;
+        append_explicit_optional(alloc, Tag(tag::CONSTRUCTED_1), &self.attributes, &mut out)?;
         append_explicit_optional(
             alloc,
-            Tag(tags::CONSTRUCTED_2),
+            Tag(tag::CONSTRUCTED_2),
             &self.reduced_hashtree,
             &mut out,
         )?;

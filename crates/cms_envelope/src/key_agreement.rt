@@ -4,7 +4,6 @@ ghost use Rattle.cms_envelope.specs.KeyAgreement.{key_agree_recipient_identifier
 use crate::key_transport::EncryptedKey;
 use cms_parts::cert::IssuerAndSerialNumber;
 use cms_parts::content_info::CmsVersion;
-use cms_parts::tags;
 use der_core::{
     BitString, Der, DerError, GeneralizedTime, OctetString, Reader, Tag, append_explicit,
     append_explicit_optional, append_optional, read_explicit, read_explicit_optional,
@@ -34,7 +33,7 @@ impl Der for KeyAgreeRecipientInfo {
     ghost grammar = { key_agree_recipient_info_type.grammar };
 
     fn accepts(tag: Tag) -> bool {
-        tag.0 == 48
+        tag.0 == tag::SEQUENCE
     }
 
     fn from_contents(
@@ -46,7 +45,7 @@ impl Der for KeyAgreeRecipientInfo {
         let value = KeyAgreeRecipientInfo {
             version: read_value(alloc, &mut reader)?,
             originator: read_explicit(alloc, Tag(tag::CONSTRUCTED_0), &mut reader)?,
-            ukm: read_explicit_optional(alloc, Tag(tags::CONSTRUCTED_1), &mut reader)?,
+            ukm: read_explicit_optional(alloc, Tag(tag::CONSTRUCTED_1), &mut reader)?,
             key_enc_alg: read_value(alloc, &mut reader)?,
             recipient_enc_keys: read_value(alloc, &mut reader)?,
         };
@@ -61,7 +60,7 @@ impl Der for KeyAgreeRecipientInfo {
         let mut out = OctetString::empty(alloc);
         self.version.encode_into(alloc, &mut out)?;
         append_explicit(alloc, Tag(tag::CONSTRUCTED_0), &self.originator, &mut out)?;
-        append_explicit_optional(alloc, Tag(tags::CONSTRUCTED_1), &self.ukm, &mut out)?;
+        append_explicit_optional(alloc, Tag(tag::CONSTRUCTED_1), &self.ukm, &mut out)?;
         self.key_enc_alg.encode_into(alloc, &mut out)?;
         self.recipient_enc_keys.encode_into(alloc, &mut out)?;
         Ok(out)
@@ -96,7 +95,7 @@ impl Der for OriginatorIdentifierOrKey {
     ghost grammar = { originator_identifier_or_key_type.grammar };
 
     fn accepts(tag: Tag) -> bool {
-        tag.0 == 48 || tag.0 == 128 || tag.0 == 161
+        tag.0 == tag::SEQUENCE || tag.0 == tag::PRIMITIVE_0 || tag.0 == tag::CONSTRUCTED_1
     }
 
     fn from_contents(
@@ -104,11 +103,11 @@ impl Der for OriginatorIdentifierOrKey {
         tag: Tag,
         contents: &[u8],
     ) -> Result<OriginatorIdentifierOrKey, DerError> {
-        if tag.0 == 48 {
+        if tag.0 == tag::SEQUENCE {
             Ok(OriginatorIdentifierOrKey::IssuerAndSerialNumber(
                 IssuerAndSerialNumber::from_contents(alloc, tag, contents)?,
             ))
-        } else if tag.0 == 128 {
+        } else if tag.0 == tag::PRIMITIVE_0 {
             Ok(OriginatorIdentifierOrKey::SubjectKeyIdentifier(SubjectKeyIdentifier::from_contents(
                 alloc,
                 Tag(tag::OCTET_STRING),
@@ -126,8 +125,8 @@ impl Der for OriginatorIdentifierOrKey {
     fn tag(&self) -> Tag {
         match self {
             OriginatorIdentifierOrKey::IssuerAndSerialNumber(_) => Tag(tag::SEQUENCE),
-            OriginatorIdentifierOrKey::SubjectKeyIdentifier(_) => Tag(tags::PRIMITIVE_0),
-            OriginatorIdentifierOrKey::OriginatorKey(_) => Tag(tags::CONSTRUCTED_1),
+            OriginatorIdentifierOrKey::SubjectKeyIdentifier(_) => Tag(tag::PRIMITIVE_0),
+            OriginatorIdentifierOrKey::OriginatorKey(_) => Tag(tag::CONSTRUCTED_1),
         }
     }
 
@@ -169,7 +168,7 @@ impl Der for OriginatorPublicKey {
     ghost grammar = { originator_public_key_type.grammar };
 
     fn accepts(tag: Tag) -> bool {
-        tag.0 == 48
+        tag.0 == tag::SEQUENCE
     }
 
     fn from_contents(
@@ -219,7 +218,7 @@ impl Der for RecipientEncryptedKey {
     ghost grammar = { recipient_encrypted_key_type.grammar };
 
     fn accepts(tag: Tag) -> bool {
-        tag.0 == 48
+        tag.0 == tag::SEQUENCE
     }
 
     fn from_contents(
@@ -270,7 +269,7 @@ impl Der for KeyAgreeRecipientIdentifier {
     ghost grammar = { key_agree_recipient_identifier_type.grammar };
 
     fn accepts(tag: Tag) -> bool {
-        tag.0 == 48 || tag.0 == 160
+        tag.0 == tag::SEQUENCE || tag.0 == tag::CONSTRUCTED_0
     }
 
     fn from_contents(
@@ -278,7 +277,7 @@ impl Der for KeyAgreeRecipientIdentifier {
         tag: Tag,
         contents: &[u8],
     ) -> Result<KeyAgreeRecipientIdentifier, DerError> {
-        if tag.0 == 48 {
+        if tag.0 == tag::SEQUENCE {
             Ok(KeyAgreeRecipientIdentifier::IssuerAndSerialNumber(
                 IssuerAndSerialNumber::from_contents(alloc, tag, contents)?,
             ))
@@ -333,7 +332,7 @@ impl Der for RecipientKeyIdentifier {
     ghost grammar = { recipient_key_identifier_type.grammar };
 
     fn accepts(tag: Tag) -> bool {
-        tag.0 == 48
+        tag.0 == tag::SEQUENCE
     }
 
     fn from_contents(

@@ -25,7 +25,7 @@ impl Der for KekRecipientInfo {
     ghost grammar = { kek_recipient_info_type.grammar };
 
     fn accepts(tag: Tag) -> bool {
-        tag.0 == 48
+        tag.0 == tag::SEQUENCE
     }
 
     fn from_contents(
@@ -82,7 +82,7 @@ impl Der for KekIdentifier {
     ghost grammar = { kek_identifier_type.grammar };
 
     fn accepts(tag: Tag) -> bool {
-        tag.0 == 48
+        tag.0 == tag::SEQUENCE
     }
 
     fn from_contents(alloc: Global, _tag: Tag, contents: &[u8]) -> Result<KekIdentifier, DerError> {
@@ -133,7 +133,7 @@ impl Der for PasswordRecipientInfo {
     ghost grammar = { password_recipient_info_type.grammar };
 
     fn accepts(tag: Tag) -> bool {
-        tag.0 == 48
+        tag.0 == tag::SEQUENCE
     }
 
     fn from_contents(
@@ -200,7 +200,7 @@ impl Der for OtherRecipientInfo {
     ghost grammar = { other_recipient_info_type.grammar };
 
     fn accepts(tag: Tag) -> bool {
-        tag.0 == 48
+        tag.0 == tag::SEQUENCE
     }
 
     fn from_contents(

@@ -3,7 +3,6 @@ ghost use Rattle.cms_envelope.specs.KeyTransport.{key_trans_recipient_info_type,
 
 use cms_parts::cert::IssuerAndSerialNumber;
 use cms_parts::content_info::CmsVersion;
-use cms_parts::tags;
 use der_core::{Der, DerError, OctetString, Reader, Tag, read_value, tag};
 use foundation::{Duplicate, NoMemory};
 use std::alloc::Global;
@@ -25,7 +24,7 @@ impl Der for KeyTransRecipientInfo {
     ghost grammar = { key_trans_recipient_info_type.grammar };
 
     fn accepts(tag: Tag) -> bool {
-        tag.0 == 48
+        tag.0 == tag::SEQUENCE
     }
 
     fn from_contents(
@@ -82,7 +81,7 @@ impl Der for RecipientIdentifier {
     ghost grammar = { recipient_identifier_type.grammar };
 
     fn accepts(tag: Tag) -> bool {
-        tag.0 == 48 || tag.0 == 128
+        tag.0 == tag::SEQUENCE || tag.0 == tag::PRIMITIVE_0
     }
 
     fn from_contents(
@@ -90,7 +89,7 @@ impl Der for RecipientIdentifier {
         tag: Tag,
         contents: &[u8],
     ) -> Result<RecipientIdentifier, DerError> {
-        if tag.0 == 48 {
+        if tag.0 == tag::SEQUENCE {
             Ok(RecipientIdentifier::IssuerAndSerialNumber(IssuerAndSerialNumber::from_contents(
                 alloc, tag, contents,
             )?))
@@ -106,7 +105,7 @@ impl Der for RecipientIdentifier {
     fn tag(&self) -> Tag {
         match self {
             RecipientIdentifier::IssuerAndSerialNumber(_) => Tag(tag::SEQUENCE),
-            RecipientIdentifier::SubjectKeyIdentifier(_) => Tag(tags::PRIMITIVE_0),
+            RecipientIdentifier::SubjectKeyIdentifier(_) => Tag(tag::PRIMITIVE_0),
         }
     }
 

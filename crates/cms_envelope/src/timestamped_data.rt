@@ -7,7 +7,7 @@ pub use crate::evidence_record::{
 };
 pub use crate::tsd_version::TsdVersion;
 use cms_parts::content_info::ContentInfo;
-use cms_parts::{tags, whole_value};
+use cms_parts::whole_value;
 use der_core::{
     Any, Der, DerError, Ia5, ObjectIdentifier, OctetString, Reader, Tag, Utf8, append_optional,
     read_optional, read_value, tag,
@@ -36,7 +36,7 @@ impl Der for TimeStampedData {
     ghost grammar = { time_stamped_data_type.grammar };
 
     fn accepts(tag: Tag) -> bool {
-        tag.0 == 48
+        tag.0 == tag::SEQUENCE
     }
 
     fn from_contents(
@@ -98,7 +98,7 @@ impl Der for MetaData {
     ghost grammar = { meta_data_type.grammar };
 
     fn accepts(tag: Tag) -> bool {
-        tag.0 == 48
+        tag.0 == tag::SEQUENCE
     }
 
     fn from_contents(alloc: Global, _tag: Tag, contents: &[u8]) -> Result<MetaData, DerError> {
@@ -154,13 +154,13 @@ impl Der for Evidence {
     ghost grammar = { evidence_type.grammar };
 
     fn accepts(tag: Tag) -> bool {
-        tag.0 == 160 || tag.0 == 161 || tag.0 == 162
+        tag.0 == tag::CONSTRUCTED_0 || tag.0 == tag::CONSTRUCTED_1 || tag.0 == tag::CONSTRUCTED_2
     }
 
     fn from_contents(alloc: Global, tag: Tag, contents: &[u8]) -> Result<Evidence, DerError> {
-        if tag.0 == 160 {
+        if tag.0 == tag::CONSTRUCTED_0 {
             Ok(Evidence::TstEvidence(whole_value(alloc, contents)?))
-        } else if tag.0 == 161 {
+        } else if tag.0 == tag::CONSTRUCTED_1 {
             Ok(Evidence::ErsEvidence(whole_value(alloc, contents)?))
         } else {
             Ok(Evidence::OtherEvidence(whole_value(alloc, contents)?))
@@ -170,8 +170,8 @@ impl Der for Evidence {
     fn tag(&self) -> Tag {
         match self {
             Evidence::TstEvidence(_) => Tag(tag::CONSTRUCTED_0),
-            Evidence::ErsEvidence(_) => Tag(tags::CONSTRUCTED_1),
-            Evidence::OtherEvidence(_) => Tag(tags::CONSTRUCTED_2),
+            Evidence::ErsEvidence(_) => Tag(tag::CONSTRUCTED_1),
+            Evidence::OtherEvidence(_) => Tag(tag::CONSTRUCTED_2),
         }
     }
 
@@ -207,7 +207,7 @@ impl Der for TimeStampAndCrl {
     ghost grammar = { time_stamp_and_crl_type.grammar };
 
     fn accepts(tag: Tag) -> bool {
-        tag.0 == 48
+        tag.0 == tag::SEQUENCE
     }
 
     fn from_contents(
@@ -257,7 +257,7 @@ impl Der for OtherEvidence {
     ghost grammar = { other_evidence_type.grammar };
 
     fn accepts(tag: Tag) -> bool {
-        tag.0 == 48
+        tag.0 == tag::SEQUENCE
     }
 
     fn from_contents(alloc: Global, _tag: Tag, contents: &[u8]) -> Result<OtherEvidence, DerError> {

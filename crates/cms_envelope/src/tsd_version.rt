@@ -27,7 +27,7 @@ impl Der for TsdVersion {
     ghost grammar = { tsd_version_type.grammar };
 
     fn accepts(tag: Tag) -> bool {
-        tag.0 == 2
+        tag.0 == tag::INTEGER
     }
 
     fn from_contents(_alloc: Global, _tag: Tag, contents: &[u8]) -> Result<TsdVersion, DerError> {

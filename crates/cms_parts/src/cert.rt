@@ -20,7 +20,7 @@ impl Der for CertificateChoices {
     ghost grammar = { certificate_choices_type.grammar };
 
     fn accepts(tag: Tag) -> bool {
-        tag.0 == 48 || tag.0 == 163
+        tag.0 == tag::SEQUENCE || tag.0 == tag::CONSTRUCTED_3
     }
 
     fn from_contents(
@@ -28,7 +28,7 @@ impl Der for CertificateChoices {
         tag: Tag,
         contents: &[u8],
     ) -> Result<CertificateChoices, DerError> {
-        if tag.0 == 48 {
+        if tag.0 == tag::SEQUENCE {
             Ok(CertificateChoices::Certificate(Certificate::from_contents(alloc, tag, contents)?))
         } else {
             Ok(CertificateChoices::Other(whole_value(alloc, contents)?))
@@ -76,7 +76,7 @@ impl Der for OtherCertificateFormat {
     ghost grammar = { other_certificate_format_type.grammar };
 
     fn accepts(tag: Tag) -> bool {
-        tag.0 == 48
+        tag.0 == tag::SEQUENCE
     }
 
     fn from_contents(
@@ -126,7 +126,7 @@ impl Der for IssuerAndSerialNumber {
     ghost grammar = { issuer_and_serial_number_type.grammar };
 
     fn accepts(tag: Tag) -> bool {
-        tag.0 == 48
+        tag.0 == tag::SEQUENCE
     }
 
     fn from_contents(

@@ -41,7 +41,7 @@ impl Der for CmsVersion {
     ghost grammar = { version_type.grammar };
 
     fn accepts(tag: Tag) -> bool {
-        tag.0 == 2
+        tag.0 == tag::INTEGER
     }
 
     fn from_contents(_alloc: Global, _tag: Tag, contents: &[u8]) -> Result<CmsVersion, DerError> {
@@ -84,7 +84,7 @@ impl Der for ContentInfo {
     ghost grammar = { content_info_type.grammar };
 
     fn accepts(tag: Tag) -> bool {
-        tag.0 == 48
+        tag.0 == tag::SEQUENCE
     }
 
     fn from_contents(alloc: Global, _tag: Tag, contents: &[u8]) -> Result<ContentInfo, DerError> {

@@ -8,7 +8,6 @@ pub mod content_info;
 pub mod identifiers;
 pub mod revocation;
 pub mod signed_data;
-pub mod tags;
 mod values;
 mod whole;
 

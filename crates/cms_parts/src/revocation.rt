@@ -1,7 +1,6 @@
 // Revocation information.
 ghost use Rattle.cms_parts.specs.Revocation.{other_revocation_info_format_type, revocation_info_choice_type, revocation_info_choices_type};
 
-use crate::tags;
 use der_core::{Any, Der, DerError, OctetString, Reader, SetOfVec, Tag, read_value, tag};
 use foundation::{Duplicate, NoMemory};
 use std::alloc::Global;
@@ -15,7 +14,7 @@ impl Der for RevocationInfoChoices {
     ghost grammar = { revocation_info_choices_type.grammar };
 
     fn accepts(tag: Tag) -> bool {
-        tag.0 == 49
+        tag.0 == tag::SET
     }
 
     fn from_contents(
@@ -56,7 +55,7 @@ impl Der for RevocationInfoChoice {
     ghost grammar = { revocation_info_choice_type.grammar };
 
     fn accepts(tag: Tag) -> bool {
-        tag.0 == 48 || tag.0 == 161
+        tag.0 == tag::SEQUENCE || tag.0 == tag::CONSTRUCTED_1
     }
 
     fn from_contents(
@@ -64,7 +63,7 @@ impl Der for RevocationInfoChoice {
         tag: Tag,
         contents: &[u8],
     ) -> Result<RevocationInfoChoice, DerError> {
-        if tag.0 == 48 {
+        if tag.0 == tag::SEQUENCE {
             Ok(RevocationInfoChoice::Crl(CertificateList::from_contents(alloc, tag, contents)?))
         } else {
             Ok(RevocationInfoChoice::Other(OtherRevocationInfoFormat::from_contents(
@@ -78,7 +77,7 @@ impl Der for RevocationInfoChoice {
     fn tag(&self) -> Tag {
         match self {
             RevocationInfoChoice::Crl(_) => Tag(tag::SEQUENCE),
-            RevocationInfoChoice::Other(_) => Tag(tags::CONSTRUCTED_1),
+            RevocationInfoChoice::Other(_) => Tag(tag::CONSTRUCTED_1),
         }
     }
 
@@ -116,7 +115,7 @@ impl Der for OtherRevocationInfoFormat {
     ghost grammar = { other_revocation_info_format_type.grammar };
 
     fn accepts(tag: Tag) -> bool {
-        tag.0 == 48
+        tag.0 == tag::SEQUENCE
     }
 
     fn from_contents(

@@ -5,7 +5,6 @@ ghost use Rattle.cms_parts.specs.SignerInfo.{signer_identifier_type, signer_info
 use crate::cert::{CertificateChoices, IssuerAndSerialNumber};
 use crate::content_info::CmsVersion;
 use crate::revocation::RevocationInfoChoices;
-use crate::tags;
 use der_core::{
     Any, Der, DerError, ObjectIdentifier, OctetString, Reader, SetOfVec, Tag,
     append_explicit_optional, append_implicit_optional, read_explicit_optional,
@@ -42,7 +41,7 @@ impl Der for SignedData {
     ghost grammar = { signed_data_type.grammar };
 
     fn accepts(tag: Tag) -> bool {
-        tag.0 == 48
+        tag.0 == tag::SEQUENCE
     }
 
     fn from_contents(alloc: Global, _tag: Tag, contents: &[u8]) -> Result<SignedData, DerError> {
@@ -59,7 +58,7 @@ impl Der for SignedData {
             )?,
             crls: read_implicit_optional(
                 alloc,
-                Tag(tags::CONSTRUCTED_1),
+                Tag(tag::CONSTRUCTED_1),
                 Tag(tag::SET),
                 &mut reader,
             )?,
@@ -86,7 +85,7 @@ impl Der for SignedData {
         )?;
         append_implicit_optional(
             alloc,
-            Tag(tags::CONSTRUCTED_1),
+            Tag(tag::CONSTRUCTED_1),
             Tag(tag::SET),
             &self.crls,
             &mut out,
@@ -119,7 +118,7 @@ impl Der for CertificateSet {
     ghost grammar = { certificate_set_type.grammar };
 
     fn accepts(tag: Tag) -> bool {
-        tag.0 == 49
+        tag.0 == tag::SET
     }
 
     fn from_contents(alloc: Global, tag: Tag, contents: &[u8]) -> Result<CertificateSet, DerError> {
@@ -151,7 +150,7 @@ impl Der for SignerInfos {
     ghost grammar = { signer_infos_type.grammar };
 
     fn accepts(tag: Tag) -> bool {
-        tag.0 == 49
+        tag.0 == tag::SET
     }
 
     fn from_contents(alloc: Global, tag: Tag, contents: &[u8]) -> Result<SignerInfos, DerError> {
@@ -187,7 +186,7 @@ impl Der for EncapsulatedContentInfo {
     ghost grammar = { encapsulated_content_info_type.grammar };
 
     fn accepts(tag: Tag) -> bool {
-        tag.0 == 48
+        tag.0 == tag::SEQUENCE
     }
 
     fn from_contents(
@@ -242,7 +241,7 @@ impl Der for SignerInfo {
     ghost grammar = { signer_info_type.grammar };
 
     fn accepts(tag: Tag) -> bool {
-        tag.0 == 48
+        tag.0 == tag::SEQUENCE
     }
 
     fn from_contents(alloc: Global, _tag: Tag, contents: &[u8]) -> Result<SignerInfo, DerError> {
@@ -261,7 +260,7 @@ impl Der for SignerInfo {
             signature: read_value(alloc, &mut reader)?,
             unsigned_attrs: read_implicit_optional(
                 alloc,
-                Tag(tags::CONSTRUCTED_1),
+                Tag(tag::CONSTRUCTED_1),
                 Tag(tag::SET),
                 &mut reader,
             )?,
@@ -289,7 +288,7 @@ impl Der for SignerInfo {
         self.signature.encode_into(alloc, &mut out)?;
         append_implicit_optional(
             alloc,
-            Tag(tags::CONSTRUCTED_1),
+            Tag(tag::CONSTRUCTED_1),
             Tag(tag::SET),
             &self.unsigned_attrs,
             &mut out,
@@ -326,7 +325,7 @@ impl Der for SignerIdentifier {
     ghost grammar = { signer_identifier_type.grammar };
 
     fn accepts(tag: Tag) -> bool {
-        tag.0 == 48 || tag.0 == 128
+        tag.0 == tag::SEQUENCE || tag.0 == tag::PRIMITIVE_0
     }
 
     fn from_contents(
@@ -334,7 +333,7 @@ impl Der for SignerIdentifier {
         tag: Tag,
         contents: &[u8],
     ) -> Result<SignerIdentifier, DerError> {
-        if tag.0 == 48 {
+        if tag.0 == tag::SEQUENCE {
             Ok(SignerIdentifier::IssuerAndSerialNumber(IssuerAndSerialNumber::from_contents(
                 alloc, tag, contents,
             )?))
@@ -350,7 +349,7 @@ impl Der for SignerIdentifier {
     fn tag(&self) -> Tag {
         match self {
             SignerIdentifier::IssuerAndSerialNumber(_) => Tag(tag::SEQUENCE),
-            SignerIdentifier::SubjectKeyIdentifier(_) => Tag(tags::PRIMITIVE_0),
+            SignerIdentifier::SubjectKeyIdentifier(_) => Tag(tag::PRIMITIVE_0),
         }
     }
 

@@ -13,7 +13,7 @@ impl Der for bool {
     ghost grammar = { boolean_type.grammar };
 
     fn accepts(tag: Tag) -> bool {
-        tag.0 == 1
+        tag.0 == tag::BOOLEAN
     }
 
     fn from_contents(_alloc: Global, _tag: Tag, contents: &[u8]) -> Result<bool, DerError> {

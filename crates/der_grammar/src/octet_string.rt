@@ -96,7 +96,7 @@ impl Der for OctetString {
     ghost grammar = { octet_string_type.grammar };
 
     fn accepts(tag: Tag) -> bool {
-        tag.0 == 4
+        tag.0 == tag::OCTET_STRING
     }
 
     fn from_contents(alloc: Global, _tag: Tag, contents: &[u8]) -> Result<OctetString, DerError> {

@@ -149,7 +149,7 @@ impl<T: Der> Der for SetOfVec<T> {
     ghost grammar = { set_of T.grammar };
 
     fn accepts(tag: Tag) -> bool {
-        tag.0 == 49
+        tag.0 == tag::SET
     }
 
     fn from_contents(alloc: Global, _tag: Tag, contents: &[u8]) -> Result<SetOfVec<T>, DerError> {
@@ -207,7 +207,7 @@ impl<T: Der> Der for Sequence<T> {
     ghost grammar = { sequence_of T.grammar };
 
     fn accepts(tag: Tag) -> bool {
-        tag.0 == 48
+        tag.0 == tag::SEQUENCE
     }
 
     fn from_contents(alloc: Global, _tag: Tag, contents: &[u8]) -> Result<Sequence<T>, DerError> {

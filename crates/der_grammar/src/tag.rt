@@ -24,8 +24,16 @@ pub const SEQUENCE: u8 = 48;
 pub const SET: u8 = 49;
 /// `[0]` of a type that holds others, or EXPLICIT.
 pub const CONSTRUCTED_0: u8 = 160;
+/// `[1]` of a type that holds others, or EXPLICIT.
+pub const CONSTRUCTED_1: u8 = 161;
+/// `[2]` of a type that holds others, or EXPLICIT.
+pub const CONSTRUCTED_2: u8 = 162;
 /// `[3]` of a type that holds others, or EXPLICIT.
 pub const CONSTRUCTED_3: u8 = 163;
+/// `[4]` of a type that holds others, or EXPLICIT.
+pub const CONSTRUCTED_4: u8 = 164;
+/// `[0]` IMPLICIT of a type that holds no others.
+pub const PRIMITIVE_0: u8 = 128;
 /// `[1]` IMPLICIT of a type that holds no others.
 pub const PRIMITIVE_1: u8 = 129;
 /// `[6]` IMPLICIT of a type that holds no others.

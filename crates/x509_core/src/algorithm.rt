@@ -19,7 +19,7 @@ impl Der for AlgorithmIdentifierOwned {
     ghost grammar = { algorithm_type.grammar };
 
     fn accepts(tag: Tag) -> bool {
-        tag.0 == 48
+        tag.0 == tag::SEQUENCE
     }
 
     fn from_contents(

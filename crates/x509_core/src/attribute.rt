@@ -21,7 +21,7 @@ impl Der for Attribute {
     ghost grammar = { attribute_type.grammar };
 
     fn accepts(tag: Tag) -> bool {
-        tag.0 == 48
+        tag.0 == tag::SEQUENCE
     }
 
     fn from_contents(alloc: Global, _tag: Tag, contents: &[u8]) -> Result<Attribute, DerError> {

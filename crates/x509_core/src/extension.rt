@@ -20,7 +20,7 @@ impl Der for Extension {
     ghost grammar = { extension_type.grammar };
 
     fn accepts(tag: Tag) -> bool {
-        tag.0 == 48
+        tag.0 == tag::SEQUENCE
     }
 
     fn from_contents(alloc: Global, _tag: Tag, contents: &[u8]) -> Result<Extension, DerError> {

@@ -21,13 +21,13 @@ impl Der for GeneralName {
     ghost grammar = { general_name_type.grammar };
 
     fn accepts(tag: Tag) -> bool {
-        tag.0 == 129 || tag.0 == 134 || OtherName::accepts(tag)
+        tag.0 == tag::PRIMITIVE_1 || tag.0 == tag::PRIMITIVE_6 || OtherName::accepts(tag)
     }
 
     fn from_contents(alloc: Global, tag: Tag, contents: &[u8]) -> Result<GeneralName, DerError> {
-        if tag.0 == 129 {
+        if tag.0 == tag::PRIMITIVE_1 {
             Ok(GeneralName::Rfc822Name(Ia5::from_contents(alloc, Tag(tag::IA5), contents)?))
-        } else if tag.0 == 134 {
+        } else if tag.0 == tag::PRIMITIVE_6 {
             Ok(GeneralName::Uri(Ia5::from_contents(alloc, Tag(tag::IA5), contents)?))
         } else {
             Ok(GeneralName::Other(OtherName::from_contents(alloc, tag, contents)?))

@@ -16,11 +16,11 @@ impl Der for Time {
     ghost grammar = { time_type.grammar };
 
     fn accepts(tag: Tag) -> bool {
-        tag.0 == 23 || tag.0 == 24
+        tag.0 == tag::UTC_TIME || tag.0 == tag::GENERALIZED_TIME
     }
 
     fn from_contents(alloc: Global, tag: Tag, contents: &[u8]) -> Result<Time, DerError> {
-        if tag.0 == 23 {
+        if tag.0 == tag::UTC_TIME {
             Ok(Time::Utc(UtcTime::from_contents(alloc, tag, contents)?))
         } else {
             Ok(Time::General(GeneralizedTime::from_contents(alloc, tag, contents)?))
