@@ -35,9 +35,9 @@ fn name_in(tag: Tag, contents: &[u8]) -> Result<Option<FoundName>, DerError>
     ensures ok { IfOk result (λ name. shown_of (general_name_type.grammar.value tag.0 contents.now) ≡ Ok (said name)) }
     ensures err { IfErr result (λ e. general_name_type.grammar.value tag.0 contents.now ≡ Err e) }
 {
-    if tag.0 == 129 {
+    if tag.0 == tag::PRIMITIVE_1 {
         Ok(Some(FoundName::Email(ascii_text(contents)?)))
-    } else if tag.0 == 134 {
+    } else if tag.0 == tag::PRIMITIVE_6 {
         Ok(Some(FoundName::Uri(ascii_text(contents)?)))
     } else {
         Ok(None)

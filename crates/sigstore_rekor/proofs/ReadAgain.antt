@@ -1,24 +1,29 @@
 -- The bodies of requests are read as their values.
 use Rattle.std.proofs.Common.{◌≡◌, ℕ, ◌≤◌, List, [], ◌∷◌, ◌++◌, Some, refl, sym, ap, ◌∙◌, append_assoc, append-nil, rules, arith}
-use Rattle.std.specs.Prelude.{codes, Option, option_and_then}
+use Rattle.std.specs.Prelude.{codes, false, Option, option_and_then}
 use Rattle.json.specs.Token.{Token}
 use Rattle.hex.specs.Hex.{encode_lower, IsBytes}
 use Rattle.json.specs.Json as json
 use Rattle.json.specs.Lex.{tokens}
-use Rattle.json.specs.Print.{escape, quoted, ArePrintable}
+use Rattle.json.specs.Print.{quoted, ArePrintable}
 use Rattle.json.specs.Tree as tree
 use Rattle.json.proofs.OnLiterals.{json_on_literals}
 use Rattle.json.proofs.Printed.Tokens.{tokens-print}
-use Rattle.serde_json.specs.Data.{Data, string}
+use Rattle.serde_json.specs.Data.{Data, string, array}
 use Rattle.serde_json.specs.Read.{read, max_depth, of_json}
-use Rattle.serde_json.specs.Written.{outline}
+use Rattle.serde_json.specs.View.{items_of}
+use Rattle.serde_json.specs.Written.{outline, compact_text, has_float}
 use Rattle.serde_json.proofs.Texts.{print-outline}
 use Rattle.json.proofs.Printed.Trees.{value-json_tokens}
+use Rattle.sigstore_types_parts.specs.declared.member.TypesMember.TheVariants as m
+use Rattle.sigstore_entries.specs.Writing.{octets_data, some_text, object_of}
+use Rattle.sigstore_envelopes.specs.declared.envelope.DsseEnvelope.{DsseEnvelope}
+use Rattle.sigstore_envelopes.specs.Written.{envelope_data, signature_data}
 use Rattle.sigstore_rekor_parts.specs.Members.{key_details_name_of}
 use Rattle.sigstore_rekor_parts.specs.declared.key_details.RekorV2KeyDetails.{RekorV2KeyDetails}
 use Rattle.sigstore_rekor_parts.specs.declared.key_details.RekorV2KeyDetails.TheVariants.{PkixEcdsaP256Sha256}
-use Rattle.sigstore_rekor.specs.Written.{base64, keyid_text, envelope_written, hashed_rekord_written, dsse_written, verifier_text_of, hashed_rekord_v2_written}
-use Rattle.sigstore_rekor.specs.ReadAgain.{holding, envelope_data, hashed_rekord_data, dsse_data, hashed_rekord_v2_data, sort_of, der_of, search_value}
+use Rattle.sigstore_rekor.specs.Written.{base64, envelope_text_of, hashed_rekord_written, dsse_written, verifier_text_of, hashed_rekord_v2_written}
+use Rattle.sigstore_rekor.specs.ReadAgain.{holding, hashed_rekord_data, dsse_data, hashed_rekord_v2_data, sort_of, der_of, search_value}
 use Rattle.sigstore_rekor.specs.ReadAgain.{EnvelopesAreRead, HashedRekordsAreRead, DsseEntriesAreRead, HashedRekordsV2AreRead, SearchesAreRead}
 use Rattle.sigstore_rekor.specs.declared.hashed_rekord_v2.VerifierV2.{VerifierV2}
 use Rattle.sigstore_rekor.specs.declared.hashed_rekord_v2.VerifierV2.TheVariants.{Certificate, PublicKey}
@@ -124,33 +129,37 @@ hashed_rekords_v2 entry h s k =
 
 -- ---- an envelope
 
-envelope_text : (payload payload_type keyid sig : List ℕ) → IsPlain payload → IsPlain sig
-    → envelope_written payload (quoted payload_type) (keyid_text keyid) sig ≡ text_before (envelope_data payload payload_type keyid sig) []
-unfolding json_on_literals
-envelope_text payload payload_type [] sig p q =
-    ap (λ t. codes "{\"payload\":\"" ++ (payload ++ (codes "\",\"payloadType\":" ++ t)))
-    (quoted_before payload_type (codes ",\"signatures\":[{" ++ (codes "\"sig\":\"" ++ (sig ++ codes "\"}]}"))))
-    ∙ rw (p, q)
-envelope_text payload payload_type (c ∷ cs) sig p q =
-    let behind = codes "\"sig\":\"" ++ (sig ++ codes "\"}]}") in
-    let keyid = append_assoc (codes "\"keyid\":") (quoted (c ∷ cs) ++ codes ",") behind
-    ∙ ap (λ t. codes "\"keyid\":" ++ t) (append_assoc (quoted (c ∷ cs)) (codes ",") behind ∙ quoted_before (c ∷ cs) (codes "," ++ behind)) in
-    ap (λ t. codes "{\"payload\":\"" ++ (payload ++ (codes "\",\"payloadType\":" ++ t)))
-    (quoted_before payload_type _ ∙ ap (λ t. 34 ∷ (escape payload_type ++ (34 ∷ (codes ",\"signatures\":[{" ++ t)))) keyid)
-    ∙ rw (p, q)
+-- the value by its parts
+abbrev value_by : List ℕ → List ℕ → List ℕ → List ℕ → Data
+value_by payload payload_type keyid sig =
+    object_of ((m.Payload, Some (octets_data payload)) ∷ (m.PayloadType, Some (string payload_type))
+    ∷ (m.Signatures, Some (array (items_of (object_of ((m.SignatureKeyid, some_text keyid) ∷ (m.Sig, Some (octets_data sig)) ∷ []) ∷ [])))) ∷ [])
 
-envelope_read : (payload payload_type keyid sig : List ℕ) → IsPlain payload → IsPlain sig
-    → read (envelope_written payload (quoted payload_type) (keyid_text keyid) sig) ≡ Some (envelope_data payload payload_type keyid sig)
-unfolding ArePrintable
-envelope_read payload payload_type [] sig p q =
-    again (envelope_data payload payload_type [] sig) _ (envelope_text payload payload_type [] sig p q) (search rules) refl (omega arith)
-envelope_read payload payload_type (c ∷ cs) sig p q =
-    again (envelope_data payload payload_type (c ∷ cs) sig) _ (envelope_text payload payload_type (c ∷ cs) sig p q) (search rules) refl (omega arith)
+no_float_by : (payload payload_type keyid sig : List ℕ) → has_float (value_by payload payload_type keyid sig) ≡ false
+unfolding json_on_literals
+no_float_by payload payload_type [] sig = refl
+no_float_by payload payload_type (c ∷ cs) sig = refl
+
+no_float : (envelope : DsseEnvelope) → has_float (envelope_data envelope) ≡ false
+unfolding envelope_data signature_data
+no_float envelope = no_float_by envelope.payload envelope.payload_type envelope.signature.keyid.text envelope.signature.sig
+
+-- the text of a value that is the envelope's
+pub text_is : (envelope : DsseEnvelope) (v : Data) (s : List ℕ) → v ≡ envelope_data envelope → (has_float v ≡ false → s ≡ compact_text v)
+    → s ≡ envelope_text_of envelope
+text_is envelope v s same written = written (ap has_float same ∙ no_float envelope) ∙ ap compact_text same
+
+envelope_read : (payload payload_type keyid sig : List ℕ)
+    → read (compact_text (value_by payload payload_type keyid sig)) ≡ Some (value_by payload payload_type keyid sig)
+unfolding ArePrintable json_on_literals
+envelope_read payload payload_type [] sig =
+    again (value_by payload payload_type [] sig) _ (sym (whole_text (value_by payload payload_type [] sig))) (search rules) refl (omega arith)
+envelope_read payload payload_type (c ∷ cs) sig =
+    again (value_by payload payload_type (c ∷ cs) sig) _ (sym (whole_text (value_by payload payload_type (c ∷ cs) sig))) (search rules) refl (omega arith)
 
 pub envelopes : EnvelopesAreRead
-envelopes envelope p s =
-    envelope_read (base64 envelope.payload) envelope.payload_type envelope.signature.keyid.text (base64 envelope.signature.sig)
-    (plain_base64 envelope.payload p) (plain_base64 envelope.signature.sig s)
+unfolding envelope_data signature_data
+envelopes envelope = envelope_read envelope.payload envelope.payload_type envelope.signature.keyid.text envelope.signature.sig
 
 -- ---- searches
 

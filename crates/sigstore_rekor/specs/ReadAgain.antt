@@ -1,8 +1,9 @@
 -- What the bodies of requests are as JSON values (RFC 8259), and the law that they are read as these.
-use Rattle.std.specs.Prelude.{◌≡◌, ℕ, List, [], ◌∷◌, ◌++◌, codes, Some}
+use Rattle.std.specs.Prelude.{◌≡◌, ℕ, List, ◌++◌, codes, Some}
 use Rattle.hex.specs.Hex.{encode_lower, IsBytes}
-use Rattle.serde_json.specs.Data.{Data, string, array, object, no_items, item, Members, no_members, member}
+use Rattle.serde_json.specs.Data.{Data, string, array, object, no_items, item, no_members, member}
 use Rattle.serde_json.specs.Read.{read}
+use Rattle.sigstore_envelopes.specs.Written.{envelope_data}
 use Rattle.sigstore_envelopes.specs.declared.envelope.DsseEnvelope.{DsseEnvelope}
 use Rattle.sigstore_rekor_parts.specs.Members.{key_details_name_of}
 use Rattle.sigstore_rekor.specs.Written.{base64, envelope_text_of, hashed_rekord_text_of, dsse_text_of, hashed_rekord_v2_text_of, search_text_of}
@@ -17,22 +18,6 @@ use Rattle.sigstore_rekor.specs.declared.queries.SearchIndex.TheVariants.{ByHash
 -- an object of one member
 abbrev pub holding : List ℕ → Data → Data
 holding name d = object (member name d no_members)
-
--- ---- an envelope: its payload, the type, the name of a key, and the signature
-
--- the empty name is left out
-abbrev pub signature_members : List ℕ → List ℕ → Members
-signature_members [] sig = member (codes "sig") (string sig) no_members
-signature_members (c ∷ cs) sig = member (codes "keyid") (string (c ∷ cs)) (member (codes "sig") (string sig) no_members)
-
-abbrev pub envelope_data : List ℕ → List ℕ → List ℕ → List ℕ → Data
-envelope_data payload payload_type keyid sig =
-    object (member (codes "payload") (string payload) (member (codes "payloadType") (string payload_type)
-    (member (codes "signatures") (array (item (object (signature_members keyid sig)) no_items)) no_members)))
-
-abbrev pub envelope_value : DsseEnvelope → Data
-envelope_value envelope =
-    envelope_data (base64 envelope.payload) envelope.payload_type envelope.signature.keyid.text (base64 envelope.signature.sig)
 
 -- ---- entries of version 0.0.1
 
@@ -94,8 +79,7 @@ search_value (ByEmail email) = holding (codes "email") (string email)
 -- ---- the law: bodies whose parts are octets are read as these values
 
 abbrev pub EnvelopesAreRead : Type 0
-EnvelopesAreRead = (envelope : DsseEnvelope) → IsBytes envelope.payload → IsBytes envelope.signature.sig
-    → read (envelope_text_of envelope) ≡ Some (envelope_value envelope)
+EnvelopesAreRead = (envelope : DsseEnvelope) → read (envelope_text_of envelope) ≡ Some (envelope_data envelope)
 
 abbrev pub HashedRekordsAreRead : Type 0
 HashedRekordsAreRead = (entry : HashedRekord) → IsBytes entry.hash → IsBytes entry.signature → IsBytes entry.public_key

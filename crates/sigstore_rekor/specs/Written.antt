@@ -1,9 +1,11 @@
 -- The bodies of requests: JSON without blanks, with the members of each object in ascending order.
-use Rattle.std.specs.Prelude.{ℕ, List, [], ◌∷◌, ◌++◌, codes}
+use Rattle.std.specs.Prelude.{ℕ, List, ◌++◌, codes}
 use Rattle.base64.specs.Engines.{standard}
 use Rattle.base64.specs.GeneralPurpose.{encode_of}
 use Rattle.hex.specs.Hex.{encode_lower}
 use Rattle.json.specs.Print.{quoted}
+use Rattle.serde_json.specs.Written.{compact_text}
+use Rattle.sigstore_envelopes.specs.Written.{envelope_data}
 use Rattle.sigstore_envelopes.specs.declared.envelope.DsseEnvelope.{DsseEnvelope}
 use Rattle.sigstore_rekor_parts.specs.Members.{key_details_name_of}
 use Rattle.sigstore_rekor.specs.declared.hashed_rekord.HashedRekord.{HashedRekord}
@@ -19,20 +21,9 @@ base64 octets = encode_of standard octets
 
 -- ---- an envelope (DSSE, envelope.md)
 
--- the empty name is left out
-abbrev pub keyid_text : List ℕ → List ℕ
-keyid_text [] = []
-keyid_text (c ∷ cs) = codes "\"keyid\":" ++ (quoted (c ∷ cs) ++ codes ",")
-
-abbrev pub envelope_written : List ℕ → List ℕ → List ℕ → List ℕ → List ℕ
-envelope_written payload payload_type keyid sig =
-    codes "{\"payload\":\"" ++ (payload ++ (codes "\",\"payloadType\":" ++ (payload_type
-    ++ (codes ",\"signatures\":[{" ++ (keyid ++ (codes "\"sig\":\"" ++ (sig ++ codes "\"}]}")))))))
-
+-- the JSON text of its value
 abbrev pub envelope_text_of : DsseEnvelope → List ℕ
-envelope_text_of envelope =
-    envelope_written (base64 envelope.payload) (quoted envelope.payload_type) (keyid_text envelope.signature.keyid.text)
-    (base64 envelope.signature.sig)
+envelope_text_of envelope = compact_text (envelope_data envelope)
 
 -- ---- entries of version 0.0.1 (Rekor, "pluggable types")
 

@@ -3,7 +3,7 @@ ghost use Rattle.std.specs.Prelude.{◌≡◌, string_bytes, IfOk};
 ghost use Rattle.base64.specs.Engines.{standard};
 ghost use Rattle.base64.specs.GeneralPurpose.{encode_of};
 ghost use Rattle.json.specs.Print.{quoted};
-ghost use Rattle.sigstore_rekor.specs.Written.{keyid_text, envelope_written, envelope_text_of, hashed_rekord_written, hashed_rekord_text_of};
+ghost use Rattle.sigstore_rekor.specs.Written.{envelope_text_of, hashed_rekord_written, hashed_rekord_text_of};
 ghost use Rattle.sigstore_rekor.specs.Written.{dsse_written, dsse_text_of, verifier_text_of, hashed_rekord_v2_written, hashed_rekord_v2_text_of, search_text_of};
 
 use crate::dsse_entry::DsseEntry;
@@ -13,6 +13,7 @@ use crate::queries::SearchIndex;
 use base64::engine::general_purpose::STANDARD;
 use foundation::NoMemory;
 use serde_json::Value;
+use sigstore_entries::ToValue;
 use sigstore_envelopes::DsseEnvelope;
 use sigstore_types_parts::Text;
 use std::alloc::Global;
@@ -25,48 +26,12 @@ fn quoted(alloc: Global, text: &str) -> Result<String, NoMemory>
     Ok(value.to_string(alloc)?)
 }
 
-// The member of a key's name, unless that is empty.
-fn keyid_text(alloc: Global, name: &str) -> Result<String, NoMemory>
-    ensures { IfOk result (λ text. string_bytes text ≡ keyid_text name.now) }
-{
-    if name.is_empty() {
-        return Ok(String::new(alloc));
-    }
-    let name = quoted(alloc, name)?;
-    Ok(format!(in alloc; "\"keyid\":{name},")?)
-}
-
-fn envelope_written(
-    alloc: Global,
-    payload: &str,
-    payload_type: &str,
-    keyid: &str,
-    sig: &str,
-) -> Result<String, NoMemory>
-    ensures { IfOk result
-        (λ text. string_bytes text ≡ envelope_written payload.now payload_type.now keyid.now sig.now) }
-{
-    Ok(format!(in alloc;
-        "{{\"payload\":\"{payload}\",\"payloadType\":{payload_type},\"signatures\":[{{{keyid}\"sig\":\"{sig}\"}}]}}"
-    )?)
-}
-
 /// An envelope as a JSON text.
 pub(crate) fn envelope_text(alloc: Global, envelope: &DsseEnvelope) -> Result<Text, NoMemory>
     ensures { IfOk result (λ text. text ≡ envelope_text_of envelope.now) }
 {
-    let payload = envelope.payload.to_base64(alloc)?;
-    let payload_type = quoted(alloc, envelope.payload_type.as_str())?;
-    let keyid = keyid_text(alloc, envelope.signature.keyid.as_str())?;
-    let sig = envelope.signature.sig.to_base64(alloc)?;
-    let text = envelope_written(
-        alloc,
-        payload.as_str(),
-        payload_type.as_str(),
-        keyid.as_str(),
-        sig.as_str(),
-    )?;
-    Ok(Text::from_string(text))
+    let value = envelope.to_value(alloc)?;
+    Ok(Text::from_string(value.to_string(alloc)?))
 }
 
 fn hashed_rekord_written(

@@ -46,13 +46,6 @@ impl Json {
             value: value.clone()?,
         })
     }
-
-    /// The value.
-    pub fn as_value(&self) -> &Value
-        ensures { data_of result.now ≡ self.now }
-    {
-        &self.value
-    }
 }
 
 impl Duplicate for Json {

@@ -46,6 +46,9 @@ fn fields<X: AllocGlobal + Abort>(rt: &X, error: &TileError) -> String {
         TileError::TileAbsent { level, index } => {
             good(rt, format!(in rt.alloc(); " {level} {index}"))
         }
+        TileError::IndexOutOfTree { index, size } => {
+            good(rt, format!(in rt.alloc(); " {index} {size}"))
+        }
         _ => string(rt, ""),
     }
 }
