@@ -2,6 +2,7 @@
 use Rattle.std.specs.Prelude.{ℕ, List, Bool, Option}
 use Rattle.sigstore_types_parts.specs.declared.armor.Armor as armor
 use Rattle.sigstore_keys.specs.declared.provider.CryptoProvider as provider
+use Rattle.sigstore_keys.specs.declared.providers.Providers as declared
 use Rattle.sigstore_keys.specs.Good.{Judge}
 
 -- which signatures are good; which texts are armoured, and what each holds in DER: a key (SubjectPublicKeyInfo) or a certificate
@@ -20,3 +21,7 @@ crypto_by provider armor p a = record {
   key_in = armor.key_in a;
   certificate_in = armor.certificate_in a;
 }
+
+-- those of both, handed on together
+abbrev pub crypto_with : {C M : Type 0} → provider.Ghosts C → armor.Ghosts M → declared.Providers C M → Crypto
+crypto_with provider armor both = crypto_by provider armor both.provider.now both.armor.now
