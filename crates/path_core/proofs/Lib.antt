@@ -7,3 +7,4 @@ pub mod Judging
 pub mod Pairs
 pub mod Room
 pub mod FirstPath
+pub mod Counting

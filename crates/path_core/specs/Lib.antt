@@ -1,5 +1,6 @@
 pub mod Anchors
 pub mod CaConstraint
+pub mod Counts
 pub mod Error
 pub mod Extensions
 pub mod Judged

@@ -5,11 +5,12 @@ use Rattle.std.specs.List.{list_any}
 use Rattle.std.specs.Option.{option_map, option_or, option_map_or}
 use Rattle.sigstore_keys.specs.Good.{Judge}
 use Rattle.path_core.specs.declared.given.PathInputs.{PathInputs}
+use Rattle.path_core.specs.declared.request.PathRequest.{PathRequest}
 use Rattle.path_core.specs.declared.route.Route.{Route}
 use Rattle.path_core.specs.declared.way.Way.{Way}
 use Rattle.path_core.specs.Anchors.{opens}
 use Rattle.path_core.specs.Links.{links}
-use Rattle.path_core.specs.Paths.{Encoding, Setting}
+use Rattle.path_core.specs.Paths.{Encoding, Setting, setting}
 use Rattle.path_core.specs.Traits.{fits}
 
 abbrev pub setting_of : {C : Type 0} → (C → Judge) → PathInputs C → Setting
@@ -21,6 +22,10 @@ setting_of accepts given = record {
   intermediates = given.intermediates.now;
   anchors = given.anchors.now;
 }
+
+abbrev pub setting_for : {C : Type 0} → (C → Judge) → PathRequest C → Setting
+setting_for accepts request =
+    setting (accepts request.provider.now) request.leaf.now request.intermediates.now request.anchors.now request.purpose request.at
 
 -- a source is an intermediate by its position, or the leaf from their number on
 abbrev pub source_at : Setting → ℕ → Encoding

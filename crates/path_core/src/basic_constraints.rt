@@ -20,7 +20,7 @@ impl Der for BasicConstraints {
     ghost grammar = { basic_constraints_type.grammar };
 
     fn accepts(tag: Tag) -> bool {
-        tag.0 == 48
+        tag.0 == tag::SEQUENCE
     }
 
     fn from_contents(

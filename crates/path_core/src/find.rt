@@ -1,30 +1,30 @@
 // The search for the first path.
-ghost use Rattle.std.specs.Prelude.{◌≡◌, ◌≢◌, ℕ, ◌+◌, ◌*◌, ◌≤◌, [], ◌∷◌, IfOk, IfErr, Ok, Err, length, option_copied};
+ghost use Rattle.std.specs.Prelude.{◌≡◌, ◌≢◌, ◌+◌, ◌-◌, ◌*◌, ◌^◌, ◌≤◌, [], ◌∷◌, IfOk, IfErr, Ok, Err, length, option_copied};
 ghost use Rattle.path_core.specs.declared.error.PathError.TheVariants as paths;
 ghost use Rattle.path_core.specs.declared.error.LeafFault.{LeafFault};
 ghost use Rattle.path_core.specs.declared.route.Route.{Route};
-ghost use Rattle.path_core.specs.Judged.{AreRight, Keeps};
+ghost use Rattle.path_core.specs.Counts.{Counts};
+ghost use Rattle.path_core.specs.Judged.{AreRight, Keeps, Decides};
 ghost use Rattle.path_core.specs.Level.{IsLevel};
 ghost use Rattle.path_core.specs.Path.{path_of};
-ghost use Rattle.path_core.specs.Paths.{IsPath, First, IsFound, setting, follows_leaf, spki_at};
+ghost use Rattle.path_core.specs.Paths.{First, IsFound, route_of, follows_leaf, spki_at};
 ghost use Rattle.path_core.specs.Refusal.{Refuses};
-ghost use Rattle.path_core.specs.Search.{setting_of};
+ghost use Rattle.path_core.specs.Search.{setting_of, setting_for};
 ghost use Rattle.path_core.specs.Traits.{leaf_of};
 
-use crate::anchor::Anchor;
 use crate::error::PathError;
 use crate::given::PathInputs;
 use crate::judgements::Judgements;
 use crate::level::{Level, first_end, next_level};
 use crate::purpose::Purpose;
+use crate::request::PathRequest;
 use crate::route::{FoundPath, Route};
 use crate::seen::{Seen, read, read_anchors, read_each};
 use crate::steps::Steps;
 use crate::way::Way;
 use foundation::{NoMemory, Sequence};
-use jiff::Timestamp;
 use sigstore_keys::CryptoProvider;
-use sigstore_types_parts::{Bytes, DerCertificate};
+use sigstore_types_parts::Bytes;
 use std::alloc::Global;
 
 // The level of the leaf alone.
@@ -48,8 +48,8 @@ fn search<C: CryptoProvider>(
 ) -> Result<Route, PathError>
     requires right { AreRight (setting_of C.accepts given.now) made.old }
     requires leaf { leaf_of given.now.purpose given.now.leaf.now ≡ Ok tt }
-    ensures first { IfOk result (First (setting_of C.accepts given.now)) }
-    ensures refused { IfErr result (Refuses (setting_of C.accepts given.now)) }
+    ensures first { IfOk result (λ p. Decides (setting_of C.accepts given.now) made.new (λ v. First v p)) }
+    ensures refused { IfErr result (λ e. Decides (setting_of C.accepts given.now) made.new (λ v. Refuses v e)) }
     ensures keeps { Keeps (setting_of C.accepts given.now) made.old made.new }
 {
     let mut level = first_level(alloc, given.intermediates.len())?;
@@ -99,8 +99,8 @@ fn found<C: CryptoProvider>(
     given: &PathInputs<C>,
     route: Route,
 ) -> Result<FoundPath, PathError>
-    requires first { First (setting_of C.accepts given.now) route }
-    ensures ok { IfOk result (IsFound (setting_of C.accepts given.now)) }
+    ensures route { IfOk result (λ p. route_of p ≡ route) }
+    ensures key { IfOk result (λ p. p.issuer_spki ≡ spki_at (follows_leaf (setting_of C.accepts given.now) p.positions p.anchor)) }
     ensures err { IfErr result (λ e. e ≡ paths.NoMemory) }
 {
     let issuer_spki = issuer_spki(alloc, given, &route)?;
@@ -112,22 +112,43 @@ fn found<C: CryptoProvider>(
     })
 }
 
-// The search from no judgement on.
-fn search_anew<C: CryptoProvider>(
+// The first path, over judgements that are kept.
+fn seek_over<C: CryptoProvider>(
     alloc: Global,
     given: &PathInputs<C>,
-    steps: &mut Steps,
-) -> Result<Route, PathError>
+    made: &mut Judgements,
+) -> Result<FoundPath, PathError>
+    requires right { AreRight (setting_of C.accepts given.now) made.old }
     requires leaf { leaf_of given.now.purpose given.now.leaf.now ≡ Ok tt }
-    ensures first { IfOk result (First (setting_of C.accepts given.now)) }
-    ensures refused { IfErr result (Refuses (setting_of C.accepts given.now)) }
+    ensures ok { IfOk result (λ p. Decides (setting_of C.accepts given.now) made.new (λ v. IsFound v p)) }
+    ensures err { IfErr result (λ e. Decides (setting_of C.accepts given.now) made.new (λ v. Refuses v e)) }
+    ensures keeps { Keeps (setting_of C.accepts given.now) made.old made.new }
+{
+    let route = search(alloc, given, made)?;
+    Ok(found(alloc, given, route)?)
+}
+
+// The same from no judgement on, with the count that was there.
+fn seek_anew<C: CryptoProvider>(
+    alloc: Global,
+    given: &PathInputs<C>,
+    begun: Steps,
+    steps: &mut Steps,
+) -> Result<FoundPath, PathError>
+    requires begun { begun ≡ steps.old }
+    requires fits { begun ≤ 2 ^ 128 - 1 }
+    requires leaf { leaf_of given.now.purpose given.now.leaf.now ≡ Ok tt }
+    ensures ok { IfOk result (IsFound (setting_of C.accepts given.now)) }
+    ensures err { IfErr result (Refuses (setting_of C.accepts given.now)) }
     ensures cost { steps.new ≤ steps.old + (length given.now.intermediates.now + 1) * (length given.now.intermediates.now + length given.now.anchors.now) }
     ensures rises { steps.old ≤ steps.new }
+    ensures counted { Counts (setting_of C.accepts given.now) steps.old steps.new result }
 {
-    let mut made = Judgements::new(alloc, steps.copied());
-    let found = search(alloc, given, &mut made);
-    *steps = made.steps.copied();
-    found
+    let mut made = Judgements::new(alloc, begun);
+    let answer = seek_over(alloc, given, &mut made);
+    let counted = made.steps.copied();
+    *steps = counted;
+    answer
 }
 
 // A leaf's own properties come first: without them no path is sought.
@@ -142,70 +163,59 @@ fn check_leaf(leaf: &Seen, purpose: Purpose) -> Result<(), PathError>
 }
 
 // Each certificate is read once, and then the search.
+#[tactic(auto, using(crate::proofs::Counting::none_counted))]
 fn seek<C: CryptoProvider>(
     alloc: Global,
-    provider: &C,
-    leaf: &DerCertificate,
-    intermediates: &[DerCertificate],
-    anchors: &[Anchor],
-    purpose: Purpose,
-    at: Timestamp,
+    request: &PathRequest<C>,
     steps: &mut Steps,
 ) -> Result<FoundPath, PathError>
-    ensures ok { IfOk result (IsFound (setting (C.accepts provider.now) leaf.now intermediates.now anchors.now purpose at)) }
-    ensures err { IfErr result (Refuses (setting (C.accepts provider.now) leaf.now intermediates.now anchors.now purpose at)) }
-    ensures cost { steps.new ≤ steps.old + (length intermediates.now + 1) * (length intermediates.now + length anchors.now) }
+    ensures ok { IfOk result (IsFound (setting_for C.accepts request.now)) }
+    ensures err { IfErr result (Refuses (setting_for C.accepts request.now)) }
+    ensures cost { steps.new ≤
+        steps.old + (length request.now.intermediates.now + 1) * (length request.now.intermediates.now + length request.now.anchors.now) }
     ensures rises { steps.old ≤ steps.new }
+    ensures counted { Counts (setting_for C.accepts request.now) steps.old steps.new result }
 {
-    let leaf = read(alloc, leaf.as_bytes())?;
-    check_leaf(&leaf, purpose)?;
-    let intermediates = read_each(alloc, intermediates)?;
-    let anchors = read_anchors(alloc, anchors)?;
+    let begun = steps.copied();
+    let leaf = read(alloc, request.leaf.as_bytes())?;
+    check_leaf(&leaf, request.purpose)?;
+    let intermediates = read_each(alloc, request.intermediates)?;
+    let anchors = read_anchors(alloc, request.anchors)?;
     let given = PathInputs {
-        provider,
+        provider: request.provider,
         leaf: &leaf,
         intermediates: intermediates.as_slice(),
         anchors: anchors.as_slice(),
-        purpose,
-        at,
+        purpose: request.purpose,
+        at: request.at,
     };
-    let route = search_anew(alloc, &given, steps)?;
-    Ok(found(alloc, &given, route)?)
+    match seek_anew(alloc, &given, begun, steps) {
+        Ok(found) => Ok(found),
+        Err(e) => Err(e),
+    }
 }
 
 /// The first path from the leaf over intermediates to an anchor (RFC 5280, section 6), for a purpose at a
 /// moment: the least by the number of intermediates, then by their positions, then by the anchor's. Each
-/// certificate is read once, and `steps`, the count of judgements, never falls and grows by at most one for each
-/// pair of certificates.
+/// certificate is read once, and `steps`, the count of judgements, grows by one for each pair that was judged,
+/// none of them twice.
 /// Errors, in order: `Leaf` with the first property that the leaf lacks; `NoPath` where there is none.
 #[tactic(auto, using(crate::proofs::FirstPath::refused_is))]
 pub fn find_path<C: CryptoProvider>(
     alloc: Global,
-    provider: &C,
-    leaf: &DerCertificate,
-    intermediates: &[DerCertificate],
-    anchors: &[Anchor],
-    purpose: Purpose,
-    at: Timestamp,
+    request: &PathRequest<C>,
     steps: &mut Steps,
 ) -> Result<FoundPath, PathError>
-    ensures ok { IfOk result (IsFound (setting (C.accepts provider.now) leaf.now intermediates.now anchors.now purpose at)) }
-    ensures err { IfErr result (Refuses (setting (C.accepts provider.now) leaf.now intermediates.now anchors.now purpose at)) }
-    ensures cost { steps.new ≤ steps.old + (length intermediates.now + 1) * (length intermediates.now + length anchors.now) }
+    ensures ok { IfOk result (IsFound (setting_for C.accepts request.now)) }
+    ensures err { IfErr result (Refuses (setting_for C.accepts request.now)) }
+    ensures cost { steps.new ≤
+        steps.old + (length request.now.intermediates.now + 1) * (length request.now.intermediates.now + length request.now.anchors.now) }
     ensures rises { steps.old ≤ steps.new }
-    ensures path { IfOk result (λ p. path_of (setting (C.accepts provider.now) leaf.now intermediates.now anchors.now purpose at) ≡ Ok p) }
-    ensures refusal { IfErr result (λ e. e ≢ PathError.NoMemory → path_of (setting (C.accepts provider.now) leaf.now intermediates.now anchors.now purpose at) ≡ Err e) }
+    ensures counted { Counts (setting_for C.accepts request.now) steps.old steps.new result }
+    ensures path { IfOk result (λ p. path_of (setting_for C.accepts request.now) ≡ Ok p) }
+    ensures refusal { IfErr result (λ e. e ≢ PathError.NoMemory → path_of (setting_for C.accepts request.now) ≡ Err e) }
 {
-    match seek(
-        alloc,
-        provider,
-        leaf,
-        intermediates,
-        anchors,
-        purpose,
-        at,
-        steps,
-    ) {
+    match seek(alloc, request, steps) {
         Ok(found) => Ok(found),
         Err(refusal) => Err(refusal),
     }

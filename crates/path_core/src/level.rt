@@ -2,7 +2,7 @@
 ghost use Rattle.std.specs.Prelude.{◌≡◌, [], ℕ, suc, ◌+◌, ◌<◌, ◌≤◌, All, IfOk, OnOk, length};
 ghost use Rattle.std.specs.Option.{option_or};
 ghost use Rattle.path_core.specs.Search.{setting_of, goes, ends, over, over_ways, over_next, extended};
-ghost use Rattle.path_core.specs.Judged.{AreRight, Keeps};
+ghost use Rattle.path_core.specs.Judged.{AreRight, Keeps, Decides};
 ghost use Rattle.path_core.specs.Level.{IsLevel, Adds};
 
 use crate::given::PathInputs;
@@ -43,7 +43,7 @@ fn is_end<C: CryptoProvider>(
     requires right { AreRight (setting_of C.accepts given.now) made.old }
     requires source { source ≤ length given.now.intermediates.now }
     requires anchor { a < length given.now.anchors.now }
-    ensures value { IfOk result (λ yes. yes ≡ ends (setting_of C.accepts given.now) source a) }
+    ensures value { IfOk result (λ yes. Decides (setting_of C.accepts given.now) made.new (λ v. yes ≡ ends v source a)) }
     ensures keeps { Keeps (setting_of C.accepts given.now) made.old made.new }
 {
     if !given.anchors[a].is_open(given.at) {
@@ -63,7 +63,7 @@ fn is_next<C: CryptoProvider>(
     requires right { AreRight (setting_of C.accepts given.now) made.old }
     requires source { source ≤ length given.now.intermediates.now }
     requires position { position < length given.now.intermediates.now }
-    ensures value { IfOk result (λ yes. yes ≡ goes (setting_of C.accepts given.now) below source position) }
+    ensures value { IfOk result (λ yes. Decides (setting_of C.accepts given.now) made.new (λ v. yes ≡ goes v below source position)) }
     ensures keeps { Keeps (setting_of C.accepts given.now) made.old made.new }
 {
     if !given.intermediates[position].is_fit(given.purpose, given.at, below) {
@@ -81,7 +81,7 @@ fn first_anchor<C: CryptoProvider>(
 ) -> Result<Option<Route>, NoMemory>
     requires right { AreRight (setting_of C.accepts given.now) made.old }
     requires source { way.now.source ≤ length given.now.intermediates.now }
-    ensures found { IfOk result (λ found. (below : ℕ) → found ≡ over (setting_of C.accepts given.now) 0 below way.now) }
+    ensures found { IfOk result (λ found. Decides (setting_of C.accepts given.now) made.new (λ v. (below : ℕ) → found ≡ over v 0 below way.now)) }
     ensures keeps { Keeps (setting_of C.accepts given.now) made.old made.new }
 {
     'anchors: for a in 0..given.anchors.len() {
@@ -104,7 +104,8 @@ pub(crate) fn first_end<C: CryptoProvider>(
 ) -> Result<Option<Route>, NoMemory>
     requires right { AreRight (setting_of C.accepts given.now) made.old }
     requires level { IsLevel (length given.now.intermediates.now) level.now }
-    ensures found { IfOk result (λ found. (below : ℕ) → found ≡ over_ways (setting_of C.accepts given.now) 0 below level.now.ways.items) }
+    ensures found { IfOk result (λ found. Decides (setting_of C.accepts given.now) made.new (λ v.
+        (below : ℕ) → found ≡ over_ways v 0 below level.now.ways.items)) }
     ensures keeps { Keeps (setting_of C.accepts given.now) made.old made.new }
 {
     'ways: for way in &level.ways {
@@ -142,7 +143,8 @@ fn add_over<C: CryptoProvider>(
     requires next { IsLevel (length given.now.intermediates.now) next.old }
     requires position { position < length given.now.intermediates.now }
     ensures next { IsLevel (length given.now.intermediates.now) next.new }
-    ensures added { OnOk result ((r : ℕ) → Adds (setting_of C.accepts given.now) r (below + 1) next.old.ways.items next.new.ways.items (over_next (setting_of C.accepts given.now) r below way.now position)) }
+    ensures added { OnOk result (Decides (setting_of C.accepts given.now) made.new (λ v.
+        (r : ℕ) → Adds v r (below + 1) next.old.ways.items next.new.ways.items (over_next v r below way.now position))) }
     ensures keeps { Keeps (setting_of C.accepts given.now) made.old made.new }
 {
     if next.reached[position] {
@@ -168,7 +170,8 @@ fn add_all<C: CryptoProvider>(
     requires source { way.now.source ≤ length given.now.intermediates.now }
     requires next { IsLevel (length given.now.intermediates.now) next.old }
     ensures next { IsLevel (length given.now.intermediates.now) next.new }
-    ensures added { OnOk result ((r : ℕ) → Adds (setting_of C.accepts given.now) r (below + 1) next.old.ways.items next.new.ways.items (over (setting_of C.accepts given.now) (suc r) below way.now)) }
+    ensures added { OnOk result (Decides (setting_of C.accepts given.now) made.new (λ v.
+        (r : ℕ) → Adds v r (below + 1) next.old.ways.items next.new.ways.items (over v (suc r) below way.now))) }
     ensures keeps { Keeps (setting_of C.accepts given.now) made.old made.new }
 {
     'positions: for position in 0..given.intermediates.len() {
@@ -188,7 +191,8 @@ pub(crate) fn next_level<C: CryptoProvider>(
     requires right { AreRight (setting_of C.accepts given.now) made.old }
     requires level { IsLevel (length given.now.intermediates.now) level.now }
     ensures level { IfOk result (IsLevel (length given.now.intermediates.now)) }
-    ensures next { IfOk result (λ next. (r : ℕ) → over_ways (setting_of C.accepts given.now) r (below + 1) next.ways.items ≡ over_ways (setting_of C.accepts given.now) (suc r) below level.now.ways.items) }
+    ensures next { IfOk result (λ next. Decides (setting_of C.accepts given.now) made.new (λ v.
+        (r : ℕ) → over_ways v r (below + 1) next.ways.items ≡ over_ways v (suc r) below level.now.ways.items)) }
     ensures keeps { Keeps (setting_of C.accepts given.now) made.old made.new }
 {
     let mut next = Level::new(alloc, given.intermediates.len())?;

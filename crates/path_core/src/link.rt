@@ -1,5 +1,5 @@
 // Whether one certificate was issued by the next.
-ghost use Rattle.std.specs.Prelude.{◌≡◌, option_copied};
+ghost use Rattle.std.specs.Prelude.{◌≡◌, ◌+◌, ◌-◌, ◌^◌, ◌≤◌, min, option_copied};
 ghost use Rattle.spki_core.specs.Spki.{spki_view_of};
 ghost use Rattle.spki_core.specs.Views.{spki_parts};
 ghost use Rattle.x509_views.specs.Views.{certificate_parts};
@@ -8,6 +8,7 @@ ghost use Rattle.path_core.specs.Links.{is_pair, scheme_of, good_under, is_signe
 ghost use Rattle.path_core.specs.Seen.{IsKey};
 
 use crate::seen::Seen;
+use crate::steps::Steps;
 use sigstore_keys::{
     CryptoProvider, SignatureAlgorithm, SigningScheme, validate_raw_public_key,
     webpki_verification_algs,
@@ -85,11 +86,18 @@ fn is_issued<C: CryptoProvider>(
     }
 }
 
-/// Whether both were read and the second issued the first.
+/// Whether both were read and the second issued the first: one step each time.
 #[tactic(auto, unfolding(crate::specs::Links::links))]
-pub(crate) fn is_linked<C: CryptoProvider>(provider: &C, signed: &Seen, issuer: &Seen) -> bool
-    ensures { result ≡ links (C.accepts provider.now) signed.now issuer.now }
+pub(crate) fn is_linked<C: CryptoProvider>(
+    provider: &C,
+    signed: &Seen,
+    issuer: &Seen,
+    steps: &mut Steps,
+) -> bool
+    ensures value { result ≡ links (C.accepts provider.now) signed.now issuer.now }
+    ensures ticks { steps.new ≡ min (steps.old + 1) (2 ^ 128 - 1) }
 {
+    steps.tick();
     match (signed.facts(), issuer.facts()) {
         (Some(signed), Some(issuer)) => {
             is_issued(provider, &signed.view, &issuer.view, issuer.key.as_ref())

@@ -34,9 +34,11 @@ impl Steps {
 
     /// The same count.
     pub(crate) fn copied(&self) -> Steps
-        ensures { result ≡ self.now }
+        ensures same { result ≡ self.now }
+        ensures fits { result ≤ 2 ^ 128 - 1 }
     {
-        Steps { made: self.made }
+        let made = self.count();
+        Steps { made }
     }
 
     /// One more.

@@ -7,7 +7,7 @@ use crate::paths;
 use crate::signatures::SIGNATURES;
 use command_files::{Tables, read_provider};
 use jiff::Timestamp;
-use path_core::{Anchor, FoundPath, PathError, Purpose, Steps, find_path};
+use path_core::{Anchor, FoundPath, PathError, PathRequest, Purpose, Steps, find_path};
 use sigstore_types_parts::{DerCertificate, DerPublicKey, TimeRange};
 use std::fmt::{Debug, Display};
 use std::process::Abort;
@@ -247,17 +247,16 @@ fn found<X: AllocGlobal + Abort>(
     let (leaf, time) = (certificate(rt, leaf), moment(rt, at));
     let (intermediates, anchors) = parts;
     let provider = CountingProvider::new(&tables.provider);
-    let mut steps = Steps::new();
-    let found = find_path(
-        rt.alloc(),
-        &provider,
-        &leaf,
+    let request = PathRequest {
+        provider: &provider,
+        leaf: &leaf,
         intermediates,
         anchors,
-        purpose(purpose_word),
-        time,
-        &mut steps,
-    );
+        purpose: purpose(purpose_word),
+        at: time,
+    };
+    let mut steps = Steps::new();
+    let found = find_path(rt.alloc(), &request, &mut steps);
     drop(leaf);
     if counts {
         drop(found);

@@ -1,6 +1,6 @@
 use Rattle.std.proofs.Common.{◌≡◌, ℕ, ◌+◌, ◌<◌, length, None}
 use Rattle.path_core.specs.Search.{setting_of, best, over_ways}
-use Rattle.path_core.specs.Judged.{Keeps}
+use Rattle.path_core.specs.Judged.{Keeps, Decides}
 use Rattle.path_core.specs.Level.{IsLevel}
 use Rattle.path_core.proofs.find.search.Given as goal
 
@@ -11,5 +11,5 @@ invariant-levels g l =
     let n = length l.given.intermediates.now in
     Keeps w l.initial.made l.made
     × IsLevel n l.level
-    × ((r : ℕ) → over_ways w r l.below l.level.ways.items ≡ best w (l.below + r) 0 n)
-    × ((c : ℕ) → c < l.below → best w c 0 n ≡ None)
+    × Decides w l.made (λ v. (r : ℕ) → over_ways v r l.below l.level.ways.items ≡ best v (l.below + r) 0 n)
+    × Decides w l.made (λ v. (c : ℕ) → c < l.below → best v c 0 n ≡ None)

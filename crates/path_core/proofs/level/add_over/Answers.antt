@@ -2,17 +2,18 @@ use Rattle.std.proofs.Common.{◌≡◌, ◌<◌, ◌≤◌, length, set, All, t
 use Rattle.std.proofs.lemmas.List.{get_or_read, length-set}
 use Rattle.std.proofs.lemmas.List.Elements.{All-push}
 use Rattle.path_core.specs.declared.way.Way.{Way}
+use Rattle.path_core.specs.Counts.{under}
 use Rattle.path_core.specs.Search.{setting_of, AreCovered}
 use Rattle.path_core.proofs.Levels.{adds_none, adds_way, covered_push}
 use Rattle.path_core.proofs.level.add_over.Goals as goal
 
 pub returns-then-index-clause-added : goal.returns-then-index-clause-added
-returns-then-index-clause-added g c = λ r.
+returns-then-index-clause-added g c = λ judge agrees r.
     let next = c.args.next.now in
     let marks = c.requires.next.marks in
     let position = c.requires.position in
     let within : c.args.position < length next.reached.items = omega arith in
-    adds_none (setting_of g.C.CryptoProvider.accepts c.args.given.now) r c.args.below c.args.position next.ways.items c.args.way.now
+    adds_none (under (setting_of g.C.CryptoProvider.accepts c.args.given.now) judge) r c.args.below c.args.position next.ways.items c.args.way.now
     (c.requires.next.covered c.args.position (sym (get_or_read next.reached.items c.args.position c.index.result.now within c.index.ensures false) ∙ c.if-index.true))
 
 pub returns-in_ok-push-clause-next : goal.returns-in_ok-push-clause-next
@@ -29,7 +30,7 @@ returns-in_ok-push-clause-next g c =
     }
 
 pub returns-in_ok-push-clause-added : goal.returns-in_ok-push-clause-added
-returns-in_ok-push-clause-added g c = λ r.
-    let w = setting_of g.C.CryptoProvider.accepts c.args.given.now in
-    adds_way w r c.args.below c.args.position c.args.next.now.ways.items c.args.way.now c.push.new.self.items c.in_ok-longer.field-0
-    (sym c.in_ok-is_next.ensures.value ∙ c.if-branch.true) c.in_ok-push.ensures.items c.in_ok-longer.ensures
+returns-in_ok-push-clause-added g c = λ judge agrees r.
+    let v = under (setting_of g.C.CryptoProvider.accepts c.args.given.now) judge in
+    adds_way v r c.args.below c.args.position c.args.next.now.ways.items c.args.way.now c.push.new.self.items c.in_ok-longer.field-0
+    (sym (c.in_ok-is_next.ensures.value judge agrees) ∙ c.if-branch.true) c.in_ok-push.ensures.items c.in_ok-longer.ensures
