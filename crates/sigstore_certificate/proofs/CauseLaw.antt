@@ -26,19 +26,19 @@ use Rattle.path_core.specs.Paths.{Setting, setting}
 use Rattle.path_core.specs.Refusal.{Refuses}
 use Rattle.path_core.specs.Traits.{leaf_of, leaf_read}
 use Rattle.path_core.proofs.FirstPath.{refused_means}
-use Rattle.sigstore_certificate.specs.declared.policy.CertificatePolicy.{CertificatePolicy}
-use Rattle.sigstore_certificate.specs.declared.policy.CertificatePolicy.TheVariants.{Skip, Verify}
-use Rattle.sigstore_certificate.specs.declared.policy.IdentityMatcher.{IdentityMatcher}
-use Rattle.sigstore_certificate.specs.declared.policy.VerificationPolicy.{VerificationPolicy}
+use Rattle.sigstore_policy.specs.declared.certificate.CertificatePolicy.{CertificatePolicy}
+use Rattle.sigstore_policy.specs.declared.certificate.CertificatePolicy.TheVariants.{Skip, Verify}
+use Rattle.sigstore_policy.specs.declared.certificate.IdentityMatcher.{IdentityMatcher}
+use Rattle.sigstore_policy.specs.declared.certificate.VerificationPolicy.{VerificationPolicy}
 use Rattle.sigstore_certificate.specs.declared.error.SctRule.{SctRule}
 use Rattle.sigstore_certificate.specs.declared.error.SctRule.TheVariants as rule
 use Rattle.sigstore_certificate.specs.declared.error.CertificateRefusal.{CertificateRefusal}
 use Rattle.sigstore_certificate.specs.declared.error.CertificateRefusal.TheVariants as refusal
 use Rattle.sigstore_certificate.specs.Cause.{IsNoLeaf, LacksAuthority, LacksPath, IsEarly, IsLate, no_extension, unread, HasKnown, no_part, no_length, HasTooFew, SctCause, LacksLog, Cause, Refusals}
-use Rattle.sigstore_certificate.specs.Certified.{Trust, has_authority, authority_judged, window_judged, issued_at, at_each, issued_at_each, parts_read, leaf_scts_judged, scts_asked, chain_verified, chain_judged, certified_of}
+use Rattle.sigstore_certificate.specs.Certified.{Trust, has_authority, authority_judged, window_judged, issued_at, some_time_judged, at_each, issued_at_each, parts_read, leaf_scts_judged, scts_asked, chain_verified, chain_judged, certified_of}
 use Rattle.sigstore_certificate.specs.Error.{refusal_of_path, by_path}
 use Rattle.sigstore_certificate.specs.Names.{is_matched, identity_judged, is_text, issuer_judged, names_judged}
-use Rattle.sigstore_certificate.specs.Policy.{verifies_chain, verifies_sct}
+use Rattle.sigstore_policy.specs.Certificate.{verifies_chain, verifies_sct}
 use Rattle.sigstore_certificate.specs.Scts.{refused_by, scts_in, listed, scts_of, scheme_of, has_scheme, some_scheme, is_of_logs, some_log, written, signed_part_of, is_good_sct, promising_logs, enough_logs, scts_judged}
 use Rattle.sigstore_certificate.proofs.NamesLaw.{passes}
 use Rattle.sigstore_certificate.proofs.Among.{among_from_any, any_from_among}
@@ -251,6 +251,7 @@ module _ (t : Trust) (info : CertificateInfo) (leaf_der : List ℕ) (intermediat
     wider : (e : CertificateRefusal) → IsTrue (verifies_chain policy.certificate) → TimeCause times e → Cause t policy info leaf_der intermediates times e
     wider refusal.Malformed a c = (a, c)
     wider refusal.ChainInvalid a c = (a, c)
+    wider refusal.NoTime a c = absurd c
     wider (refusal.NoValidAuthority time) a c = (a, c)
     wider (refusal.NotYetValid time not_before) a c = (a, c)
     wider (refusal.Expired time not_after) a c = (a, c)
@@ -274,13 +275,20 @@ module _ (t : Trust) (info : CertificateInfo) (leaf_der : List ℕ) (intermediat
     asked_caused true issuer e asked valid h = lacking issuer e asked valid (scts_caused policy.scts issuer e h)
     asked_caused false issuer e asked valid h = cc
 
+    untimed : (e : CertificateRefusal) → IsTrue (verifies_chain policy.certificate) → (ts : List Timestamp) → times ≡ ts → some_time_judged ts ≡ Err e
+        → Cause t policy info leaf_der intermediates times e
+    untimed e asked [] is h = subst (Cause t policy info leaf_der intermediates times) (err_same refusal.NoTime e h) (asked, is)
+    untimed e asked (time ∷ ts) is h = cc
+
     chain_caused : (p : CertificatePolicy) (e : CertificateRefusal) → policy.certificate ≡ p → chain_judged t p policy.scts info leaf_der intermediates times ≡ Err e
         → Cause t policy info leaf_der intermediates times e
     unfolding chain_verified
     chain_caused Skip e asked h = cc
     chain_caused (Verify verify_sct) e asked h =
-        refused_at (issued_at_each t info leaf_der intermediates times) (scts_asked t verify_sct policy.scts leaf_der) e h
-        (λ r. wider e (ap verifies_chain asked) (each_caused times [] e r)) (λ issuer p k. asked_caused verify_sct issuer e asked p k)
+        refused_at (some_time_judged times) (λ _. issued_at_each t info leaf_der intermediates times >>= scts_asked t verify_sct policy.scts leaf_der) e h
+        (λ r. untimed e (ap verifies_chain asked) times refl r) (λ v q l.
+        refused_at (issued_at_each t info leaf_der intermediates times) (scts_asked t verify_sct policy.scts leaf_der) e l
+        (λ r. wider e (ap verifies_chain asked) (each_caused times [] e r)) (λ issuer p k. asked_caused verify_sct issuer e asked p k))
 
     -- ---- the names
 

@@ -1,5 +1,5 @@
 -- A certificate is accepted exactly where it is to be.
-use Rattle.std.proofs.Common.{◌≡◌, ℕ, List, [], ◌∷◌, Bool, true, false, if◌then◌else◌, Result, Ok, Err, refl, sym, ap, ◌∙◌}
+use Rattle.std.proofs.Common.{◌≡◌, ◌≢◌, ℕ, List, [], ◌∷◌, Bool, true, false, if◌then◌else◌, Result, Ok, Err, refl, sym, ap, ◌∙◌}
 use Rattle.std.specs.Prelude.{⊤, Contains, IsTrue}
 use Rattle.foundation.specs.Steps.{◌>>=◌}
 use Rattle.foundation.specs.Results.{step_ok, ok_same}
@@ -15,12 +15,12 @@ use Rattle.path_core.specs.Anchors.{TrustAnchor}
 use Rattle.path_core.specs.Path.{path_of}
 use Rattle.path_core.specs.Paths.{Setting, setting}
 use Rattle.path_core.proofs.FirstPath.{found_is, found_means}
-use Rattle.sigstore_certificate.specs.declared.policy.CertificatePolicy.{CertificatePolicy}
-use Rattle.sigstore_certificate.specs.declared.policy.CertificatePolicy.TheVariants.{Skip, Verify}
-use Rattle.sigstore_certificate.specs.declared.policy.VerificationPolicy.{VerificationPolicy}
+use Rattle.sigstore_policy.specs.declared.certificate.CertificatePolicy.{CertificatePolicy}
+use Rattle.sigstore_policy.specs.declared.certificate.CertificatePolicy.TheVariants.{Skip, Verify}
+use Rattle.sigstore_policy.specs.declared.certificate.VerificationPolicy.{VerificationPolicy}
 use Rattle.sigstore_certificate.specs.declared.error.CertificateRefusal.{CertificateRefusal}
 use Rattle.sigstore_certificate.specs.declared.error.CertificateRefusal.TheVariants.{NoValidAuthority, NotYetValid, Expired}
-use Rattle.sigstore_certificate.specs.Certified.{Trust, has_authority, authority_judged, window_judged, issued_at, at_each, issued_at_each, scts_asked, chain_verified, chain_judged, certified_of}
+use Rattle.sigstore_certificate.specs.Certified.{Trust, has_authority, authority_judged, window_judged, issued_at, some_time_judged, at_each, issued_at_each, scts_asked, chain_verified, chain_judged, certified_of}
 use Rattle.sigstore_certificate.specs.Error.{by_path}
 use Rattle.sigstore_certificate.specs.IsCertified.{IsValidAt, IsValidAtEach, HasSctsIf, IsChainedIf, IsCertified, CertifiedExactly}
 use Rattle.sigstore_certificate.specs.Names.{names_judged}
@@ -115,6 +115,17 @@ module _ (t : Trust) (info : CertificateInfo) (leaf : List ℕ) (intermediates :
 
   -- ---- with its timestamps
 
+  timed_means : (times : List Timestamp) (x : ⊤) → some_time_judged times ≡ Ok x → times ≢ []
+  timed_means [] x h = λ same. cc
+  timed_means (time ∷ times) x h = λ none. cc
+
+  timed_passes : (times : List Timestamp) → times ≢ [] → some_time_judged times ≡ Ok tt
+  timed_passes [] timed = absurd (timed refl)
+  timed_passes (time ∷ times) timed = refl
+
+  abbrev after_time : Bool → LogThreshold → List Timestamp → ⊤ → Result ℕ CertificateRefusal
+  after_time verify_sct asked times u = issued_at_each t info leaf intermediates times >>= scts_asked t verify_sct asked leaf
+
   asked_means : (verify_sct : Bool) (asked : LogThreshold) (issuer : List ℕ) (count : ℕ) → scts_asked t verify_sct asked leaf issuer ≡ Ok count
       → HasSctsIf verify_sct t asked leaf issuer count
   asked_means true asked issuer count h = scts_mean t asked leaf issuer count h
@@ -130,15 +141,18 @@ module _ (t : Trust) (info : CertificateInfo) (leaf : List ℕ) (intermediates :
   unfolding chain_verified
   chain_means Skip asked times count h = sym (ok_same 0 count h)
   chain_means (Verify verify_sct) asked times count h =
-      let s = step_ok (issued_at_each t info leaf intermediates times) (scts_asked t verify_sct asked leaf) count h in
-      record { issuer = s.0; valid = each_means times [] s.0 s.1; scts = asked_means verify_sct asked s.0 count s.2 }
+      let a = step_ok (some_time_judged times) (after_time verify_sct asked times) count h in
+      let s = step_ok (issued_at_each t info leaf intermediates times) (scts_asked t verify_sct asked leaf) count a.2 in
+      record { timed = timed_means times a.0 a.1; issuer = s.0; valid = each_means times [] s.0 s.1; scts = asked_means verify_sct asked s.0 count s.2 }
 
   chain_passes : (policy : CertificatePolicy) (asked : LogThreshold) (times : List Timestamp) (count : ℕ)
       → IsChainedIf t policy asked info leaf intermediates times count → chain_judged t policy asked info leaf intermediates times ≡ Ok count
   unfolding chain_verified
   chain_passes Skip asked times count c = ap Ok (sym c)
   chain_passes (Verify verify_sct) asked times count c =
-      ap (λ r. r >>= scts_asked t verify_sct asked leaf) (each_passes times [] c.issuer c.valid) ∙ asked_passes verify_sct asked c.issuer count c.scts
+      ap (λ r. r >>= after_time verify_sct asked times) (timed_passes times c.timed)
+      ∙ ap (λ r. r >>= scts_asked t verify_sct asked leaf) (each_passes times [] c.issuer c.valid)
+      ∙ asked_passes verify_sct asked c.issuer count c.scts
 
   -- ---- with the names
 

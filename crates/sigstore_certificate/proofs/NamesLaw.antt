@@ -6,12 +6,13 @@ use Rattle.foundation.specs.Steps.{◌>>=◌}
 use Rattle.foundation.specs.Results.{step_ok}
 use Rattle.certificate_claims.specs.declared.certificate_info.CertificateInfo.{CertificateInfo}
 use Rattle.certificate_claims.specs.declared.certificate_info.SubjectAltName.{SubjectAltName}
-use Rattle.sigstore_certificate.specs.declared.policy.IdentityMatcher.{IdentityMatcher}
-use Rattle.sigstore_certificate.specs.declared.policy.VerificationPolicy.{VerificationPolicy}
+use Rattle.sigstore_policy.specs.declared.certificate.IdentityMatcher.{IdentityMatcher}
+use Rattle.sigstore_policy.specs.declared.certificate.VerificationPolicy.{VerificationPolicy}
 use Rattle.sigstore_certificate.specs.declared.error.CertificateRefusal.{CertificateRefusal}
 use Rattle.sigstore_certificate.specs.declared.error.CertificateRefusal.TheVariants.{IdentityMismatch, IssuerMismatch}
 use Rattle.sigstore_certificate.specs.IsCertified.{HasIdentity, HasIssuer}
-use Rattle.sigstore_certificate.specs.Names.{matches, identity_judged, is_text, issuer_judged, names_judged}
+use Rattle.sigstore_certificate.specs.Names.{identity_judged, is_text, issuer_judged, names_judged}
+use Rattle.sigstore_policy.specs.Certificate.{matches}
 
 -- a test that is passed
 pub passes : (b : Bool) (e : CertificateRefusal) (x : ⊤) → ◌≡◌ {A = Result ⊤ CertificateRefusal} (if b then Ok tt else Err e) (Ok x) → b ≡ true

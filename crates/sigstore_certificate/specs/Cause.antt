@@ -1,5 +1,5 @@
 -- What each refusal tells of the certificate.
-use Rattle.std.specs.Prelude.{◌≡◌, ◌≤◌, ◌<◌, ℕ, List, Contains, false, length, Option, Some, None, Ok, Err, IsTrue}
+use Rattle.std.specs.Prelude.{◌≡◌, ◌≤◌, ◌<◌, ℕ, List, [], Contains, false, length, Option, Some, None, Ok, Err, IsTrue}
 use Rattle.sha2.specs.Sha256.{sha256}
 use Rattle.jiff_core.specs.declared.timestamp.Timestamp.{Timestamp}
 use Rattle.spki_core.specs.declared.error.X509Error.{X509Error}
@@ -19,8 +19,8 @@ use Rattle.path_core.specs.declared.purpose.Purpose.TheVariants.{CodeSigning}
 use Rattle.path_core.specs.declared.route.Route.{Route}
 use Rattle.path_core.specs.Paths.{setting, IsPath}
 use Rattle.path_core.specs.Traits.{leaf_of}
-use Rattle.sigstore_certificate.specs.declared.policy.IdentityMatcher.{IdentityMatcher}
-use Rattle.sigstore_certificate.specs.declared.policy.VerificationPolicy.{VerificationPolicy}
+use Rattle.sigstore_policy.specs.declared.certificate.IdentityMatcher.{IdentityMatcher}
+use Rattle.sigstore_policy.specs.declared.certificate.VerificationPolicy.{VerificationPolicy}
 use Rattle.sigstore_certificate.specs.declared.error.CertificateRefusal.{CertificateRefusal}
 use Rattle.sigstore_certificate.specs.declared.error.CertificateRefusal.TheVariants as refusal
 use Rattle.sigstore_certificate.specs.declared.error.SctRule.{SctRule}
@@ -29,7 +29,7 @@ use Rattle.sigstore_certificate.specs.Certified.{Trust, has_authority, issued_at
 use Rattle.sigstore_certificate.specs.Error.{refusal_of_path}
 use Rattle.sigstore_certificate.specs.IsCertified.{IsKnown}
 use Rattle.sigstore_certificate.specs.Names.{is_matched, is_text}
-use Rattle.sigstore_certificate.specs.Policy.{verifies_chain, verifies_sct}
+use Rattle.sigstore_policy.specs.Certificate.{verifies_chain, verifies_sct}
 use Rattle.sigstore_certificate.specs.Scts.{scts_of, scheme_of, is_of_logs, is_good_sct, promising_logs, signed_data_of}
 
 -- ---- the path
@@ -146,6 +146,7 @@ abbrev pub Cause : Trust → VerificationPolicy → CertificateInfo → List ℕ
 Cause t policy info leaf intermediates times refusal.Malformed = IsTrue (verifies_chain policy.certificate) × IsNoLeaf leaf
 Cause t policy info leaf intermediates times refusal.ChainInvalid =
     IsTrue (verifies_chain policy.certificate) × LacksPath t leaf intermediates times
+Cause t policy info leaf intermediates times refusal.NoTime = IsTrue (verifies_chain policy.certificate) × (times ≡ [])
 Cause t policy info leaf intermediates times (refusal.NoValidAuthority time) =
     IsTrue (verifies_chain policy.certificate) × LacksAuthority t times time
 Cause t policy info leaf intermediates times (refusal.NotYetValid time not_before) =

@@ -15,11 +15,11 @@ use Rattle.path_core.specs.declared.purpose.Purpose.TheVariants.{CodeSigning}
 use Rattle.path_core.specs.Anchors.{TrustAnchor}
 use Rattle.path_core.specs.Path.{path_of}
 use Rattle.path_core.specs.Paths.{setting}
-use Rattle.sigstore_certificate.specs.declared.policy.CertificatePolicy.{CertificatePolicy}
-use Rattle.sigstore_certificate.specs.declared.policy.CertificatePolicy.TheVariants.{Skip, Verify}
-use Rattle.sigstore_certificate.specs.declared.policy.VerificationPolicy.{VerificationPolicy}
+use Rattle.sigstore_policy.specs.declared.certificate.CertificatePolicy.{CertificatePolicy}
+use Rattle.sigstore_policy.specs.declared.certificate.CertificatePolicy.TheVariants.{Skip, Verify}
+use Rattle.sigstore_policy.specs.declared.certificate.VerificationPolicy.{VerificationPolicy}
 use Rattle.sigstore_certificate.specs.declared.error.CertificateRefusal.{CertificateRefusal}
-use Rattle.sigstore_certificate.specs.declared.error.CertificateRefusal.TheVariants.{Malformed, NoValidAuthority, NotYetValid, Expired}
+use Rattle.sigstore_certificate.specs.declared.error.CertificateRefusal.TheVariants.{Malformed, NoTime, NoValidAuthority, NotYetValid, Expired}
 use Rattle.sigstore_certificate.specs.Error.{by_path}
 use Rattle.sigstore_certificate.specs.Names.{names_judged}
 use Rattle.sigstore_certificate.specs.Scts.{scts_judged}
@@ -56,6 +56,11 @@ issued_at t info leaf intermediates time = do
 
 -- ---- at each time
 
+-- there is a verified time: nothing else tells that the certificate was valid when it signed
+abbrev pub some_time_judged : List Timestamp → Result ⊤ CertificateRefusal
+some_time_judged [] = Err NoTime
+some_time_judged (time ∷ times) = Ok tt
+
 -- the issuer's key at the last of the times; the first time at which there is none refuses
 abbrev pub at_each : (Timestamp → Result (List ℕ) CertificateRefusal) → List Timestamp → List ℕ → Result (List ℕ) CertificateRefusal
 at_each issuer_at [] key = Ok key
@@ -83,6 +88,7 @@ scts_asked t true asked leaf issuer_spki = leaf_scts_judged t asked leaf issuer_
 unfoldable pub chain_verified :
     Trust → Bool → LogThreshold → CertificateInfo → List ℕ → List (List ℕ) → List Timestamp → Result ℕ CertificateRefusal
 chain_verified t verify_sct asked info leaf intermediates times = do
+  _ ← some_time_judged times
   issuer_spki ← issued_at_each t info leaf intermediates times
   scts_asked t verify_sct asked leaf issuer_spki
 

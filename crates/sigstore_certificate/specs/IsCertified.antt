@@ -1,5 +1,5 @@
 -- What it means that a certificate is accepted for a signature, told without any order of checks.
-use Rattle.std.specs.Prelude.{◌≡◌, ◌↔◌, ◌≤◌, ◌<◌, ℕ, List, [], ◌∷◌, length, Contains, Bool, true, false, ⊤, Option, Some, None, Ok, IsTrue}
+use Rattle.std.specs.Prelude.{◌≡◌, ◌≢◌, ◌↔◌, ◌≤◌, ◌<◌, ℕ, List, [], ◌∷◌, length, Contains, Bool, true, false, ⊤, Option, Some, None, Ok, IsTrue}
 use Rattle.sha2.specs.Sha256.{sha256}
 use Rattle.jiff_core.specs.declared.timestamp.Timestamp.{Timestamp}
 use Rattle.x509_views.specs.Certificates.{Certificate, certificate_of}
@@ -20,12 +20,12 @@ use Rattle.path_core.specs.declared.purpose.Purpose.TheVariants.{CodeSigning}
 use Rattle.path_core.specs.declared.route.FoundPath.{FoundPath}
 use Rattle.path_core.specs.Anchors.{TrustAnchor}
 use Rattle.path_core.specs.Paths.{setting, IsFound}
-use Rattle.sigstore_certificate.specs.declared.policy.CertificatePolicy.{CertificatePolicy}
-use Rattle.sigstore_certificate.specs.declared.policy.CertificatePolicy.TheVariants.{Skip, Verify}
-use Rattle.sigstore_certificate.specs.declared.policy.IdentityMatcher.{IdentityMatcher}
-use Rattle.sigstore_certificate.specs.declared.policy.VerificationPolicy.{VerificationPolicy}
+use Rattle.sigstore_policy.specs.declared.certificate.CertificatePolicy.{CertificatePolicy}
+use Rattle.sigstore_policy.specs.declared.certificate.CertificatePolicy.TheVariants.{Skip, Verify}
+use Rattle.sigstore_policy.specs.declared.certificate.IdentityMatcher.{IdentityMatcher}
+use Rattle.sigstore_policy.specs.declared.certificate.VerificationPolicy.{VerificationPolicy}
 use Rattle.sigstore_certificate.specs.Certified.{Trust, certified_of}
-use Rattle.sigstore_certificate.specs.Names.{matches}
+use Rattle.sigstore_policy.specs.Certificate.{matches}
 use Rattle.sigstore_certificate.specs.Scts.{scheme_of, scts_of, is_good_sct, promising_logs}
 
 -- ---- the path
@@ -77,9 +77,10 @@ abbrev pub HasSctsIf : Bool → Trust → LogThreshold → List ℕ → List ℕ
 HasSctsIf false t asked leaf issuer promised = promised ≡ 0
 HasSctsIf true t asked leaf issuer promised = HasScts t asked leaf issuer promised
 
--- valid at each verified time, and where that is asked for promised by logs for the issuer at the last of them
+-- there is a verified time, it was valid at each, and where that is asked for promised by logs for the issuer at the last of them
 pub record IsChained (t : Trust) (verify_sct : Bool) (asked : LogThreshold) (info : CertificateInfo) (leaf : List ℕ)
     (intermediates : List (List ℕ)) (times : List Timestamp) (promised : ℕ) : Type 0 where
+  pub timed : times ≢ []
   pub issuer : List ℕ
   pub valid : IsValidAtEach t info leaf intermediates times [] issuer
   pub scts : HasSctsIf verify_sct t asked leaf issuer promised

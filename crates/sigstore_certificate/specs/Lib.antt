@@ -1,4 +1,3 @@
-pub mod Policy
 pub mod Error
 pub mod Names
 pub mod Scts

@@ -3,21 +3,11 @@ use Rattle.std.specs.Prelude.{ℕ, List, Bool, false, bytes_eq, if◌then◌else
 use Rattle.foundation.specs.Steps.{◌>>=◌}
 use Rattle.certificate_claims.specs.declared.certificate_info.CertificateInfo.{CertificateInfo}
 use Rattle.certificate_claims.specs.declared.certificate_info.SubjectAltName.{SubjectAltName}
-use Rattle.certificate_claims.specs.declared.certificate_info.SubjectAltName.TheVariants as name
-use Rattle.sigstore_certificate.specs.declared.policy.IdentityMatcher.{IdentityMatcher}
-use Rattle.sigstore_certificate.specs.declared.policy.IdentityMatcher.TheVariants as asked
-use Rattle.sigstore_certificate.specs.declared.policy.VerificationPolicy.{VerificationPolicy}
+use Rattle.sigstore_policy.specs.declared.certificate.IdentityMatcher.{IdentityMatcher}
+use Rattle.sigstore_policy.specs.Certificate.{matches}
+use Rattle.sigstore_policy.specs.declared.certificate.VerificationPolicy.{VerificationPolicy}
 use Rattle.sigstore_certificate.specs.declared.error.CertificateRefusal.{CertificateRefusal}
 use Rattle.sigstore_certificate.specs.declared.error.CertificateRefusal.TheVariants.{IdentityMismatch, IssuerMismatch}
-
--- the texts are equal, and the identity is of the sort that is asked for, where one is
-abbrev pub matches : IdentityMatcher → SubjectAltName → Bool
-matches (asked.Exact text) (name.Email actual) = bytes_eq text actual
-matches (asked.Exact text) (name.Uri actual) = bytes_eq text actual
-matches (asked.Email text) (name.Email actual) = bytes_eq text actual
-matches (asked.Email text) (name.Uri actual) = false
-matches (asked.Uri text) (name.Email actual) = false
-matches (asked.Uri text) (name.Uri actual) = bytes_eq text actual
 
 abbrev pub is_matched : IdentityMatcher → Option SubjectAltName → Bool
 is_matched matcher None = false

@@ -32,7 +32,8 @@ impl Model for DigitallySigned {
 /// The certificate's signed part without its timestamps. Errors: `Sct` with the rule `Precertificate`.
 pub(crate) fn signed_part(alloc: Global, cert: &CertView) -> Result<OctetString, CertificateRefusal>
     ensures ok { IfOk result (λ tbs. written (precert_of cert.now.tbs.now cert.now.front.now (option_copied cert.now.extensions)) ≡ Ok tbs) }
-    ensures err { IfErr result (λ e. e ≢ CertificateRefusal.NoMemory → written (precert_of cert.now.tbs.now cert.now.front.now (option_copied cert.now.extensions)) ≡ Err e) }
+    ensures err { IfErr result (λ e. e ≢ CertificateRefusal.NoMemory →
+        written (precert_of cert.now.tbs.now cert.now.front.now (option_copied cert.now.extensions)) ≡ Err e) }
     ensures cause { IfErr result (λ e. e ≢ CertificateRefusal.NoMemory → e ≡ CertificateRefusal.Sct Precertificate) }
 {
     match precert_tbs(alloc, cert) {

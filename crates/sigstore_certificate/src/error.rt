@@ -3,11 +3,11 @@ ghost use Rattle.std.specs.Prelude.{◌≡◌};
 ghost use Rattle.sigstore_certificate.specs.Error.{refusal_of_path};
 ghost use Rattle.sigstore_certificate.specs.declared.error.CertificateRefusal.TheVariants.{NoMemory};
 
-use crate::policy::IdentityMatcher;
 use certificate_claims::SubjectAltName;
 use foundation::NoMemory;
 use jiff::Timestamp;
 use path_core::{LeafFault, PathError};
+use sigstore_policy::IdentityMatcher;
 use sigstore_types_parts::Text;
 use std::{error, fmt};
 
@@ -34,6 +34,8 @@ pub enum CertificateRefusal {
     /// No path leads from it to a trusted authority at a verified time; or it may issue certificates, or isn't for
     /// the signing of code.
     ChainInvalid,
+    /// There is no verified time: nothing else tells that it was valid when it signed.
+    NoTime,
     /// No trusted authority was to be used at a verified time.
     NoValidAuthority {
         time: Timestamp,
@@ -104,6 +106,7 @@ impl fmt::Display for CertificateRefusal {
         f.write_str(match self {
             CertificateRefusal::Malformed => "Malformed",
             CertificateRefusal::ChainInvalid => "ChainInvalid",
+            CertificateRefusal::NoTime => "NoTime",
             CertificateRefusal::NoValidAuthority { .. } => "NoValidAuthority",
             CertificateRefusal::NotYetValid { .. } => "NotYetValid",
             CertificateRefusal::Expired { .. } => "Expired",

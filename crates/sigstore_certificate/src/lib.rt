@@ -9,14 +9,14 @@ mod given;
 mod laws;
 mod names;
 mod path;
-mod policy;
 mod scts;
 mod times;
 
 pub use certificate::judge_certificate;
 pub use digitally_signed::DigitallySigned;
 pub use error::{CertificateRefusal, SctRule};
+pub use given::{Presented, TrustedAuthorities};
 pub use laws::{
     certified_exactly, good_exactly, one_sct_alone, refusals_have_causes, sct_is_written,
 };
-pub use policy::{CertificatePolicy, IdentityMatcher, VerificationPolicy};
+pub use sigstore_policy::{CertificatePolicy, IdentityMatcher, VerificationPolicy};

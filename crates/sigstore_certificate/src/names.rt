@@ -3,18 +3,22 @@ ghost use Rattle.std.specs.Prelude.{◌≡◌, ◌≢◌, Ok, Err, IfOk, IfErr};
 ghost use Rattle.sigstore_certificate.specs.Names.{is_matched, identity_judged, is_text, issuer_judged, names_judged};
 
 use crate::error::CertificateRefusal;
-use crate::policy::{IdentityMatcher, VerificationPolicy};
 use certificate_claims::{CertificateInfo, SubjectAltName};
 use foundation::{Duplicate, NoMemory};
+use sigstore_policy::{IdentityMatcher, VerificationPolicy};
 use sigstore_types_parts::Text;
 use std::alloc::Global;
 
-fn is_matched(matcher: &IdentityMatcher, identity: &Option<SubjectAltName>) -> bool
-    ensures { result ≡ is_matched matcher.now identity.now }
+fn is_matched(
+    alloc: Global,
+    matcher: &IdentityMatcher,
+    identity: &Option<SubjectAltName>,
+) -> Result<bool, NoMemory>
+    ensures { IfOk result (λ b. b ≡ is_matched matcher.now identity.now) }
 {
     match identity {
-        Some(identity) => matcher.matches(identity),
-        None => false,
+        Some(identity) => matcher.matches(alloc, identity),
+        None => Ok(false),
     }
 }
 
@@ -44,7 +48,7 @@ fn check_identity(
     let Some(matcher) = asked else {
         return Ok(());
     };
-    if is_matched(matcher, identity) {
+    if is_matched(alloc, matcher, identity)? {
         return Ok(());
     }
     Err(other_identity(alloc, matcher, identity)?)

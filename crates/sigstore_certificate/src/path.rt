@@ -1,18 +1,15 @@
 // The key of a certificate's issuer at one time.
 ghost use Rattle.std.specs.Prelude.{◌≡◌, ◌≢◌, Ok, Err, IfOk, IfErr};
-ghost use Rattle.path_core.specs.declared.purpose.Purpose.TheVariants.{CodeSigning};
-ghost use Rattle.path_core.specs.Path.{path_of};
-ghost use Rattle.path_core.specs.Paths.{setting};
 ghost use Rattle.sigstore_keys.specs.Keyring.{is_used_at};
 ghost use Rattle.sigstore_certificate.specs.Certified.{has_authority, authority_judged, window_judged, issued_at};
 ghost use Rattle.sigstore_certificate.specs.Error.{by_path, refusal_of_path};
-ghost use Rattle.sigstore_certificate.specs.Given.{trust_of, issuer_in};
+ghost use Rattle.sigstore_certificate.specs.Given.{trust_of, path_in, issuer_in};
 
 use crate::error::CertificateRefusal;
 use crate::given::CertificateInputs;
 use certificate_claims::CertificateInfo;
 use jiff::Timestamp;
-use path_core::{Anchor, FoundPath, Purpose, Steps, find_path};
+use path_core::{Anchor, FoundPath, PathRequest, Purpose, Steps, find_path};
 use sigstore_keys::CryptoProvider;
 use sigstore_types_parts::Bytes;
 use std::alloc::Global;
@@ -68,20 +65,21 @@ fn path_at<C: CryptoProvider>(
     given: &CertificateInputs<C>,
     time: Timestamp,
 ) -> Result<FoundPath, CertificateRefusal>
-    ensures ok { IfOk result (λ p. by_path (path_of (setting (C.accepts given.now.provider.now) given.now.leaf.now given.now.intermediates.now given.now.anchors.now CodeSigning time)) ≡ Ok p) }
-    ensures err { IfErr result (λ e. e ≢ CertificateRefusal.NoMemory → by_path (path_of (setting (C.accepts given.now.provider.now) given.now.leaf.now given.now.intermediates.now given.now.anchors.now CodeSigning time)) ≡ Err e) }
+    ensures ok { IfOk result (λ p.
+        by_path (path_in C.accepts given.now time) ≡ Ok p) }
+    ensures err { IfErr result (λ e. e ≢ CertificateRefusal.NoMemory →
+        by_path (path_in C.accepts given.now time) ≡ Err e) }
 {
+    let request = PathRequest {
+        provider: given.provider,
+        leaf: given.leaf,
+        intermediates: given.intermediates,
+        anchors: given.anchors,
+        purpose: Purpose::CodeSigning,
+        at: time,
+    };
     let mut steps = Steps::new();
-    match find_path(
-        alloc,
-        given.provider,
-        given.leaf,
-        given.intermediates,
-        given.anchors,
-        Purpose::CodeSigning,
-        time,
-        &mut steps,
-    ) {
+    match find_path(alloc, &request, &mut steps) {
         Ok(found) => Ok(found),
         Err(fault) => Err(CertificateRefusal::from(fault)),
     }

@@ -10,10 +10,12 @@ ghost use Rattle.sigstore_keys.specs.Key.{same_sort};
 ghost use Rattle.sigstore_keys.specs.Keyring.{has_key_of, key_at};
 ghost use Rattle.sigstore_keys.specs.LogIds.{with_id, each_once, count_distinct, is_enough};
 ghost use Rattle.sigstore_certificate.specs.Scts.{scts_in, listed, scts_of, scheme_of, has_scheme, some_scheme, is_of_logs, some_log, written, signed_part_of};
+ghost use Rattle.sigstore_certificate.specs.Given.{is_good_in};
 ghost use Rattle.sigstore_certificate.specs.Scts.{key_under, log_key, good_over, good_by, good_under, is_good_sct, promising, promising_logs, enough_logs, scts_judged};
 
 use crate::digitally_signed::signed_part;
 use crate::error::{CertificateRefusal, SctRule};
+use crate::given::SctInputs;
 use certificate_fields::extension_value;
 use der_core::OctetString;
 use foundation::{NoMemory, Sequence};
@@ -201,19 +203,16 @@ fn is_good_by<C: CryptoProvider>(
 // Whether a timestamp is good. What was signed is written only where a trusted log's key could have signed it.
 fn is_good<C: CryptoProvider>(
     alloc: Global,
-    provider: &C,
-    ct_logs: &Keyring,
-    key_hash: &[u8; 32],
-    tbs: &[u8],
+    given: &SctInputs<C>,
     sct: &Sct,
 ) -> Result<bool, NoMemory>
-    ensures { IfOk result (λ good. good ≡ is_good_sct (C.accepts provider.now) ct_logs.now key_hash.now tbs.now sct.now) }
+    ensures { IfOk result (λ good. good ≡ is_good_in C.accepts given.now sct.now) }
 {
     let Some(scheme) = scheme_of(sct.algorithm()) else {
         return Ok(false);
     };
-    match log_key(alloc, ct_logs, scheme, sct)? {
-        Some(key) => Ok(is_good_by(alloc, provider, &key, key_hash, tbs, sct)?),
+    match log_key(alloc, given.ct_logs, scheme, sct)? {
+        Some(key) => Ok(is_good_by(alloc, given.provider, &key, given.key_hash, given.tbs, sct)?),
         None => Ok(false),
     }
 }
@@ -221,35 +220,29 @@ fn is_good<C: CryptoProvider>(
 // The logs of those before, and that of a timestamp, where it is good.
 fn add_log<C: CryptoProvider>(
     alloc: Global,
-    provider: &C,
-    ct_logs: &Keyring,
-    key_hash: &[u8; 32],
-    tbs: &[u8],
+    given: &SctInputs<C>,
     sct: &Sct,
     logs: &mut LogIds,
 ) -> Result<(), NoMemory>
-    ensures { OnOk result (logs.new.ids ≡ each_once logs.old.ids (cons_option (promising (is_good_sct (C.accepts provider.now) ct_logs.now key_hash.now tbs.now) sct.now) [])) }
+    ensures { OnOk result (logs.new.ids ≡ each_once logs.old.ids (cons_option (promising (is_good_in C.accepts given.now) sct.now) [])) }
 {
-    if is_good(alloc, provider, ct_logs, key_hash, tbs, sct)? {
+    if is_good(alloc, given, sct)? {
         logs.add(&Sha256Hash::new(*sct.log_id()))?;
     }
     Ok(())
 }
 
-// How many different logs have a good timestamp: one that stands twice is one promise.
+// How many different logs have a good timestamp: one that stands twice is one given.
 fn promising_logs<C: CryptoProvider>(
     alloc: Global,
-    provider: &C,
-    ct_logs: &Keyring,
-    key_hash: &[u8; 32],
-    tbs: &[u8],
+    given: &SctInputs<C>,
     scts: &[Sct],
 ) -> Result<u64, NoMemory>
-    ensures { IfOk result (λ count. count ≡ promising_logs (is_good_sct (C.accepts provider.now) ct_logs.now key_hash.now tbs.now) scts.now) }
+    ensures { IfOk result (λ count. count ≡ promising_logs (is_good_in C.accepts given.now) scts.now) }
 {
     let mut logs = LogIds::new(alloc);
     'scts: for sct in scts {
-        add_log(alloc, provider, ct_logs, key_hash, tbs, sct, &mut logs)?;
+        add_log(alloc, given, sct, &mut logs)?;
     }
     Ok(logs.count())
 }
@@ -282,20 +275,23 @@ pub(crate) fn check_scts<C: CryptoProvider>(
     issuer_spki: &[u8],
 ) -> Result<u64, CertificateRefusal>
     ensures ok { IfOk result (λ count. scts_judged (C.accepts provider.now) ct_logs.now asked (certificate_parts certificate.now) issuer_spki.now ≡ Ok count) }
-    ensures err { IfErr result (λ e. e ≢ CertificateRefusal.NoMemory → scts_judged (C.accepts provider.now) ct_logs.now asked (certificate_parts certificate.now) issuer_spki.now ≡ Err e) }
+    ensures err { IfErr result (λ e. e ≢ CertificateRefusal.NoMemory →
+        scts_judged (C.accepts provider.now) ct_logs.now asked (certificate_parts certificate.now) issuer_spki.now ≡ Err e) }
 {
     let scts = scts_of(alloc, certificate)?;
     check_scheme(scts.as_slice())?;
     check_log(ct_logs, scts.as_slice())?;
     let tbs = signed_part_of(alloc, certificate)?;
     let key_hash = sha256(issuer_spki);
-    let found = promising_logs(
-        alloc,
+    let given = SctInputs {
         provider,
         ct_logs,
-        key_hash.as_array(),
-        tbs.as_bytes(),
-        scts.as_slice(),
-    )?;
-    Ok(check_count(asked, found)?)
+        key_hash: key_hash.as_array(),
+        tbs: tbs.as_bytes(),
+    };
+    let found = promising_logs(alloc, &given, scts.as_slice())?;
+    match check_count(asked, found) {
+        Ok(count) => Ok(count),
+        Err(refusal) => Err(refusal),
+    }
 }

@@ -74,7 +74,8 @@ fn issuer_before<C: CryptoProvider>(
     earlier: &[Timestamp],
     last: Timestamp,
 ) -> Result<Option<Bytes>, CertificateRefusal>
-    ensures each { OnOk result (at_each (issuer_in C.accepts given.now) (earlier.now ++ last ∷ []) [] ≡ at_each (issuer_in C.accepts given.now) (last ∷ []) []) }
+    ensures each { OnOk result (at_each (issuer_in C.accepts given.now) (earlier.now ++ last ∷ []) []
+        ≡ at_each (issuer_in C.accepts given.now) (last ∷ []) []) }
     ensures key { IfOk result (λ found. IfSome found (λ key. issuer_in C.accepts given.now last ≡ Ok key)) }
     ensures err { IfErr result (λ e. e ≢ CertificateRefusal.NoMemory → at_each (issuer_in C.accepts given.now) (earlier.now ++ last ∷ []) [] ≡ Err e) }
 {
@@ -134,8 +135,10 @@ pub(crate) fn issuer_at_each<C: CryptoProvider>(
     given: &CertificateInputs<C>,
     times: &[Timestamp],
 ) -> Result<Bytes, CertificateRefusal>
-    ensures ok { IfOk result (λ key. issued_at_each (trust_of C.accepts given.now) given.now.info.now given.now.leaf.now given.now.intermediates.now times.now ≡ Ok key) }
-    ensures err { IfErr result (λ e. e ≢ CertificateRefusal.NoMemory → issued_at_each (trust_of C.accepts given.now) given.now.info.now given.now.leaf.now given.now.intermediates.now times.now ≡ Err e) }
+    ensures ok { IfOk result (λ key.
+        issued_at_each (trust_of C.accepts given.now) given.now.info.now given.now.leaf.now given.now.intermediates.now times.now ≡ Ok key) }
+    ensures err { IfErr result (λ e. e ≢ CertificateRefusal.NoMemory →
+        issued_at_each (trust_of C.accepts given.now) given.now.info.now given.now.leaf.now given.now.intermediates.now times.now ≡ Err e) }
 {
     match times {
         [earlier @ .., last] => match issuer_behind(alloc, given, earlier, *last) {

@@ -11,7 +11,7 @@ ghost use Rattle.sigstore_tsa.specs.Vouched.{or_fault, root_anchor, setting_of, 
 use certificate_fields::moment;
 use foundation::Sequence;
 use jiff::Timestamp;
-use path_core::{Anchor, PathError, Purpose, Steps, find_path};
+use path_core::{Anchor, PathError, PathRequest, Purpose, Steps, find_path};
 use sigstore_keys::CryptoProvider;
 use sigstore_tsa_parts::{CertificateFault, Error};
 use sigstore_types::TsaAuthority;
@@ -43,17 +43,16 @@ fn check_path<C: CryptoProvider>(
 {
     let mut anchors = Sequence::new(alloc);
     anchors.push(root)?;
-    let mut steps = Steps::new();
-    match find_path(
-        alloc,
+    let request = PathRequest {
         provider,
-        &authority.leaf,
-        authority.intermediates.as_slice(),
-        anchors.as_slice(),
-        Purpose::TimeStamping,
-        time,
-        &mut steps,
-    ) {
+        leaf: &authority.leaf,
+        intermediates: authority.intermediates.as_slice(),
+        anchors: anchors.as_slice(),
+        purpose: Purpose::TimeStamping,
+        at: time,
+    };
+    let mut steps = Steps::new();
+    match find_path(alloc, &request, &mut steps) {
         Ok(_) => Ok(()),
         Err(PathError::NoMemory) => Err(Error::NoMemory),
         Err(_) => Err(Error::CertificateValidationError(CertificateFault::Path)),

@@ -1,7 +1,6 @@
 // How exact a time is.
 ghost use Rattle.sigstore_tsa_parts.specs.Types.{accuracy_type};
 
-use cms_parts::tags;
 use der_core::{
     Der, DerError, OctetString, Reader, Tag, append_implicit_optional, append_optional,
     read_implicit_optional, read_optional, tag,
@@ -22,7 +21,7 @@ impl Der for Accuracy {
     ghost grammar = { accuracy_type.grammar };
 
     fn accepts(tag: Tag) -> bool {
-        tag.0 == 48
+        tag.0 == tag::SEQUENCE
     }
 
     fn from_contents(alloc: Global, _tag: Tag, contents: &[u8]) -> Result<Accuracy, DerError> {
@@ -31,7 +30,7 @@ impl Der for Accuracy {
             seconds: read_optional(alloc, &mut reader)?,
             millis: read_implicit_optional(
                 alloc,
-                Tag(tags::PRIMITIVE_0),
+                Tag(tag::PRIMITIVE_0),
                 Tag(tag::INTEGER),
                 &mut reader,
             )?,
@@ -54,7 +53,7 @@ impl Der for Accuracy {
         append_optional(alloc, &self.seconds, &mut out)?;
         append_implicit_optional(
             alloc,
-            Tag(tags::PRIMITIVE_0),
+            Tag(tag::PRIMITIVE_0),
             Tag(tag::INTEGER),
             &self.millis,
             &mut out,

@@ -107,7 +107,7 @@ impl Der for AlgorithmIdentifier {
     ghost grammar = { algorithm_identifier_type.grammar };
 
     fn accepts(tag: Tag) -> bool {
-        tag.0 == 48
+        tag.0 == tag::SEQUENCE
     }
 
     fn from_contents(

@@ -47,7 +47,7 @@ impl Der for Asn1MessageImprint {
     ghost grammar = { message_imprint_type.grammar };
 
     fn accepts(tag: Tag) -> bool {
-        tag.0 == 48
+        tag.0 == tag::SEQUENCE
     }
 
     fn from_contents(

@@ -106,7 +106,7 @@ impl Der for TimeStampReq {
     ghost grammar = { time_stamp_req_type.grammar };
 
     fn accepts(tag: Tag) -> bool {
-        tag.0 == 48
+        tag.0 == tag::SEQUENCE
     }
 
     fn from_contents(alloc: Global, _tag: Tag, contents: &[u8]) -> Result<TimeStampReq, DerError> {

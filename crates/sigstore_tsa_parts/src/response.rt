@@ -57,7 +57,7 @@ impl Der for PkiStatusInfo {
     ghost grammar = { pki_status_info_type.grammar };
 
     fn accepts(tag: Tag) -> bool {
-        tag.0 == 48
+        tag.0 == tag::SEQUENCE
     }
 
     fn from_contents(alloc: Global, _tag: Tag, contents: &[u8]) -> Result<PkiStatusInfo, DerError> {
@@ -107,7 +107,7 @@ impl Der for TimeStampResp {
     ghost grammar = { time_stamp_resp_type.grammar };
 
     fn accepts(tag: Tag) -> bool {
-        tag.0 == 48
+        tag.0 == tag::SEQUENCE
     }
 
     fn from_contents(alloc: Global, _tag: Tag, contents: &[u8]) -> Result<TimeStampResp, DerError> {

@@ -6,7 +6,6 @@ ghost use Rattle.sigstore_tsa_parts.specs.Types.{tst_info_head, head_of, tst_inf
 
 use crate::accuracy::Accuracy;
 use crate::imprint::Asn1MessageImprint;
-use cms_parts::tags;
 use der_core::{
     Der, DerError, GeneralizedTime, Int, ObjectIdentifier, OctetString, Reader, Tag,
     append_default, append_explicit_optional, append_implicit_optional, append_optional,
@@ -82,7 +81,7 @@ fn read_tail(alloc: Global, reader: &mut Reader) -> Result<Tail, DerError>
     let tsa = read_explicit_optional(alloc, Tag(tag::CONSTRUCTED_0), reader)?;
     let extensions = read_implicit_optional(
         alloc,
-        Tag(tags::CONSTRUCTED_1),
+        Tag(tag::CONSTRUCTED_1),
         Tag(tag::SEQUENCE),
         reader,
     )?;
@@ -101,7 +100,7 @@ fn append_tail(alloc: Global, value: &TstInfo, out: &mut OctetString) -> Result<
     append_explicit_optional(alloc, Tag(tag::CONSTRUCTED_0), &value.tsa, out)?;
     append_implicit_optional(
         alloc,
-        Tag(tags::CONSTRUCTED_1),
+        Tag(tag::CONSTRUCTED_1),
         Tag(tag::SEQUENCE),
         &value.extensions,
         out,
@@ -112,7 +111,7 @@ impl Der for TstInfo {
     ghost grammar = { tst_info_type.grammar };
 
     fn accepts(tag: Tag) -> bool {
-        tag.0 == 48
+        tag.0 == tag::SEQUENCE
     }
 
     fn from_contents(alloc: Global, _tag: Tag, contents: &[u8]) -> Result<TstInfo, DerError> {

@@ -1,11 +1,11 @@
 // What is asked of a signing certificate.
-ghost use Rattle.std.specs.Prelude.{◌≡◌, max, true, false, None, Some, option_copied};
+ghost use Rattle.std.specs.Prelude.{◌≡◌, max, true, false, None, Some, IfOk, option_copied};
 ghost use Rattle.std.specs.Int.NonZero.{non_zero_u8_get};
-ghost use Rattle.sigstore_certificate.specs.declared.policy.CertificatePolicy.TheVariants.{Skip, Verify};
-ghost use Rattle.sigstore_certificate.specs.declared.policy.IdentityMatcher.TheVariants.{Exact};
-ghost use Rattle.sigstore_certificate.specs.Names.{matches};
-ghost use Rattle.sigstore_certificate.specs.Policy.{matcher_of, shown, verifies_chain, verifies_sct, without_sct};
+ghost use Rattle.sigstore_policy.specs.declared.certificate.CertificatePolicy.TheVariants.{Skip, Verify};
+ghost use Rattle.sigstore_policy.specs.declared.certificate.IdentityMatcher.TheVariants.{Exact};
+ghost use Rattle.sigstore_policy.specs.Certificate.{matcher_of, matches, shown, verifies_chain, verifies_sct, without_sct};
 
+use crate::pattern::matches_like;
 use certificate_claims::SubjectAltName;
 use foundation::{Duplicate, NoMemory};
 use sigstore_keys::LogThreshold;
@@ -23,6 +23,10 @@ pub enum IdentityMatcher {
     Email(Text),
     /// A uniform resource identifier.
     Uri(Text),
+    /// A mail address of that pattern.
+    EmailLike(Text),
+    /// A uniform resource identifier of that pattern.
+    UriLike(Text),
 }
 
 /// What of a certificate is verified.
@@ -57,6 +61,12 @@ impl Duplicate for IdentityMatcher {
             IdentityMatcher::Exact(text) => Ok(IdentityMatcher::Exact(text.duplicate(alloc)?)),
             IdentityMatcher::Email(text) => Ok(IdentityMatcher::Email(text.duplicate(alloc)?)),
             IdentityMatcher::Uri(text) => Ok(IdentityMatcher::Uri(text.duplicate(alloc)?)),
+            IdentityMatcher::EmailLike(pattern) => {
+                Ok(IdentityMatcher::EmailLike(pattern.duplicate(alloc)?))
+            }
+            IdentityMatcher::UriLike(pattern) => {
+                Ok(IdentityMatcher::UriLike(pattern.duplicate(alloc)?))
+            }
         }
     }
 }
@@ -88,22 +98,30 @@ impl fmt::Display for IdentityMatcher {
             IdentityMatcher::Exact(text) => fmt::Display::fmt(text, f),
             IdentityMatcher::Email(text) => write!(f, "email {text}"),
             IdentityMatcher::Uri(text) => write!(f, "URI {text}"),
+            IdentityMatcher::EmailLike(pattern) => write!(f, "email like {pattern}"),
+            IdentityMatcher::UriLike(pattern) => write!(f, "URI like {pattern}"),
         }
     }
 }
 
 impl IdentityMatcher {
-    /// Whether an identity is the one that is asked for: the texts are equal octet by octet, and it is of the sort
-    /// that is asked for, where one is.
-    pub fn matches(&self, identity: &SubjectAltName) -> bool
-        ensures { result ≡ matches self.now identity.now }
+    /// Whether an identity is one that is asked for: the texts are equal octet by octet, or the whole identity is of the
+    /// pattern, and it is of the sort that is asked for, where one is.
+    pub fn matches(&self, alloc: Global, identity: &SubjectAltName) -> Result<bool, NoMemory>
+        ensures { IfOk result (λ b. b ≡ matches self.now identity.now) }
     {
         match (self, identity) {
-            (IdentityMatcher::Exact(text), SubjectAltName::Email(actual)) => text == actual,
-            (IdentityMatcher::Exact(text), SubjectAltName::Uri(actual)) => text == actual,
-            (IdentityMatcher::Email(text), SubjectAltName::Email(actual)) => text == actual,
-            (IdentityMatcher::Uri(text), SubjectAltName::Uri(actual)) => text == actual,
-            _ => false,
+            (IdentityMatcher::Exact(text), SubjectAltName::Email(actual)) => Ok(text == actual),
+            (IdentityMatcher::Exact(text), SubjectAltName::Uri(actual)) => Ok(text == actual),
+            (IdentityMatcher::Email(text), SubjectAltName::Email(actual)) => Ok(text == actual),
+            (IdentityMatcher::Uri(text), SubjectAltName::Uri(actual)) => Ok(text == actual),
+            (IdentityMatcher::EmailLike(pattern), SubjectAltName::Email(actual)) => {
+                matches_like(alloc, pattern.as_str(), actual.as_str())
+            }
+            (IdentityMatcher::UriLike(pattern), SubjectAltName::Uri(actual)) => {
+                matches_like(alloc, pattern.as_str(), actual.as_str())
+            }
+            _ => Ok(false),
         }
     }
 }
@@ -129,8 +147,8 @@ impl CertificatePolicy {
         }
     }
 
-    // The same without that timestamp.
-    fn without_sct(self) -> CertificatePolicy
+    /// The same without that timestamp; what verifies no path stays so.
+    pub fn without_sct(self) -> CertificatePolicy
         ensures { result ≡ without_sct self }
     {
         match self {

@@ -1,0 +1,4 @@
+pub mod Certificate
+pub mod Pattern
+pub mod Piece
+pub mod Policy
