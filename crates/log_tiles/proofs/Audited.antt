@@ -13,9 +13,10 @@ use Rattle.log_tiles.specs.Consistency.{Roots, roots_from}
 use Rattle.log_tiles.specs.Fault.{RootFault}
 use Rattle.log_tiles.specs.Source.{Leaves}
 use Rattle.log_tiles.specs.Proving.{IsProof, Serves, Gives}
-use Rattle.log_tiles.specs.Auditing.{or_refusal, checkpoint_as, pair_of, pair_signed, signed_pair, IsOfTiles, AreJoined}
+use Rattle.log_tiles.specs.Auditing.{or_refusal, checkpoint_as, pair_of, pair_signed, signed_pair, IsOfTiles, IsGrowth}
 use Rattle.log_tiles.specs.Auditing.{GrowthCause, AuditCause, OfSigned, Audits, AreOfTree}
 use Rattle.log_tiles.specs.Joining.{SignedCause}
+use Rattle.log_tiles.specs.declared.auditing.Growth.{Growth}
 use Rattle.log_tiles.specs.declared.error.WhichTree.{WhichTree}
 use Rattle.log_tiles.specs.declared.error.WhichTree.TheVariants.{First, Second}
 use Rattle.log_tiles.specs.declared.error.TileError.{TileError}
@@ -126,6 +127,7 @@ root_fault given a b computed Second e fault =
 growth_served : (older newer : Checkpoint) (leaves : Leaves) (old new : Watched Leaves) (e : TileError) → AreOfTree older newer leaves
     → Serves leaves newer.tree_size old new → GrowthCause older newer old new e → e ≡ refusal.NoMemory
 growth_served older newer leaves old new (refusal.Sizes a b) of s cause = absurd (cause.0 of.sizes)
+growth_served older newer leaves old new (refusal.IndexOutOfTree index size) of s cause = absurd (cause.0 of.sizes)
 growth_served older newer leaves old new (refusal.TileAbsent level index) of s cause =
     let lacking = told_is old.told leaves _ s.told cause.1.lacking in
     absurd (omega (arith, lacking, cause.1.inside, s.held))
@@ -171,13 +173,12 @@ refused_served accepts key first second older newer leaves old new refusal.NoMem
 refused_served accepts key first second older newer leaves old new x e of s cause =
     growth_served older newer leaves old new _ of s (of_these accepts key first second older newer _ e cause)
 
-pub audit_served : {V : Type 0} (accepts : Judge) (key first second : List ℕ) (older newer : Checkpoint) (leaves : Leaves)
-    (old new : Watched Leaves)
-    (items : V → Leaves) (result : Result V TileError) → Audits accepts key first second old new items result
+pub audit_served : (accepts : Judge) (key first second : List ℕ) (older newer : Checkpoint) (leaves : Leaves) (old new : Watched Leaves)
+    (result : Result Growth TileError) → Audits accepts key first second old new result
     → signed_pair accepts key first second ≡ Ok (older, newer) → AreOfTree older newer leaves → Serves leaves newer.tree_size old new
-    → Gives (λ proof. IsProof older.tree_size newer.tree_size leaves (items proof)) result
-audit_served accepts key first second older newer leaves old new items (Ok proof) audits e of s =
-    let joined = of_these accepts key first second older newer (λ a b. AreJoined a b old.told (items proof)) e audits.joined in
-    told_is old.told leaves _ s.told joined.computed s.held
-audit_served accepts key first second older newer leaves old new items (Err x) audits e of s =
+    → Gives (λ found. IsProof older.tree_size newer.tree_size leaves found.proof) result
+audit_served accepts key first second older newer leaves old new (Ok found) audits e of s =
+    let is = of_these accepts key first second older newer (λ a b. IsGrowth a b old.told found) e audits.joined in
+    told_is old.told leaves _ s.told is.joined.computed s.held
+audit_served accepts key first second older newer leaves old new (Err x) audits e of s =
     refused_served accepts key first second older newer leaves old new x e of s audits.refused

@@ -13,6 +13,7 @@ use Rattle.log_tiles.specs.Fault.{ConsistencyFault}
 use Rattle.log_tiles.specs.Source.{Leaves}
 use Rattle.log_tiles.specs.Asked.{OfProof}
 use Rattle.log_tiles.specs.Proving.{IsProof, ProofCause}
+use Rattle.log_tiles.specs.declared.auditing.Growth.{Growth}
 use Rattle.log_tiles.specs.declared.error.WhichTree.{WhichTree}
 use Rattle.log_tiles.specs.declared.error.WhichTree.TheVariants.{First, Second}
 use Rattle.log_tiles.specs.declared.error.TileError.{TileError}
@@ -71,6 +72,12 @@ pub record AreJoined (older newer : Checkpoint) (told : Option Leaves) (hashes :
   pub computed : IsOfTiles older newer told hashes
   pub accepted : AreConsistent older.tree_size older.root_hash newer.tree_size newer.root_hash hashes
 
+-- what was found of two checkpoints: the sizes of their trees, and a proof of the tiles that joins these
+pub record IsGrowth (older newer : Checkpoint) (told : Option Leaves) (found : Growth) : Type 0 where
+  pub first : found.first ≡ older.tree_size
+  pub second : found.second ≡ newer.tree_size
+  pub joined : AreJoined older newer told found.proof
+
 -- the proof of the tiles is refused for the roots of both checkpoints
 pub record AreApart (older newer : Checkpoint) (told : Option Leaves) (e : TileError) : Type 0 where
   pub hashes : Leaves
@@ -82,8 +89,8 @@ abbrev pub GrowthCause : Checkpoint → Checkpoint → Watched Leaves → Watche
 GrowthCause older newer old new refusal.PathLength = AreApart older newer old.told refusal.PathLength
 GrowthCause older newer old new (refusal.RootMismatch which computed) = AreApart older newer old.told (refusal.RootMismatch which computed)
 GrowthCause older newer old new e =
-    ProofCause (AreSizes older.tree_size newer.tree_size) (OfProof older.tree_size newer.tree_size) older.tree_size newer.tree_size
-    newer.tree_size old new e
+    ProofCause (AreSizes older.tree_size newer.tree_size) (refusal.Sizes older.tree_size newer.tree_size)
+    (OfProof older.tree_size newer.tree_size) newer.tree_size old new e
 
 -- ---- the whole
 
@@ -104,11 +111,10 @@ AuditCause accepts key first second old new refusal.Origin = signed_pair accepts
 AuditCause accepts key first second old new refusal.NoMemory = ⊤
 AuditCause accepts key first second old new e = OfSigned accepts key first second (λ older newer. GrowthCause older newer old new e)
 
--- what an audit promises: a proof of the tiles that joins two signed checkpoints of one log, or why there is none
-pub record Audits {V : Type 0} (accepts : Judge) (key first second : List ℕ) (old new : Watched Leaves) (items : V → Leaves)
-    (result : Result V TileError) : Type 0 where
+-- what an audit promises: the sizes of two signed checkpoints of one log, and a proof of the tiles that joins their trees; or why there is none
+pub record Audits (accepts : Judge) (key first second : List ℕ) (old new : Watched Leaves) (result : Result Growth TileError) : Type 0 where
   pub since : Since old new
-  pub joined : IfOk result (λ proof. OfSigned accepts key first second (λ older newer. AreJoined older newer old.told (items proof)))
+  pub joined : IfOk result (λ found. OfSigned accepts key first second (λ older newer. IsGrowth older newer old.told found))
   pub refused : IfErr result (AuditCause accepts key first second old new)
 
 -- two checkpoints of the tree of these leaves

@@ -2,7 +2,7 @@
 use Rattle.std.specs.Prelude.{ℕ, List, codes}
 use Rattle.log_tiles.specs.declared.error.TileError.{TileError}
 use Rattle.log_tiles.specs.declared.error.TileError.TheVariants.{Sizes, TileAbsent, TileFailed, TileLength}
-use Rattle.log_tiles.specs.declared.error.TileError.TheVariants.{Checkpoint, Signature, Key, PathLength, RootMismatch, NoMemory, Origin}
+use Rattle.log_tiles.specs.declared.error.TileError.TheVariants.{Checkpoint, Signature, Key, PathLength, RootMismatch, NoMemory, Origin, IndexOutOfTree}
 
 abbrev pub number_of : TileError → ℕ
 number_of (Sizes first second) = 1
@@ -16,6 +16,7 @@ number_of PathLength = 8
 number_of (RootMismatch which computed) = 9
 number_of NoMemory = 10
 number_of Origin = 11
+number_of (IndexOutOfTree index size) = 12
 
 abbrev pub name_of : TileError → List ℕ
 name_of (Sizes first second) = codes "Sizes"
@@ -29,3 +30,4 @@ name_of PathLength = codes "PathLength"
 name_of (RootMismatch which computed) = codes "RootMismatch"
 name_of NoMemory = codes "NoMemory"
 name_of Origin = codes "Origin"
+name_of (IndexOutOfTree index size) = codes "IndexOutOfTree"

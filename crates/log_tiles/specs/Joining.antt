@@ -4,15 +4,15 @@ use Rattle.foundation.specs.Watched.{Watched, Since}
 use Rattle.sigstore_keys.specs.Good.{Judge}
 use Rattle.sigstore_entries.specs.declared.checkpoint.Checkpoint.{Checkpoint}
 use Rattle.log_tiles.specs.Source.{Leaves}
-use Rattle.log_tiles.specs.Auditing.{pair_signed, AreJoined, GrowthCause}
+use Rattle.log_tiles.specs.Auditing.{pair_signed, IsGrowth, GrowthCause}
+use Rattle.log_tiles.specs.declared.auditing.Growth.{Growth}
 use Rattle.log_tiles.specs.declared.error.TileError.{TileError}
 use Rattle.log_tiles.specs.declared.error.TileError.TheVariants as refusal
 
 -- what a call promises that joins two checkpoints
-pub record Joins {V : Type 0} (older newer : Checkpoint) (old new : Watched Leaves) (items : V → Leaves)
-    (result : Result V TileError) : Type 0 where
+pub record Joins (older newer : Checkpoint) (old new : Watched Leaves) (result : Result Growth TileError) : Type 0 where
   pub since : Since old new
-  pub joined : IfOk result (λ proof. AreJoined older newer old.told (items proof))
+  pub joined : IfOk result (IsGrowth older newer old.told)
   pub refused : IfErr result (GrowthCause older newer old new)
 
 -- why two checkpoints aren't: the key or a signature is refused, they are of different logs, or they aren't joined
@@ -25,8 +25,8 @@ SignedCause accepts key older newer old new refusal.NoMemory = ⊤
 SignedCause accepts key older newer old new e = (pair_signed accepts key older newer ≡ Ok tt) × GrowthCause older newer old new e
 
 -- what a call promises that joins two checkpoints where they are of one log and signed under a key
-pub record JoinsSigned {V : Type 0} (accepts : Judge) (key : List ℕ) (older newer : Checkpoint) (old new : Watched Leaves)
-    (items : V → Leaves) (result : Result V TileError) : Type 0 where
+pub record JoinsSigned (accepts : Judge) (key : List ℕ) (older newer : Checkpoint) (old new : Watched Leaves)
+    (result : Result Growth TileError) : Type 0 where
   pub since : Since old new
-  pub joined : IfOk result (λ proof. (pair_signed accepts key older newer ≡ Ok tt) × AreJoined older newer old.told (items proof))
+  pub joined : IfOk result (λ found. (pair_signed accepts key older newer ≡ Ok tt) × IsGrowth older newer old.told found)
   pub refused : IfErr result (SignedCause accepts key older newer old new)

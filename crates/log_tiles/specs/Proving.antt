@@ -9,7 +9,7 @@ use Rattle.log_tiles.specs.Tiles.{TileSet}
 use Rattle.log_tiles.specs.Source.{Leaves}
 use Rattle.log_tiles.specs.Cause.{TileCause}
 use Rattle.log_tiles.specs.declared.error.TileError.{TileError}
-use Rattle.log_tiles.specs.declared.error.TileError.TheVariants.{Sizes, NoMemory}
+use Rattle.log_tiles.specs.declared.error.TileError.TheVariants.{Sizes, IndexOutOfTree, NoMemory}
 
 -- the path of a leaf of the tree over the first leaves (RFC 6962, section 2.1.1): with it the leaf gives the tree's root
 pub record IsPath (index size : ℕ) (leaves path : Leaves) : Type 0 where
@@ -21,18 +21,19 @@ pub record IsProof (first second : ℕ) (leaves proof : Leaves) : Type 0 where
   pub hashes : proof ≡ proof_of first (take second leaves)
   pub accepted : AreConsistent first (tree_hash (take first leaves)) second (tree_hash (take second leaves)) proof
 
--- why no proof is made: the sizes aren't good, or the tiles that it is taken from give no answer
-abbrev pub ProofCause : Type 0 → TileSet → ℕ → ℕ → ℕ → Watched Leaves → Watched Leaves → TileError → Type 0
-ProofCause good asked first second size old new (Sizes a b) = (good → ⊥) × (a ≡ first) × (b ≡ second)
-ProofCause good asked first second size old new e = good × TileCause asked size old new e
+-- why no proof is made: the numbers aren't good, and this is their refusal; or the tiles that it is taken from give no answer
+abbrev pub ProofCause : Type 0 → TileError → TileSet → ℕ → Watched Leaves → Watched Leaves → TileError → Type 0
+ProofCause good wrong asked size old new (Sizes first second) = (good → ⊥) × (Sizes first second ≡ wrong)
+ProofCause good wrong asked size old new (IndexOutOfTree index count) = (good → ⊥) × (IndexOutOfTree index count ≡ wrong)
+ProofCause good wrong asked size old new e = good × TileCause asked size old new e
 
--- Sizes exactly where the sizes aren't good; over told leaves, as many as the tree has, a proof of them
-pub record Proves {V : Type 0} (good : Type 0) (asked : TileSet) (first second size : ℕ) (old new : Watched Leaves)
+-- the refusal of the numbers exactly where they aren't good; over told leaves, as many as the tree has, a proof of them
+pub record Proves {V : Type 0} (good : Type 0) (wrong : TileError) (asked : TileSet) (size : ℕ) (old new : Watched Leaves)
     (is : Leaves → V → Type 0) (result : Result V TileError) : Type 0 where
   pub since : Since old new
-  pub sizes : (good → ⊥) → result ≡ Err (Sizes first second)
+  pub sizes : (good → ⊥) → result ≡ Err wrong
   pub given : IfOk result (λ proof. IfTold old.told (λ leaves. size ≤ length leaves → is leaves proof))
-  pub refused : IfErr result (ProofCause good asked first second size old new)
+  pub refused : IfErr result (ProofCause good wrong asked size old new)
 
 -- a source that told these leaves, as many as the tree has, and raised no fault
 pub record Serves (leaves : Leaves) (size : ℕ) (old new : Watched Leaves) : Type 0 where

@@ -13,11 +13,21 @@ use crate::error::{TileError, WhichTree};
 use crate::judge::verify_consistency;
 use crate::proving::consistency;
 use crate::source::TileSource;
+use foundation::Sequence;
 use sigstore_entries::Checkpoint;
 use sigstore_keys::{CryptoProvider, Error, VerificationKey};
 use sigstore_log::CheckpointVerifyExt;
 use sigstore_types_parts::{DerPublicKey, Sha256Hash, TypesError};
 use std::alloc::Global;
+
+/// What an audit found of two checkpoints: the size of the older one's tree, that of the newer one's, and the consistency
+/// proof between them.
+#[derive(PartialEq, Drop)]
+pub struct Growth {
+    pub first: u64,
+    pub second: u64,
+    pub proof: Sequence<Sha256Hash>,
+}
 
 // The checkpoint that a text is.
 fn read_as(alloc: Global, which: WhichTree, text: &[u8]) -> Result<Checkpoint, TileError>
@@ -105,30 +115,34 @@ fn check_pair<C: CryptoProvider>(
     Ok(check_origins(older, newer)?)
 }
 
-// The proof between two checkpoints, where it is accepted for their roots.
+// The sizes of two checkpoints with the proof between them, where it is accepted for their roots.
 fn joined<T: TileSource>(
     alloc: Global,
     older: &Checkpoint,
     newer: &Checkpoint,
     tiles: &mut T,
-) -> Result<Vec<Sha256Hash>, TileError>
-    ensures { Joins older.now newer.now (T.seen tiles.old) (T.seen tiles.new) (λ proof. proof.items) result }
+) -> Result<Growth, TileError>
+    ensures { Joins older.now newer.now (T.seen tiles.old) (T.seen tiles.new) result }
 {
-    let sizes = (older.tree_size(), newer.tree_size());
-    let proof = consistency(alloc, tiles, sizes.0, sizes.1)?;
+    let (first, second) = (older.tree_size(), newer.tree_size());
+    let proof = consistency(alloc, tiles, first, second)?;
     match verify_consistency(
-        sizes.0,
+        first,
         older.root_hash(),
-        sizes.1,
+        second,
         newer.root_hash(),
         proof.as_slice(),
     ) {
-        Ok(()) => Ok(proof),
+        Ok(()) => Ok(Growth {
+            first,
+            second,
+            proof: Sequence::from_vec(proof),
+        }),
         Err(e) => Err(e),
     }
 }
 
-// The proof between two checkpoints of one log that are signed.
+// The same of two checkpoints of one log that are signed.
 fn signed_joined<C: CryptoProvider, T: TileSource>(
     alloc: Global,
     provider: &C,
@@ -136,9 +150,8 @@ fn signed_joined<C: CryptoProvider, T: TileSource>(
     older: &Checkpoint,
     newer: &Checkpoint,
     tiles: &mut T,
-) -> Result<Vec<Sha256Hash>, TileError>
-    ensures { JoinsSigned (C.accepts provider.now) key.now older.now newer.now (T.seen tiles.old) (T.seen tiles.new)
-        (λ proof. proof.items) result }
+) -> Result<Growth, TileError>
+    ensures { JoinsSigned (C.accepts provider.now) key.now older.now newer.now (T.seen tiles.old) (T.seen tiles.new) result }
 {
     match check_pair(alloc, provider, key, older, newer) {
         Ok(()) => joined(alloc, older, newer, tiles),
@@ -146,7 +159,7 @@ fn signed_joined<C: CryptoProvider, T: TileSource>(
     }
 }
 
-// The proof between two texts, where they are signed checkpoints of one log.
+// The same of two texts, where they are signed checkpoints of one log.
 fn audited<C: CryptoProvider, T: TileSource>(
     alloc: Global,
     provider: &C,
@@ -154,9 +167,8 @@ fn audited<C: CryptoProvider, T: TileSource>(
     first: &[u8],
     second: &[u8],
     tiles: &mut T,
-) -> Result<Vec<Sha256Hash>, TileError>
-    ensures { Audits (C.accepts provider.now) key.now first.now second.now (T.seen tiles.old) (T.seen tiles.new) (λ proof. proof.items)
-        result }
+) -> Result<Growth, TileError>
+    ensures { Audits (C.accepts provider.now) key.now first.now second.now (T.seen tiles.old) (T.seen tiles.new) result }
 {
     match read_pair(alloc, first, second) {
         Ok((older, newer)) => signed_joined(alloc, provider, key, &older, &newer, tiles),
@@ -164,7 +176,7 @@ fn audited<C: CryptoProvider, T: TileSource>(
     }
 }
 
-/// The consistency proof between two checkpoints of a log, from its tiles: the newer tree grew from the older one.
+/// The sizes of two checkpoints of a log, and the consistency proof between them from its tiles: the newer tree grew from the older one.
 /// Errors, in order: `Checkpoint` where the first text is no checkpoint, then the second; `Key` where the key isn't read;
 /// `Signature` where the first checkpoint isn't signed under it, then the second; `Origin` where they are of different logs;
 /// `Sizes`, `TileAbsent`, `TileFailed` and `TileLength` of `consistency`; `PathLength` and `RootMismatch` of
@@ -176,13 +188,12 @@ pub fn audit<C: CryptoProvider, T: TileSource>(
     first: &[u8],
     second: &[u8],
     tiles: &mut T,
-) -> Result<Vec<Sha256Hash>, TileError>
-    ensures audits { Audits (C.accepts provider.now) key.now first.now second.now (T.seen tiles.old) (T.seen tiles.new)
-        (λ proof. proof.items) result }
+) -> Result<Growth, TileError>
+    ensures audits { Audits (C.accepts provider.now) key.now first.now second.now (T.seen tiles.old) (T.seen tiles.new) result }
     ensures served { (leaves : Leaves) (older newer : Checkpoint)
         → signed_pair (C.accepts provider.now) key.now first.now second.now ≡ Ok (older, newer)
         → AreOfTree older newer leaves → Serves leaves newer.tree_size (T.seen tiles.old) (T.seen tiles.new)
-        → Gives (λ proof. IsProof older.tree_size newer.tree_size leaves proof.items) result }
+        → Gives (λ found. IsProof older.tree_size newer.tree_size leaves found.proof) result }
 {
     audited(alloc, provider, key, first, second, tiles)
 }

@@ -57,6 +57,11 @@ pub enum TileError {
     NoMemory,
     /// Two checkpoints are of different logs, as their first lines name them.
     Origin,
+    /// A tree of this size has no leaf at this index.
+    IndexOutOfTree {
+        index: u64,
+        size: u64,
+    },
 }
 
 impl TileError {
@@ -76,6 +81,7 @@ impl TileError {
             TileError::RootMismatch { .. } => 9,
             TileError::NoMemory => 10,
             TileError::Origin => 11,
+            TileError::IndexOutOfTree { .. } => 12,
         }
     }
 
@@ -95,6 +101,7 @@ impl TileError {
             TileError::RootMismatch { .. } => "RootMismatch",
             TileError::NoMemory => "NoMemory",
             TileError::Origin => "Origin",
+            TileError::IndexOutOfTree { .. } => "IndexOutOfTree",
         }
     }
 }

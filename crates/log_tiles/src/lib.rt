@@ -18,7 +18,7 @@ mod source;
 mod split;
 mod whole;
 
-pub use auditing::audit;
+pub use auditing::{Growth, audit};
 pub use compare::{Compared, compare_trees};
 pub use error::{TileError, WhichTree};
 pub use file_tiles::{FileTiles, tile_file};

@@ -5,6 +5,7 @@ ghost use Rattle.log_tiles.specs.Source.{Leaves};
 ghost use Rattle.log_tiles.specs.Asked.{OfPath, OfProof};
 ghost use Rattle.log_tiles.specs.Reading.{Computes};
 ghost use Rattle.log_tiles.specs.Proving.{IsPath, IsProof, Proves, Serves, Gives};
+ghost use Rattle.log_tiles.specs.declared.error.TileError.TheVariants as refusal;
 
 use crate::error::TileError;
 use crate::judge::are_sizes;
@@ -64,7 +65,7 @@ fn growth_proof<T: TileSource>(
 
 /// The path of the leaf at an index in the tree of the first `size` leaves, from the leaf up (RFC 6962, section 2.1.1). Each
 /// tile is read once.
-/// Errors, in order: `Sizes` where the index isn't below the size; then what reading the tiles answers (`TileAbsent`,
+/// Errors, in order: `IndexOutOfTree` where the index isn't below the size; then what reading the tiles answers (`TileAbsent`,
 /// `TileFailed`, `TileLength`), and `NoMemory`.
 pub fn inclusion<T: TileSource>(
     alloc: Global,
@@ -73,16 +74,13 @@ pub fn inclusion<T: TileSource>(
     size: u64,
 ) -> Result<Vec<Sha256Hash>, TileError>
     ensures inside { OnOk result (index < size) }
-    ensures path { Proves (index < size) (OfPath index size) index size size (T.seen tiles.old) (T.seen tiles.new)
+    ensures path { Proves (index < size) (refusal.IndexOutOfTree index size) (OfPath index size) size (T.seen tiles.old) (T.seen tiles.new)
         (λ leaves path. IsPath index size leaves path.items) result }
     ensures served { (leaves : Leaves) → index < size → Serves leaves size (T.seen tiles.old) (T.seen tiles.new)
         → Gives (λ path. IsPath index size leaves path.items) result }
 {
     if index >= size {
-        return Err(TileError::Sizes {
-            first: index,
-            second: size,
-        });
+        return Err(TileError::IndexOutOfTree { index, size });
     }
     leaf_path(alloc, tiles, index, size)
 }
@@ -98,7 +96,7 @@ pub fn consistency<T: TileSource>(
     second: u64,
 ) -> Result<Vec<Sha256Hash>, TileError>
     ensures sizes { OnOk result (AreSizes first second) }
-    ensures proof { Proves (AreSizes first second) (OfProof first second) first second second (T.seen tiles.old)
+    ensures proof { Proves (AreSizes first second) (refusal.Sizes first second) (OfProof first second) second (T.seen tiles.old)
         (T.seen tiles.new)
         (λ leaves proof. IsProof first second leaves proof.items) result }
     ensures served { (leaves : Leaves) → AreSizes first second → Serves leaves second (T.seen tiles.old) (T.seen tiles.new)
