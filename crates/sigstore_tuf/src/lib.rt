@@ -10,8 +10,8 @@ mod updater;
 pub use parts::{attach_parts, get_target_parts, refresh_parts};
 pub use sigstore_tuf_causes::{store_carries_the_floor, stored_is_signed};
 pub use sigstore_tuf_outside::{
-    FetchFault, FileRepository, FileStore, LyingRepository, MemoryRepository, MemoryStore,
-    MetadataStore, NoStore, Reply, Repository, StoreFault,
+    FetchFault, FileRepository, FileStore, MemoryRepository, MemoryStore, MetadataStore, NoStore,
+    Repository, StoreFault,
 };
 pub use sigstore_tuf_parts::{
     DelegatedRole, Delegations, DocumentMember, Error, Key, KeyFault, KeyVal, MetaFile, Metadata,

@@ -8,7 +8,7 @@ ghost use Rattle.sigstore_tuf_runs.specs.Promises.{Attached, Refreshed, Informed
 
 use crate::trusted::TrustedMetadataSet;
 use foundation::Duplicate;
-use sigstore_keys::CryptoProvider;
+use sigstore_keys::{CryptoProvider, Providers};
 use sigstore_tuf_client::{attach, find_chain, find_info, run_steps};
 use sigstore_tuf_outside::{MetadataStore, Repository};
 use sigstore_tuf_parts::{Error, TargetFile};
@@ -29,7 +29,7 @@ pub fn attach_parts<C: CryptoProvider, M: Armor, S: MetadataStore>(
     ensures judges { SameJudges set.old set.new }
     ensures authorised { IsAuthorised (crypto_in C.CryptoProvider M.Armor set.new) set.new.documents }
 {
-    attach(alloc, set.provider, set.armor, &mut set.documents, store)
+    attach(alloc, &set.providers, &mut set.documents, store)
 }
 
 /// Brings the documents in force up to date at a moment: next roots of the repository; then what the store has
@@ -51,8 +51,10 @@ pub fn refresh_parts<C: CryptoProvider, M: Armor, R: Repository, S: MetadataStor
     ensures authorised { IsAuthorised (crypto_in C.CryptoProvider M.Armor set.new) set.new.documents }
 {
     let session = Session {
-        provider: set.provider,
-        armor: set.armor,
+        providers: Providers {
+            provider: set.providers.provider,
+            armor: set.providers.armor,
+        },
         config,
         moment: now,
     };
@@ -94,8 +96,10 @@ pub(crate) fn target_info<C: CryptoProvider, M: Armor, R: Repository, S: Metadat
     ensures authorised { IsAuthorised (crypto_in C.CryptoProvider M.Armor set.new) set.new.documents }
 {
     let session = Session {
-        provider: set.provider,
-        armor: set.armor,
+        providers: Providers {
+            provider: set.providers.provider,
+            armor: set.providers.armor,
+        },
         config,
         moment: now,
     };
@@ -124,8 +128,10 @@ pub fn get_target_parts<C: CryptoProvider, M: Armor, R: Repository, S: MetadataS
     ensures authorised { IsAuthorised (crypto_in C.CryptoProvider M.Armor set.new) set.new.documents }
 {
     let session = Session {
-        provider: set.provider,
-        armor: set.armor,
+        providers: Providers {
+            provider: set.providers.provider,
+            armor: set.providers.armor,
+        },
         config,
         moment: now,
     };

@@ -12,10 +12,10 @@ ghost use Rattle.sigstore_tuf_rules.specs.SearchServing.{fresh_timestamp_of, fre
 ghost use Rattle.sigstore_tuf_parts.specs.Integrity.{fresh_of};
 ghost use Rattle.sigstore_tuf_rules.specs.Authorised.{IsAuthorised, crypto_in, SameJudges, UpdatesSet};
 
-use sigstore_keys::CryptoProvider;
+use sigstore_keys::{CryptoProvider, Providers};
 use sigstore_tuf_parts::{Error, Role, Root, Snapshot, Targets, Timestamp};
 use sigstore_tuf_rules::{
-    InForce, Kind, check_fresh_snapshot, check_fresh_timestamp, first_root, serving_role,
+    InForce, Kind, Visit, check_fresh_snapshot, check_fresh_timestamp, first_root, serving_role,
     update_copied, update_role_copied,
 };
 use sigstore_types_parts::Armor;
@@ -26,13 +26,12 @@ use std::marker::Model;
 /// see both judges as one, and the documents; these are authorised from the first root in every state.
 #[derive(Drop)]
 pub struct TrustedMetadataSet<'p, C: CryptoProvider, M: Armor> {
-    pub(crate) provider: &'p C,
-    pub(crate) armor: &'p M,
+    pub(crate) providers: Providers<'p, C, M>,
     pub(crate) documents: InForce,
 }
 
 impl<'p, C: CryptoProvider, M: Armor> Model for TrustedMetadataSet<'p, C, M> {
-    ghost use Rattle.sigstore_keys.specs.Crypto.{crypto_by};
+    ghost use Rattle.sigstore_keys.specs.Crypto.{crypto_with};
     ghost use Rattle.sigstore_tuf_rules.specs.Authorised.{IsAuthorised, TrustedSet};
     ghost use Rattle.sigstore_types_parts.specs.contracts.json_value.Json as json;
     ghost use Rattle.std.specs.Coded.{codes as coded_types};
@@ -41,9 +40,9 @@ impl<'p, C: CryptoProvider, M: Armor> Model for TrustedMetadataSet<'p, C, M> {
 
     ghost coded = { Prim.hlevel (coded_types, json.the_row.coded) };
 
-    ghost view = { λ s. record { provider = s.provider.now; armor = s.armor.now; documents = s.documents } };
+    ghost view = { λ s. record { provider = s.providers.provider.now; armor = s.providers.armor.now; documents = s.documents } };
 
-    ghost invariant = { λ s. IsAuthorised (crypto_by C.CryptoProvider M.Armor s.provider.now s.armor.now) s.documents };
+    ghost invariant = { λ s. IsAuthorised (crypto_with C.CryptoProvider M.Armor s.providers) s.documents };
 }
 
 impl<'p, C: CryptoProvider, M: Armor> TrustedMetadataSet<'p, C, M> {
@@ -63,10 +62,10 @@ impl<'p, C: CryptoProvider, M: Armor> TrustedMetadataSet<'p, C, M> {
         ensures err { IfErr result (λ e. e ≢ Error.NoMemory →
             first_root_of (crypto_by C.CryptoProvider M.Armor provider.now armor.now) bytes.now ≡ Err e) }
     {
-        match first_root(alloc, provider, armor, bytes) {
+        let providers = Providers { provider, armor };
+        match first_root(alloc, &providers, bytes) {
             Ok(documents) => Ok(TrustedMetadataSet {
-                provider,
-                armor,
+                providers,
                 documents,
             }),
             Err(e) => Err(e),
@@ -158,8 +157,7 @@ impl<'p, C: CryptoProvider, M: Armor> TrustedMetadataSet<'p, C, M> {
     {
         update_copied(
             alloc,
-            self.provider,
-            self.armor,
+            &self.providers,
             &mut self.documents,
             Kind::Root(0),
             bytes,
@@ -182,8 +180,7 @@ impl<'p, C: CryptoProvider, M: Armor> TrustedMetadataSet<'p, C, M> {
     {
         update_copied(
             alloc,
-            self.provider,
-            self.armor,
+            &self.providers,
             &mut self.documents,
             Kind::Timestamp,
             bytes,
@@ -207,8 +204,7 @@ impl<'p, C: CryptoProvider, M: Armor> TrustedMetadataSet<'p, C, M> {
     {
         update_copied(
             alloc,
-            self.provider,
-            self.armor,
+            &self.providers,
             &mut self.documents,
             Kind::Snapshot,
             bytes,
@@ -232,8 +228,7 @@ impl<'p, C: CryptoProvider, M: Armor> TrustedMetadataSet<'p, C, M> {
     {
         update_copied(
             alloc,
-            self.provider,
-            self.armor,
+            &self.providers,
             &mut self.documents,
             Kind::Targets,
             bytes,
@@ -260,16 +255,17 @@ impl<'p, C: CryptoProvider, M: Armor> TrustedMetadataSet<'p, C, M> {
             self.old.documents self.new.documents result }
         ensures judges { SameJudges self.old self.new }
     {
-        update_role_copied(
-            alloc,
-            self.provider,
-            self.armor,
-            &mut self.documents,
-            role,
-            delegator,
-            bytes,
-            Some(now),
-        )
+        match Visit::new(alloc, role, delegator) {
+            Ok(visit) => update_role_copied(
+                alloc,
+                &self.providers,
+                &mut self.documents,
+                &visit,
+                bytes,
+                Some(now),
+            ),
+            Err(e) => Err(Error::from(e)),
+        }
     }
 
     /// The document in force of a delegated role, where it serves at a moment by what the document of its
@@ -288,17 +284,12 @@ impl<'p, C: CryptoProvider, M: Armor> TrustedMetadataSet<'p, C, M> {
         ensures err { IfErr result (λ e. e ≢ Error.NoMemory →
             role_serves_of (crypto_in C.CryptoProvider M.Armor self.now) self.now.documents (by delegator.now role.now) now ≡ Err e) }
     {
-        match serving_role(
-            alloc,
-            self.provider,
-            self.armor,
-            &self.documents,
-            role,
-            delegator,
-            now,
-        ) {
-            Ok(held) => Ok(held.document.signed()),
-            Err(e) => Err(e),
+        match Visit::new(alloc, role, delegator) {
+            Ok(visit) => match serving_role(alloc, &self.providers, &self.documents, &visit, now) {
+                Ok(held) => Ok(held.document.signed()),
+                Err(e) => Err(e),
+            },
+            Err(e) => Err(Error::from(e)),
         }
     }
 }

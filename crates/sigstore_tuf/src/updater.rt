@@ -18,13 +18,21 @@ use crate::parts::{attach_parts, get_target_parts, refresh_parts, target_info};
 use crate::trusted::TrustedMetadataSet;
 use foundation::{Duplicate, NoMemory};
 use sigstore_keys::CryptoProvider;
-use sigstore_tuf_client::{download, recall_target};
+use sigstore_tuf_client::{Wanted, download, recall_target};
 use sigstore_tuf_outside::{MetadataStore, NoStore, Repository};
 use sigstore_tuf_parts::{Error, TargetFile};
 use sigstore_tuf_rules::{TrustChain, UpdaterConfig};
 use sigstore_types_parts::{Armor, Bytes};
 use std::alloc::Global;
 use std::mem;
+
+// What a search is asked: its limits, the path, and the moment.
+#[derive(Drop)]
+pub(crate) struct Asked<'a> {
+    config: &'a UpdaterConfig,
+    path: &'a str,
+    moment: jiff::Timestamp,
+}
 
 // A refresh over the store that is there, or over none.
 fn refresh_held<C: CryptoProvider, M: Armor, R: Repository, S: MetadataStore>(
@@ -54,17 +62,16 @@ fn info_held<C: CryptoProvider, M: Armor, R: Repository, S: MetadataStore>(
     set: &mut TrustedMetadataSet<'_, C, M>,
     repo: &mut R,
     store: &mut Option<&mut S>,
-    config: &UpdaterConfig,
-    path: &str,
-    now: jiff::Timestamp,
+    asked: &Asked<'_>,
 ) -> Result<Option<TargetFile>, Error>
     ensures same_store { SameOption store.old store.new }
-    ensures informed { Informed (session_of (crypto_in C.CryptoProvider M.Armor set.old) config.now now) path.now
+    ensures informed { Informed (session_of (crypto_in C.CryptoProvider M.Armor set.old) asked.now.config.now asked.now.moment) asked.now.path.now
         (state_of set.old.documents (R.seen repo.old) (option_seen S.seen store.old))
         (state_of set.new.documents (R.seen repo.new) (option_seen S.seen store.new)) result }
     ensures judges { SameJudges set.old set.new }
     ensures authorised { IsAuthorised (crypto_in C.CryptoProvider M.Armor set.new) set.new.documents }
 {
+    let (config, path, now) = (asked.config, asked.path, asked.moment);
     match store {
         Some(store) => target_info(alloc, set, repo, *store, config, path, now),
         None => target_info(alloc, set, repo, &mut NoStore, config, path, now),
@@ -77,17 +84,16 @@ fn get_target_held<C: CryptoProvider, M: Armor, R: Repository, S: MetadataStore>
     set: &mut TrustedMetadataSet<'_, C, M>,
     repo: &mut R,
     store: &mut Option<&mut S>,
-    config: &UpdaterConfig,
-    path: &str,
-    now: jiff::Timestamp,
+    asked: &Asked<'_>,
 ) -> Result<TrustChain, Error>
     ensures same_store { SameOption store.old store.new }
-    ensures got { Got (session_of (crypto_in C.CryptoProvider M.Armor set.old) config.now now) path.now
+    ensures got { Got (session_of (crypto_in C.CryptoProvider M.Armor set.old) asked.now.config.now asked.now.moment) asked.now.path.now
         (state_of set.old.documents (R.seen repo.old) (option_seen S.seen store.old))
         (state_of set.new.documents (R.seen repo.new) (option_seen S.seen store.new)) result }
     ensures judges { SameJudges set.old set.new }
     ensures authorised { IsAuthorised (crypto_in C.CryptoProvider M.Armor set.new) set.new.documents }
 {
+    let (config, path, now) = (asked.config, asked.path, asked.moment);
     match store {
         Some(store) => get_target_parts(alloc, set, repo, *store, config, path, now),
         None => get_target_parts(alloc, set, repo, &mut NoStore, config, path, now),
@@ -113,20 +119,17 @@ fn recall_held<S: MetadataStore>(
 // A target's file of the repository, written to the store that is there.
 fn download_held<R: Repository, S: MetadataStore>(
     alloc: Global,
-    consistent: bool,
+    wanted: &Wanted<'_>,
     repo: &mut R,
     store: &mut Option<&mut S>,
-    config: &UpdaterConfig,
-    target: &TargetFile,
-    path: &str,
 ) -> Result<Bytes, Error>
     ensures same_store { SameOption store.old store.new }
-    ensures downloads { Downloads consistent config.now target.now path.now (R.seen repo.old) (R.seen repo.new)
-        (option_seen S.seen store.old) (option_seen S.seen store.new) result }
+    ensures downloads { Downloads wanted.now.consistent wanted.now.config.now wanted.now.entry.now wanted.now.path.now
+        (R.seen repo.old) (R.seen repo.new) (option_seen S.seen store.old) (option_seen S.seen store.new) result }
 {
     match store {
-        Some(store) => download(alloc, consistent, config, repo, *store, target, path),
-        None => download(alloc, consistent, config, repo, &mut NoStore, target, path),
+        Some(store) => download(alloc, wanted, repo, *store),
+        None => download(alloc, wanted, repo, &mut NoStore),
     }
 }
 
@@ -289,15 +292,12 @@ impl<'a, C: CryptoProvider, M: Armor, R: Repository, S: MetadataStore> Updater<'
         ensures judges { SameJudges self.old.set self.new.set }
         ensures same { (self.new.config ≡ self.old.config) × (self.new.chain ≡ self.old.chain) }
     {
-        info_held(
-            alloc,
-            &mut self.set,
-            self.repo,
-            &mut self.store,
-            &self.config,
+        let asked = Asked {
+            config: &self.config,
             path,
-            now,
-        )
+            moment: now,
+        };
+        info_held(alloc, &mut self.set, self.repo, &mut self.store, &asked)
     }
 
     /// The store's file of a target, where it is the listed one by its length and digests; None too where there
@@ -340,15 +340,13 @@ impl<'a, C: CryptoProvider, M: Armor, R: Repository, S: MetadataStore> Updater<'
         ensures same { (self.new.set ≡ self.old.set)
             × (self.new.config ≡ self.old.config) × (self.new.chain ≡ self.old.chain) }
     {
-        download_held(
-            alloc,
-            self.set.root().consistent_snapshot,
-            self.repo,
-            &mut self.store,
-            &self.config,
-            target,
+        let wanted = Wanted {
+            consistent: self.set.root().consistent_snapshot,
+            config: &self.config,
+            entry: target,
             path,
-        )
+        };
+        download_held(alloc, &wanted, self.repo, &mut self.store)
     }
 
     /// The file of a target, which `chain` then explains: the store's where it is the listed one, else the
@@ -373,15 +371,12 @@ impl<'a, C: CryptoProvider, M: Armor, R: Repository, S: MetadataStore> Updater<'
         ensures authorised { IsAuthorised (crypto_in C.CryptoProvider M.Armor self.new.set) self.new.set.documents }
         ensures same { self.new.config ≡ self.old.config }
     {
-        match get_target_held(
-            alloc,
-            &mut self.set,
-            self.repo,
-            &mut self.store,
-            &self.config,
+        let asked = Asked {
+            config: &self.config,
             path,
-            now,
-        ) {
+            moment: now,
+        };
+        match get_target_held(alloc, &mut self.set, self.repo, &mut self.store, &asked) {
             Ok(chain) => match chain.file.duplicate(alloc) {
                 Ok(file) => {
                     drop(mem::replace(&mut self.chain, Some(chain)));

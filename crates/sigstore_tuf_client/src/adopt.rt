@@ -1,7 +1,7 @@
 // The adoption of one document, from the repository or from the store.
 ghost use Rattle.std.specs.Prelude.{◌≡◌, [], ◌∷◌, option_copied};
 ghost use Rattle.foundation.specs.Watched.{Watched};
-ghost use Rattle.sigstore_keys.specs.Crypto.{crypto_by};
+ghost use Rattle.sigstore_keys.specs.Crypto.{crypto_with};
 ghost use Rattle.sigstore_tuf_outside.specs.Repository.{Folders, metadata_files};
 ghost use Rattle.sigstore_tuf_runs.specs.State.{state_of, session_by};
 ghost use Rattle.sigstore_tuf_rules.specs.Names.{kept_name, history_name, pinned_name, both_names, kept_names};
@@ -9,7 +9,7 @@ ghost use Rattle.sigstore_tuf_rules.specs.declared.kind.Kind.TheVariants as kind
 ghost use Rattle.sigstore_tuf_rules.specs.Taking.{bytes_in};
 ghost use Rattle.sigstore_tuf_runs.specs.Adopt.{transport_of, FetchesNamed, FetchesDocument, LoadsNamed, Saves, SavesAll, Keeps, KeepsWhere, absence_of, Adopts, passed_over, Seeds};
 
-use sigstore_keys::CryptoProvider;
+use sigstore_keys::{CryptoProvider, Providers};
 use sigstore_tuf_outside::{FetchFault, MetadataStore, Repository, StoreFault};
 use sigstore_tuf_parts::{
     Error, MetaFile, SNAPSHOT_NAME, TARGETS_NAME, TIMESTAMP_NAME, TransportFault, root_name,
@@ -300,8 +300,7 @@ pub(crate) fn adopt<C: CryptoProvider, M: Armor, R: Repository, S: MetadataStore
         Ok(Some(bytes)) => {
             match take(
                 alloc,
-                session.provider,
-                session.armor,
+                &session.providers,
                 documents,
                 kind,
                 bytes,
@@ -335,18 +334,17 @@ fn pass_over(e: Error) -> Result<bool, Error>
 // Puts a document of the store in force, unless it is refused; whether it was put there.
 pub(crate) fn seed<C: CryptoProvider, M: Armor, S: MetadataStore>(
     alloc: Global,
-    provider: &C,
-    armor: &M,
+    providers: &Providers<'_, C, M>,
     documents: &mut InForce,
     store: &mut S,
     kind: Kind,
     now: Option<jiff::Timestamp>,
 ) -> Result<bool, Error>
-    ensures { (repo : Watched Folders) → Seeds (crypto_by C.CryptoProvider M.Armor provider.now armor.now) kind now
+    ensures { (repo : Watched Folders) → Seeds (crypto_with C.CryptoProvider M.Armor providers.now) kind now
         (state_of documents.old repo (S.seen store.old)) (state_of documents.new repo (S.seen store.new)) result }
 {
     match load_document(alloc, store, kind) {
-        Ok(Some(bytes)) => match take(alloc, provider, armor, documents, kind, bytes, now) {
+        Ok(Some(bytes)) => match take(alloc, providers, documents, kind, bytes, now) {
             Ok(was) => Ok(was),
             Err(e) => pass_over(e),
         },

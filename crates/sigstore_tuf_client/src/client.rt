@@ -1,13 +1,13 @@
 // The calls of the client as lists of steps: over an owned set of documents, and a lent repository and store.
 ghost use Rattle.std.specs.Prelude.{◌≡◌, ◌<◌, ◌^◌, IfSome};
 ghost use Rattle.foundation.specs.Watched.{Watched};
-ghost use Rattle.sigstore_keys.specs.Crypto.{crypto_by};
+ghost use Rattle.sigstore_keys.specs.Crypto.{crypto_with};
 ghost use Rattle.sigstore_tuf_runs.specs.State.{state_of, session_by};
 ghost use Rattle.sigstore_tuf_outside.specs.Repository.{Folders};
 ghost use Rattle.sigstore_tuf_runs.specs.Run.{next_root, roots_left, WalksRoots, RecallsRoots, SavesRoot, Attaches, Refetches, moment_of, Reseeds, Does, RunsSteps};
 
 use crate::adopt::{adopt, save_in_force, seed};
-use sigstore_keys::CryptoProvider;
+use sigstore_keys::{CryptoProvider, Providers};
 use sigstore_tuf_outside::{MetadataStore, Repository};
 use sigstore_tuf_parts::{Error, TransportFault};
 use sigstore_tuf_rules::{
@@ -36,24 +36,15 @@ fn next_number(documents: &InForce) -> Option<u64>
 // Adopts next roots of the store, until one isn't there or is refused.
 fn recall_roots<C: CryptoProvider, M: Armor, S: MetadataStore>(
     alloc: Global,
-    provider: &C,
-    armor: &M,
+    providers: &Providers<'_, C, M>,
     documents: &mut InForce,
     store: &mut S,
 ) -> Result<(), Error>
-    ensures { (repo : Watched Folders) → RecallsRoots (crypto_by C.CryptoProvider M.Armor provider.now armor.now) (roots_left documents.old)
+    ensures { (repo : Watched Folders) → RecallsRoots (crypto_with C.CryptoProvider M.Armor providers.now) (roots_left documents.old)
         (state_of documents.old repo (S.seen store.old)) (state_of documents.new repo (S.seen store.new)) result }
 {
     while let Some(number) = next_number(documents) {
-        match seed(
-            alloc,
-            provider,
-            armor,
-            documents,
-            store,
-            Kind::Root(number),
-            None,
-        ) {
+        match seed(alloc, providers, documents, store, Kind::Root(number), None) {
             Ok(true) => {}
             Ok(false) => return Ok(()),
             Err(e) => return Err(e),
@@ -111,15 +102,14 @@ fn write_root<S: MetadataStore>(
 /// Adopts next roots of a store that is handed in, and writes the root then in force.
 pub fn attach<C: CryptoProvider, M: Armor, S: MetadataStore>(
     alloc: Global,
-    provider: &C,
-    armor: &M,
+    providers: &Providers<'_, C, M>,
     documents: &mut InForce,
     store: &mut S,
 ) -> Result<(), Error>
-    ensures { (repo : Watched Folders) → Attaches (crypto_by C.CryptoProvider M.Armor provider.now armor.now)
+    ensures { (repo : Watched Folders) → Attaches (crypto_with C.CryptoProvider M.Armor providers.now)
         (state_of documents.old repo (S.seen store.old)) (state_of documents.new repo (S.seen store.new)) result }
 {
-    match recall_roots(alloc, provider, armor, documents, store) {
+    match recall_roots(alloc, providers, documents, store) {
         Ok(()) => write_root(alloc, documents, store),
         Err(e) => Err(e),
     }
@@ -173,15 +163,7 @@ fn reseed<C: CryptoProvider, M: Armor, S: MetadataStore>(
         return Ok(());
     }
     let now = moment(kind, session.moment);
-    match seed(
-        alloc,
-        session.provider,
-        session.armor,
-        documents,
-        store,
-        kind,
-        now,
-    ) {
+    match seed(alloc, &session.providers, documents, store, kind, now) {
         Ok(_) => Ok(()),
         Err(e) => Err(e),
     }

@@ -7,4 +7,4 @@ mod search;
 mod target;
 
 pub use client::{attach, run_steps};
-pub use target::{download, find_chain, find_info, recall_target};
+pub use target::{Wanted, download, find_chain, find_info, recall_target};

@@ -1,14 +1,14 @@
 // The search for a target over delegated roles, whose documents are fetched on the way.
 ghost use Rattle.std.specs.Prelude.{◌≡◌, ◌≢◌, ◌<◌, ◌≤◌, [], ◌∷◌, Some, None, Ok, Err, IfOk, IfErr, OnOk, option_map, reverse, codes};
 ghost use Rattle.sigstore_types_parts.specs.Entries.{at_name};
-ghost use Rattle.sigstore_keys.specs.Crypto.{crypto_by};
+ghost use Rattle.sigstore_keys.specs.Crypto.{crypto_with};
 ghost use Rattle.sigstore_tuf_outside.specs.Repository.{metadata_files};
 ghost use Rattle.sigstore_tuf_rules.specs.Names.{role_name_in, role_file};
 ghost use Rattle.sigstore_tuf_runs.specs.State.{state_of, session_by};
 ghost use Rattle.sigstore_tuf_rules.specs.Taking.{Takes, taken_of};
 ghost use Rattle.sigstore_tuf_runs.specs.Adopt.{FetchesNamed, KeepsWhere};
 ghost use Rattle.sigstore_tuf_rules.specs.Delegated.{update_role_of};
-ghost use Rattle.sigstore_tuf_runs.specs.Search.{AdoptsRole, visit_serves_of, reads, IsGap, IsOpen, IsSnapshot, tree_in, Readies, Searches, WalksOne, FindsVisits};
+ghost use Rattle.sigstore_tuf_runs.specs.Search.{AdoptsRole, visit_serves_of, reads, IsGap, IsOpen, IsSnapshot, tree_in, Readies, Advances, Searches, FindsVisits};
 ghost use Rattle.sigstore_tuf_rules.specs.Order.{Tree, visited, having_read, delegated_in, read_of, read_named, visit_of, first_visit, first_walk};
 ghost use Rattle.sigstore_tuf_parts.specs.declared.snapshot.Snapshot.{Snapshot};
 
@@ -18,7 +18,7 @@ use sigstore_keys::CryptoProvider;
 use sigstore_tuf_outside::{MetadataStore, Repository};
 use sigstore_tuf_parts::{DelegatedRole, Error, Rule, Targets, TransportFault};
 use sigstore_tuf_rules::{
-    InForce, Next, Visit, Walk, check_search, contains, matching, pop_unread, push_next, role_file,
+    InForce, Next, Visit, Walk, check_search, matching, pop_unread, push_next, role_file,
     role_name_in, role_pin_in, serving_role, taken, update_role,
 };
 use sigstore_tuf_runs::Session;
@@ -51,16 +51,14 @@ fn take_role<C: CryptoProvider, M: Armor>(
     visit: &Visit,
     bytes: Bytes,
 ) -> Result<bool, Error>
-    ensures { Takes (taken_of (update_role_of (crypto_by C.CryptoProvider M.Armor session.now.provider.now session.now.armor.now) documents.old visit.now bytes (Some session.now.moment)))
+    ensures { Takes (taken_of (update_role_of (crypto_with C.CryptoProvider M.Armor session.now.providers) documents.old visit.now bytes (Some session.now.moment)))
         documents.old documents.new result }
 {
     taken(update_role(
         alloc,
-        session.provider,
-        session.armor,
+        &session.providers,
         documents,
-        visit.name.as_str(),
-        visit.delegator.as_str(),
+        visit,
         bytes,
         Some(session.moment),
     ))
@@ -118,39 +116,28 @@ fn check_visit<C: CryptoProvider, M: Armor>(
     visit: &Visit,
 ) -> Result<(), Error>
     ensures ok { OnOk result
-        (visit_serves_of (crypto_by C.CryptoProvider M.Armor session.now.provider.now session.now.armor.now) documents.now visit.now session.now.moment ≡ Ok tt) }
+        (visit_serves_of (crypto_with C.CryptoProvider M.Armor session.now.providers) documents.now visit.now session.now.moment ≡ Ok tt) }
     ensures err { IfErr result (λ e. e ≢ Error.NoMemory →
-        visit_serves_of (crypto_by C.CryptoProvider M.Armor session.now.provider.now session.now.armor.now) documents.now visit.now session.now.moment ≡ Err e) }
+        visit_serves_of (crypto_with C.CryptoProvider M.Armor session.now.providers) documents.now visit.now session.now.moment ≡ Err e) }
 {
     if visit.name.as_str() == "targets" {
         return Ok(());
     }
-    match serving_role(
-        alloc,
-        session.provider,
-        session.armor,
-        documents,
-        visit.name.as_str(),
-        visit.delegator.as_str(),
-        session.moment,
-    ) {
+    match serving_role(alloc, &session.providers, documents, visit, session.moment) {
         Ok(_) => Ok(()),
         Err(e) => Err(e),
     }
 }
 
-// Whether a visit reads a document.
-fn reads(alloc: Global, documents: &InForce, visit: &Visit, walk: &Walk) -> Result<bool, NoMemory>
-    ensures { IfOk result (λ b. b ≡ reads documents.now visit.now walk.now) }
+// Whether a visit that is open reads a document.
+fn reads(alloc: Global, documents: &InForce, visit: &Visit) -> Result<bool, NoMemory>
+    ensures { IfOk result (λ b. (walk : Walk) → IsOpen visit.now walk → b ≡ reads documents.now visit.now walk) }
 {
-    if walk.left == 0 || contains(walk.read.as_slice(), &visit.name) {
-        return Ok(false);
-    }
     let pin = role_pin_in(alloc, documents, visit.name.as_str())?;
     Ok(pin.is_some())
 }
 
-// Sees that the document that a visit reads is there and serves.
+// Sees that the document that an open visit reads is there and serves.
 fn ready<C: CryptoProvider, M: Armor, R: Repository, S: MetadataStore>(
     alloc: Global,
     session: &Session<'_, C, M>,
@@ -158,12 +145,11 @@ fn ready<C: CryptoProvider, M: Armor, R: Repository, S: MetadataStore>(
     repo: &mut R,
     store: &mut S,
     visit: &Visit,
-    walk: &Walk,
 ) -> Result<(), Error>
-    ensures { Readies (session_by C.CryptoProvider M.Armor session.now) visit.now walk.now (state_of documents.old (R.seen repo.old) (S.seen store.old))
-        (state_of documents.new (R.seen repo.new) (S.seen store.new)) result }
+    ensures { (walk : Walk) → IsOpen visit.now walk → Readies (session_by C.CryptoProvider M.Armor session.now) visit.now walk
+        (state_of documents.old (R.seen repo.old) (S.seen store.old)) (state_of documents.new (R.seen repo.new) (S.seen store.new)) result }
 {
-    match reads(alloc, documents, visit, walk) {
+    match reads(alloc, documents, visit) {
         Ok(true) => {}
         Ok(false) => return Ok(()),
         Err(e) => return Err(Error::from(e)),
@@ -273,79 +259,34 @@ fn make_visit(
 fn first_pending(alloc: Global) -> Result<Vec<Visit>, NoMemory>
     ensures { IfOk result (λ pending. pending.items ≡ first_visit ∷ []) }
 {
-    let visit = Visit {
-        name: Text::new(alloc, "targets")?,
-        delegator: Text::new(alloc, "root")?,
-    };
+    let visit = Visit::new(alloc, "targets", "root")?;
     let mut pending = Vec::new(alloc);
     pending.push(visit)?;
     Ok(pending)
 }
 
-// Makes a visit, once its document is there and serves, and puts what follows it before what is pending.
-fn walk_one<C: CryptoProvider, M: Armor, R: Repository, S: MetadataStore>(
+// Makes a visit whose document, where it reads one, is there and serves, and puts what follows it before what is pending.
+fn advance(
     alloc: Global,
-    session: &Session<'_, C, M>,
-    documents: &mut InForce,
-    repo: &mut R,
-    store: &mut S,
+    documents: &InForce,
     path: &str,
     visit: &Visit,
     walk: &mut Walk,
     pending: &mut Vec<Visit>,
 ) -> Result<(), Error>
-    ensures walks { (snapshot : Snapshot) → IsSnapshot documents.old snapshot → IsOpen visit.now walk.old →
-        WalksOne (session_by C.CryptoProvider M.Armor session.now) snapshot path.now visit.now (reverse pending.old.items) walk.old
-        (state_of documents.old (R.seen repo.old) (S.seen store.old)) (state_of documents.new (R.seen repo.new) (S.seen store.new)) walk.new (reverse pending.new.items) result }
+    ensures ok { OnOk result ((snapshot : Snapshot) → IsSnapshot documents.now snapshot → IsOpen visit.now walk.old →
+        Advances (tree_in documents.now snapshot path.now) visit.now (reverse pending.old.items) walk.old walk.new (reverse pending.new.items)) }
+    ensures err { IfErr result (λ e. e ≢ Error.NoMemory → (snapshot : Snapshot) → IsSnapshot documents.now snapshot → IsOpen visit.now walk.old →
+        IsGap (visit_of (tree_in documents.now snapshot path.now) visit.now walk.old) e) }
     ensures less { OnOk result (walk.old.left ≢ 0 → walk.new.left < walk.old.left) }
-    ensures same { documents.new.snapshot ≡ documents.old.snapshot }
 {
-    match ready(alloc, session, documents, repo, store, visit, walk) {
-        Ok(()) => match make_visit(alloc, documents, path, visit, walk) {
-            Ok(next) => match push_next(alloc, &visit.name, next, pending) {
-                Ok(()) => Ok(()),
-                Err(e) => Err(Error::from(e)),
-            },
-            Err(e) => Err(e),
+    match make_visit(alloc, documents, path, visit, walk) {
+        Ok(next) => match push_next(alloc, &visit.name, next, pending) {
+            Ok(()) => Ok(()),
+            Err(e) => Err(Error::from(e)),
         },
         Err(e) => Err(e),
     }
-}
-
-// The visits of a search, from these that are pending on; the last of the list is the first.
-fn walk_pending<C: CryptoProvider, M: Armor, R: Repository, S: MetadataStore>(
-    alloc: Global,
-    session: &Session<'_, C, M>,
-    documents: &mut InForce,
-    repo: &mut R,
-    store: &mut S,
-    path: &str,
-    mut pending: Vec<Visit>,
-    mut walk: Walk,
-) -> Result<Walk, Error>
-    ensures { (snapshot : Snapshot) → IsSnapshot documents.old snapshot → Searches (session_by C.CryptoProvider M.Armor session.now) snapshot path.now
-        (reverse pending.items) walk (state_of documents.old (R.seen repo.old) (S.seen store.old)) (state_of documents.new (R.seen repo.new) (S.seen store.new)) result }
-{
-    while walk.left != 0 {
-        match pop_unread(&mut pending, walk.read.as_slice()) {
-            Some(visit) => match walk_one(
-                alloc,
-                session,
-                documents,
-                repo,
-                store,
-                path,
-                &visit,
-                &mut walk,
-                &mut pending,
-            ) {
-                Ok(()) => {}
-                Err(e) => return Err(e),
-            },
-            None => return Ok(walk),
-        }
-    }
-    Ok(walk)
 }
 
 // A walk of so many visits, none of which is made.
@@ -359,7 +300,7 @@ fn first_walk(alloc: Global, max: u32) -> Walk
     }
 }
 
-// The walk from `targets` on.
+// The visits of the whole search; of what is pending the last of the list is the first.
 fn walk_all<C: CryptoProvider, M: Armor, R: Repository, S: MetadataStore>(
     alloc: Global,
     session: &Session<'_, C, M>,
@@ -372,11 +313,25 @@ fn walk_all<C: CryptoProvider, M: Armor, R: Repository, S: MetadataStore>(
         (first_visit ∷ []) (first_walk session.now.config.now.max_delegations) (state_of documents.old (R.seen repo.old) (S.seen store.old))
         (state_of documents.new (R.seen repo.new) (S.seen store.new)) result }
 {
-    let walk = first_walk(alloc, session.config.max_delegations);
-    match first_pending(alloc) {
-        Ok(pending) => { walk_pending(alloc, session, documents, repo, store, path, pending, walk) }
-        Err(e) => Err(Error::from(e)),
+    let mut walk = first_walk(alloc, session.config.max_delegations);
+    let mut pending = match first_pending(alloc) {
+        Ok(pending) => pending,
+        Err(e) => return Err(Error::from(e)),
+    };
+    while walk.left != 0 {
+        let Some(visit) = pop_unread(&mut pending, walk.read.as_slice()) else {
+            return Ok(walk);
+        };
+        match ready(alloc, session, documents, repo, store, &visit) {
+            Ok(()) => {}
+            Err(e) => return Err(e),
+        }
+        match advance(alloc, documents, path, &visit, &mut walk, &mut pending) {
+            Ok(()) => {}
+            Err(e) => return Err(e),
+        }
     }
+    Ok(walk)
 }
 
 // The visits of the search for a path, in documents that serve it; what is fetched on the way is adopted.

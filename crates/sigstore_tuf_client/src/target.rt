@@ -24,6 +24,23 @@ use sigstore_tuf_runs::Session;
 use sigstore_types_parts::{Armor, Bytes, Text};
 use std::alloc::Global;
 
+/// A target whose file is wanted: its path, what is listed of it, the limits, and whether the root in force has consistent names.
+#[derive(Drop)]
+pub struct Wanted<'w> {
+    pub consistent: bool,
+    pub config: &'w UpdaterConfig,
+    pub entry: &'w TargetFile,
+    pub path: &'w str,
+}
+
+// A search that was made: the documents in force, the path that was sought, and the visits.
+#[derive(Drop)]
+pub(crate) struct Sought<'s> {
+    documents: &'s InForce,
+    path: &'s str,
+    visits: &'s [Visit],
+}
+
 // What the document of a role lists under a path.
 fn listed<'d>(documents: &'d InForce, path: &str, name: &Text) -> Option<&'d TargetFile>
     ensures { option_copied result ≡ listed_by documents.now path.now name.now }
@@ -81,19 +98,15 @@ pub fn find_info<C: CryptoProvider, M: Armor, R: Repository, S: MetadataStore>(
 }
 
 // The entry has to be there.
-fn find_entry<'d>(
-    alloc: Global,
-    documents: &'d InForce,
-    path: &str,
-    visits: &[Visit],
-) -> Result<&'d TargetFile, Error>
-    ensures ok { IfOk result (λ entry. entry_after documents.now path.now visits.now ≡ Some entry.now) }
-    ensures err { IfErr result (λ e. e ≢ Error.NoMemory → found_of path.now (entry_after documents.now path.now visits.now) ≡ Err e) }
+fn find_entry<'s>(alloc: Global, sought: &Sought<'s>) -> Result<&'s TargetFile, Error>
+    ensures ok { IfOk result (λ entry. entry_after sought.now.documents.now sought.now.path.now sought.now.visits.now ≡ Some entry.now) }
+    ensures err { IfErr result (λ e. e ≢ Error.NoMemory →
+        found_of sought.now.path.now (entry_after sought.now.documents.now sought.now.path.now sought.now.visits.now) ≡ Err e) }
 {
-    match last_entry(documents, path, visits) {
+    match last_entry(sought.documents, sought.path, sought.visits) {
         Some(entry) => Ok(entry),
         None => Err(Error::TargetNotFound {
-            path: Text::new(alloc, path)?,
+            path: Text::new(alloc, sought.path)?,
         }),
     }
 }
@@ -198,18 +211,14 @@ fn take_file<S: MetadataStore>(
 
 // The name by which the file of an entry is fetched.
 #[tactic(auto, unfolding(sigstore_tuf_runs::specs::Target::fetch_name_of))]
-fn fetch_name(
-    alloc: Global,
-    consistent: bool,
-    config: &UpdaterConfig,
-    entry: &TargetFile,
-    path: &str,
-) -> Result<Text, Error>
-    ensures ok { IfOk result (λ name. fetch_name_of consistent config.now entry.now path.now ≡ Ok name) }
-    ensures err { IfErr result (λ e. e ≢ Error.NoMemory → fetch_name_of consistent config.now entry.now path.now ≡ Err e) }
+fn fetch_name(alloc: Global, wanted: &Wanted<'_>) -> Result<Text, Error>
+    ensures ok { IfOk result (λ name.
+        fetch_name_of wanted.now.consistent wanted.now.config.now wanted.now.entry.now wanted.now.path.now ≡ Ok name) }
+    ensures err { IfErr result (λ e. e ≢ Error.NoMemory →
+        fetch_name_of wanted.now.consistent wanted.now.config.now wanted.now.entry.now wanted.now.path.now ≡ Err e) }
 {
-    check_within(config, entry)?;
-    match target_name(alloc, consistent, entry, path)? {
+    check_within(wanted.config, wanted.entry)?;
+    match target_name(alloc, wanted.consistent, wanted.entry, wanted.path)? {
         Some(name) => Ok(name),
         None => Err(Error::IntegrityMismatch(Mismatch::NoDigest)),
     }
@@ -218,18 +227,16 @@ fn fetch_name(
 /// The repository's file of an entry.
 pub fn download<R: Repository, S: MetadataStore>(
     alloc: Global,
-    consistent: bool,
-    config: &UpdaterConfig,
+    wanted: &Wanted<'_>,
     repo: &mut R,
     store: &mut S,
-    entry: &TargetFile,
-    path: &str,
 ) -> Result<Bytes, Error>
-    ensures { Downloads consistent config.now entry.now path.now (R.seen repo.old) (R.seen repo.new) (S.seen store.old) (S.seen store.new) result }
+    ensures { Downloads wanted.now.consistent wanted.now.config.now wanted.now.entry.now wanted.now.path.now
+        (R.seen repo.old) (R.seen repo.new) (S.seen store.old) (S.seen store.new) result }
 {
-    match fetch_name(alloc, consistent, config, entry, path) {
-        Ok(name) => match fetch_file(alloc, repo, name.as_str(), entry.length) {
-            Ok(Some(bytes)) => take_file(alloc, store, entry, path, bytes),
+    match fetch_name(alloc, wanted) {
+        Ok(name) => match fetch_file(alloc, repo, name.as_str(), wanted.entry.length) {
+            Ok(Some(bytes)) => take_file(alloc, store, wanted.entry, wanted.path, bytes),
             Ok(None) => Err(Error::Transport(TransportFault::Absent)),
             Err(e) => Err(e),
         },
@@ -240,18 +247,16 @@ pub fn download<R: Repository, S: MetadataStore>(
 // The file of an entry, from the store or else from the repository.
 fn obtain<R: Repository, S: MetadataStore>(
     alloc: Global,
-    consistent: bool,
-    config: &UpdaterConfig,
+    wanted: &Wanted<'_>,
     repo: &mut R,
     store: &mut S,
-    entry: &TargetFile,
-    path: &str,
 ) -> Result<Bytes, Error>
-    ensures { Obtains consistent config.now entry.now path.now (R.seen repo.old) (R.seen repo.new) (S.seen store.old) (S.seen store.new) result }
+    ensures { Obtains wanted.now.consistent wanted.now.config.now wanted.now.entry.now wanted.now.path.now
+        (R.seen repo.old) (R.seen repo.new) (S.seen store.old) (S.seen store.new) result }
 {
-    match recall_target(alloc, store, entry, path) {
+    match recall_target(alloc, store, wanted.entry, wanted.path) {
         Ok(Some(bytes)) => Ok(bytes),
-        Ok(None) => download(alloc, consistent, config, repo, store, entry, path),
+        Ok(None) => download(alloc, wanted, repo, store),
         Err(e) => Err(e),
     }
 }
@@ -290,21 +295,20 @@ fn role_docs(
 
 fn assembled(
     alloc: Global,
-    documents: &InForce,
+    sought: &Sought<'_>,
     timestamp: &Held<Timestamp>,
     snapshot: &Held<Snapshot>,
-    visits: &[Visit],
     entry: &TargetFile,
     file: Bytes,
 ) -> Result<TrustChain, NoMemory>
     ensures { IfOk result (λ chain.
-        chain_in documents.now (Some timestamp.now) (Some snapshot.now) visits.now entry.now file ≡ Ok chain) }
+        chain_in sought.now.documents.now (Some timestamp.now) (Some snapshot.now) sought.now.visits.now entry.now file ≡ Ok chain) }
 {
     Ok(TrustChain {
-        roots: documents.roots.duplicate(alloc)?,
+        roots: sought.documents.roots.duplicate(alloc)?,
         timestamp: timestamp.bytes.duplicate(alloc)?,
         snapshot: snapshot.bytes.duplicate(alloc)?,
-        roles: role_docs(alloc, documents, visits)?,
+        roles: role_docs(alloc, sought.documents, sought.visits)?,
         target: entry.duplicate(alloc)?,
         file,
     })
@@ -313,17 +317,17 @@ fn assembled(
 // The documents in force, with the visits of a search, an entry and its file.
 fn chain(
     alloc: Global,
-    documents: &InForce,
-    visits: &[Visit],
+    sought: &Sought<'_>,
     entry: &TargetFile,
     file: Bytes,
 ) -> Result<TrustChain, Error>
-    ensures ok { IfOk result (λ chain. chain_of documents.now visits.now entry.now file ≡ Ok chain) }
-    ensures err { IfErr result (λ e. e ≢ Error.NoMemory → chain_of documents.now visits.now entry.now file ≡ Err e) }
+    ensures ok { IfOk result (λ chain. chain_of sought.now.documents.now sought.now.visits.now entry.now file ≡ Ok chain) }
+    ensures err { IfErr result (λ e. e ≢ Error.NoMemory →
+        chain_of sought.now.documents.now sought.now.visits.now entry.now file ≡ Err e) }
 {
-    match (&documents.timestamp, &documents.snapshot) {
+    match (&sought.documents.timestamp, &sought.documents.snapshot) {
         (Some(timestamp), Some(snapshot)) => {
-            match assembled(alloc, documents, timestamp, snapshot, visits, entry, file) {
+            match assembled(alloc, sought, timestamp, snapshot, entry, file) {
                 Ok(chain) => Ok(chain),
                 Err(e) => Err(Error::from(e)),
             }
@@ -335,32 +339,31 @@ fn chain(
 // The file of the entry that the last visit of a search lists, and the chain of the documents by which it is trusted.
 fn chain_after<R: Repository, S: MetadataStore>(
     alloc: Global,
-    documents: &InForce,
+    sought: &Sought<'_>,
     config: &UpdaterConfig,
     repo: &mut R,
     store: &mut S,
-    path: &str,
-    visits: &[Visit],
 ) -> Result<TrustChain, Error>
-    ensures { GivesChain config.now path.now visits.now (state_of documents.now (R.seen repo.old) (S.seen store.old))
-        (state_of documents.now (R.seen repo.new) (S.seen store.new)) result }
+    ensures { GivesChain config.now sought.now.path.now sought.now.visits.now
+        (state_of sought.now.documents.now (R.seen repo.old) (S.seen store.old))
+        (state_of sought.now.documents.now (R.seen repo.new) (S.seen store.new)) result }
 {
-    match find_entry(alloc, documents, path, visits) {
-        Ok(entry) => match obtain(
-            alloc,
-            is_consistent(documents),
-            config,
-            repo,
-            store,
-            entry,
-            path,
-        ) {
-            Ok(file) => match chain(alloc, documents, visits, entry, file) {
-                Ok(chain) => Ok(chain),
+    match find_entry(alloc, sought) {
+        Ok(entry) => {
+            let wanted = Wanted {
+                consistent: is_consistent(sought.documents),
+                config,
+                entry,
+                path: sought.path,
+            };
+            match obtain(alloc, &wanted, repo, store) {
+                Ok(file) => match chain(alloc, sought, entry, file) {
+                    Ok(chain) => Ok(chain),
+                    Err(e) => Err(e),
+                },
                 Err(e) => Err(e),
-            },
-            Err(e) => Err(e),
-        },
+            }
+        }
         Err(e) => Err(e),
     }
 }
@@ -378,15 +381,14 @@ pub fn find_chain<C: CryptoProvider, M: Armor, R: Repository, S: MetadataStore>(
         (state_of documents.new (R.seen repo.new) (S.seen store.new)) result }
 {
     match find_visits(alloc, session, documents, repo, store, path) {
-        Ok(visits) => chain_after(
-            alloc,
-            documents,
-            session.config,
-            repo,
-            store,
-            path,
-            visits.as_slice(),
-        ),
+        Ok(visits) => {
+            let sought = Sought {
+                documents: &*documents,
+                path,
+                visits: visits.as_slice(),
+            };
+            chain_after(alloc, &sought, session.config, repo, store)
+        }
         Err(e) => Err(e),
     }
 }

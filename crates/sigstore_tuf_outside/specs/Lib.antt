@@ -1,4 +1,3 @@
-pub mod Lying
 pub mod Memory
 pub mod Repository
 pub mod Store

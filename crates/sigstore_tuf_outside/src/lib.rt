@@ -5,7 +5,6 @@
 mod file_repository;
 mod file_store;
 mod folder;
-mod lying_repository;
 mod memory_repository;
 mod memory_store;
 mod name;
@@ -15,7 +14,6 @@ mod store;
 
 pub use file_repository::FileRepository;
 pub use file_store::FileStore;
-pub use lying_repository::{LyingRepository, Reply};
 pub use memory_repository::MemoryRepository;
 pub use memory_store::MemoryStore;
 pub use no_store::NoStore;

@@ -1,14 +1,15 @@
 // The rules of delegated roles: who signs for one, its update, and whether the one in force serves.
 ghost use Rattle.std.specs.Prelude.{◌≡◌, ◌≢◌, Some, Ok, Err, IfOk, IfErr, OnOk, OnErr, find, bytes_eq, option_copied};
 ghost use Rattle.sigstore_types_parts.specs.Entries.{at_name};
-ghost use Rattle.sigstore_keys.specs.Crypto.{crypto_by};
+ghost use Rattle.sigstore_keys.specs.Crypto.{crypto_with};
 ghost use Rattle.sigstore_tuf_rules.specs.Order.{by, is_top_level};
 ghost use Rattle.sigstore_tuf_rules.specs.Update.{fresh_at_of, Updates};
 ghost use Rattle.sigstore_tuf_rules.specs.Delegated.{authority_by, not_top_level_of, delegation_of, meets_delegation_of, with_role, role_pin_of, role_checks_of, role_document_of, update_role_of, role_serves_of};
 
 use crate::documents::{Held, InForce};
 use crate::update::check_fresh_at;
-use sigstore_keys::CryptoProvider;
+use crate::visit::Visit;
+use sigstore_keys::{CryptoProvider, Providers};
 use sigstore_tuf_parts::{
     DelegatedRole, Delegations, Error, Key, MetaFile, Metadata, Rule, Targets, check_fresh,
     check_integrity, check_version, pin_name,
@@ -21,6 +22,14 @@ use std::alloc::Global;
 pub(crate) struct Delegation<'d> {
     keys: &'d TextMap<Key>,
     role: &'d DelegatedRole,
+}
+
+// What a role's document is held against: its delegation, its pin in the snapshot, and its name.
+#[derive(Drop)]
+pub(crate) struct Expected<'d> {
+    delegation: Delegation<'d>,
+    pin: &'d MetaFile,
+    name: &'d str,
 }
 
 /// Whether the name is that of a top-level role.
@@ -77,19 +86,25 @@ fn find_delegation<'d>(
 // The document has the signatures that a delegation asks for (5.6.7, 'arbitrary software attack': else anyone speaks for the role).
 fn check_delegation<C: CryptoProvider, M: Armor>(
     alloc: Global,
-    provider: &C,
-    armor: &M,
+    providers: &Providers<'_, C, M>,
     delegation: &Delegation<'_>,
     name: &str,
     document: &Metadata<Targets>,
 ) -> Result<(), Error>
     ensures ok { OnOk result
-        (meets_delegation_of (crypto_by C.CryptoProvider M.Armor provider.now armor.now) (authority_by delegation.now) name.now document.now ≡ Ok tt) }
+        (meets_delegation_of (crypto_with C.CryptoProvider M.Armor providers.now) (authority_by delegation.now) name.now document.now ≡ Ok tt) }
     ensures err { IfErr result (λ e. e ≢ Error.NoMemory →
-        meets_delegation_of (crypto_by C.CryptoProvider M.Armor provider.now armor.now) (authority_by delegation.now) name.now document.now ≡ Err e) }
+        meets_delegation_of (crypto_with C.CryptoProvider M.Armor providers.now) (authority_by delegation.now) name.now document.now ≡ Err e) }
 {
     let role_keys = delegation.role.role_keys(alloc)?;
-    match document.verify_threshold(alloc, provider, armor, delegation.keys, &role_keys, name) {
+    match document.verify_threshold(
+        alloc,
+        providers.provider,
+        providers.armor,
+        delegation.keys,
+        &role_keys,
+        name,
+    ) {
         Ok(()) => Ok(()),
         Err(e) => {
             drop(role_keys);
@@ -143,22 +158,25 @@ fn check_fresh_role(
 #[tactic(auto, unfolding(crate::specs::Delegated::role_checks_of))]
 fn check_role<C: CryptoProvider, M: Armor>(
     alloc: Global,
-    provider: &C,
-    armor: &M,
-    delegation: &Delegation<'_>,
-    pin: &MetaFile,
-    name: &str,
+    providers: &Providers<'_, C, M>,
+    expected: &Expected<'_>,
     document: &Metadata<Targets>,
     now: &Option<jiff::Timestamp>,
 ) -> Result<(), Error>
-    ensures ok { OnOk result
-        (role_checks_of (crypto_by C.CryptoProvider M.Armor provider.now armor.now) (authority_by delegation.now) pin.now name.now document.now now.now ≡ Ok tt) }
-    ensures err { IfErr result (λ e. e ≢ Error.NoMemory →
-        role_checks_of (crypto_by C.CryptoProvider M.Armor provider.now armor.now) (authority_by delegation.now) pin.now name.now document.now now.now ≡ Err e) }
+    ensures ok { OnOk result (role_checks_of (crypto_with C.CryptoProvider M.Armor providers.now)
+        (authority_by expected.now.delegation) expected.now.pin.now expected.now.name.now document.now now.now ≡ Ok tt) }
+    ensures err { IfErr result (λ e. e ≢ Error.NoMemory → role_checks_of (crypto_with C.CryptoProvider M.Armor providers.now)
+        (authority_by expected.now.delegation) expected.now.pin.now expected.now.name.now document.now now.now ≡ Err e) }
 {
-    check_version(pin, document.signed().version)?;
-    check_delegation(alloc, provider, armor, delegation, name, document)?;
-    check_fresh_role(alloc, name, document.signed().expires, now)?;
+    check_version(expected.pin, document.signed().version)?;
+    check_delegation(
+        alloc,
+        providers,
+        &expected.delegation,
+        expected.name,
+        document,
+    )?;
+    check_fresh_role(alloc, expected.name, document.signed().expires, now)?;
     Ok(())
 }
 
@@ -166,24 +184,19 @@ fn check_role<C: CryptoProvider, M: Armor>(
 #[tactic(auto, unfolding(crate::specs::Delegated::role_document_of))]
 fn read_role<C: CryptoProvider, M: Armor>(
     alloc: Global,
-    provider: &C,
-    armor: &M,
-    delegation: &Delegation<'_>,
-    pin: &MetaFile,
-    name: &str,
+    providers: &Providers<'_, C, M>,
+    expected: &Expected<'_>,
     bytes: &[u8],
     now: &Option<jiff::Timestamp>,
 ) -> Result<Metadata<Targets>, Error>
-    ensures ok { IfOk result (λ document. role_document_of (crypto_by C.CryptoProvider M.Armor provider.now armor.now)
-        (authority_by delegation.now) pin.now name.now bytes.now now.now ≡ Ok document) }
-    ensures err { IfErr result (λ e. e ≢ Error.NoMemory → role_document_of (crypto_by C.CryptoProvider M.Armor provider.now armor.now)
-        (authority_by delegation.now) pin.now name.now bytes.now now.now ≡ Err e) }
+    ensures ok { IfOk result (λ document. role_document_of (crypto_with C.CryptoProvider M.Armor providers.now)
+        (authority_by expected.now.delegation) expected.now.pin.now expected.now.name.now bytes.now now.now ≡ Ok document) }
+    ensures err { IfErr result (λ e. e ≢ Error.NoMemory → role_document_of (crypto_with C.CryptoProvider M.Armor providers.now)
+        (authority_by expected.now.delegation) expected.now.pin.now expected.now.name.now bytes.now now.now ≡ Err e) }
 {
-    check_integrity(pin.length, pin.hashes.as_ref(), bytes)?;
+    check_integrity(expected.pin.length, expected.pin.hashes.as_ref(), bytes)?;
     let document = Metadata::<Targets>::from_slice(alloc, bytes)?;
-    match check_role(
-        alloc, provider, armor, delegation, pin, name, &document, now,
-    ) {
+    match check_role(alloc, providers, expected, &document, now) {
         Ok(()) => Ok(document),
         Err(e) => {
             drop(document);
@@ -196,31 +209,26 @@ fn read_role<C: CryptoProvider, M: Armor>(
 #[tactic(auto, unfolding(crate::specs::Delegated::update_role_of))]
 fn new_role<C: CryptoProvider, M: Armor>(
     alloc: Global,
-    provider: &C,
-    armor: &M,
+    providers: &Providers<'_, C, M>,
     documents: &InForce,
-    name: &str,
-    delegator: &str,
+    visit: &Visit,
     bytes: Bytes,
     now: &Option<jiff::Timestamp>,
 ) -> Result<Held<Targets>, Error>
-    ensures ok { IfOk result (λ held. update_role_of (crypto_by C.CryptoProvider M.Armor provider.now armor.now) documents.now
-        (by delegator.now name.now) bytes now.now ≡ Ok (with_role documents.now name.now held)) }
-    ensures err { IfErr result (λ e. e ≢ Error.NoMemory → update_role_of (crypto_by C.CryptoProvider M.Armor provider.now armor.now)
-        documents.now (by delegator.now name.now) bytes now.now ≡ Err e) }
+    ensures ok { IfOk result (λ held. update_role_of (crypto_with C.CryptoProvider M.Armor providers.now) documents.now
+        visit.now bytes now.now ≡ Ok (with_role documents.now visit.now.name held)) }
+    ensures err { IfErr result (λ e. e ≢ Error.NoMemory → update_role_of (crypto_with C.CryptoProvider M.Armor providers.now)
+        documents.now visit.now bytes now.now ≡ Err e) }
 {
-    let delegation = find_delegation(alloc, documents, name, delegator)?;
+    let name = visit.name.as_str();
+    let delegation = find_delegation(alloc, documents, name, visit.delegator.as_str())?;
     let pin = role_pin(alloc, documents, name, now)?;
-    let document = read_role(
-        alloc,
-        provider,
-        armor,
-        &delegation,
+    let expected = Expected {
+        delegation,
         pin,
         name,
-        bytes.as_bytes(),
-        now,
-    )?;
+    };
+    let document = read_role(alloc, providers, &expected, bytes.as_bytes(), now)?;
     Ok(Held { bytes, document })
 }
 
@@ -253,21 +261,17 @@ fn put_role(
 /// a threshold, then `Expired`; each expiry where a moment is given.
 pub fn update_role<C: CryptoProvider, M: Armor>(
     alloc: Global,
-    provider: &C,
-    armor: &M,
+    providers: &Providers<'_, C, M>,
     documents: &mut InForce,
-    name: &str,
-    delegator: &str,
+    visit: &Visit,
     bytes: Bytes,
     now: Option<jiff::Timestamp>,
 ) -> Result<(), Error>
-    ensures { Updates (update_role_of (crypto_by C.CryptoProvider M.Armor provider.now armor.now) documents.old
-        (by delegator.now name.now) bytes now) documents.old documents.new result }
+    ensures { Updates (update_role_of (crypto_with C.CryptoProvider M.Armor providers.now) documents.old
+        visit.now bytes now) documents.old documents.new result }
 {
-    match new_role(
-        alloc, provider, armor, documents, name, delegator, bytes, &now,
-    ) {
-        Ok(held) => match put_role(alloc, documents, name, held) {
+    match new_role(alloc, providers, documents, visit, bytes, &now) {
+        Ok(held) => match put_role(alloc, documents, visit.name.as_str(), held) {
             Ok(()) => Ok(()),
             Err(e) => Err(e),
         },
@@ -278,21 +282,17 @@ pub fn update_role<C: CryptoProvider, M: Armor>(
 /// The same by bytes that are copied.
 pub fn update_role_copied<C: CryptoProvider, M: Armor>(
     alloc: Global,
-    provider: &C,
-    armor: &M,
+    providers: &Providers<'_, C, M>,
     documents: &mut InForce,
-    name: &str,
-    delegator: &str,
+    visit: &Visit,
     bytes: &[u8],
     now: Option<jiff::Timestamp>,
 ) -> Result<(), Error>
-    ensures { Updates (update_role_of (crypto_by C.CryptoProvider M.Armor provider.now armor.now) documents.old
-        (by delegator.now name.now) bytes.now now) documents.old documents.new result }
+    ensures { Updates (update_role_of (crypto_with C.CryptoProvider M.Armor providers.now) documents.old
+        visit.now bytes.now now) documents.old documents.new result }
 {
     match Bytes::new(alloc, bytes) {
-        Ok(bytes) => update_role(
-            alloc, provider, armor, documents, name, delegator, bytes, now,
-        ),
+        Ok(bytes) => update_role(alloc, providers, documents, visit, bytes, now),
         Err(e) => Err(Error::from(e)),
     }
 }
@@ -302,26 +302,25 @@ pub fn update_role_copied<C: CryptoProvider, M: Armor>(
 #[tactic(auto, unfolding(crate::specs::Delegated::role_serves_of))]
 pub fn serving_role<'d, C: CryptoProvider, M: Armor>(
     alloc: Global,
-    provider: &C,
-    armor: &M,
+    providers: &Providers<'_, C, M>,
     documents: &'d InForce,
-    name: &str,
-    delegator: &str,
+    visit: &Visit,
     now: jiff::Timestamp,
 ) -> Result<&'d Held<Targets>, Error>
-    ensures ok { IfOk result (λ held. role_serves_of (crypto_by C.CryptoProvider M.Armor provider.now armor.now) documents.now
-        (by delegator.now name.now) now ≡ Ok tt) }
-    ensures same { IfOk result (λ held. at_name name.now documents.now.targets ≡ Some held.now) }
-    ensures err { IfErr result (λ e. e ≢ Error.NoMemory → role_serves_of (crypto_by C.CryptoProvider M.Armor provider.now armor.now)
-        documents.now (by delegator.now name.now) now ≡ Err e) }
+    ensures ok { IfOk result (λ held. role_serves_of (crypto_with C.CryptoProvider M.Armor providers.now) documents.now
+        visit.now now ≡ Ok tt) }
+    ensures same { IfOk result (λ held. at_name visit.now.name documents.now.targets ≡ Some held.now) }
+    ensures err { IfErr result (λ e. e ≢ Error.NoMemory → role_serves_of (crypto_with C.CryptoProvider M.Armor providers.now)
+        documents.now visit.now now ≡ Err e) }
 {
-    let delegation = find_delegation(alloc, documents, name, delegator)?;
+    let name = visit.name.as_str();
+    let delegation = find_delegation(alloc, documents, name, visit.delegator.as_str())?;
     let Some(held) = documents.targets.get(name) else {
         return Err(Error::UnknownRole {
             name: Text::new(alloc, name)?,
         });
     };
-    check_delegation(alloc, provider, armor, &delegation, name, &held.document)?;
+    check_delegation(alloc, providers, &delegation, name, &held.document)?;
     check_fresh(alloc, name, held.document.signed().expires, now)?;
     Ok(held)
 }

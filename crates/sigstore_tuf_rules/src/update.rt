@@ -1,14 +1,14 @@
 // The rules of the documents in force: each update, or the first check that fails. Nothing here reads or writes anything outside
 // its arguments, so that every rule can be tried by itself, on documents in memory.
 ghost use Rattle.std.specs.Prelude.{◌≡◌, ◌≢◌, [], ◌∷◌, ◌++◌, Ok, Err, IfOk, IfErr, OnOk, OnErr, codes, option_copied};
-ghost use Rattle.sigstore_keys.specs.Crypto.{crypto_by};
+ghost use Rattle.sigstore_keys.specs.Crypto.{crypto_with};
 ghost use Rattle.sigstore_tuf_parts.specs.Document.{content_in};
 ghost use Rattle.sigstore_tuf_parts.specs.RootRoles.{root_document, meets_role_of};
 ghost use Rattle.sigstore_tuf_rules.specs.Update.{first_root_of, next_number_of, root_checks_of, update_root_of, fresh_at_of, not_below_of, other_of, newer_than_of, newer_of, pins_not_below_of, timestamp_checks_of, update_timestamp_of, snapshot_pin_of, kept_pin_of, kept_pins_in, kept_pins_of, snapshot_checks_of, update_snapshot_of, targets_pin_of, targets_checks_of, update_targets_of, with_root, with_timestamp, with_snapshot, with_targets, Updates};
 
 use crate::documents::{Held, InForce};
 use foundation::Sequence;
-use sigstore_keys::CryptoProvider;
+use sigstore_keys::{CryptoProvider, Providers};
 use sigstore_tuf_parts::{
     Error, MetaFile, Metadata, Mismatch, Role, Root, Rule, Snapshot, Targets, Timestamp,
     check_integrity, check_version,
@@ -31,18 +31,23 @@ fn alone(alloc: Global, bytes: &[u8]) -> Result<Sequence<Bytes>, Error>
 #[tactic(auto, unfolding(crate::specs::Update::first_root_of))]
 fn own_root<C: CryptoProvider, M: Armor>(
     alloc: Global,
-    provider: &C,
-    armor: &M,
+    providers: &Providers<'_, C, M>,
     bytes: &[u8],
 ) -> Result<Metadata<Root>, Error>
     ensures read { IfOk result (λ root. root_document bytes.now ≡ Ok root) }
     ensures met { IfOk result (λ root.
-        meets_role_of (crypto_by C.CryptoProvider M.Armor provider.now armor.now) (content_in root) (codes "root") root ≡ Ok tt) }
+        meets_role_of (crypto_with C.CryptoProvider M.Armor providers.now) (content_in root) (codes "root") root ≡ Ok tt) }
     ensures err { IfErr result (λ e. e ≢ Error.NoMemory →
-        first_root_of (crypto_by C.CryptoProvider M.Armor provider.now armor.now) bytes.now ≡ Err e) }
+        first_root_of (crypto_with C.CryptoProvider M.Armor providers.now) bytes.now ≡ Err e) }
 {
     let root = Metadata::from_slice(alloc, bytes)?;
-    match root.verify_role(alloc, provider, armor, root.signed(), "root") {
+    match root.verify_role(
+        alloc,
+        providers.provider,
+        providers.armor,
+        root.signed(),
+        "root",
+    ) {
         Ok(()) => Ok(root),
         Err(e) => {
             drop(root);
@@ -56,17 +61,16 @@ fn own_root<C: CryptoProvider, M: Armor>(
 #[tactic(auto, unfolding(crate::specs::Update::first_root_of))]
 pub fn first_root<C: CryptoProvider, M: Armor>(
     alloc: Global,
-    provider: &C,
-    armor: &M,
+    providers: &Providers<'_, C, M>,
     bytes: &[u8],
 ) -> Result<InForce, Error>
     ensures ok { IfOk result (λ set.
-        first_root_of (crypto_by C.CryptoProvider M.Armor provider.now armor.now) bytes.now ≡ Ok set) }
+        first_root_of (crypto_with C.CryptoProvider M.Armor providers.now) bytes.now ≡ Ok set) }
     ensures err { IfErr result (λ e. e ≢ Error.NoMemory →
-        first_root_of (crypto_by C.CryptoProvider M.Armor provider.now armor.now) bytes.now ≡ Err e) }
+        first_root_of (crypto_with C.CryptoProvider M.Armor providers.now) bytes.now ≡ Err e) }
 {
     let roots = alone(alloc, bytes)?;
-    let root = own_root(alloc, provider, armor, bytes)?;
+    let root = own_root(alloc, providers, bytes)?;
     Ok(InForce {
         roots,
         root,
@@ -91,19 +95,30 @@ fn check_next_number(trusted: u64, new: u64) -> Result<(), Error>
 #[tactic(auto, unfolding(crate::specs::Update::root_checks_of))]
 fn check_root<C: CryptoProvider, M: Armor>(
     alloc: Global,
-    provider: &C,
-    armor: &M,
+    providers: &Providers<'_, C, M>,
     old: &Metadata<Root>,
     new: &Metadata<Root>,
 ) -> Result<(), Error>
     ensures ok { OnOk result
-        (root_checks_of (crypto_by C.CryptoProvider M.Armor provider.now armor.now) old.now new.now ≡ Ok tt) }
+        (root_checks_of (crypto_with C.CryptoProvider M.Armor providers.now) old.now new.now ≡ Ok tt) }
     ensures err { IfErr result (λ e. e ≢ Error.NoMemory →
-        root_checks_of (crypto_by C.CryptoProvider M.Armor provider.now armor.now) old.now new.now ≡ Err e) }
+        root_checks_of (crypto_with C.CryptoProvider M.Armor providers.now) old.now new.now ≡ Err e) }
 {
     check_next_number(old.signed().version, new.signed().version)?;
-    new.verify_role(alloc, provider, armor, old.signed(), "root")?;
-    new.verify_role(alloc, provider, armor, new.signed(), "root")?;
+    new.verify_role(
+        alloc,
+        providers.provider,
+        providers.armor,
+        old.signed(),
+        "root",
+    )?;
+    new.verify_role(
+        alloc,
+        providers.provider,
+        providers.armor,
+        new.signed(),
+        "root",
+    )?;
     Ok(())
 }
 
@@ -111,18 +126,17 @@ fn check_root<C: CryptoProvider, M: Armor>(
 #[tactic(auto, unfolding(crate::specs::Update::update_root_of))]
 fn next_root<C: CryptoProvider, M: Armor>(
     alloc: Global,
-    provider: &C,
-    armor: &M,
+    providers: &Providers<'_, C, M>,
     documents: &InForce,
     bytes: &Bytes,
 ) -> Result<Metadata<Root>, Error>
-    ensures ok { IfOk result (λ new. update_root_of (crypto_by C.CryptoProvider M.Armor provider.now armor.now)
+    ensures ok { IfOk result (λ new. update_root_of (crypto_with C.CryptoProvider M.Armor providers.now)
         documents.now bytes.now ≡ Ok (with_root documents.now bytes.now new)) }
     ensures err { IfErr result (λ e. e ≢ Error.NoMemory →
-        update_root_of (crypto_by C.CryptoProvider M.Armor provider.now armor.now) documents.now bytes.now ≡ Err e) }
+        update_root_of (crypto_with C.CryptoProvider M.Armor providers.now) documents.now bytes.now ≡ Err e) }
 {
     let new = Metadata::from_slice(alloc, bytes.as_bytes())?;
-    match check_root(alloc, provider, armor, &documents.root, &new) {
+    match check_root(alloc, providers, &documents.root, &new) {
         Ok(()) => Ok(new),
         Err(e) => {
             drop(new);
@@ -168,15 +182,14 @@ fn put_root(
 /// and those of a threshold for the root in force, then for its own.
 pub fn update_root<C: CryptoProvider, M: Armor>(
     alloc: Global,
-    provider: &C,
-    armor: &M,
+    providers: &Providers<'_, C, M>,
     documents: &mut InForce,
     bytes: Bytes,
 ) -> Result<(), Error>
-    ensures { Updates (update_root_of (crypto_by C.CryptoProvider M.Armor provider.now armor.now) documents.old bytes)
+    ensures { Updates (update_root_of (crypto_with C.CryptoProvider M.Armor providers.now) documents.old bytes)
         documents.old documents.new result }
 {
-    match next_root(alloc, provider, armor, documents, &bytes) {
+    match next_root(alloc, providers, documents, &bytes) {
         Ok(root) => match put_root(alloc, documents, bytes, root) {
             Ok(()) => Ok(()),
             Err(e) => Err(e),
@@ -279,19 +292,24 @@ fn check_newer_in(
 #[tactic(auto, unfolding(crate::specs::Update::timestamp_checks_of))]
 fn check_timestamp<C: CryptoProvider, M: Armor>(
     alloc: Global,
-    provider: &C,
-    armor: &M,
+    providers: &Providers<'_, C, M>,
     documents: &InForce,
     document: &Metadata<Timestamp>,
     now: &Option<jiff::Timestamp>,
 ) -> Result<(), Error>
     ensures ok { OnOk result
-        (timestamp_checks_of (crypto_by C.CryptoProvider M.Armor provider.now armor.now) documents.now document.now now.now ≡ Ok tt) }
+        (timestamp_checks_of (crypto_with C.CryptoProvider M.Armor providers.now) documents.now document.now now.now ≡ Ok tt) }
     ensures err { IfErr result (λ e. e ≢ Error.NoMemory →
-        timestamp_checks_of (crypto_by C.CryptoProvider M.Armor provider.now armor.now) documents.now document.now now.now ≡ Err e) }
+        timestamp_checks_of (crypto_with C.CryptoProvider M.Armor providers.now) documents.now document.now now.now ≡ Err e) }
 {
     let content = document.signed();
-    document.verify_role(alloc, provider, armor, documents.root.signed(), "timestamp")?;
+    document.verify_role(
+        alloc,
+        providers.provider,
+        providers.armor,
+        documents.root.signed(),
+        "timestamp",
+    )?;
     check_newer_in(alloc, &documents.timestamp, content)?;
     check_fresh_at(alloc, content, now)?;
     Ok(())
@@ -301,20 +319,19 @@ fn check_timestamp<C: CryptoProvider, M: Armor>(
 #[tactic(auto, unfolding(crate::specs::Update::update_timestamp_of))]
 fn new_timestamp<C: CryptoProvider, M: Armor>(
     alloc: Global,
-    provider: &C,
-    armor: &M,
+    providers: &Providers<'_, C, M>,
     documents: &InForce,
     bytes: Bytes,
     now: &Option<jiff::Timestamp>,
 ) -> Result<Held<Timestamp>, Error>
     ensures ok { IfOk result (λ held.
-        update_timestamp_of (crypto_by C.CryptoProvider M.Armor provider.now armor.now) documents.now bytes now.now
+        update_timestamp_of (crypto_with C.CryptoProvider M.Armor providers.now) documents.now bytes now.now
         ≡ Ok (with_timestamp documents.now held)) }
     ensures err { IfErr result (λ e. e ≢ Error.NoMemory →
-        update_timestamp_of (crypto_by C.CryptoProvider M.Armor provider.now armor.now) documents.now bytes now.now ≡ Err e) }
+        update_timestamp_of (crypto_with C.CryptoProvider M.Armor providers.now) documents.now bytes now.now ≡ Err e) }
 {
     let document = Metadata::<Timestamp>::from_slice(alloc, bytes.as_bytes())?;
-    match check_timestamp(alloc, provider, armor, documents, &document, now) {
+    match check_timestamp(alloc, providers, documents, &document, now) {
         Ok(()) => Ok(Held { bytes, document }),
         Err(e) => {
             drop(document);
@@ -327,16 +344,15 @@ fn new_timestamp<C: CryptoProvider, M: Armor>(
 /// `EqualVersion`, `Rollback` of the snapshot's pin, then `Expired` where a moment is given.
 pub fn update_timestamp<C: CryptoProvider, M: Armor>(
     alloc: Global,
-    provider: &C,
-    armor: &M,
+    providers: &Providers<'_, C, M>,
     documents: &mut InForce,
     bytes: Bytes,
     now: Option<jiff::Timestamp>,
 ) -> Result<(), Error>
-    ensures { Updates (update_timestamp_of (crypto_by C.CryptoProvider M.Armor provider.now armor.now) documents.old bytes now)
+    ensures { Updates (update_timestamp_of (crypto_with C.CryptoProvider M.Armor providers.now) documents.old bytes now)
         documents.old documents.new result }
 {
-    match new_timestamp(alloc, provider, armor, documents, bytes, &now) {
+    match new_timestamp(alloc, providers, documents, bytes, &now) {
         Ok(held) => {
             drop(mem::replace(&mut documents.timestamp, Some(held)));
             Ok(())
@@ -417,20 +433,25 @@ fn check_kept(alloc: Global, old: &Option<Held<Snapshot>>, new: &Snapshot) -> Re
 #[tactic(auto, unfolding(crate::specs::Update::snapshot_checks_of))]
 fn check_snapshot<C: CryptoProvider, M: Armor>(
     alloc: Global,
-    provider: &C,
-    armor: &M,
+    providers: &Providers<'_, C, M>,
     documents: &InForce,
     pin: &MetaFile,
     document: &Metadata<Snapshot>,
     now: &Option<jiff::Timestamp>,
 ) -> Result<(), Error>
     ensures ok { OnOk result
-        (snapshot_checks_of (crypto_by C.CryptoProvider M.Armor provider.now armor.now) documents.now pin.now document.now now.now ≡ Ok tt) }
+        (snapshot_checks_of (crypto_with C.CryptoProvider M.Armor providers.now) documents.now pin.now document.now now.now ≡ Ok tt) }
     ensures err { IfErr result (λ e. e ≢ Error.NoMemory →
-        snapshot_checks_of (crypto_by C.CryptoProvider M.Armor provider.now armor.now) documents.now pin.now document.now now.now ≡ Err e) }
+        snapshot_checks_of (crypto_with C.CryptoProvider M.Armor providers.now) documents.now pin.now document.now now.now ≡ Err e) }
 {
     let content = document.signed();
-    document.verify_role(alloc, provider, armor, documents.root.signed(), "snapshot")?;
+    document.verify_role(
+        alloc,
+        providers.provider,
+        providers.armor,
+        documents.root.signed(),
+        "snapshot",
+    )?;
     check_version(pin, content.version)?;
     check_kept(alloc, &documents.snapshot, content)?;
     check_fresh_at(alloc, content, now)?;
@@ -441,22 +462,21 @@ fn check_snapshot<C: CryptoProvider, M: Armor>(
 #[tactic(auto, unfolding(crate::specs::Update::update_snapshot_of))]
 fn new_snapshot<C: CryptoProvider, M: Armor>(
     alloc: Global,
-    provider: &C,
-    armor: &M,
+    providers: &Providers<'_, C, M>,
     documents: &InForce,
     bytes: Bytes,
     now: &Option<jiff::Timestamp>,
 ) -> Result<Held<Snapshot>, Error>
     ensures ok { IfOk result (λ held.
-        update_snapshot_of (crypto_by C.CryptoProvider M.Armor provider.now armor.now) documents.now bytes now.now
+        update_snapshot_of (crypto_with C.CryptoProvider M.Armor providers.now) documents.now bytes now.now
         ≡ Ok (with_snapshot documents.now held)) }
     ensures err { IfErr result (λ e. e ≢ Error.NoMemory →
-        update_snapshot_of (crypto_by C.CryptoProvider M.Armor provider.now armor.now) documents.now bytes now.now ≡ Err e) }
+        update_snapshot_of (crypto_with C.CryptoProvider M.Armor providers.now) documents.now bytes now.now ≡ Err e) }
 {
     let pin = snapshot_pin(alloc, documents, now)?;
     check_integrity(pin.length, pin.hashes.as_ref(), bytes.as_bytes())?;
     let document = Metadata::<Snapshot>::from_slice(alloc, bytes.as_bytes())?;
-    match check_snapshot(alloc, provider, armor, documents, pin, &document, now) {
+    match check_snapshot(alloc, providers, documents, pin, &document, now) {
         Ok(()) => Ok(Held { bytes, document }),
         Err(e) => {
             drop(document);
@@ -478,16 +498,15 @@ fn put_snapshot(alloc: Global, documents: &mut InForce, held: Held<Snapshot>)
 /// version and for a pin that vanished, `Rollback` of a pin, then `Expired`; each expiry where a moment is given.
 pub fn update_snapshot<C: CryptoProvider, M: Armor>(
     alloc: Global,
-    provider: &C,
-    armor: &M,
+    providers: &Providers<'_, C, M>,
     documents: &mut InForce,
     bytes: Bytes,
     now: Option<jiff::Timestamp>,
 ) -> Result<(), Error>
-    ensures { Updates (update_snapshot_of (crypto_by C.CryptoProvider M.Armor provider.now armor.now) documents.old bytes now)
+    ensures { Updates (update_snapshot_of (crypto_with C.CryptoProvider M.Armor providers.now) documents.old bytes now)
         documents.old documents.new result }
 {
-    match new_snapshot(alloc, provider, armor, documents, bytes, &now) {
+    match new_snapshot(alloc, providers, documents, bytes, &now) {
         Ok(held) => {
             put_snapshot(alloc, documents, held);
             Ok(())
@@ -520,20 +539,25 @@ pub(crate) fn targets_pin<'d>(
 #[tactic(auto, unfolding(crate::specs::Update::targets_checks_of))]
 fn check_targets<C: CryptoProvider, M: Armor>(
     alloc: Global,
-    provider: &C,
-    armor: &M,
+    providers: &Providers<'_, C, M>,
     documents: &InForce,
     pin: &MetaFile,
     document: &Metadata<Targets>,
     now: &Option<jiff::Timestamp>,
 ) -> Result<(), Error>
     ensures ok { OnOk result
-        (targets_checks_of (crypto_by C.CryptoProvider M.Armor provider.now armor.now) documents.now pin.now document.now now.now ≡ Ok tt) }
+        (targets_checks_of (crypto_with C.CryptoProvider M.Armor providers.now) documents.now pin.now document.now now.now ≡ Ok tt) }
     ensures err { IfErr result (λ e. e ≢ Error.NoMemory →
-        targets_checks_of (crypto_by C.CryptoProvider M.Armor provider.now armor.now) documents.now pin.now document.now now.now ≡ Err e) }
+        targets_checks_of (crypto_with C.CryptoProvider M.Armor providers.now) documents.now pin.now document.now now.now ≡ Err e) }
 {
     check_version(pin, document.signed().version)?;
-    document.verify_role(alloc, provider, armor, documents.root.signed(), "targets")?;
+    document.verify_role(
+        alloc,
+        providers.provider,
+        providers.armor,
+        documents.root.signed(),
+        "targets",
+    )?;
     check_fresh_at(alloc, document.signed(), now)?;
     Ok(())
 }
@@ -542,22 +566,21 @@ fn check_targets<C: CryptoProvider, M: Armor>(
 #[tactic(auto, unfolding(crate::specs::Update::update_targets_of))]
 fn new_targets<C: CryptoProvider, M: Armor>(
     alloc: Global,
-    provider: &C,
-    armor: &M,
+    providers: &Providers<'_, C, M>,
     documents: &InForce,
     bytes: Bytes,
     now: &Option<jiff::Timestamp>,
 ) -> Result<Held<Targets>, Error>
     ensures ok { IfOk result (λ held.
-        update_targets_of (crypto_by C.CryptoProvider M.Armor provider.now armor.now) documents.now bytes now.now
+        update_targets_of (crypto_with C.CryptoProvider M.Armor providers.now) documents.now bytes now.now
         ≡ Ok (with_targets documents.now held)) }
     ensures err { IfErr result (λ e. e ≢ Error.NoMemory →
-        update_targets_of (crypto_by C.CryptoProvider M.Armor provider.now armor.now) documents.now bytes now.now ≡ Err e) }
+        update_targets_of (crypto_with C.CryptoProvider M.Armor providers.now) documents.now bytes now.now ≡ Err e) }
 {
     let pin = targets_pin(alloc, documents, now)?;
     check_integrity(pin.length, pin.hashes.as_ref(), bytes.as_bytes())?;
     let document = Metadata::<Targets>::from_slice(alloc, bytes.as_bytes())?;
-    match check_targets(alloc, provider, armor, documents, pin, &document, now) {
+    match check_targets(alloc, providers, documents, pin, &document, now) {
         Ok(()) => Ok(Held { bytes, document }),
         Err(e) => {
             drop(document);
@@ -589,16 +612,15 @@ fn put_targets(alloc: Global, documents: &mut InForce, held: Held<Targets>) -> R
 /// `UnknownRole`, those of a threshold, then `Expired`; each expiry where a moment is given.
 pub fn update_targets<C: CryptoProvider, M: Armor>(
     alloc: Global,
-    provider: &C,
-    armor: &M,
+    providers: &Providers<'_, C, M>,
     documents: &mut InForce,
     bytes: Bytes,
     now: Option<jiff::Timestamp>,
 ) -> Result<(), Error>
-    ensures { Updates (update_targets_of (crypto_by C.CryptoProvider M.Armor provider.now armor.now) documents.old bytes now)
+    ensures { Updates (update_targets_of (crypto_with C.CryptoProvider M.Armor providers.now) documents.old bytes now)
         documents.old documents.new result }
 {
-    match new_targets(alloc, provider, armor, documents, bytes, &now) {
+    match new_targets(alloc, providers, documents, bytes, &now) {
         Ok(held) => match put_targets(alloc, documents, held) {
             Ok(()) => Ok(()),
             Err(e) => Err(e),

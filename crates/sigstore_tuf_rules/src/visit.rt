@@ -2,7 +2,7 @@
 ghost use Rattle.std.specs.Prelude.{◌≡◌, ◌≢◌, [], None, Ok, Err, IfOk, IfErr, OnOk, reverse, option_map};
 ghost use Rattle.sigstore_tuf_parts.specs.Delegation.{matches_path_of};
 ghost use Rattle.sigstore_tuf_parts.specs.Threshold.{is_among};
-ghost use Rattle.sigstore_tuf_rules.specs.Order.{pattern, pattern_or, matching, put_before, unread_of};
+ghost use Rattle.sigstore_tuf_rules.specs.Order.{by, pattern, pattern_or, matching, put_before, unread_of};
 
 use crate::delegated::is_top_level;
 use foundation::{Duplicate, NoMemory, Sequence};
@@ -16,6 +16,18 @@ use std::mem;
 pub struct Visit {
     pub name: Text,
     pub delegator: Text,
+}
+
+impl Visit {
+    /// The visit of a role of this name, and of its delegator's.
+    pub fn new(alloc: Global, name: &str, delegator: &str) -> Result<Visit, NoMemory>
+        ensures { IfOk result (λ visit. visit ≡ by delegator.now name.now) }
+    {
+        Ok(Visit {
+            name: Text::new(alloc, name)?,
+            delegator: Text::new(alloc, delegator)?,
+        })
+    }
 }
 
 impl Duplicate for Visit {

@@ -26,7 +26,7 @@ use Rattle.sigstore_tuf_rules.specs.Documents.{content_of}
 use Rattle.sigstore_tuf_rules.specs.declared.visit.Visit.{Visit}
 use Rattle.sigstore_tuf_rules.specs.declared.visit.Walk.{Walk}
 use Rattle.sigstore_tuf_rules.specs.Order.{Tree, missing, is_pinned, visited as one_more, still, having_read, read_of, read_named, visit_of, unread_of}
-use Rattle.sigstore_tuf_runs.specs.Search.{tree_in, IsSnapshot, IsOpen, IsGap, gap_error, WalksOne, AdoptsRole, Readies, wanting, untouched, looked_at, had, Searches, ended, visited}
+use Rattle.sigstore_tuf_runs.specs.Search.{tree_in, IsSnapshot, IsOpen, IsGap, gap_error, Advances, AdoptsRole, Readies, wanting, untouched, looked_at, had, Searches, ended, visited}
 
 pub if_ok_map : {T E : Type 0} {P Q : T → Type 0} (r : Result T E) → ((x : T) → P x → Q x) → IfOk r P → IfOk r Q
 if_ok_map (Ok x) f h = f x h
@@ -113,11 +113,12 @@ module _ (session : Session) (snapshot : Snapshot) (path : List ℕ) where
       by_test false b e f = same e
 
   -- a visit that was made, and the search that went on
-  pub goes_on : (v : Visit) (vs : List Visit) (w w' : Walk) (vs' : List Visit) (old mid new : State) (result : Result Walk Error) → WalksOne session snapshot path v vs w old mid w' vs' (Ok tt) → Searches session snapshot path vs' w' mid new result
+  pub goes_on : (v : Visit) (vs : List Visit) (w w' : Walk) (vs' : List Visit) (old mid new : State) (result : Result Walk Error) → Readies session v w old mid (Ok tt) → Advances (tree_in mid.documents snapshot path) v vs w w' vs'
+      → Searches session snapshot path vs' w' mid new result
       → Searches session snapshot path (v ∷ vs) w old new result
-  goes_on v vs w w' vs' old mid new result p s =
-      visited v vs w p.1.0 old mid new result p.0 p.1.1
-      (subst (λ x. Searches session snapshot path x p.1.0.walk mid new result) p.1.3 (subst (λ x. Searches session snapshot path vs' x mid new result) p.1.2 s))
+  goes_on v vs w w' vs' old mid new result r p s =
+      visited v vs w p.0 old mid new result r p.1
+      (subst (λ x. Searches session snapshot path x p.0.walk mid new result) p.3 (subst (λ x. Searches session snapshot path vs' x mid new result) p.2 s))
 
 -- the first that wasn't read
 pub is_unread : (read : List (List ℕ)) (vs : List Visit) (v : Visit) (rest : List Visit) → unread_of read vs ≡ Some (v, rest) → is_among read v.name ≡ false
@@ -130,7 +131,7 @@ is_unread read (u ∷ us) v rest e = by_test (is_among read u.name) refl e (λ h
 
 -- ---- the snapshot stays
 
-pub ready_snapshot : (session : Session) (v : Visit) (w : Walk) (old new : State) (result : Result ⊤ Error) → Readies session v w old new result → new.documents.snapshot ≡ old.documents.snapshot
+ready_snapshot : (session : Session) (v : Visit) (w : Walk) (old new : State) (result : Result ⊤ Error) → Readies session v w old new result → new.documents.snapshot ≡ old.documents.snapshot
 ready_snapshot session v w old new result (wanting s r) = ap (λ (x : State). x.documents.snapshot) s
 ready_snapshot session v w old new result (untouched n s r) = ap (λ (x : State). x.documents.snapshot) s
 ready_snapshot session v w old new result (looked_at n h c) = ap (λ (x : State). x.documents.snapshot) c.same
@@ -147,9 +148,6 @@ ready_snapshot session v w old new result (had answer n h a is) = by_adoption an
 
 pub snapshot_stays : (session : Session) (v : Visit) (w : Walk) (old new : State) (result : Result ⊤ Error) (snapshot : Snapshot) → Readies session v w old new result → IsSnapshot old.documents snapshot → IsSnapshot new.documents snapshot
 snapshot_stays session v w old new result snapshot r at = ap (option_map (λ (h : Held Snapshot). content_of h)) (ready_snapshot session v w old new result r) ∙ at
-
-pub kept_snapshot : (old new : InForce) (snapshot : Snapshot) → new.snapshot ≡ old.snapshot → IsSnapshot old snapshot → IsSnapshot new snapshot
-kept_snapshot old new snapshot same at = ap (option_map (λ (h : Held Snapshot). content_of h)) same ∙ at
 
 pub none_left : (n : ℕ) → n ≡ 0 → (n == 0) ≡ true
 none_left n e = ap (λ m. m == 0) e

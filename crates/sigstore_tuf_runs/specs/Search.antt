@@ -107,13 +107,9 @@ pub data Searches (session : Session) (snapshot : Snapshot) (path : List ℕ) : 
       → Searches session snapshot path (pending_after v step vs) step.walk mid new result
       → Searches session snapshot path (v ∷ vs) w old new result
 
--- one visit: what it leaves of the walk and of what is pending, or the search that it ends
-abbrev pub WalksOne : Session → Snapshot → List ℕ → Visit → List Visit → Walk → State → State → Walk → List Visit → Result ⊤ Error
-    → Type 0
-WalksOne session snapshot path v vs w old new w' vs' (Ok x) =
-    Readies session v w old new (Ok tt)
-    × ((step : Step) × (visit_of (tree_in new.documents snapshot path) v w ≡ Ok step) × (w' ≡ step.walk) × (vs' ≡ pending_after v step vs))
-WalksOne session snapshot path v vs w old new w' vs' (Err e) = Searches session snapshot path (v ∷ vs) w old new (Err e)
+-- one visit whose document is there: what it leaves of the walk and of what is pending
+abbrev pub Advances : Tree → Visit → List Visit → Walk → Walk → List Visit → Type 0
+Advances tree v vs w w' vs' = (step : Step) × (visit_of tree v w ≡ Ok step) × (w' ≡ step.walk) × (vs' ≡ pending_after v step vs)
 
 abbrev pub visits_in : Result Walk Error → Result (List Visit) Error
 visits_in (Ok w) = Ok w.visits

@@ -3,7 +3,7 @@ use Rattle.jiff_core.specs.declared.timestamp.Timestamp as jiff
 use Rattle.foundation.specs.Watched.{Watched}
 use Rattle.sigstore_types_parts.specs.declared.armor.Armor as armor
 use Rattle.sigstore_keys.specs.declared.provider.CryptoProvider as provider
-use Rattle.sigstore_keys.specs.Crypto.{Crypto, crypto_by}
+use Rattle.sigstore_keys.specs.Crypto.{Crypto, crypto_with}
 use Rattle.sigstore_tuf_rules.specs.declared.config.UpdaterConfig.{UpdaterConfig}
 use Rattle.sigstore_tuf_rules.specs.declared.documents.InForce.{InForce}
 use Rattle.sigstore_tuf_runs.specs.declared.session.Session as declared
@@ -29,4 +29,4 @@ session_of crypto config now = record { crypto = crypto; config = config; now = 
 
 -- what a call of the code is given, seen so
 abbrev pub session_by : {C M : Type 0} → provider.Ghosts C → armor.Ghosts M → declared.Session C M → Session
-session_by p a s = session_of (crypto_by p a s.provider.now s.armor.now) s.config.now s.moment
+session_by p a s = session_of (crypto_with p a s.providers) s.config.now s.moment

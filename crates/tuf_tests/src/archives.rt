@@ -2,9 +2,10 @@
 use crate::provider::{One, armor};
 use crate::words::{good, halves, hold, printed, string, there};
 use jiff::Timestamp;
+use sigstore_keys::Providers;
 use sigstore_tuf::TrustChain;
 use std::process::Abort;
-use trust_archive::{ArchiveError, read_archive, write_archive};
+use trust_archive::{ArchiveError, ArchiveTerms, read_archive, write_archive};
 
 /// The answer of a call about archives.
 pub fn answer<X: AllocGlobal + Abort>(rt: &X, call: &str, given: &str) -> String {
@@ -150,16 +151,19 @@ fn read<X: AllocGlobal + Abort>(rt: &X, root: &str, now: &str, most: &str, bytes
     let (armor, root) = (armor(rt), document(rt, root));
     let now: Timestamp = good(rt, now.parse());
     let most = good(rt, most.parse::<u32>());
-    let answer = read_archive(
-        rt.alloc(),
-        &One,
-        &armor,
-        root.as_bytes(),
-        "f",
-        most,
-        now,
-        bytes,
-    );
+    let answer = {
+        let providers = Providers {
+            provider: &One,
+            armor: &armor,
+        };
+        let terms = ArchiveTerms {
+            root: root.as_bytes(),
+            path: "f",
+            max_delegations: most,
+            moment: now,
+        };
+        read_archive(rt.alloc(), &providers, &terms, bytes)
+    };
     drop(root);
     drop(armor);
     shown(rt, bytes, answer)

@@ -1,5 +1,6 @@
 // A client whose repository goes back: what stays in force, alone and over a store.
 use crate::client::version;
+use crate::lying_repository::{LyingRepository, Reply};
 use crate::provider::{One, OneKey, armor};
 use crate::words::{check, filled, good, halves, printed, there, word};
 use jiff::Timestamp;

@@ -1,4 +1,4 @@
-//! Tests of the documents and of the client of The Update Framework.
+//! Tests of the documents and of the client of The Update Framework, and the repository that some of them go by.
 #![tactic(auto)]
 
 #[cfg(test)]
@@ -11,6 +11,7 @@ mod client;
 mod documents;
 #[cfg(test)]
 mod floors;
+mod lying_repository;
 #[cfg(test)]
 mod names;
 #[cfg(test)]
@@ -35,3 +36,5 @@ mod thresholds;
 mod trees;
 #[cfg(test)]
 mod words;
+
+pub use lying_repository::{LyingRepository, Reply};

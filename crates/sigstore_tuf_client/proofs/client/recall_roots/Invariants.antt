@@ -1,7 +1,7 @@
 use Rattle.std.proofs.Common.{◌-◌, ◌^◌, Result}
 use Rattle.std.specs.Prelude.{⊤}
 use Rattle.foundation.specs.Watched.{Watched}
-use Rattle.sigstore_keys.specs.Crypto.{crypto_by}
+use Rattle.sigstore_keys.specs.Crypto.{crypto_with}
 use Rattle.sigstore_tuf_text.specs.declared.error.Error.{Error}
 use Rattle.sigstore_tuf_outside.specs.Repository.{Folders}
 use Rattle.sigstore_tuf_runs.specs.State.{State, state_of}
@@ -13,8 +13,8 @@ use Rattle.sigstore_tuf_client.proofs.client.recall_roots.Given as goal
 abbrev pub invariant-loop-number : goal.invariant-loop-number
 invariant-loop-number g l =
     (repo : Watched Folders) (new : State) (result : Result ⊤ Error)
-    → RecallsRoots (crypto_by g.C.CryptoProvider g.M.Armor l.provider l.armor) (roots_left l.documents) (state_of l.documents repo (g.S.MetadataStore.seen l.store)) new result
-    → RecallsRoots (crypto_by g.C.CryptoProvider g.M.Armor l.provider l.armor) (roots_left l.initial.documents) (state_of l.initial.documents repo (g.S.MetadataStore.seen l.initial.store)) new result
+    → RecallsRoots (crypto_with g.C.CryptoProvider g.M.Armor l.providers) (roots_left l.documents) (state_of l.documents repo (g.S.MetadataStore.seen l.store)) new result
+    → RecallsRoots (crypto_with g.C.CryptoProvider g.M.Armor l.providers) (roots_left l.initial.documents) (state_of l.initial.documents repo (g.S.MetadataStore.seen l.initial.store)) new result
 
 -- each root that is adopted leaves one less
 abbrev pub decreases-loop-number : goal.decreases-loop-number

@@ -1,7 +1,7 @@
 -- What a lying repository answers: the next of its replies, whatever is asked.
 use Rattle.std.specs.Prelude.{ℕ, ◌+◌, ◌-◌, ◌^◌, min, nat_lt, if◌then◌else◌, List, [], ◌∷◌, length, Option, Some, None, Result, Ok, Err}
-use Rattle.sigstore_tuf_outside.specs.declared.lying_repository.Reply.{Reply}
-use Rattle.sigstore_tuf_outside.specs.declared.lying_repository.Reply.TheVariants as reply
+use Rattle.tuf_tests.specs.declared.lying_repository.Reply.{Reply}
+use Rattle.tuf_tests.specs.declared.lying_repository.Reply.TheVariants as reply
 use Rattle.sigstore_tuf_outside.specs.declared.repository.FetchFault.{FetchFault}
 use Rattle.sigstore_tuf_outside.specs.declared.repository.FetchFault.TheVariants as fetch
 

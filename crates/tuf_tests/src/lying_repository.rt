@@ -2,9 +2,9 @@
 ghost use Rattle.std.specs.Prelude.{◌≡◌, ◌≤◌, drop};
 ghost use Rattle.foundation.specs.Watched.{Rose, untold};
 ghost use Rattle.sigstore_tuf_outside.specs.Repository.{Fetches, FailsOnly, WithinLimit, metadata_files, target_files};
-ghost use Rattle.sigstore_tuf_outside.specs.Lying.{next_reply, answer_of, faults_after};
+ghost use Rattle.tuf_tests.specs.Lying.{next_reply, answer_of, faults_after};
 
-use crate::repository::{FetchFault, Repository};
+use sigstore_tuf_outside::{FetchFault, Repository};
 use sigstore_types_parts::Bytes;
 use std::alloc::Global;
 use std::collections::VecDeque;
