@@ -1,6 +1,6 @@
 // The judgement of an archive.
 ghost use Rattle.std.specs.Prelude.{◌≡◌, ◌≢◌, Ok, Err, IfOk, IfErr};
-ghost use Rattle.sigstore_keys.specs.Crypto.{crypto_by};
+ghost use Rattle.sigstore_keys.specs.Crypto.{crypto_with};
 ghost use Rattle.trust_archive.specs.Judgement.{roles_of, begun, file_of, with_file_of, judged_of, chain_of};
 ghost use Rattle.trust_archive.specs.Archive.{IsArchive};
 ghost use Rattle.trust_archive.specs.Cause.{ArchiveCause};
@@ -10,11 +10,21 @@ use crate::error::ArchiveError;
 use crate::reading::archive_in;
 use crate::roles::visits;
 use crate::top::top;
-use sigstore_keys::CryptoProvider;
+use sigstore_keys::{CryptoProvider, Providers};
 use sigstore_tuf_parts::{TargetFile, check_integrity};
 use sigstore_tuf_rules::{InForce, TrustChain};
 use sigstore_types_parts::Armor;
 use std::alloc::Global;
+
+/// By what an archive is judged: the root that is pinned, the path of the target, how many roles are visited at most, and the
+/// moment.
+#[derive(Drop)]
+pub struct ArchiveTerms<'t> {
+    pub root: &'t [u8],
+    pub path: &'t str,
+    pub max_delegations: u32,
+    pub moment: jiff::Timestamp,
+}
 
 // The file is the one that is listed.
 #[tactic(auto, unfolding(crate::specs::Judgement::file_of))]
@@ -49,31 +59,18 @@ fn with_file(
 // The target, under the documents in force before the roles.
 fn target_under<C: CryptoProvider, M: Armor>(
     alloc: Global,
-    provider: &C,
-    armor: &M,
+    providers: &Providers<'_, C, M>,
+    terms: &ArchiveTerms<'_>,
     documents: &mut InForce,
-    path: &str,
-    max: u32,
-    now: jiff::Timestamp,
     archive: &Archive,
 ) -> Result<TargetFile, ArchiveError>
-    ensures ok { IfOk result (λ target.
-        with_file_of archive.now.file (roles_of (crypto_by C.CryptoProvider M.Armor provider.now armor.now) now path.now 0 archive.now.roles (begun documents.old max))
-        ≡ Ok target) }
+    ensures ok { IfOk result (λ target. with_file_of archive.now.file (roles_of (crypto_with C.CryptoProvider M.Armor providers.now)
+        terms.now.moment terms.now.path.now 0 archive.now.roles (begun documents.old terms.now.max_delegations)) ≡ Ok target) }
     ensures err { IfErr result (λ e. e ≢ ArchiveError.NoMemory →
-        with_file_of archive.now.file (roles_of (crypto_by C.CryptoProvider M.Armor provider.now armor.now) now path.now 0 archive.now.roles (begun documents.old max))
-        ≡ Err e) }
+        with_file_of archive.now.file (roles_of (crypto_with C.CryptoProvider M.Armor providers.now)
+        terms.now.moment terms.now.path.now 0 archive.now.roles (begun documents.old terms.now.max_delegations)) ≡ Err e) }
 {
-    let found = visits(
-        alloc,
-        provider,
-        armor,
-        documents,
-        path,
-        max,
-        now,
-        archive.roles.as_slice(),
-    );
+    let found = visits(alloc, providers, terms, documents, archive.roles.as_slice());
     with_file(found, archive.file.as_bytes())
 }
 
@@ -81,30 +78,17 @@ fn target_under<C: CryptoProvider, M: Armor>(
 #[tactic(auto, unfolding(crate::specs::Judgement::judged_of))]
 fn target_of<C: CryptoProvider, M: Armor>(
     alloc: Global,
-    provider: &C,
-    armor: &M,
-    given: &[u8],
-    path: &str,
-    max: u32,
-    now: jiff::Timestamp,
+    providers: &Providers<'_, C, M>,
+    terms: &ArchiveTerms<'_>,
     archive: &Archive,
 ) -> Result<TargetFile, ArchiveError>
-    ensures ok { IfOk result (λ target.
-        judged_of (crypto_by C.CryptoProvider M.Armor provider.now armor.now) given.now now max path.now archive.now ≡ Ok target) }
-    ensures err { IfErr result (λ e. e ≢ ArchiveError.NoMemory →
-        judged_of (crypto_by C.CryptoProvider M.Armor provider.now armor.now) given.now now max path.now archive.now ≡ Err e) }
+    ensures ok { IfOk result (λ target. judged_of (crypto_with C.CryptoProvider M.Armor providers.now)
+        terms.now.root.now terms.now.moment terms.now.max_delegations terms.now.path.now archive.now ≡ Ok target) }
+    ensures err { IfErr result (λ e. e ≢ ArchiveError.NoMemory → judged_of (crypto_with C.CryptoProvider M.Armor providers.now)
+        terms.now.root.now terms.now.moment terms.now.max_delegations terms.now.path.now archive.now ≡ Err e) }
 {
-    let mut documents = top(alloc, provider, armor, given, now, archive)?;
-    let found = target_under(
-        alloc,
-        provider,
-        armor,
-        &mut documents,
-        path,
-        max,
-        now,
-        archive,
-    );
+    let mut documents = top(alloc, providers, terms.root, terms.moment, archive)?;
+    let found = target_under(alloc, providers, terms, &mut documents, archive);
     drop(documents);
     found
 }
@@ -113,30 +97,17 @@ fn target_of<C: CryptoProvider, M: Armor>(
 #[tactic(auto, unfolding(crate::specs::Judgement::chain_of))]
 fn judged_chain<C: CryptoProvider, M: Armor>(
     alloc: Global,
-    provider: &C,
-    armor: &M,
-    root: &[u8],
-    path: &str,
-    max_delegations: u32,
-    now: jiff::Timestamp,
+    providers: &Providers<'_, C, M>,
+    terms: &ArchiveTerms<'_>,
     bytes: &[u8],
 ) -> Result<TrustChain, ArchiveError>
-    ensures ok { IfOk result (λ chain.
-        chain_of (crypto_by C.CryptoProvider M.Armor provider.now armor.now) root.now now max_delegations path.now bytes.now ≡ Ok chain) }
-    ensures err { IfErr result (λ e. e ≢ ArchiveError.NoMemory →
-        chain_of (crypto_by C.CryptoProvider M.Armor provider.now armor.now) root.now now max_delegations path.now bytes.now ≡ Err e) }
+    ensures ok { IfOk result (λ chain. chain_of (crypto_with C.CryptoProvider M.Armor providers.now)
+        terms.now.root.now terms.now.moment terms.now.max_delegations terms.now.path.now bytes.now ≡ Ok chain) }
+    ensures err { IfErr result (λ e. e ≢ ArchiveError.NoMemory → chain_of (crypto_with C.CryptoProvider M.Armor providers.now)
+        terms.now.root.now terms.now.moment terms.now.max_delegations terms.now.path.now bytes.now ≡ Err e) }
 {
     let archive = archive_in(alloc, bytes)?;
-    match target_of(
-        alloc,
-        provider,
-        armor,
-        root,
-        path,
-        max_delegations,
-        now,
-        &archive,
-    ) {
+    match target_of(alloc, providers, terms, &archive) {
         Ok(target) => Ok(archive.into_chain(target)),
         Err(e) => {
             drop(archive);
@@ -149,32 +120,21 @@ fn judged_chain<C: CryptoProvider, M: Armor>(
 /// `FirstRoot`, `Root`, `Timestamp`, `Snapshot`, for each role `Order` and then `Role`, `Order` at the end of the list, `File`.
 pub fn read_archive<C: CryptoProvider, M: Armor>(
     alloc: Global,
-    provider: &C,
-    armor: &M,
-    root: &[u8],
-    path: &str,
-    max_delegations: u32,
-    now: jiff::Timestamp,
+    providers: &Providers<'_, C, M>,
+    terms: &ArchiveTerms<'_>,
     bytes: &[u8],
 ) -> Result<TrustChain, ArchiveError>
-    ensures ok { IfOk result (λ chain.
-        chain_of (crypto_by C.CryptoProvider M.Armor provider.now armor.now) root.now now max_delegations path.now bytes.now ≡ Ok chain) }
-    ensures err { IfErr result (λ e. e ≢ ArchiveError.NoMemory →
-        chain_of (crypto_by C.CryptoProvider M.Armor provider.now armor.now) root.now now max_delegations path.now bytes.now ≡ Err e) }
-    ensures cause { IfErr result (λ e. e ≢ ArchiveError.NoMemory →
-        ArchiveCause (crypto_by C.CryptoProvider M.Armor provider.now armor.now) root.now now max_delegations path.now bytes.now e) }
-    ensures trusted { IfOk result (IsArchive (crypto_by C.CryptoProvider M.Armor provider.now armor.now) root.now now max_delegations path.now bytes.now) }
+    ensures ok { IfOk result (λ chain. chain_of (crypto_with C.CryptoProvider M.Armor providers.now)
+        terms.now.root.now terms.now.moment terms.now.max_delegations terms.now.path.now bytes.now ≡ Ok chain) }
+    ensures err { IfErr result (λ e. e ≢ ArchiveError.NoMemory → chain_of (crypto_with C.CryptoProvider M.Armor providers.now)
+        terms.now.root.now terms.now.moment terms.now.max_delegations terms.now.path.now bytes.now ≡ Err e) }
+    ensures cause { IfErr result (λ e. e ≢ ArchiveError.NoMemory → ArchiveCause (crypto_with C.CryptoProvider M.Armor providers.now)
+        terms.now.root.now terms.now.moment terms.now.max_delegations terms.now.path.now bytes.now e) }
+    ensures trusted { IfOk result (IsArchive (crypto_with C.CryptoProvider M.Armor providers.now)
+        terms.now.root.now terms.now.moment terms.now.max_delegations terms.now.path.now bytes.now) }
     ensures refused { IfErr result (λ e. e ≢ ArchiveError.NoMemory → (chain : TrustChain)
-        → IsArchive (crypto_by C.CryptoProvider M.Armor provider.now armor.now) root.now now max_delegations path.now bytes.now chain → ⊥) }
+        → IsArchive (crypto_with C.CryptoProvider M.Armor providers.now)
+        terms.now.root.now terms.now.moment terms.now.max_delegations terms.now.path.now bytes.now chain → ⊥) }
 {
-    judged_chain(
-        alloc,
-        provider,
-        armor,
-        root,
-        path,
-        max_delegations,
-        now,
-        bytes,
-    )
+    judged_chain(alloc, providers, terms, bytes)
 }

@@ -12,7 +12,7 @@ mod top;
 mod writing;
 
 pub use error::ArchiveError;
-pub use judgement::read_archive;
+pub use judgement::{ArchiveTerms, read_archive};
 pub use laws::archive_laws;
 pub use reading::OPENING;
 pub use writing::write_archive;

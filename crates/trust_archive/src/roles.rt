@@ -1,13 +1,14 @@
 // The roles of an archive: each is the next visit of the search, and its document is judged as a client judges it.
 ghost use Rattle.std.specs.Prelude.{◌≡◌, ◌≢◌, Ok, Err, IfOk, IfErr, OnOk, length, ok_or, option_map, option_copied, reverse};
-ghost use Rattle.sigstore_keys.specs.Crypto.{crypto_by};
+ghost use Rattle.sigstore_keys.specs.Crypto.{crypto_with};
 ghost use Rattle.sigstore_tuf_rules.specs.Update.{Updates};
 ghost use Rattle.trust_archive.specs.Judgement.{next_in, is_there, due_of, adopted_of, delegated_by, document_in, listed_in, followed_of, read_of, made_of, next_judged_of, visited_of, entry_of, roles_of, begun};
 ghost use Rattle.trust_archive.specs.Searching.{going_of};
 
 use crate::error::ArchiveError;
+use crate::judgement::ArchiveTerms;
 use foundation::{Duplicate, NoMemory, Sequence};
-use sigstore_keys::CryptoProvider;
+use sigstore_keys::{CryptoProvider, Providers};
 use sigstore_tuf_parts::{DelegatedRole, Error, TargetFile, Targets};
 use sigstore_tuf_rules::{
     InForce, RoleDoc, Visit, matching, pop_unread, push_next, role_pin_in, update_role,
@@ -23,6 +24,21 @@ pub(crate) struct Search {
     pending: Vec<Visit>,
     read: Sequence<Text>,
     left: u32,
+}
+
+// Who judges the documents of roles, the path that is searched for, and the moment.
+#[derive(Drop)]
+pub(crate) struct Judging<'j, 'p, C: CryptoProvider, M: Armor> {
+    providers: &'j Providers<'p, C, M>,
+    path: &'j str,
+    moment: jiff::Timestamp,
+}
+
+// The visit that is next, and the position of its role in the list.
+#[derive(Drop)]
+pub(crate) struct Due {
+    position: u64,
+    visit: Visit,
 }
 
 fn role_error(position: u64, fault: Error) -> ArchiveError
@@ -63,21 +79,22 @@ fn is_there(document: &Option<Bytes>, pinned: bool) -> bool
 fn check_due(
     alloc: Global,
     documents: &InForce,
-    position: u64,
-    visit: &Visit,
+    due: &Due,
     role: &RoleDoc,
 ) -> Result<(), ArchiveError>
-    ensures ok { OnOk result (due_of position documents.now visit.now role.now ≡ Ok tt) }
-    ensures err { IfErr result (λ e. e ≢ ArchiveError.NoMemory → due_of position documents.now visit.now role.now ≡ Err e) }
+    ensures ok { OnOk result (due_of due.now.position documents.now due.now.visit role.now ≡ Ok tt) }
+    ensures err { IfErr result (λ e. e ≢ ArchiveError.NoMemory → due_of due.now.position documents.now due.now.visit role.now ≡ Err e) }
 {
-    let pinned = role_pin_in(alloc, documents, visit.name.as_str())?.is_some();
-    if role.name == visit.name
-        && role.delegator == visit.delegator
+    let pinned = role_pin_in(alloc, documents, due.visit.name.as_str())?.is_some();
+    if role.name == due.visit.name
+        && role.delegator == due.visit.delegator
         && is_there(&role.bytes, pinned)
     {
         Ok(())
     } else {
-        Err(ArchiveError::Order { position })
+        Err(ArchiveError::Order {
+            position: due.position,
+        })
     }
 }
 
@@ -86,31 +103,19 @@ fn check_due(
 // Puts a role's document in force.
 fn adopt_role<C: CryptoProvider, M: Armor>(
     alloc: Global,
-    provider: &C,
-    armor: &M,
+    providers: &Providers<'_, C, M>,
     documents: &mut InForce,
     visit: &Visit,
     bytes: Bytes,
     now: jiff::Timestamp,
 ) -> Result<(), Error>
-    ensures { Updates (adopted_of (crypto_by C.CryptoProvider M.Armor provider.now armor.now) now documents.old visit.now bytes)
+    ensures { Updates (adopted_of (crypto_with C.CryptoProvider M.Armor providers.now) now documents.old visit.now bytes)
         documents.old documents.new result }
 {
-    let name = visit.name.as_str();
-    let delegator = visit.delegator.as_str();
-    if name == "targets" {
-        update_targets(alloc, provider, armor, documents, bytes, Some(now))
+    if visit.name.as_str() == "targets" {
+        update_targets(alloc, providers, documents, bytes, Some(now))
     } else {
-        update_role(
-            alloc,
-            provider,
-            armor,
-            documents,
-            name,
-            delegator,
-            bytes,
-            Some(now),
-        )
+        update_role(alloc, providers, documents, visit, bytes, Some(now))
     }
 }
 
@@ -152,25 +157,25 @@ fn follow(
     alloc: Global,
     documents: &InForce,
     path: &str,
-    position: u64,
-    visit: &Visit,
+    due: &Due,
     search: &mut Search,
 ) -> Result<(), ArchiveError>
-    ensures ok { OnOk result (followed_of path.now position visit.now (going_of documents.now search.old)
-        (listed_in documents.now path.now visit.now.name) ≡ Ok (going_of documents.now search.new)) }
-    ensures err { IfErr result (λ e. e ≢ ArchiveError.NoMemory → followed_of path.now position visit.now (going_of documents.now search.old)
-        (listed_in documents.now path.now visit.now.name) ≡ Err e) }
+    ensures ok { OnOk result (followed_of path.now due.now.position due.now.visit (going_of documents.now search.old)
+        (listed_in documents.now path.now due.now.visit.name) ≡ Ok (going_of documents.now search.new)) }
+    ensures err { IfErr result (λ e. e ≢ ArchiveError.NoMemory → followed_of path.now due.now.position due.now.visit
+        (going_of documents.now search.old) (listed_in documents.now path.now due.now.visit.name) ≡ Err e) }
 {
-    if listed_in(documents, path, &visit.name).is_some() {
+    let name = &due.visit.name;
+    if listed_in(documents, path, name).is_some() {
         search.left = 0;
         return Ok(());
     }
-    match matching(alloc, path, delegated(document_in(documents, &visit.name))) {
+    match matching(alloc, path, delegated(document_in(documents, name))) {
         Ok(next) => {
-            push_next(alloc, &visit.name, next, &mut search.pending)?;
+            push_next(alloc, name, next, &mut search.pending)?;
             Ok(())
         }
-        Err(e) => Err(role_error(position, e)),
+        Err(e) => Err(role_error(due.position, e)),
     }
 }
 
@@ -178,56 +183,53 @@ fn follow(
 #[tactic(auto, unfolding(crate::specs::Judgement::read_of))]
 fn read<C: CryptoProvider, M: Armor>(
     alloc: Global,
-    provider: &C,
-    armor: &M,
+    judging: &Judging<'_, '_, C, M>,
     documents: &mut InForce,
-    path: &str,
-    now: jiff::Timestamp,
-    position: u64,
-    visit: &Visit,
+    due: &Due,
     search: &mut Search,
     bytes: &Bytes,
 ) -> Result<(), ArchiveError>
-    ensures ok { OnOk result (read_of (crypto_by C.CryptoProvider M.Armor provider.now armor.now) now path.now position visit.now
-        (going_of documents.old search.old) bytes.now ≡ Ok (going_of documents.new search.new)) }
+    ensures ok { OnOk result (read_of (crypto_with C.CryptoProvider M.Armor judging.now.providers.now) judging.now.moment judging.now.path.now
+        due.now.position due.now.visit (going_of documents.old search.old) bytes.now ≡ Ok (going_of documents.new search.new)) }
     ensures err { IfErr result (λ e. e ≢ ArchiveError.NoMemory →
-        read_of (crypto_by C.CryptoProvider M.Armor provider.now armor.now) now path.now position visit.now
-        (going_of documents.old search.old) bytes.now ≡ Err e) }
+        read_of (crypto_with C.CryptoProvider M.Armor judging.now.providers.now) judging.now.moment judging.now.path.now
+        due.now.position due.now.visit (going_of documents.old search.old) bytes.now ≡ Err e) }
 {
     let copy = bytes.duplicate(alloc)?;
-    match adopt_role(alloc, provider, armor, documents, visit, copy, now) {
+    match adopt_role(
+        alloc,
+        judging.providers,
+        documents,
+        &due.visit,
+        copy,
+        judging.moment,
+    ) {
         Ok(()) => {
-            search.read.push(visit.name.duplicate(alloc)?)?;
-            follow(alloc, documents, path, position, visit, search)?;
+            search.read.push(due.visit.name.duplicate(alloc)?)?;
+            follow(alloc, documents, judging.path, due, search)?;
             Ok(())
         }
-        Err(e) => Err(role_error(position, e)),
+        Err(e) => Err(role_error(due.position, e)),
     }
 }
 
 // Makes a visit, where a document stands there.
 fn make<C: CryptoProvider, M: Armor>(
     alloc: Global,
-    provider: &C,
-    armor: &M,
+    judging: &Judging<'_, '_, C, M>,
     documents: &mut InForce,
-    path: &str,
-    now: jiff::Timestamp,
-    position: u64,
-    visit: &Visit,
+    due: &Due,
     search: &mut Search,
     document: &Option<Bytes>,
 ) -> Result<(), ArchiveError>
-    ensures ok { OnOk result (made_of (crypto_by C.CryptoProvider M.Armor provider.now armor.now) now path.now position visit.now
-        (going_of documents.old search.old) document.now ≡ Ok (going_of documents.new search.new)) }
+    ensures ok { OnOk result (made_of (crypto_with C.CryptoProvider M.Armor judging.now.providers.now) judging.now.moment judging.now.path.now
+        due.now.position due.now.visit (going_of documents.old search.old) document.now ≡ Ok (going_of documents.new search.new)) }
     ensures err { IfErr result (λ e. e ≢ ArchiveError.NoMemory →
-        made_of (crypto_by C.CryptoProvider M.Armor provider.now armor.now) now path.now position visit.now
-        (going_of documents.old search.old) document.now ≡ Err e) }
+        made_of (crypto_with C.CryptoProvider M.Armor judging.now.providers.now) judging.now.moment judging.now.path.now
+        due.now.position due.now.visit (going_of documents.old search.old) document.now ≡ Err e) }
 {
     match document {
-        Some(bytes) => read(
-            alloc, provider, armor, documents, path, now, position, visit, search, bytes,
-        ),
+        Some(bytes) => read(alloc, judging, documents, due, search, bytes),
         None => Ok(()),
     }
 }
@@ -238,64 +240,48 @@ fn make<C: CryptoProvider, M: Armor>(
 #[tactic(auto, unfolding(crate::specs::Judgement::next_judged_of))]
 fn judge_next<C: CryptoProvider, M: Armor>(
     alloc: Global,
-    provider: &C,
-    armor: &M,
+    judging: &Judging<'_, '_, C, M>,
     documents: &mut InForce,
-    path: &str,
-    now: jiff::Timestamp,
-    position: u64,
-    next: &Visit,
+    due: &Due,
     role: &RoleDoc,
     search: &mut Search,
 ) -> Result<(), ArchiveError>
-    ensures ok { OnOk result (next_judged_of (crypto_by C.CryptoProvider M.Armor provider.now armor.now) now path.now position next.now role.now
-        (going_of documents.old search.old) ≡ Ok (going_of documents.new search.new)) }
+    ensures ok { OnOk result (next_judged_of (crypto_with C.CryptoProvider M.Armor judging.now.providers.now) judging.now.moment
+        judging.now.path.now due.now.position due.now.visit role.now (going_of documents.old search.old)
+        ≡ Ok (going_of documents.new search.new)) }
     ensures err { IfErr result (λ e. e ≢ ArchiveError.NoMemory →
-        next_judged_of (crypto_by C.CryptoProvider M.Armor provider.now armor.now) now path.now position next.now role.now
-        (going_of documents.old search.old) ≡ Err e) }
+        next_judged_of (crypto_with C.CryptoProvider M.Armor judging.now.providers.now) judging.now.moment judging.now.path.now
+        due.now.position due.now.visit role.now (going_of documents.old search.old) ≡ Err e) }
 {
-    check_due(alloc, documents, position, next, role)?;
+    check_due(alloc, documents, due, role)?;
     search.left = search.left.saturating_sub(1);
-    make(
-        alloc,
-        provider,
-        armor,
-        documents,
-        path,
-        now,
-        position,
-        next,
-        search,
-        &role.bytes,
-    )?;
+    make(alloc, judging, documents, due, search, &role.bytes)?;
     Ok(())
 }
 
 // The role is the next visit, and its document is judged.
 fn visit<C: CryptoProvider, M: Armor>(
     alloc: Global,
-    provider: &C,
-    armor: &M,
+    judging: &Judging<'_, '_, C, M>,
     documents: &mut InForce,
-    path: &str,
-    now: jiff::Timestamp,
     position: u64,
     role: &RoleDoc,
     search: &mut Search,
 ) -> Result<(), ArchiveError>
-    ensures ok { OnOk result (visited_of (crypto_by C.CryptoProvider M.Armor provider.now armor.now) now path.now position role.now
-        (going_of documents.old search.old) ≡ Ok (going_of documents.new search.new)) }
+    ensures ok { OnOk result (visited_of (crypto_with C.CryptoProvider M.Armor judging.now.providers.now) judging.now.moment
+        judging.now.path.now position role.now (going_of documents.old search.old) ≡ Ok (going_of documents.new search.new)) }
     ensures err { IfErr result (λ e. e ≢ ArchiveError.NoMemory →
-        visited_of (crypto_by C.CryptoProvider M.Armor provider.now armor.now) now path.now position role.now
+        visited_of (crypto_with C.CryptoProvider M.Armor judging.now.providers.now) judging.now.moment judging.now.path.now position role.now
         (going_of documents.old search.old) ≡ Err e) }
 {
     match next_visit(search) {
-        Some(next) => match judge_next(
-            alloc, provider, armor, documents, path, now, position, &next, role, search,
-        ) {
-            Ok(()) => Ok(()),
-            Err(e) => Err(e),
-        },
+        Some(visit) => {
+            let due = Due { position, visit };
+            match judge_next(alloc, judging, documents, &due, role, search) {
+                Ok(()) => Ok(()),
+                Err(e) => Err(e),
+            }
+        }
         None => Err(ArchiveError::Order { position }),
     }
 }
@@ -303,24 +289,21 @@ fn visit<C: CryptoProvider, M: Armor>(
 // All of them.
 fn visit_all<C: CryptoProvider, M: Armor>(
     alloc: Global,
-    provider: &C,
-    armor: &M,
+    judging: &Judging<'_, '_, C, M>,
     documents: &mut InForce,
-    path: &str,
-    now: jiff::Timestamp,
     roles: &[RoleDoc],
     search: &mut Search,
 ) -> Result<(), ArchiveError>
-    ensures ok { OnOk result (roles_of (crypto_by C.CryptoProvider M.Armor provider.now armor.now) now path.now 0 roles.now (going_of documents.old search.old)
-        ≡ ok_or (entry_of path.now (going_of documents.new search.new)) (ArchiveError.Order (length roles.now))) }
+    ensures ok { OnOk result (roles_of (crypto_with C.CryptoProvider M.Armor judging.now.providers.now) judging.now.moment
+        judging.now.path.now 0 roles.now (going_of documents.old search.old)
+        ≡ ok_or (entry_of judging.now.path.now (going_of documents.new search.new)) (ArchiveError.Order (length roles.now))) }
     ensures err { IfErr result (λ e. e ≢ ArchiveError.NoMemory →
-        roles_of (crypto_by C.CryptoProvider M.Armor provider.now armor.now) now path.now 0 roles.now (going_of documents.old search.old) ≡ Err e) }
+        roles_of (crypto_with C.CryptoProvider M.Armor judging.now.providers.now) judging.now.moment
+        judging.now.path.now 0 roles.now (going_of documents.old search.old) ≡ Err e) }
 {
     let mut position = 0u64;
     for role in roles {
-        visit(
-            alloc, provider, armor, documents, path, now, position, role, search,
-        )?;
+        visit(alloc, judging, documents, position, role, search)?;
         position += 1;
     }
     Ok(())
@@ -356,21 +339,20 @@ fn begin(alloc: Global, max: u32) -> Result<Search, NoMemory>
 // The entry of the path, from a search that was begun.
 fn visits_from<C: CryptoProvider, M: Armor>(
     alloc: Global,
-    provider: &C,
-    armor: &M,
+    judging: &Judging<'_, '_, C, M>,
     documents: &mut InForce,
-    path: &str,
-    now: jiff::Timestamp,
     roles: &[RoleDoc],
     search: &mut Search,
 ) -> Result<TargetFile, ArchiveError>
     ensures ok { IfOk result (λ target.
-        roles_of (crypto_by C.CryptoProvider M.Armor provider.now armor.now) now path.now 0 roles.now (going_of documents.old search.old) ≡ Ok target) }
+        roles_of (crypto_with C.CryptoProvider M.Armor judging.now.providers.now) judging.now.moment
+        judging.now.path.now 0 roles.now (going_of documents.old search.old) ≡ Ok target) }
     ensures err { IfErr result (λ e. e ≢ ArchiveError.NoMemory →
-        roles_of (crypto_by C.CryptoProvider M.Armor provider.now armor.now) now path.now 0 roles.now (going_of documents.old search.old) ≡ Err e) }
+        roles_of (crypto_with C.CryptoProvider M.Armor judging.now.providers.now) judging.now.moment
+        judging.now.path.now 0 roles.now (going_of documents.old search.old) ≡ Err e) }
 {
-    visit_all(alloc, provider, armor, documents, path, now, roles, search)?;
-    match entry(documents, path, search) {
+    visit_all(alloc, judging, documents, roles, search)?;
+    match entry(documents, judging.path, search) {
         Some(target) => Ok(target.duplicate(alloc)?),
         None => Err(ArchiveError::Order {
             position: roles.len() as u64,
@@ -381,28 +363,22 @@ fn visits_from<C: CryptoProvider, M: Armor>(
 /// The entry of the path, by roles that are the visits of the search and whose documents are judged in turn. Errors: `Order`, `Role`.
 pub(crate) fn visits<C: CryptoProvider, M: Armor>(
     alloc: Global,
-    provider: &C,
-    armor: &M,
+    providers: &Providers<'_, C, M>,
+    terms: &ArchiveTerms<'_>,
     documents: &mut InForce,
-    path: &str,
-    max: u32,
-    now: jiff::Timestamp,
     roles: &[RoleDoc],
 ) -> Result<TargetFile, ArchiveError>
-    ensures ok { IfOk result (λ target.
-        roles_of (crypto_by C.CryptoProvider M.Armor provider.now armor.now) now path.now 0 roles.now (begun documents.old max) ≡ Ok target) }
+    ensures ok { IfOk result (λ target. roles_of (crypto_with C.CryptoProvider M.Armor providers.now) terms.now.moment terms.now.path.now 0
+        roles.now (begun documents.old terms.now.max_delegations) ≡ Ok target) }
     ensures err { IfErr result (λ e. e ≢ ArchiveError.NoMemory →
-        roles_of (crypto_by C.CryptoProvider M.Armor provider.now armor.now) now path.now 0 roles.now (begun documents.old max) ≡ Err e) }
+        roles_of (crypto_with C.CryptoProvider M.Armor providers.now) terms.now.moment terms.now.path.now 0
+        roles.now (begun documents.old terms.now.max_delegations) ≡ Err e) }
 {
-    let mut search = begin(alloc, max)?;
-    visits_from(
-        alloc,
-        provider,
-        armor,
-        documents,
-        path,
-        now,
-        roles,
-        &mut search,
-    )
+    let mut search = begin(alloc, terms.max_delegations)?;
+    let judging = Judging {
+        providers,
+        path: terms.path,
+        moment: terms.moment,
+    };
+    visits_from(alloc, &judging, documents, roles, &mut search)
 }

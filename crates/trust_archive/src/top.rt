@@ -1,13 +1,13 @@
 // The documents before the roles: the roots, the timestamp and the snapshot come into force one after another.
 ghost use Rattle.std.specs.Prelude.{◌≡◌, ◌≢◌, Ok, Err, IfOk, IfErr, OnOk};
-ghost use Rattle.sigstore_keys.specs.Crypto.{crypto_by};
+ghost use Rattle.sigstore_keys.specs.Crypto.{crypto_with};
 ghost use Rattle.sigstore_tuf_rules.specs.Update.{first_root_of, update_root_of, Updates};
 ghost use Rattle.trust_archive.specs.Judgement.{at_root, later_roots_of, fresh_root_of, followed_roots_of, roots_of, timed_of, snapshot_judged_of, snapshot_read_of, having_snapshot, snapped_of, both_of, top_of};
 
 use crate::archive::Archive;
 use crate::error::ArchiveError;
 use foundation::Duplicate;
-use sigstore_keys::CryptoProvider;
+use sigstore_keys::{CryptoProvider, Providers};
 use sigstore_tuf_parts::{Error, MetaFile, Metadata, Role, Root, Rule, Snapshot, check_version};
 use sigstore_tuf_rules::{
     Held, InForce, check_root_serves, first_root, snapshot_pin_in, update_root, update_timestamp,
@@ -50,16 +50,15 @@ fn snapshot_error(fault: Error) -> ArchiveError
 // Puts the next root in force.
 fn adopt_root<C: CryptoProvider, M: Armor>(
     alloc: Global,
-    provider: &C,
-    armor: &M,
+    providers: &Providers<'_, C, M>,
     documents: &mut InForce,
     root: &Bytes,
 ) -> Result<(), Error>
-    ensures { Updates (update_root_of (crypto_by C.CryptoProvider M.Armor provider.now armor.now) documents.old root.now)
+    ensures { Updates (update_root_of (crypto_with C.CryptoProvider M.Armor providers.now) documents.old root.now)
         documents.old documents.new result }
 {
     match root.duplicate(alloc) {
-        Ok(bytes) => update_root(alloc, provider, armor, documents, bytes),
+        Ok(bytes) => update_root(alloc, providers, documents, bytes),
         Err(e) => Err(Error::from(e)),
     }
 }
@@ -67,19 +66,18 @@ fn adopt_root<C: CryptoProvider, M: Armor>(
 // Puts the roots behind the first in force, one after another.
 fn adopt_roots<C: CryptoProvider, M: Armor>(
     alloc: Global,
-    provider: &C,
-    armor: &M,
+    providers: &Providers<'_, C, M>,
     documents: &mut InForce,
     roots: &[Bytes],
 ) -> Result<(), ArchiveError>
-    ensures ok { OnOk result (later_roots_of (crypto_by C.CryptoProvider M.Armor provider.now armor.now) 1 roots.now documents.old ≡ Ok documents.new) }
+    ensures ok { OnOk result (later_roots_of (crypto_with C.CryptoProvider M.Armor providers.now) 1 roots.now documents.old ≡ Ok documents.new) }
     ensures err { IfErr result (λ e. e ≢ ArchiveError.NoMemory →
-        later_roots_of (crypto_by C.CryptoProvider M.Armor provider.now armor.now) 1 roots.now documents.old ≡ Err e) }
+        later_roots_of (crypto_with C.CryptoProvider M.Armor providers.now) 1 roots.now documents.old ≡ Err e) }
 {
     let mut position = 0u64;
     for root in roots {
         position += 1;
-        match adopt_root(alloc, provider, armor, documents, root) {
+        match adopt_root(alloc, providers, documents, root) {
             Ok(()) => {}
             Err(e) => return Err(root_error(position, e)),
         }
@@ -106,15 +104,14 @@ fn check_root(
 // The first root, which is the given one.
 fn given_root<C: CryptoProvider, M: Armor>(
     alloc: Global,
-    provider: &C,
-    armor: &M,
+    providers: &Providers<'_, C, M>,
     root: &Bytes,
 ) -> Result<InForce, ArchiveError>
-    ensures ok { IfOk result (λ set. at_root 0 (first_root_of (crypto_by C.CryptoProvider M.Armor provider.now armor.now) root.now) ≡ Ok set) }
+    ensures ok { IfOk result (λ set. at_root 0 (first_root_of (crypto_with C.CryptoProvider M.Armor providers.now) root.now) ≡ Ok set) }
     ensures err { IfErr result (λ e. e ≢ ArchiveError.NoMemory →
-        at_root 0 (first_root_of (crypto_by C.CryptoProvider M.Armor provider.now armor.now) root.now) ≡ Err e) }
+        at_root 0 (first_root_of (crypto_with C.CryptoProvider M.Armor providers.now) root.now) ≡ Err e) }
 {
-    match first_root(alloc, provider, armor, root.as_bytes()) {
+    match first_root(alloc, providers, root.as_bytes()) {
         Ok(documents) => Ok(documents),
         Err(e) => Err(root_error(0, e)),
     }
@@ -123,17 +120,16 @@ fn given_root<C: CryptoProvider, M: Armor>(
 // The roots behind the first, the last of which isn't expired.
 fn follow_roots<C: CryptoProvider, M: Armor>(
     alloc: Global,
-    provider: &C,
-    armor: &M,
+    providers: &Providers<'_, C, M>,
     documents: &mut InForce,
     roots: &[Bytes],
     now: jiff::Timestamp,
 ) -> Result<(), ArchiveError>
-    ensures ok { OnOk result (followed_roots_of (crypto_by C.CryptoProvider M.Armor provider.now armor.now) now roots.now documents.old ≡ Ok documents.new) }
+    ensures ok { OnOk result (followed_roots_of (crypto_with C.CryptoProvider M.Armor providers.now) now roots.now documents.old ≡ Ok documents.new) }
     ensures err { IfErr result (λ e. e ≢ ArchiveError.NoMemory →
-        followed_roots_of (crypto_by C.CryptoProvider M.Armor provider.now armor.now) now roots.now documents.old ≡ Err e) }
+        followed_roots_of (crypto_with C.CryptoProvider M.Armor providers.now) now roots.now documents.old ≡ Err e) }
 {
-    adopt_roots(alloc, provider, armor, documents, roots)?;
+    adopt_roots(alloc, providers, documents, roots)?;
     check_root(alloc, documents, roots.len() as u64, now)?;
     Ok(())
 }
@@ -142,15 +138,14 @@ fn follow_roots<C: CryptoProvider, M: Armor>(
 #[tactic(auto, unfolding(crate::specs::Judgement::roots_of))]
 fn rooted<C: CryptoProvider, M: Armor>(
     alloc: Global,
-    provider: &C,
-    armor: &M,
+    providers: &Providers<'_, C, M>,
     given: &[u8],
     now: jiff::Timestamp,
     roots: &[Bytes],
 ) -> Result<InForce, ArchiveError>
-    ensures ok { IfOk result (λ set. roots_of (crypto_by C.CryptoProvider M.Armor provider.now armor.now) given.now now roots.now ≡ Ok set) }
+    ensures ok { IfOk result (λ set. roots_of (crypto_with C.CryptoProvider M.Armor providers.now) given.now now roots.now ≡ Ok set) }
     ensures err { IfErr result (λ e. e ≢ ArchiveError.NoMemory →
-        roots_of (crypto_by C.CryptoProvider M.Armor provider.now armor.now) given.now now roots.now ≡ Err e) }
+        roots_of (crypto_with C.CryptoProvider M.Armor providers.now) given.now now roots.now ≡ Err e) }
 {
     let [first, later @ ..] = roots else {
         return Err(ArchiveError::FirstRoot);
@@ -158,8 +153,8 @@ fn rooted<C: CryptoProvider, M: Armor>(
     if first.as_bytes() != given {
         return Err(ArchiveError::FirstRoot);
     }
-    let mut documents = given_root(alloc, provider, armor, first)?;
-    match follow_roots(alloc, provider, armor, &mut documents, later, now) {
+    let mut documents = given_root(alloc, providers, first)?;
+    match follow_roots(alloc, providers, &mut documents, later, now) {
         Ok(()) => Ok(documents),
         Err(e) => {
             drop(documents);
@@ -174,18 +169,17 @@ fn rooted<C: CryptoProvider, M: Armor>(
 #[tactic(auto, unfolding(crate::specs::Judgement::timed_of))]
 fn adopt_timestamp<C: CryptoProvider, M: Armor>(
     alloc: Global,
-    provider: &C,
-    armor: &M,
+    providers: &Providers<'_, C, M>,
     documents: &mut InForce,
     bytes: &Bytes,
     now: jiff::Timestamp,
 ) -> Result<(), ArchiveError>
-    ensures ok { OnOk result (timed_of (crypto_by C.CryptoProvider M.Armor provider.now armor.now) now bytes.now documents.old ≡ Ok documents.new) }
+    ensures ok { OnOk result (timed_of (crypto_with C.CryptoProvider M.Armor providers.now) now bytes.now documents.old ≡ Ok documents.new) }
     ensures err { IfErr result (λ e. e ≢ ArchiveError.NoMemory →
-        timed_of (crypto_by C.CryptoProvider M.Armor provider.now armor.now) now bytes.now documents.old ≡ Err e) }
+        timed_of (crypto_with C.CryptoProvider M.Armor providers.now) now bytes.now documents.old ≡ Err e) }
 {
     let bytes = bytes.duplicate(alloc)?;
-    match update_timestamp(alloc, provider, armor, documents, bytes, Some(now)) {
+    match update_timestamp(alloc, providers, documents, bytes, Some(now)) {
         Ok(()) => Ok(()),
         Err(e) => Err(timestamp_error(e)),
     }
@@ -195,19 +189,18 @@ fn adopt_timestamp<C: CryptoProvider, M: Armor>(
 #[tactic(auto, unfolding(crate::specs::Judgement::snapshot_judged_of))]
 fn check_snapshot<C: CryptoProvider, M: Armor>(
     alloc: Global,
-    provider: &C,
-    armor: &M,
+    providers: &Providers<'_, C, M>,
     root: &Root,
     pin: &MetaFile,
     document: &Metadata<Snapshot>,
     now: jiff::Timestamp,
 ) -> Result<(), Error>
     ensures ok { OnOk result
-        (snapshot_judged_of (crypto_by C.CryptoProvider M.Armor provider.now armor.now) now root.now pin.now document.now ≡ Ok tt) }
+        (snapshot_judged_of (crypto_with C.CryptoProvider M.Armor providers.now) now root.now pin.now document.now ≡ Ok tt) }
     ensures err { IfErr result (λ e. e ≢ Error.NoMemory →
-        snapshot_judged_of (crypto_by C.CryptoProvider M.Armor provider.now armor.now) now root.now pin.now document.now ≡ Err e) }
+        snapshot_judged_of (crypto_with C.CryptoProvider M.Armor providers.now) now root.now pin.now document.now ≡ Err e) }
 {
-    document.verify_role(alloc, provider, armor, root, "snapshot")?;
+    document.verify_role(alloc, providers.provider, providers.armor, root, "snapshot")?;
     check_version(pin, document.signed().version)?;
     document.signed().check_fresh(alloc, now)?;
     Ok(())
@@ -217,20 +210,19 @@ fn check_snapshot<C: CryptoProvider, M: Armor>(
 #[tactic(auto, unfolding(crate::specs::Judgement::snapshot_read_of))]
 fn read_snapshot<C: CryptoProvider, M: Armor>(
     alloc: Global,
-    provider: &C,
-    armor: &M,
+    providers: &Providers<'_, C, M>,
     root: &Root,
     pin: &MetaFile,
     bytes: &[u8],
     now: jiff::Timestamp,
 ) -> Result<Metadata<Snapshot>, Error>
     ensures ok { IfOk result (λ document.
-        snapshot_read_of (crypto_by C.CryptoProvider M.Armor provider.now armor.now) now root.now pin.now bytes.now ≡ Ok document) }
+        snapshot_read_of (crypto_with C.CryptoProvider M.Armor providers.now) now root.now pin.now bytes.now ≡ Ok document) }
     ensures err { IfErr result (λ e. e ≢ Error.NoMemory →
-        snapshot_read_of (crypto_by C.CryptoProvider M.Armor provider.now armor.now) now root.now pin.now bytes.now ≡ Err e) }
+        snapshot_read_of (crypto_with C.CryptoProvider M.Armor providers.now) now root.now pin.now bytes.now ≡ Err e) }
 {
     let document = Metadata::<Snapshot>::from_slice(alloc, bytes)?;
-    match check_snapshot(alloc, provider, armor, root, pin, &document, now) {
+    match check_snapshot(alloc, providers, root, pin, &document, now) {
         Ok(()) => Ok(document),
         Err(e) => {
             drop(document);
@@ -243,16 +235,15 @@ fn read_snapshot<C: CryptoProvider, M: Armor>(
 #[tactic(auto, unfolding(crate::specs::Judgement::snapped_of))]
 fn pinned_snapshot<C: CryptoProvider, M: Armor>(
     alloc: Global,
-    provider: &C,
-    armor: &M,
+    providers: &Providers<'_, C, M>,
     documents: &InForce,
     bytes: &Bytes,
     now: jiff::Timestamp,
 ) -> Result<Held<Snapshot>, ArchiveError>
-    ensures ok { IfOk result (λ held. snapped_of (crypto_by C.CryptoProvider M.Armor provider.now armor.now) now bytes.now documents.now
+    ensures ok { IfOk result (λ held. snapped_of (crypto_with C.CryptoProvider M.Armor providers.now) now bytes.now documents.now
         ≡ Ok (having_snapshot documents.now held.bytes held.document)) }
     ensures err { IfErr result (λ e. e ≢ ArchiveError.NoMemory →
-        snapped_of (crypto_by C.CryptoProvider M.Armor provider.now armor.now) now bytes.now documents.now ≡ Err e) }
+        snapped_of (crypto_with C.CryptoProvider M.Armor providers.now) now bytes.now documents.now ≡ Err e) }
 {
     let Some(pin) = snapshot_pin_in(documents) else {
         return Err(ArchiveError::Timestamp {
@@ -261,7 +252,7 @@ fn pinned_snapshot<C: CryptoProvider, M: Armor>(
     };
     let copy = bytes.duplicate(alloc)?;
     let root = documents.root.signed();
-    match read_snapshot(alloc, provider, armor, root, pin, bytes.as_bytes(), now) {
+    match read_snapshot(alloc, providers, root, pin, bytes.as_bytes(), now) {
         Ok(document) => Ok(Held {
             bytes: copy,
             document,
@@ -276,17 +267,16 @@ fn pinned_snapshot<C: CryptoProvider, M: Armor>(
 // Puts the snapshot in force.
 fn adopt_snapshot<C: CryptoProvider, M: Armor>(
     alloc: Global,
-    provider: &C,
-    armor: &M,
+    providers: &Providers<'_, C, M>,
     documents: &mut InForce,
     bytes: &Bytes,
     now: jiff::Timestamp,
 ) -> Result<(), ArchiveError>
-    ensures ok { OnOk result (snapped_of (crypto_by C.CryptoProvider M.Armor provider.now armor.now) now bytes.now documents.old ≡ Ok documents.new) }
+    ensures ok { OnOk result (snapped_of (crypto_with C.CryptoProvider M.Armor providers.now) now bytes.now documents.old ≡ Ok documents.new) }
     ensures err { IfErr result (λ e. e ≢ ArchiveError.NoMemory →
-        snapped_of (crypto_by C.CryptoProvider M.Armor provider.now armor.now) now bytes.now documents.old ≡ Err e) }
+        snapped_of (crypto_with C.CryptoProvider M.Armor providers.now) now bytes.now documents.old ≡ Err e) }
 {
-    match pinned_snapshot(alloc, provider, armor, documents, bytes, now) {
+    match pinned_snapshot(alloc, providers, documents, bytes, now) {
         Ok(held) => {
             drop(mem::replace(&mut documents.snapshot, Some(held)));
             Ok(())
@@ -298,18 +288,17 @@ fn adopt_snapshot<C: CryptoProvider, M: Armor>(
 // Both, one after the other.
 fn adopt_both<C: CryptoProvider, M: Armor>(
     alloc: Global,
-    provider: &C,
-    armor: &M,
+    providers: &Providers<'_, C, M>,
     documents: &mut InForce,
     archive: &Archive,
     now: jiff::Timestamp,
 ) -> Result<(), ArchiveError>
-    ensures ok { OnOk result (both_of (crypto_by C.CryptoProvider M.Armor provider.now armor.now) now archive.now documents.old ≡ Ok documents.new) }
+    ensures ok { OnOk result (both_of (crypto_with C.CryptoProvider M.Armor providers.now) now archive.now documents.old ≡ Ok documents.new) }
     ensures err { IfErr result (λ e. e ≢ ArchiveError.NoMemory →
-        both_of (crypto_by C.CryptoProvider M.Armor provider.now armor.now) now archive.now documents.old ≡ Err e) }
+        both_of (crypto_with C.CryptoProvider M.Armor providers.now) now archive.now documents.old ≡ Err e) }
 {
-    adopt_timestamp(alloc, provider, armor, documents, &archive.timestamp, now)?;
-    adopt_snapshot(alloc, provider, armor, documents, &archive.snapshot, now)?;
+    adopt_timestamp(alloc, providers, documents, &archive.timestamp, now)?;
+    adopt_snapshot(alloc, providers, documents, &archive.snapshot, now)?;
     Ok(())
 }
 
@@ -317,18 +306,17 @@ fn adopt_both<C: CryptoProvider, M: Armor>(
 #[tactic(auto, unfolding(crate::specs::Judgement::top_of))]
 pub(crate) fn top<C: CryptoProvider, M: Armor>(
     alloc: Global,
-    provider: &C,
-    armor: &M,
+    providers: &Providers<'_, C, M>,
     given: &[u8],
     now: jiff::Timestamp,
     archive: &Archive,
 ) -> Result<InForce, ArchiveError>
-    ensures ok { IfOk result (λ set. top_of (crypto_by C.CryptoProvider M.Armor provider.now armor.now) given.now now archive.now ≡ Ok set) }
+    ensures ok { IfOk result (λ set. top_of (crypto_with C.CryptoProvider M.Armor providers.now) given.now now archive.now ≡ Ok set) }
     ensures err { IfErr result (λ e. e ≢ ArchiveError.NoMemory →
-        top_of (crypto_by C.CryptoProvider M.Armor provider.now armor.now) given.now now archive.now ≡ Err e) }
+        top_of (crypto_with C.CryptoProvider M.Armor providers.now) given.now now archive.now ≡ Err e) }
 {
-    let mut documents = rooted(alloc, provider, armor, given, now, archive.roots.as_slice())?;
-    match adopt_both(alloc, provider, armor, &mut documents, archive, now) {
+    let mut documents = rooted(alloc, providers, given, now, archive.roots.as_slice())?;
+    match adopt_both(alloc, providers, &mut documents, archive, now) {
         Ok(()) => Ok(documents),
         Err(e) => {
             drop(documents);
