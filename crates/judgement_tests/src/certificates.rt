@@ -5,7 +5,9 @@ use certificate_claims::parse_certificate_info;
 use command_files::{TableProvider, read_provider};
 use jiff::Timestamp;
 use path_core::Anchor;
-use sigstore_certificate::{DigitallySigned, VerificationPolicy, judge_certificate};
+use sigstore_certificate::{
+    DigitallySigned, Presented, TrustedAuthorities, VerificationPolicy, judge_certificate,
+};
 use sigstore_keys::{Keyring, SigningScheme, VerificationKey, sha256, verify_signature};
 use sigstore_types::{DerCertificate, DerPublicKey, SignatureBytes};
 use std::process::Abort;
@@ -41,12 +43,12 @@ fn logs<X: AllocGlobal + Abort>(rt: &X) -> Keyring {
     logs
 }
 
-// The answer for the certificate under a root, with the intermediate beside it, for a signature at a moment.
+// The answer for the certificate under a root, with the intermediate beside it, for a signature at some times.
 fn judged<X: AllocGlobal + Abort>(
     rt: &X,
     provider: &TableProvider,
     root: &str,
-    now: &str,
+    times: &[Timestamp],
 ) -> String {
     let (leaf, between, root) = (
         certificate(rt, "leaf"),
@@ -56,17 +58,22 @@ fn judged<X: AllocGlobal + Abort>(
     let info = good(rt, parse_certificate_info(rt.alloc(), &leaf));
     let anchor = good(rt, Anchor::from_certificate(rt.alloc(), &root, None));
     let (logs, policy) = (logs(rt), VerificationPolicy::any_identity());
-    let time = good(rt, now.parse::<Timestamp>());
+    let authorities = TrustedAuthorities {
+        anchors: slice::from_ref(&anchor),
+        ct_logs: &logs,
+    };
+    let presented = Presented {
+        info: &info,
+        leaf: &leaf,
+        intermediates: slice::from_ref(&between),
+    };
     let answer = judge_certificate(
         rt.alloc(),
         provider,
-        slice::from_ref(&anchor),
-        &logs,
+        &authorities,
         &policy,
-        &info,
-        &leaf,
-        slice::from_ref(&between),
-        slice::from_ref(&time),
+        &presented,
+        times,
     );
     drop(info);
     drop(anchor);
@@ -123,8 +130,12 @@ fn certificates_are_judged(rt: HostRuntime) {
     for row in JUDGED.lines() {
         let (given, wanted) = there(&rt, row.split_once(" | "));
         let (root, now) = there(&rt, given.split_once(" "));
-        check(&rt, row, wanted, judged(&rt, &tables.provider, root, now));
+        let time = good(&rt, now.parse::<Timestamp>());
+        let answer = judged(&rt, &tables.provider, root, slice::from_ref(&time));
+        check(&rt, row, wanted, answer);
     }
+    let untimed = judged(&rt, &tables.provider, "root", &[]);
+    check(&rt, "no time", "Err(NoTime)", untimed);
     assert!(rt; is_signed(&rt, &tables.provider, "intermediate"));
     assert!(rt; !is_signed(&rt, &tables.provider, "other_intermediate"));
     drop(tables);

@@ -79,14 +79,14 @@ fn shown_or_none<X: AllocGlobal + Abort>(rt: &X, layout: Option<Layout>) -> Stri
 
 fn layout<X: AllocGlobal + Abort>(rt: &X, line: &str) -> String {
     let words = words(rt, line);
-    let layout = good(rt, read_layout(rt.alloc(), &words));
+    let layout = good(rt, or_none(read_layout(rt.alloc(), &words)));
     drop(words);
     shown_or_none(rt, layout)
 }
 
 fn asked_layout<X: AllocGlobal + Abort>(rt: &X, line: &str) -> String {
     let words = words(rt, line);
-    let layout = good(rt, read_asked_layout(rt.alloc(), &words));
+    let layout = good(rt, or_none(read_asked_layout(rt.alloc(), &words)));
     drop(words);
     shown_or_none(rt, layout)
 }
@@ -173,10 +173,10 @@ provider | refuse; | Usage";
 // The same of policy files.
 const POLICIES: &str =
     "# A key: each line, twice, out of its place, in another spelling, and what only a keyless policy asks.
-policy | key AQI=; | Ok(Key { key: [1, 2], skip_tlog: false, logs: None })
-policy | key AQI=;skip tlog; | Ok(Key { key: [1, 2], skip_tlog: true, logs: None })
-policy | ;# a key;key AQI=;# the log;;skip tlog;# the end; | Ok(Key { key: [1, 2], skip_tlog: true, logs: None })
-policy | key ; | Ok(Key { key: [], skip_tlog: false, logs: None })
+policy | key AQI=; | Ok(PublicKey(PublicKeyVerificationPolicy { key: [1, 2], verify_tlog: true, logs: LogThreshold { value: 1 } }))
+policy | key AQI=;skip tlog; | Ok(PublicKey(PublicKeyVerificationPolicy { key: [1, 2], verify_tlog: false, logs: LogThreshold { value: 1 } }))
+policy | ;# a key;key AQI=;# the log;;skip tlog;# the end; | Ok(PublicKey(PublicKeyVerificationPolicy { key: [1, 2], verify_tlog: false, logs: LogThreshold { value: 1 } }))
+policy | key ; | Ok(PublicKey(PublicKeyVerificationPolicy { key: [], verify_tlog: true, logs: LogThreshold { value: 1 } }))
 policy |  | Err(Usage)
 policy | # none; | Err(Usage)
 policy | ; | Err(Usage)
@@ -207,28 +207,58 @@ policy | key AQI=;identity uri a; | Err(Usage)
 policy | key AQI=;issuer a; | Err(Usage)
 policy | key AQI=;keyless; | Err(Usage)
 # Keyless: each line once, and all in two orders.
-policy | keyless; | Ok(Keyless(KeylessFile { identity: None, issuer: None, skip_tlog: false, skip_chain: false, skip_sct: false, scts: None, logs: None }))
-policy | # who;;keyless; | Ok(Keyless(KeylessFile { identity: None, issuer: None, skip_tlog: false, skip_chain: false, skip_sct: false, scts: None, logs: None }))
-policy | keyless;skip tlog; | Ok(Keyless(KeylessFile { identity: None, issuer: None, skip_tlog: true, skip_chain: false, skip_sct: false, scts: None, logs: None }))
-policy | keyless;skip chain; | Ok(Keyless(KeylessFile { identity: None, issuer: None, skip_tlog: false, skip_chain: true, skip_sct: false, scts: None, logs: None }))
-policy | keyless;skip sct; | Ok(Keyless(KeylessFile { identity: None, issuer: None, skip_tlog: false, skip_chain: false, skip_sct: true, scts: None, logs: None }))
-policy | keyless;identity exact a; | Ok(Keyless(KeylessFile { identity: Some(Exact(\"a\")), issuer: None, skip_tlog: false, skip_chain: false, skip_sct: false, scts: None, logs: None }))
-policy | keyless;identity email a@b.example; | Ok(Keyless(KeylessFile { identity: Some(Email(\"a@b.example\")), issuer: None, skip_tlog: false, skip_chain: false, skip_sct: false, scts: None, logs: None }))
-policy | keyless;identity uri https://a/b#c; | Ok(Keyless(KeylessFile { identity: Some(Uri(\"https://a/b#c\")), issuer: None, skip_tlog: false, skip_chain: false, skip_sct: false, scts: None, logs: None }))
-policy | keyless;issuer https://a; | Ok(Keyless(KeylessFile { identity: None, issuer: Some(\"https://a\"), skip_tlog: false, skip_chain: false, skip_sct: false, scts: None, logs: None }))
-policy | keyless;identity uri u;issuer i;skip tlog;skip chain;skip sct; | Ok(Keyless(KeylessFile { identity: Some(Uri(\"u\")), issuer: Some(\"i\"), skip_tlog: true, skip_chain: true, skip_sct: true, scts: None, logs: None }))
-policy | keyless;skip sct;# between;skip chain;;skip tlog;issuer i;identity email e; | Ok(Keyless(KeylessFile { identity: Some(Email(\"e\")), issuer: Some(\"i\"), skip_tlog: true, skip_chain: true, skip_sct: true, scts: None, logs: None }))
+policy | keyless; | Ok(Certificate(VerificationPolicy { identity: None, issuer: None, verify_tlog: true, certificate: Verify { verify_sct: true }, scts: LogThreshold { value: 1 }, logs: LogThreshold { value: 1 } }))
+policy | # who;;keyless; | Ok(Certificate(VerificationPolicy { identity: None, issuer: None, verify_tlog: true, certificate: Verify { verify_sct: true }, scts: LogThreshold { value: 1 }, logs: LogThreshold { value: 1 } }))
+policy | keyless;skip tlog; | Ok(Certificate(VerificationPolicy { identity: None, issuer: None, verify_tlog: false, certificate: Verify { verify_sct: true }, scts: LogThreshold { value: 1 }, logs: LogThreshold { value: 1 } }))
+policy | keyless;skip chain; | Ok(Certificate(VerificationPolicy { identity: None, issuer: None, verify_tlog: true, certificate: Skip, scts: LogThreshold { value: 1 }, logs: LogThreshold { value: 1 } }))
+policy | keyless;skip sct; | Ok(Certificate(VerificationPolicy { identity: None, issuer: None, verify_tlog: true, certificate: Verify { verify_sct: false }, scts: LogThreshold { value: 1 }, logs: LogThreshold { value: 1 } }))
+policy | keyless;identity exact a; | Ok(Certificate(VerificationPolicy { identity: Some(Exact(\"a\")), issuer: None, verify_tlog: true, certificate: Verify { verify_sct: true }, scts: LogThreshold { value: 1 }, logs: LogThreshold { value: 1 } }))
+policy | keyless;identity email a@b.example; | Ok(Certificate(VerificationPolicy { identity: Some(Email(\"a@b.example\")), issuer: None, verify_tlog: true, certificate: Verify { verify_sct: true }, scts: LogThreshold { value: 1 }, logs: LogThreshold { value: 1 } }))
+policy | keyless;identity uri https://a/b#c; | Ok(Certificate(VerificationPolicy { identity: Some(Uri(\"https://a/b#c\")), issuer: None, verify_tlog: true, certificate: Verify { verify_sct: true }, scts: LogThreshold { value: 1 }, logs: LogThreshold { value: 1 } }))
+policy | keyless;issuer https://a; | Ok(Certificate(VerificationPolicy { identity: None, issuer: Some(\"https://a\"), verify_tlog: true, certificate: Verify { verify_sct: true }, scts: LogThreshold { value: 1 }, logs: LogThreshold { value: 1 } }))
+policy | keyless;identity uri u;issuer i;skip tlog;skip chain;skip sct; | Ok(Certificate(VerificationPolicy { identity: Some(Uri(\"u\")), issuer: Some(\"i\"), verify_tlog: false, certificate: Skip, scts: LogThreshold { value: 1 }, logs: LogThreshold { value: 1 } }))
+policy | keyless;skip sct;# between;skip chain;;skip tlog;issuer i;identity email e; | Ok(Certificate(VerificationPolicy { identity: Some(Email(\"e\")), issuer: Some(\"i\"), verify_tlog: false, certificate: Skip, scts: LogThreshold { value: 1 }, logs: LogThreshold { value: 1 } }))
 # Blanks and other bytes in a text stay as they are, and its words mean nothing.
-policy | keyless;identity exact Ann Other; | Ok(Keyless(KeylessFile { identity: Some(Exact(\"Ann Other\")), issuer: None, skip_tlog: false, skip_chain: false, skip_sct: false, scts: None, logs: None }))
-policy | keyless;identity exact  a ; | Ok(Keyless(KeylessFile { identity: Some(Exact(\" a \")), issuer: None, skip_tlog: false, skip_chain: false, skip_sct: false, scts: None, logs: None }))
-policy | keyless;identity exact  ; | Ok(Keyless(KeylessFile { identity: Some(Exact(\" \")), issuer: None, skip_tlog: false, skip_chain: false, skip_sct: false, scts: None, logs: None }))
-policy | keyless;identity email uri exact; | Ok(Keyless(KeylessFile { identity: Some(Email(\"uri exact\")), issuer: None, skip_tlog: false, skip_chain: false, skip_sct: false, scts: None, logs: None }))
-policy | keyless;identity exact #; | Ok(Keyless(KeylessFile { identity: Some(Exact(\"#\")), issuer: None, skip_tlog: false, skip_chain: false, skip_sct: false, scts: None, logs: None }))
-policy | keyless;issuer a b  c; | Ok(Keyless(KeylessFile { identity: None, issuer: Some(\"a b  c\"), skip_tlog: false, skip_chain: false, skip_sct: false, scts: None, logs: None }))
-policy | keyless;issuer  ; | Ok(Keyless(KeylessFile { identity: None, issuer: Some(\" \"), skip_tlog: false, skip_chain: false, skip_sct: false, scts: None, logs: None }))
-policy | keyless;issuer skip tlog; | Ok(Keyless(KeylessFile { identity: None, issuer: Some(\"skip tlog\"), skip_tlog: false, skip_chain: false, skip_sct: false, scts: None, logs: None }))
-policy | keyless;issuer a\r; | Ok(Keyless(KeylessFile { identity: None, issuer: Some(\"a\\r\"), skip_tlog: false, skip_chain: false, skip_sct: false, scts: None, logs: None }))
-policy | keyless;issuer \u{e9}; | Ok(Keyless(KeylessFile { identity: None, issuer: Some(\"\u{e9}\"), skip_tlog: false, skip_chain: false, skip_sct: false, scts: None, logs: None }))
+policy | keyless;identity exact Ann Other; | Ok(Certificate(VerificationPolicy { identity: Some(Exact(\"Ann Other\")), issuer: None, verify_tlog: true, certificate: Verify { verify_sct: true }, scts: LogThreshold { value: 1 }, logs: LogThreshold { value: 1 } }))
+policy | keyless;identity exact  a ; | Ok(Certificate(VerificationPolicy { identity: Some(Exact(\" a \")), issuer: None, verify_tlog: true, certificate: Verify { verify_sct: true }, scts: LogThreshold { value: 1 }, logs: LogThreshold { value: 1 } }))
+policy | keyless;identity exact  ; | Ok(Certificate(VerificationPolicy { identity: Some(Exact(\" \")), issuer: None, verify_tlog: true, certificate: Verify { verify_sct: true }, scts: LogThreshold { value: 1 }, logs: LogThreshold { value: 1 } }))
+policy | keyless;identity email uri exact; | Ok(Certificate(VerificationPolicy { identity: Some(Email(\"uri exact\")), issuer: None, verify_tlog: true, certificate: Verify { verify_sct: true }, scts: LogThreshold { value: 1 }, logs: LogThreshold { value: 1 } }))
+policy | keyless;identity exact #; | Ok(Certificate(VerificationPolicy { identity: Some(Exact(\"#\")), issuer: None, verify_tlog: true, certificate: Verify { verify_sct: true }, scts: LogThreshold { value: 1 }, logs: LogThreshold { value: 1 } }))
+policy | keyless;issuer a b  c; | Ok(Certificate(VerificationPolicy { identity: None, issuer: Some(\"a b  c\"), verify_tlog: true, certificate: Verify { verify_sct: true }, scts: LogThreshold { value: 1 }, logs: LogThreshold { value: 1 } }))
+policy | keyless;issuer  ; | Ok(Certificate(VerificationPolicy { identity: None, issuer: Some(\" \"), verify_tlog: true, certificate: Verify { verify_sct: true }, scts: LogThreshold { value: 1 }, logs: LogThreshold { value: 1 } }))
+policy | keyless;issuer skip tlog; | Ok(Certificate(VerificationPolicy { identity: None, issuer: Some(\"skip tlog\"), verify_tlog: true, certificate: Verify { verify_sct: true }, scts: LogThreshold { value: 1 }, logs: LogThreshold { value: 1 } }))
+policy | keyless;issuer a\r; | Ok(Certificate(VerificationPolicy { identity: None, issuer: Some(\"a\\r\"), verify_tlog: true, certificate: Verify { verify_sct: true }, scts: LogThreshold { value: 1 }, logs: LogThreshold { value: 1 } }))
+policy | keyless;issuer \u{e9}; | Ok(Certificate(VerificationPolicy { identity: None, issuer: Some(\"\u{e9}\"), verify_tlog: true, certificate: Verify { verify_sct: true }, scts: LogThreshold { value: 1 }, logs: LogThreshold { value: 1 } }))
+# By a pattern: every text is one, blanks and stars and all, and only these two sorts have one.
+policy | keyless;identity uri-like https://a/*@refs/tags/v*; | Ok(Certificate(VerificationPolicy { identity: Some(UriLike(\"https://a/*@refs/tags/v*\")), issuer: None, verify_tlog: true, certificate: Verify { verify_sct: true }, scts: LogThreshold { value: 1 }, logs: LogThreshold { value: 1 } }))
+policy | keyless;identity email-like *@b.example; | Ok(Certificate(VerificationPolicy { identity: Some(EmailLike(\"*@b.example\")), issuer: None, verify_tlog: true, certificate: Verify { verify_sct: true }, scts: LogThreshold { value: 1 }, logs: LogThreshold { value: 1 } }))
+policy | keyless;identity uri-like ***?[; | Ok(Certificate(VerificationPolicy { identity: Some(UriLike(\"***?[\")), issuer: None, verify_tlog: true, certificate: Verify { verify_sct: true }, scts: LogThreshold { value: 1 }, logs: LogThreshold { value: 1 } }))
+policy | keyless;identity uri-like a; | Ok(Certificate(VerificationPolicy { identity: Some(UriLike(\"a\")), issuer: None, verify_tlog: true, certificate: Verify { verify_sct: true }, scts: LogThreshold { value: 1 }, logs: LogThreshold { value: 1 } }))
+policy | keyless;identity uri-like  * ; | Ok(Certificate(VerificationPolicy { identity: Some(UriLike(\" * \")), issuer: None, verify_tlog: true, certificate: Verify { verify_sct: true }, scts: LogThreshold { value: 1 }, logs: LogThreshold { value: 1 } }))
+policy | keyless;identity uri like *; | Ok(Certificate(VerificationPolicy { identity: Some(Uri(\"like *\")), issuer: None, verify_tlog: true, certificate: Verify { verify_sct: true }, scts: LogThreshold { value: 1 }, logs: LogThreshold { value: 1 } }))
+policy | keyless;identity uri *; | Ok(Certificate(VerificationPolicy { identity: Some(Uri(\"*\")), issuer: None, verify_tlog: true, certificate: Verify { verify_sct: true }, scts: LogThreshold { value: 1 }, logs: LogThreshold { value: 1 } }))
+policy | keyless;identity exact *; | Ok(Certificate(VerificationPolicy { identity: Some(Exact(\"*\")), issuer: None, verify_tlog: true, certificate: Verify { verify_sct: true }, scts: LogThreshold { value: 1 }, logs: LogThreshold { value: 1 } }))
+policy | keyless;identity uri-like ; | Err(Usage)
+policy | keyless;identity uri-like; | Err(Usage)
+policy | keyless;identity email-like ; | Err(Usage)
+policy | keyless;identity email-like; | Err(Usage)
+policy | keyless;identity exact-like *; | Err(Usage)
+policy | keyless;identity like *; | Err(Usage)
+policy | keyless;identity uri-Like *; | Err(Usage)
+policy | keyless;identity Uri-like *; | Err(Usage)
+policy | keyless;identity urilike *; | Err(Usage)
+policy | keyless;identity uri- *; | Err(Usage)
+policy | keyless;identity  uri-like *; | Err(Usage)
+policy | keyless;issuer-like *; | Err(Usage)
+policy | keyless;identity uri-like a;identity uri-like a; | Err(Usage)
+policy | keyless;identity uri-like a;identity uri-like b; | Err(Usage)
+policy | keyless;identity uri a;identity uri-like a; | Err(Usage)
+policy | keyless;identity uri-like a;identity uri a; | Err(Usage)
+policy | keyless;identity email-like a;identity uri-like a; | Err(Usage)
+policy | keyless;identity email-like a;identity email-like a; | Err(Usage)
+policy | keyless;identity exact a;identity email-like a; | Err(Usage)
+policy | key AQI=;identity uri-like a; | Err(Usage)
+policy | key AQI=;identity email-like a; | Err(Usage)
 # Each line twice, and identities of two sorts.
 policy | keyless;skip tlog;skip tlog; | Err(Usage)
 policy | keyless;skip chain;skip chain; | Err(Usage)
@@ -283,20 +313,20 @@ policy | identity exact a;keyless; | Err(Usage)
 policy | identity exact a; | Err(Usage)
 policy | issuer a; | Err(Usage)
 # How many logs: each number once, the least and the greatest, in any order, and beside waivers.
-policy | key AQI=;logs 2; | Ok(Key { key: [1, 2], skip_tlog: false, logs: Some(LogThreshold { value: 2 }) })
-policy | key AQI=;logs 1; | Ok(Key { key: [1, 2], skip_tlog: false, logs: Some(LogThreshold { value: 1 }) })
-policy | key AQI=;logs 255; | Ok(Key { key: [1, 2], skip_tlog: false, logs: Some(LogThreshold { value: 255 }) })
-policy | key AQI=;skip tlog;logs 2; | Ok(Key { key: [1, 2], skip_tlog: true, logs: Some(LogThreshold { value: 2 }) })
-policy | key AQI=;# two;logs 2;;skip tlog; | Ok(Key { key: [1, 2], skip_tlog: true, logs: Some(LogThreshold { value: 2 }) })
-policy | keyless;scts 2; | Ok(Keyless(KeylessFile { identity: None, issuer: None, skip_tlog: false, skip_chain: false, skip_sct: false, scts: Some(LogThreshold { value: 2 }), logs: None }))
-policy | keyless;logs 2; | Ok(Keyless(KeylessFile { identity: None, issuer: None, skip_tlog: false, skip_chain: false, skip_sct: false, scts: None, logs: Some(LogThreshold { value: 2 }) }))
-policy | keyless;scts 1;logs 1; | Ok(Keyless(KeylessFile { identity: None, issuer: None, skip_tlog: false, skip_chain: false, skip_sct: false, scts: Some(LogThreshold { value: 1 }), logs: Some(LogThreshold { value: 1 }) }))
-policy | keyless;logs 255; | Ok(Keyless(KeylessFile { identity: None, issuer: None, skip_tlog: false, skip_chain: false, skip_sct: false, scts: None, logs: Some(LogThreshold { value: 255 }) }))
-policy | keyless;scts 255; | Ok(Keyless(KeylessFile { identity: None, issuer: None, skip_tlog: false, skip_chain: false, skip_sct: false, scts: Some(LogThreshold { value: 255 }), logs: None }))
-policy | keyless;scts 10;logs 99; | Ok(Keyless(KeylessFile { identity: None, issuer: None, skip_tlog: false, skip_chain: false, skip_sct: false, scts: Some(LogThreshold { value: 10 }), logs: Some(LogThreshold { value: 99 }) }))
-policy | keyless;logs 3;scts 2; | Ok(Keyless(KeylessFile { identity: None, issuer: None, skip_tlog: false, skip_chain: false, skip_sct: false, scts: Some(LogThreshold { value: 2 }), logs: Some(LogThreshold { value: 3 }) }))
-policy | keyless;skip tlog;logs 3;issuer i;scts 2;identity email e; | Ok(Keyless(KeylessFile { identity: Some(Email(\"e\")), issuer: Some(\"i\"), skip_tlog: true, skip_chain: false, skip_sct: false, scts: Some(LogThreshold { value: 2 }), logs: Some(LogThreshold { value: 3 }) }))
-policy | keyless;scts 2;skip sct;skip chain; | Ok(Keyless(KeylessFile { identity: None, issuer: None, skip_tlog: false, skip_chain: true, skip_sct: true, scts: Some(LogThreshold { value: 2 }), logs: None }))
+policy | key AQI=;logs 2; | Ok(PublicKey(PublicKeyVerificationPolicy { key: [1, 2], verify_tlog: true, logs: LogThreshold { value: 2 } }))
+policy | key AQI=;logs 1; | Ok(PublicKey(PublicKeyVerificationPolicy { key: [1, 2], verify_tlog: true, logs: LogThreshold { value: 1 } }))
+policy | key AQI=;logs 255; | Ok(PublicKey(PublicKeyVerificationPolicy { key: [1, 2], verify_tlog: true, logs: LogThreshold { value: 255 } }))
+policy | key AQI=;skip tlog;logs 2; | Ok(PublicKey(PublicKeyVerificationPolicy { key: [1, 2], verify_tlog: false, logs: LogThreshold { value: 2 } }))
+policy | key AQI=;# two;logs 2;;skip tlog; | Ok(PublicKey(PublicKeyVerificationPolicy { key: [1, 2], verify_tlog: false, logs: LogThreshold { value: 2 } }))
+policy | keyless;scts 2; | Ok(Certificate(VerificationPolicy { identity: None, issuer: None, verify_tlog: true, certificate: Verify { verify_sct: true }, scts: LogThreshold { value: 2 }, logs: LogThreshold { value: 1 } }))
+policy | keyless;logs 2; | Ok(Certificate(VerificationPolicy { identity: None, issuer: None, verify_tlog: true, certificate: Verify { verify_sct: true }, scts: LogThreshold { value: 1 }, logs: LogThreshold { value: 2 } }))
+policy | keyless;scts 1;logs 1; | Ok(Certificate(VerificationPolicy { identity: None, issuer: None, verify_tlog: true, certificate: Verify { verify_sct: true }, scts: LogThreshold { value: 1 }, logs: LogThreshold { value: 1 } }))
+policy | keyless;logs 255; | Ok(Certificate(VerificationPolicy { identity: None, issuer: None, verify_tlog: true, certificate: Verify { verify_sct: true }, scts: LogThreshold { value: 1 }, logs: LogThreshold { value: 255 } }))
+policy | keyless;scts 255; | Ok(Certificate(VerificationPolicy { identity: None, issuer: None, verify_tlog: true, certificate: Verify { verify_sct: true }, scts: LogThreshold { value: 255 }, logs: LogThreshold { value: 1 } }))
+policy | keyless;scts 10;logs 99; | Ok(Certificate(VerificationPolicy { identity: None, issuer: None, verify_tlog: true, certificate: Verify { verify_sct: true }, scts: LogThreshold { value: 10 }, logs: LogThreshold { value: 99 } }))
+policy | keyless;logs 3;scts 2; | Ok(Certificate(VerificationPolicy { identity: None, issuer: None, verify_tlog: true, certificate: Verify { verify_sct: true }, scts: LogThreshold { value: 2 }, logs: LogThreshold { value: 3 } }))
+policy | keyless;skip tlog;logs 3;issuer i;scts 2;identity email e; | Ok(Certificate(VerificationPolicy { identity: Some(Email(\"e\")), issuer: Some(\"i\"), verify_tlog: false, certificate: Verify { verify_sct: true }, scts: LogThreshold { value: 2 }, logs: LogThreshold { value: 3 } }))
+policy | keyless;scts 2;skip sct;skip chain; | Ok(Certificate(VerificationPolicy { identity: None, issuer: None, verify_tlog: true, certificate: Skip, scts: LogThreshold { value: 2 }, logs: LogThreshold { value: 1 } }))
 # Twice, none, more than 255, and in another spelling.
 policy | keyless;scts 2;scts 2; | Err(Usage)
 policy | keyless;scts 2;scts 3; | Err(Usage)
@@ -519,7 +549,7 @@ fn gathered<X: AllocGlobal + Abort>(rt: &X, inputs: &mut MemoryInputs, row: &str
         which(name),
         Bytes::from_vec(lines_of(rt, text).into_bytes()),
     );
-    debug(rt, gather_inputs(rt.alloc(), inputs).err())
+    debug(rt, Gathered::gather(rt.alloc(), inputs).err())
 }
 
 fn gather_all<X: AllocGlobal + Abort>(rt: &X, inputs: &mut MemoryInputs, rows: &str) {

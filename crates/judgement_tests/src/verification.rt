@@ -9,7 +9,7 @@ use certificate_claims::SubjectAltName;
 use foundation::{Duplicate, NoMemory, Sequence};
 use jiff::Timestamp;
 use sigstore_judgement::*;
-use sigstore_keys::{CryptoProvider, ReadError, SigningScheme, sha256, sha384, sha512};
+use sigstore_keys::{CryptoProvider, Providers, ReadError, SigningScheme, sha256, sha384, sha512};
 use sigstore_types::{
     Armor, Artifact, ArtifactDigest, Bundle, Bytes, DerPublicKey, DigestBytes, HashAlgorithm,
     MessageDigest, MessageSignature, SignatureBytes, SignatureContent, Text, TrustedRoot,
@@ -326,7 +326,12 @@ fn verified<X: AllocGlobal + Abort>(rt: &X, change: Change) -> Result<Verificati
     let trust = no_trust(rt);
     let verifier = good(rt, Verifier::new(rt.alloc(), &Echo, &Bare, &trust));
     let now = Timestamp::UNIX_EPOCH;
-    let answer = verifier.verify_reader(rt.alloc(), &mut source, max, &bundle, &policy, now);
+    let case = Case {
+        bundle: &bundle,
+        policy: &policy,
+        moment: now,
+    };
+    let answer = verifier.verify_reader(rt.alloc(), &mut source, max, &case);
     drop(verifier);
     drop(bundle);
     drop(policy);
@@ -372,7 +377,12 @@ fn kept<X: AllocGlobal + Abort>(rt: &X) -> JudgedBundle {
     let trust = no_trust(rt);
     let verifier = good(rt, Verifier::new(rt.alloc(), &Echo, &Bare, &trust));
     let now = Timestamp::UNIX_EPOCH;
-    let kept = verifier.verify_reader_kept(rt.alloc(), &mut source, 5, &bundle, &policy, now);
+    let case = Case {
+        bundle: &bundle,
+        policy: &policy,
+        moment: now,
+    };
+    let kept = verifier.verify_reader_kept(rt.alloc(), &mut source, 5, &case);
     drop(verifier);
     drop(bundle);
     drop(policy);
@@ -493,12 +503,17 @@ fn handed<X: AllocGlobal + Abort>(rt: &X, row: &str) -> String {
     let verifier = good(rt, Verifier::new(rt.alloc(), &Echo, &Bare, &trust));
     let (first, second) = (artifact(rt, how, text), artifact(rt, how, text));
     let (alloc, now) = (rt.alloc(), Timestamp::UNIX_EPOCH);
-    let by_it = word(
-        rt,
-        "accepted",
-        verifier.verify(alloc, first, &bundle, &policy, now),
-    );
-    let alone = verify(alloc, &Echo, &Bare, second, &bundle, &policy, &trust, now);
+    let case = Case {
+        bundle: &bundle,
+        policy: &policy,
+        moment: now,
+    };
+    let by_it = word(rt, "accepted", verifier.verify(alloc, first, &case));
+    let providers = Providers {
+        provider: &Echo,
+        armor: &Bare,
+    };
+    let alone = verify(alloc, &providers, &trust, second, &case);
     let alone = word(rt, "accepted", alone);
     assert!(rt; alone == by_it);
     drop(alone);

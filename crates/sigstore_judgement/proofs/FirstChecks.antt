@@ -13,7 +13,7 @@ use Rattle.sigstore_judgement.specs.declared.error.Error.TheVariants as verify
 use Rattle.sigstore_judgement.specs.Artifact.{Kind}
 use Rattle.sigstore_judgement.specs.Error.{by_types}
 use Rattle.sigstore_judgement.specs.Judged.{Ready, prepared_of}
-use Rattle.sigstore_judgement.specs.Policy.{Meaning, PublicKey, Certificate}
+use Rattle.sigstore_policy.specs.Policy.{Meaning, PublicKey, Certificate}
 use Rattle.sigstore_judgement.specs.Signer.{Signer, material_in, certificate_in, keyed_of, named_of, signer_of, first_checks_of, IsSigner}
 use Rattle.sigstore_judgement.proofs.Accepts.{signer_means, prepared_means}
 

@@ -35,7 +35,7 @@ use Rattle.certificate_claims.specs.declared.certificate_info.CertificateInfo.{C
 use Rattle.certificate_claims.specs.Info.{info_of}
 use Rattle.sigstore_certificate.specs.declared.error.CertificateRefusal.{CertificateRefusal}
 use Rattle.sigstore_certificate.specs.declared.error.CertificateRefusal.TheVariants as refusal
-use Rattle.sigstore_certificate.specs.declared.policy.VerificationPolicy.{VerificationPolicy}
+use Rattle.sigstore_policy.specs.declared.certificate.VerificationPolicy.{VerificationPolicy}
 use Rattle.sigstore_certificate.specs.Cause.{Cause as CertificateCause}
 use Rattle.sigstore_certificate.specs.Certified.{certified_of}
 use Rattle.sigstore_certificate.proofs.CauseLaw.{refusals as certificate_causes}
@@ -48,7 +48,7 @@ use Rattle.sigstore_judgement.specs.declared.error.Error.TheVariants as verify
 use Rattle.sigstore_judgement.specs.declared.error.TransparencyLogError.{TransparencyLogError}
 use Rattle.sigstore_judgement.specs.declared.error.TransparencyLogError.TheVariants as log
 use Rattle.sigstore_judgement.specs.declared.evidence.Evidence.{Evidence}
-use Rattle.sigstore_judgement.specs.declared.policy.PublicKeyVerificationPolicy.{PublicKeyVerificationPolicy}
+use Rattle.sigstore_policy.specs.declared.public_key.PublicKeyVerificationPolicy.{PublicKeyVerificationPolicy}
 use Rattle.sigstore_judgement.specs.declared.trust.Material.{Material}
 use Rattle.sigstore_judgement.specs.Artifact.{Read, read_kind, digest_of}
 use Rattle.sigstore_judgement.specs.Cause.{IsRefusedAs, IsRead, IsKept, HasSigner, HasScheme, LacksScheme, key_unread, no_scheme, no_hasher, LacksEntry, no_entry, no_proof, IsOfPromise}
@@ -59,7 +59,7 @@ use Rattle.sigstore_judgement.specs.Entries.{log_judged_of, vouching_logs, log_c
 use Rattle.sigstore_judgement.specs.Error.{error_of_crypto, error_of_info, error_of_certificate, error_of_log, error_of_binding, lowered, by_types, by_crypto, by_info, by_certificate}
 use Rattle.sigstore_judgement.specs.Grounds.{Grounds, trust_in, readings_in}
 use Rattle.sigstore_judgement.specs.Judged.{Ready, claimed_of, ready_of, prepared_of, managed_vouched_of, intermediates_in, owner_vouched_of, vouched_of, judged_had, judged_of}
-use Rattle.sigstore_judgement.specs.Policy.{Meaning, PublicKey, Certificate, asks_log, logs_asked}
+use Rattle.sigstore_policy.specs.Policy.{Meaning, PublicKey, Certificate, asks_log, logs_asked}
 use Rattle.sigstore_judgement.specs.Promise as promise
 use Rattle.sigstore_judgement.specs.Signer.{Signer, Managed, Certified, key_in, material_in, certificate_in, keyed_of, named_of, signatory_of, managed_of, owner_of, signer_of, IsSigner}
 use Rattle.sigstore_judgement.specs.Tokens.{tokens_judged_of}
@@ -561,6 +561,7 @@ module _ (asked : Asked) (file : List ℕ) (source source' : Watched (List ℕ))
           by_why : (why : CertificateRefusal) → CertificateCause (trust_in grounds) policy info certificate (intermediates_in reading) times why → Cause (error_of_certificate why)
           by_why refusal.Malformed cause = inr (inr (as_is refusal.Malformed cause))
           by_why refusal.ChainInvalid cause = inr (inr (as_is refusal.ChainInvalid cause))
+          by_why refusal.NoTime cause = absurd (verified.some cause.1)
           by_why (refusal.NoValidAuthority time) cause = inr (inr (as_is (refusal.NoValidAuthority time) cause))
           by_why (refusal.NotYetValid time not_before) cause = inr (inr (as_is (refusal.NotYetValid time not_before) cause))
           by_why (refusal.Expired time not_after) cause = inr (inr (as_is (refusal.Expired time not_after) cause))

@@ -39,7 +39,7 @@ use Rattle.sigstore_judgement.specs.Entries.{log_judged_of, log_count_of, logs_j
 use Rattle.sigstore_judgement.specs.Error.{error_of_crypto, error_of_info, error_of_certificate, by_types, by_crypto, by_info, by_certificate}
 use Rattle.sigstore_judgement.specs.Grounds.{trust_in, Terms}
 use Rattle.sigstore_judgement.specs.Judged.{Ready, claimed_of, ready_of, prepared_of, managed_vouched_of, intermediates_in, owner_vouched_of, vouched_of, judged_had, judged_of}
-use Rattle.sigstore_judgement.specs.Policy.{Meaning, PublicKey, Certificate}
+use Rattle.sigstore_policy.specs.Policy.{Meaning, PublicKey, Certificate}
 use Rattle.sigstore_judgement.specs.Signer.{Signer, Managed, Certified, key_in, material_in, certificate_in, keyed_of, named_of, managed_of, owner_of, signer_of, IsSigner}
 use Rattle.sigstore_judgement.specs.Unlogged.{HasUnlogged, HasUntimely, LogRefusals}
 use Rattle.sigstore_judgement.specs.Tokens.{tokens_judged_of}
@@ -90,6 +90,7 @@ certificate_no_log r e h =
     by : (t : CertificateRefusal) → NoLog (error_of_certificate t)
     by refusal.Malformed = tt
     by refusal.ChainInvalid = tt
+    by refusal.NoTime = tt
     by (refusal.NoValidAuthority time) = tt
     by (refusal.NotYetValid time not_before) = tt
     by (refusal.Expired time not_after) = tt

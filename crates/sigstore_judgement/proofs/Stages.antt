@@ -19,7 +19,7 @@ use Rattle.sigstore_judgement.specs.Entries.{each_described_of, entries_describe
 use Rattle.sigstore_judgement.specs.Evidence.{report_of}
 use Rattle.sigstore_judgement.specs.Grounds.{Grounds, readings_in, Terms}
 use Rattle.sigstore_judgement.specs.Judged.{Ready, prepared_of, vouched_of, judged_had, given_of, judged_by, judged_of, needed_in}
-use Rattle.sigstore_judgement.specs.Policy.{Meaning}
+use Rattle.sigstore_policy.specs.Policy.{Meaning}
 use Rattle.sigstore_judgement.specs.Promise.{ReadCause, Cause, WantsMemory, VerifiesKept, VerifiesHanded}
 use Rattle.sigstore_judgement.specs.Signer.{signatory_of}
 use Rattle.sigstore_judgement.specs.Taking.{Takes}

@@ -10,10 +10,10 @@ use Rattle.sigstore_keys.specs.Key.{spki_key_of}
 use Rattle.sigstore_keys.specs.Good.{is_good_over}
 use Rattle.sigstore_entries.specs.declared.entry.TransparencyLogEntry.{TransparencyLogEntry}
 use Rattle.certificate_claims.specs.declared.certificate_info.CertificateInfo.{CertificateInfo}
-use Rattle.sigstore_certificate.specs.declared.policy.VerificationPolicy.{VerificationPolicy}
+use Rattle.sigstore_policy.specs.declared.certificate.VerificationPolicy.{VerificationPolicy}
 use Rattle.sigstore_certificate.specs.IsCertified.{IsCertified}
 use Rattle.sigstore_judgement.specs.declared.evidence.Evidence.{Evidence}
-use Rattle.sigstore_judgement.specs.declared.policy.PublicKeyVerificationPolicy.{PublicKeyVerificationPolicy}
+use Rattle.sigstore_policy.specs.declared.public_key.PublicKeyVerificationPolicy.{PublicKeyVerificationPolicy}
 use Rattle.sigstore_judgement.specs.declared.report.VerificationResult.{VerificationResult}
 use Rattle.sigstore_judgement.specs.Artifact.{Artifact, digest_of, bytes_of, kind_of}
 use Rattle.sigstore_judgement.specs.Claim.{Claim, claim_of, needed_of, IsBound}
@@ -62,7 +62,8 @@ abbrev pub Vouches : Grounds → Signer → Bundle → Evidence → Type 0
 Vouches grounds (Managed policy) bundle evidence = ManagedVouches grounds policy bundle evidence
 Vouches grounds (Certified policy info certificate) bundle evidence = OwnerVouches grounds policy info certificate bundle evidence
 
--- Someone signed whom the policy asks for; their key is read, and with the content it has a scheme; what the bundle says of its artifact is
+-- Someone signed whom the policy asks for (under a certificate its owner, of whom nothing is known but what that certificate says: `says` of
+-- `IsOwner`); their key is read, and with the content it has a scheme; what the bundle says of its artifact is
 -- read, of an envelope its statement; the artifact has what is signed and each digest that is needed; the signer is vouched for; what the
 -- bundle says is of the artifact; the signature over what the scheme signs is good under the signer's key; each entry describes the bundle,
 -- by who signed, what they signed and the signature; and the report is made of who signed and what was found.

@@ -25,7 +25,7 @@ use Rattle.sigstore_log.specs.declared.error.LogError.TheVariants.{InclusionProo
 use Rattle.sigstore_log.specs.Cause.{LogCause}
 use Rattle.sigstore_log.specs.Promise.{told_time}
 use Rattle.sigstore_certificate.specs.declared.error.CertificateRefusal.{CertificateRefusal}
-use Rattle.sigstore_certificate.specs.declared.policy.VerificationPolicy.{VerificationPolicy}
+use Rattle.sigstore_policy.specs.declared.certificate.VerificationPolicy.{VerificationPolicy}
 use Rattle.sigstore_certificate.specs.Cause.{Cause as CertificateCause}
 use Rattle.sigstore_tsa.specs.Authorities.{IsUnstamped, IsOutsideNone, IsOutsideOne}
 use Rattle.sigstore_judgement.specs.declared.error.CertificateError.{CertificateError}
@@ -34,7 +34,7 @@ use Rattle.sigstore_judgement.specs.declared.error.TimestampError.{TimestampErro
 use Rattle.sigstore_judgement.specs.declared.error.TimestampError.TheVariants as stamp
 use Rattle.sigstore_judgement.specs.declared.error.TransparencyLogError.{TransparencyLogError}
 use Rattle.sigstore_judgement.specs.declared.error.Error.TheVariants as verify
-use Rattle.sigstore_judgement.specs.declared.policy.PublicKeyVerificationPolicy.{PublicKeyVerificationPolicy}
+use Rattle.sigstore_policy.specs.declared.public_key.PublicKeyVerificationPolicy.{PublicKeyVerificationPolicy}
 use Rattle.sigstore_judgement.specs.declared.trust.Material.{Material}
 use Rattle.sigstore_judgement.specs.Artifact.{Read, digest_of}
 use Rattle.sigstore_judgement.specs.Claim.{Claim, is_in_toto, claim_of, needed_of, IsOfOther}
@@ -43,7 +43,7 @@ use Rattle.sigstore_judgement.specs.Entries.{vouching_logs, HasUndescribed}
 use Rattle.sigstore_judgement.specs.Error.{error_of_crypto, error_of_info, error_of_certificate, error_of_log}
 use Rattle.sigstore_judgement.specs.Grounds.{Grounds, trust_in}
 use Rattle.sigstore_judgement.specs.Judged.{intermediates_in}
-use Rattle.sigstore_judgement.specs.Policy.{PublicKey, Certificate, asks_log, logs_asked}
+use Rattle.sigstore_policy.specs.Policy.{PublicKey, Certificate, asks_log, logs_asked}
 use Rattle.sigstore_judgement.specs.Promise.{ReadWhole, ReadCause}
 use Rattle.sigstore_judgement.specs.Signer.{Signer, certificate_in, key_in, IsSigner}
 use Rattle.sigstore_judgement.specs.Trust.{material_of}

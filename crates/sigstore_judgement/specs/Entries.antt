@@ -28,7 +28,7 @@ use Rattle.sigstore_judgement.specs.Artifact.{Artifact, Digests, digest_of}
 use Rattle.sigstore_judgement.specs.Content.{signed_in}
 use Rattle.sigstore_judgement.specs.Error.{by_log, by_binding, error_of_binding}
 use Rattle.sigstore_judgement.specs.Grounds.{Grounds, readings_in}
-use Rattle.sigstore_judgement.specs.Policy.{Meaning}
+use Rattle.sigstore_policy.specs.Policy.{Meaning}
 use Rattle.sigstore_judgement.specs.Signer.{Signer, Managed, Certified, validity_of, signatory_of, IsSigner}
 
 -- ---- each is logged

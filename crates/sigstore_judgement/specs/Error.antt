@@ -1,5 +1,5 @@
 -- The refusals: their numbers and names, and what a lower crate's refusal is here.
-use Rattle.std.specs.Prelude.{ℕ, List, codes, Result, Ok, Err}
+use Rattle.std.specs.Prelude.{ℕ, List, Result, Ok, Err}
 use Rattle.sigstore_types_parts.specs.declared.error.TypesError.{TypesError}
 use Rattle.sigstore_types_parts.specs.declared.error.TypesError.TheVariants as types
 use Rattle.sigstore_keys.specs.declared.error.Error.{Error as CryptoError}
@@ -26,6 +26,7 @@ use Rattle.sigstore_judgement.specs.declared.error.Error.TheVariants.{Transparen
 use Rattle.sigstore_judgement.specs.declared.error.Error.TheVariants.{UnsupportedBundle, InvalidTrustRoot, Types, Crypto}
 use Rattle.sigstore_judgement.specs.declared.error.Error.TheVariants.{Bundle, TrustRoot, TrustedCertificate, ArtifactRead}
 use Rattle.sigstore_judgement.specs.declared.error.Error.TheVariants.{NoMemory, TooFewLogs}
+use Rattle.sigstore_judgement.specs.Names.{refusal_name}
 
 abbrev pub certificate_number_of : CertificateError → ℕ
 certificate_number_of Malformed = 6
@@ -34,14 +35,6 @@ certificate_number_of (NoValidAuthority time) = 8
 certificate_number_of (NotYetValid time not_before) = 9
 certificate_number_of (Expired time not_after) = 10
 certificate_number_of (Sct rule) = 11
-
-abbrev pub certificate_name_of : CertificateError → List ℕ
-certificate_name_of Malformed = codes "CertificateMalformed"
-certificate_name_of ChainInvalid = codes "ChainInvalid"
-certificate_name_of (NoValidAuthority time) = codes "NoValidAuthority"
-certificate_name_of (NotYetValid time not_before) = codes "NotYetValid"
-certificate_name_of (Expired time not_after) = codes "CertificateExpired"
-certificate_name_of (Sct rule) = codes "Sct"
 
 abbrev pub log_number_of : TransparencyLogError → ℕ
 log_number_of (log.UnknownLog log_id) = 12
@@ -52,24 +45,10 @@ log_number_of log.EntryMismatch = 16
 log_number_of log.IntegratedTime = 17
 log_number_of log.MalformedEntry = 18
 
-abbrev pub log_name_of : TransparencyLogError → List ℕ
-log_name_of (log.UnknownLog log_id) = codes "UnknownLog"
-log_name_of log.InclusionProof = codes "InclusionProof"
-log_name_of log.Checkpoint = codes "Checkpoint"
-log_name_of log.InclusionPromise = codes "InclusionPromise"
-log_name_of log.EntryMismatch = codes "EntryMismatch"
-log_name_of log.IntegratedTime = codes "IntegratedTime"
-log_name_of log.MalformedEntry = codes "MalformedEntry"
-
 abbrev pub timestamp_number_of : TimestampError → ℕ
 timestamp_number_of stamp.Invalid = 19
 timestamp_number_of (stamp.OutsideAuthorityValidity time) = 20
 timestamp_number_of stamp.NoVerifiedTimestamp = 21
-
-abbrev pub timestamp_name_of : TimestampError → List ℕ
-timestamp_name_of stamp.Invalid = codes "TimestampInvalid"
-timestamp_name_of (stamp.OutsideAuthorityValidity time) = codes "OutsideAuthorityValidity"
-timestamp_name_of stamp.NoVerifiedTimestamp = codes "NoVerifiedTimestamp"
 
 abbrev pub number_of : Error → ℕ
 number_of (IdentityMismatch expected actual) = 1
@@ -94,25 +73,7 @@ number_of (TooFewLogs asked found) = 32
 
 -- the name as it is printed
 abbrev pub name_of : Error → List ℕ
-name_of (IdentityMismatch expected actual) = codes "IdentityMismatch"
-name_of (IssuerMismatch expected actual) = codes "IssuerMismatch"
-name_of SignatureInvalid = codes "SignatureInvalid"
-name_of ArtifactMismatch = codes "ArtifactMismatch"
-name_of UnsupportedArtifact = codes "UnsupportedArtifact"
-name_of (Certificate fault) = certificate_name_of fault
-name_of (TransparencyLog fault) = log_name_of fault
-name_of (Timestamp fault) = timestamp_name_of fault
-name_of InvalidBundle = codes "InvalidBundle"
-name_of UnsupportedBundle = codes "UnsupportedBundle"
-name_of InvalidTrustRoot = codes "InvalidTrustRoot"
-name_of Types = codes "Types"
-name_of Crypto = codes "Crypto"
-name_of Bundle = codes "Bundle"
-name_of TrustRoot = codes "TrustRoot"
-name_of TrustedCertificate = codes "TrustedCertificate"
-name_of (ArtifactRead fault) = codes "ArtifactRead"
-name_of NoMemory = codes "NoMemory"
-name_of (TooFewLogs asked found) = codes "TooFewLogs"
+name_of e = refusal_name (number_of e)
 
 -- an unusable key, or a key and a digest that have no scheme
 abbrev pub error_of_crypto : CryptoError → Error
@@ -140,6 +101,7 @@ error_of_info crypto.NoMemory = NoMemory
 abbrev pub error_of_certificate : CertificateRefusal → Error
 error_of_certificate refusal.Malformed = Certificate Malformed
 error_of_certificate refusal.ChainInvalid = Certificate ChainInvalid
+error_of_certificate refusal.NoTime = Timestamp stamp.NoVerifiedTimestamp
 error_of_certificate (refusal.NoValidAuthority time) = Certificate (NoValidAuthority time)
 error_of_certificate (refusal.NotYetValid time not_before) = Certificate (NotYetValid time not_before)
 error_of_certificate (refusal.Expired time not_after) = Certificate (Expired time not_after)

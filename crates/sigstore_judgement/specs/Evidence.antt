@@ -2,8 +2,8 @@
 use Rattle.std.specs.Prelude.{ℕ, List, [], ◌∷◌, ◌++◌, Bool, false, ◌||◌, is_some, Option, Some, None, if◌then◌else◌}
 use Rattle.jiff_core.specs.declared.timestamp.Timestamp.{Timestamp}
 use Rattle.sigstore_types_parts.specs.TimeRange.{is_by}
-use Rattle.sigstore_certificate.specs.declared.policy.VerificationPolicy.{VerificationPolicy}
-use Rattle.sigstore_certificate.specs.Policy.{verifies_chain, verifies_sct}
+use Rattle.sigstore_policy.specs.declared.certificate.VerificationPolicy.{VerificationPolicy}
+use Rattle.sigstore_policy.specs.Certificate.{verifies_chain, verifies_sct}
 use Rattle.sigstore_judgement.specs.declared.evidence.Evidence.{Evidence}
 use Rattle.sigstore_judgement.specs.declared.report.VerificationResult.{VerificationResult}
 use Rattle.sigstore_judgement.specs.Signer.{Signer, Managed, Certified}

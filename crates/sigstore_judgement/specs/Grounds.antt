@@ -5,10 +5,12 @@ use Rattle.sigstore_keys.specs.declared.provider.CryptoProvider as provider
 use Rattle.sigstore_keys.specs.Crypto.{Crypto, crypto_by}
 use Rattle.sigstore_binding.specs.Verifier.{Readings}
 use Rattle.sigstore_certificate.specs.Certified.{Trust}
+use Rattle.sigstore_judgement.specs.declared.asked.Case.{Case}
 use Rattle.sigstore_judgement.specs.declared.grounds.Grounds as declared
 use Rattle.sigstore_judgement.specs.declared.trust.Material.{Material}
 use Rattle.sigstore_judgement.specs.declared.verifier.Verifier.{Verifier}
-use Rattle.sigstore_judgement.specs.Policy.{Meaning}
+use Rattle.sigstore_policy.specs.Policy.{Meaning}
+use Rattle.sigstore_policy.specs.declared.policy.Policy as policy
 
 -- who decides signatures and reads armoured texts, what a verifier keeps of the trust file, and the moment
 pub record Grounds : Type 0 where
@@ -29,6 +31,9 @@ pub record Terms : Type 0 where
   pub grounds : Grounds
   pub policy : Meaning
 
+abbrev pub terms_over : Grounds → Meaning → Terms
+terms_over grounds policy = record { grounds = grounds; policy = policy }
+
 abbrev pub terms_with : Crypto → Material → Timestamp → Meaning → Terms
 terms_with crypto material now policy = record { grounds = record { crypto = crypto; material = material; now = now }; policy = policy }
 
@@ -36,6 +41,18 @@ terms_with crypto material now policy = record { grounds = record { crypto = cry
 abbrev pub grounds_by : {C M : Type 0} → provider.Ghosts C → armor.Ghosts M → declared.Grounds C M → Grounds
 grounds_by p a g = record { crypto = crypto_by p a g.provider.now g.armor.now; material = g.material.now; now = g.moment }
 
--- those of a verifier at a moment, with a policy
+-- those of a verifier at a moment
+abbrev pub grounds_at : {C M : Type 0} → provider.Ghosts C → armor.Ghosts M → Verifier C M → Timestamp → Grounds
+grounds_at p a verifier now = record {
+  crypto = crypto_by p a verifier.provider.now verifier.armor.now;
+  material = verifier.material;
+  now = now;
+}
+
+-- with a policy
 abbrev pub terms_by : {C M : Type 0} → provider.Ghosts C → armor.Ghosts M → Verifier C M → Meaning → Timestamp → Terms
 terms_by p a verifier policy now = terms_with (crypto_by p a verifier.provider.now verifier.armor.now) verifier.material now policy
+
+-- and those for a case
+abbrev pub terms_for : {C M P : Type 0} → provider.Ghosts C → armor.Ghosts M → policy.Ghosts P → Verifier C M → Case P → Terms
+terms_for c m p verifier case = terms_by c m verifier (p.meant case.policy.now) case.moment

@@ -9,9 +9,9 @@ pub mod Error
 pub mod Evidence
 pub mod Grounds
 pub mod Judged
+pub mod Names
 pub mod OneLog
 pub mod Opened
-pub mod Policy
 pub mod Promise
 pub mod Report
 pub mod Signer

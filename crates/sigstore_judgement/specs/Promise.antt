@@ -16,7 +16,7 @@ use Rattle.sigstore_judgement.specs.declared.report.VerificationResult.{Verifica
 use Rattle.sigstore_judgement.specs.declared.report.JudgedBundle.{JudgedBundle}
 use Rattle.sigstore_judgement.specs.Artifact.{Artifact, Read, read_kind}
 use Rattle.sigstore_judgement.specs.Grounds.{Terms, terms_with}
-use Rattle.sigstore_judgement.specs.Policy.{Meaning}
+use Rattle.sigstore_policy.specs.Policy.{Meaning}
 use Rattle.sigstore_judgement.specs.Trust.{material_of}
 use Rattle.sigstore_judgement.specs.Judged.{Ready, prepared_of, judged_of, needed_by}
 use Rattle.sigstore_judgement.specs.Signer.{first_checks_of}

@@ -8,15 +8,15 @@ use Rattle.sigstore_types.specs.declared.material.VerificationMaterialContent.Th
 use Rattle.sigstore_types.specs.Bundle.{structure_of, signing_certificate_of}
 use Rattle.certificate_claims.specs.declared.certificate_info.CertificateInfo.{CertificateInfo}
 use Rattle.certificate_claims.specs.Info.{info_of}
-use Rattle.sigstore_certificate.specs.declared.policy.VerificationPolicy.{VerificationPolicy}
+use Rattle.sigstore_policy.specs.declared.certificate.VerificationPolicy.{VerificationPolicy}
 use Rattle.sigstore_binding.specs.Verifier as binding
 use Rattle.sigstore_judgement.specs.declared.error.Error.{Error}
 use Rattle.sigstore_judgement.specs.declared.error.Error.TheVariants.{InvalidBundle, UnsupportedBundle}
-use Rattle.sigstore_judgement.specs.declared.policy.PublicKeyVerificationPolicy.{PublicKeyVerificationPolicy}
+use Rattle.sigstore_policy.specs.declared.public_key.PublicKeyVerificationPolicy.{PublicKeyVerificationPolicy}
 use Rattle.sigstore_judgement.specs.declared.signing.Signing.{Signing}
 use Rattle.sigstore_judgement.specs.declared.signing.Signing.TheVariants as signing
 use Rattle.sigstore_judgement.specs.Error.{by_types, by_info}
-use Rattle.sigstore_judgement.specs.Policy.{Meaning, PublicKey, Certificate}
+use Rattle.sigstore_policy.specs.Policy.{Meaning, PublicKey, Certificate}
 
 -- the holder of a key; or the owner of a certificate, with what it says and the certificate itself
 pub data Signer : Type 0 where
@@ -26,7 +26,7 @@ pub data Signer : Type 0 where
 -- who the code says it was
 abbrev pub signer_as : Signing → Signer
 signer_as (signing.Managed policy) = Managed policy.now
-signer_as (signing.Certified policy info certificate) = Certified policy.now info certificate.now
+signer_as (signing.Certified owner) = Certified owner.policy.now owner.info owner.certificate.now
 
 -- ---- what a signer brings
 

@@ -10,6 +10,7 @@ use Rattle.sigstore_types.specs.Bundle.{bundle_of_bytes}
 use Rattle.sigstore_types.specs.TrustedRoot.{trusted_root_of_bytes}
 use Rattle.sigstore_keys.specs.Crypto.{Crypto}
 use Rattle.sigstore_keys.specs.Digest.{digests_by}
+use Rattle.sigstore_judgement.specs.declared.asked.Asked as declared
 use Rattle.sigstore_judgement.specs.declared.error.Error.{Error}
 use Rattle.sigstore_judgement.specs.declared.error.Error.TheVariants as verify
 use Rattle.sigstore_judgement.specs.declared.report.JudgedBundle.{JudgedBundle}
@@ -18,7 +19,8 @@ use Rattle.sigstore_judgement.specs.Artifact.{Read}
 use Rattle.sigstore_judgement.specs.Error.{lowered}
 use Rattle.sigstore_judgement.specs.Grounds.{Terms, terms_with}
 use Rattle.sigstore_judgement.specs.Judged.{judged_of, needed_by}
-use Rattle.sigstore_judgement.specs.Policy.{Meaning}
+use Rattle.sigstore_policy.specs.Policy.{Meaning}
+use Rattle.sigstore_policy.specs.declared.policy.Policy as policy
 use Rattle.sigstore_judgement.specs.Promise.{VerifiesKept}
 use Rattle.sigstore_judgement.specs.Trust.{material_of}
 
@@ -52,6 +54,16 @@ pub record Asked : Type 0 where
   pub now : jiff.Timestamp
   pub bundle : List ℕ
   pub max : ℕ
+
+-- what a call of the code is asked
+abbrev pub asked_with : {P : Type 0} → policy.Ghosts P → Crypto → jiff.Timestamp → declared.Asked P → Asked
+asked_with p crypto now asked = record {
+  crypto = crypto;
+  policy = p.meant asked.policy.now;
+  now = now;
+  bundle = asked.bundle.now;
+  max = asked.max_artifact;
+}
 
 -- with what is kept of the trust file
 abbrev pub terms_of : Asked → Material → Terms

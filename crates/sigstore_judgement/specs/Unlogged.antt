@@ -14,7 +14,7 @@ use Rattle.sigstore_judgement.specs.Entries.{is_timely, HasUndescribed}
 use Rattle.sigstore_judgement.specs.Error.{error_of_log}
 use Rattle.sigstore_judgement.specs.Grounds.{Grounds, Terms}
 use Rattle.sigstore_judgement.specs.Judged.{judged_of}
-use Rattle.sigstore_judgement.specs.Policy.{Meaning}
+use Rattle.sigstore_policy.specs.Policy.{Meaning}
 use Rattle.sigstore_judgement.specs.Signer.{Signer, IsSigner}
 
 -- one of the entries isn't logged, or its promise isn't its log's, and this is why

@@ -167,7 +167,8 @@ pub(crate) fn judge_content<C: CryptoProvider>(
     claim: &Claim<'_>,
     had: &KnownArtifact<'_>,
 ) -> Result<(), Error>
-    ensures { result ≡ content_judged_of (C.accepts provider.now) key.now (content_as opened.now) (claim_as claim.now) (digest_had had.now) (bytes_had had.now) }
+    ensures { result ≡ content_judged_of (C.accepts provider.now) key.now (content_as opened.now) (claim_as claim.now) (digest_had had.now)
+        (bytes_had had.now) }
 {
     match opened {
         Opened::Message(message) => {

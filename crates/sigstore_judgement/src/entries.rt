@@ -52,7 +52,7 @@ fn is_valid_at(signer: &Signing<'_>, time: Timestamp) -> bool
 {
     match signer {
         Signing::Managed(_) => true,
-        Signing::Certified(_, info, _) => validity_of(info).contains(time),
+        Signing::Certified(owner) => validity_of(&owner.info).contains(time),
     }
 }
 
@@ -79,8 +79,10 @@ fn check_logged<C: CryptoProvider, M: Armor>(
     grounds: &Grounds<'_, C, M>,
     entry: &TransparencyLogEntry,
 ) -> Result<EntryEvidence, Error>
-    ensures ok { IfOk result (λ shown. by_log (logged_of (C.accepts grounds.now.provider.now) grounds.now.material.now.logs grounds.now.moment entry.now) ≡ Ok shown.time) }
-    ensures log { IfOk result (λ shown. log_of (C.accepts grounds.now.provider.now) grounds.now.material.now.logs grounds.now.moment entry.now ≡ Some shown.log) }
+    ensures ok { IfOk result (λ shown. by_log (logged_of (C.accepts grounds.now.provider.now) grounds.now.material.now.logs grounds.now.moment entry.now)
+        ≡ Ok shown.time) }
+    ensures log { IfOk result (λ shown. log_of (C.accepts grounds.now.provider.now) grounds.now.material.now.logs grounds.now.moment entry.now
+        ≡ Some shown.log) }
     ensures err { IfErr result (λ e. e ≢ Error.NoMemory →
         by_log (logged_of (C.accepts grounds.now.provider.now) grounds.now.material.now.logs grounds.now.moment entry.now) ≡ Err e) }
 {
@@ -104,7 +106,8 @@ fn check_entry<C: CryptoProvider, M: Armor>(
     entry: &TransparencyLogEntry,
 ) -> Result<EntryEvidence, Error>
     ensures ok { IfOk result (λ shown. entry_judged_of (grounds_by C.CryptoProvider M.Armor grounds.now) (signer_as signer.now) entry.now ≡ Ok shown.time) }
-    ensures log { IfOk result (λ shown. log_of (C.accepts grounds.now.provider.now) grounds.now.material.now.logs grounds.now.moment entry.now ≡ Some shown.log) }
+    ensures log { IfOk result (λ shown. log_of (C.accepts grounds.now.provider.now) grounds.now.material.now.logs grounds.now.moment entry.now
+        ≡ Some shown.log) }
     ensures err { IfErr result (λ e. e ≢ Error.NoMemory →
         entry_judged_of (grounds_by C.CryptoProvider M.Armor grounds.now) (signer_as signer.now) entry.now ≡ Err e) }
 {
@@ -135,8 +138,10 @@ fn check_entries<C: CryptoProvider, M: Armor>(
     times: &mut Sequence<Timestamp>,
     logs: &mut LogIds,
 ) -> Result<(), Error>
-    ensures logs { OnOk result (logs.new.ids ≡ each_once logs.old.ids (filter_map (log_of (C.accepts grounds.now.provider.now) grounds.now.material.now.logs grounds.now.moment) entries.now)) }
-    ensures ok { OnOk result (behind times.old (entries_judged_of (grounds_by C.CryptoProvider M.Armor grounds.now) (signer_as signer.now) entries.now) ≡ Ok times.new) }
+    ensures logs { OnOk result (logs.new.ids ≡ each_once logs.old.ids
+        (filter_map (log_of (C.accepts grounds.now.provider.now) grounds.now.material.now.logs grounds.now.moment) entries.now)) }
+    ensures ok { OnOk result (behind times.old (entries_judged_of (grounds_by C.CryptoProvider M.Armor grounds.now) (signer_as signer.now) entries.now)
+        ≡ Ok times.new) }
     ensures err { IfErr result (λ e. e ≢ Error.NoMemory →
         behind times.old (entries_judged_of (grounds_by C.CryptoProvider M.Armor grounds.now) (signer_as signer.now) entries.now) ≡ Err e) }
 {
@@ -167,7 +172,8 @@ pub(crate) fn check_log<C: CryptoProvider, M: Armor>(
     verify_tlog: bool,
     entries: &[TransparencyLogEntry],
 ) -> Result<LogEvidence, Error>
-    ensures ok { IfOk result (λ shown. log_judged_of (grounds_by C.CryptoProvider M.Armor grounds.now) (signer_as signer.now) verify_tlog entries.now ≡ Ok shown.times) }
+    ensures ok { IfOk result (λ shown. log_judged_of (grounds_by C.CryptoProvider M.Armor grounds.now) (signer_as signer.now) verify_tlog entries.now
+        ≡ Ok shown.times) }
     ensures count { IfOk result (λ shown. shown.count ≡ log_count_of (grounds_by C.CryptoProvider M.Armor grounds.now) verify_tlog entries.now) }
     ensures err { IfErr result (λ e. e ≢ Error.NoMemory →
         log_judged_of (grounds_by C.CryptoProvider M.Armor grounds.now) (signer_as signer.now) verify_tlog entries.now ≡ Err e) }
@@ -226,7 +232,8 @@ fn check_entry_described<M: Armor>(
     signed: Signed<'_>,
     entry: &TransparencyLogEntry,
 ) -> Result<(), Error>
-    ensures ok { IfOk result (λ x. by_binding (describes_of (readings_by M.Armor armor.now) (signatory_as who.entry) (signed_as signed.entry) entry.now) ≡ Ok x) }
+    ensures ok { IfOk result (λ x. by_binding (describes_of (readings_by M.Armor armor.now) (signatory_as who.entry) (signed_as signed.entry) entry.now)
+        ≡ Ok x) }
     ensures err { IfErr result (λ e. e ≢ Error.NoMemory →
         by_binding (describes_of (readings_by M.Armor armor.now) (signatory_as who.entry) (signed_as signed.entry) entry.now) ≡ Err e) }
 {
@@ -266,9 +273,11 @@ pub(crate) fn check_described<C: CryptoProvider, M: Armor>(
     had: &KnownArtifact<'_>,
 ) -> Result<(), Error>
     requires same { content_as opened.now ≡ bundle.now.content }
-    ensures ok { IfOk result (λ x. entries_described_of (grounds_by C.CryptoProvider M.Armor grounds.now) (signer_as signer.now) bundle.now (digest_had had.now) (entries_in bundle.now) ≡ Ok x) }
+    ensures ok { IfOk result (λ x. entries_described_of (grounds_by C.CryptoProvider M.Armor grounds.now) (signer_as signer.now) bundle.now
+        (digest_had had.now) (entries_in bundle.now) ≡ Ok x) }
     ensures err { IfErr result (λ e. e ≢ Error.NoMemory →
-        entries_described_of (grounds_by C.CryptoProvider M.Armor grounds.now) (signer_as signer.now) bundle.now (digest_had had.now) (entries_in bundle.now) ≡ Err e) }
+        entries_described_of (grounds_by C.CryptoProvider M.Armor grounds.now) (signer_as signer.now) bundle.now (digest_had had.now) (entries_in bundle.now)
+        ≡ Err e) }
 {
     let entries = bundle.verification_material.tlog_entries.as_slice();
     let signed = signed_in(opened, had);
@@ -277,11 +286,11 @@ pub(crate) fn check_described<C: CryptoProvider, M: Armor>(
             let who = SignedBy::Key(&policy.key);
             check_each_described(alloc, grounds.armor, who, signed, entries)
         }
-        Signing::Certified(_, info, certificate) => {
-            let validity = validity_of(info);
+        Signing::Certified(owner) => {
+            let validity = validity_of(&owner.info);
             let who = SignedBy::Certificate {
-                certificate,
-                key: &info.public_key,
+                certificate: owner.certificate,
+                key: &owner.info.public_key,
                 validity: &validity,
             };
             check_each_described(alloc, grounds.armor, who, signed, entries)

@@ -1,8 +1,9 @@
 // Why a bundle isn't accepted.
 ghost use Rattle.std.specs.Prelude.{◌≡◌};
-ghost use Rattle.sigstore_judgement.specs.Error.{number_of, name_of, certificate_number_of, certificate_name_of, log_number_of, log_name_of, timestamp_number_of, timestamp_name_of, error_of_crypto, error_of_certificate, lowered};
+ghost use Rattle.sigstore_judgement.specs.Error.{number_of, name_of, certificate_number_of, log_number_of, timestamp_number_of, error_of_crypto, error_of_certificate, lowered};
 ghost use Rattle.sigstore_judgement.specs.declared.error.Error.TheVariants.{NoMemory};
 
+use crate::names::refusal_name;
 use certificate_claims::SubjectAltName;
 use foundation::NoMemory;
 use jiff::Timestamp;
@@ -99,8 +100,9 @@ pub enum Error {
     /// The bundle's bytes have no reading by its grammar; or the policy is for certificates and it has none; or its
     /// envelope holds no statement of a subject.
     InvalidBundle,
-    /// The policy is for a key and the bundle has a certificate; or the envelope's payload is of another type, or its subjects tell no digest that can be had; or an entry is of a
-    /// kind that isn't compared with the content, or of another digest's algorithm.
+    /// The policy is for a key and the bundle has a certificate; or the envelope's payload is of another type, or its
+    /// subjects tell no digest that can be had; or an entry is of a kind that isn't compared with the content, or of
+    /// another digest's algorithm.
     UnsupportedBundle,
     /// The trust file was read, and can't be used; or none of its certificate logs has a key of a scheme of the
     /// certificate's timestamps.
@@ -140,19 +142,6 @@ impl CertificateError {
             CertificateError::Sct(_) => 11,
         }
     }
-
-    fn name(&self) -> &'static str
-        ensures { result.now ≡ certificate_name_of self.now }
-    {
-        match self {
-            CertificateError::Malformed => "CertificateMalformed",
-            CertificateError::ChainInvalid => "ChainInvalid",
-            CertificateError::NoValidAuthority { .. } => "NoValidAuthority",
-            CertificateError::NotYetValid { .. } => "NotYetValid",
-            CertificateError::Expired { .. } => "CertificateExpired",
-            CertificateError::Sct(_) => "Sct",
-        }
-    }
 }
 
 impl TransparencyLogError {
@@ -169,20 +158,6 @@ impl TransparencyLogError {
             TransparencyLogError::MalformedEntry => 18,
         }
     }
-
-    fn name(&self) -> &'static str
-        ensures { result.now ≡ log_name_of self.now }
-    {
-        match self {
-            TransparencyLogError::UnknownLog { .. } => "UnknownLog",
-            TransparencyLogError::InclusionProof => "InclusionProof",
-            TransparencyLogError::Checkpoint => "Checkpoint",
-            TransparencyLogError::InclusionPromise => "InclusionPromise",
-            TransparencyLogError::EntryMismatch => "EntryMismatch",
-            TransparencyLogError::IntegratedTime => "IntegratedTime",
-            TransparencyLogError::MalformedEntry => "MalformedEntry",
-        }
-    }
 }
 
 impl TimestampError {
@@ -193,16 +168,6 @@ impl TimestampError {
             TimestampError::Invalid => 19,
             TimestampError::OutsideAuthorityValidity { .. } => 20,
             TimestampError::NoVerifiedTimestamp => 21,
-        }
-    }
-
-    fn name(&self) -> &'static str
-        ensures { result.now ≡ timestamp_name_of self.now }
-    {
-        match self {
-            TimestampError::Invalid => "TimestampInvalid",
-            TimestampError::OutsideAuthorityValidity { .. } => "OutsideAuthorityValidity",
-            TimestampError::NoVerifiedTimestamp => "NoVerifiedTimestamp",
         }
     }
 }
@@ -239,27 +204,7 @@ impl Error {
     pub fn name(&self) -> &'static str
         ensures { result.now ≡ name_of self.now }
     {
-        match self {
-            Error::IdentityMismatch { .. } => "IdentityMismatch",
-            Error::IssuerMismatch { .. } => "IssuerMismatch",
-            Error::SignatureInvalid => "SignatureInvalid",
-            Error::ArtifactMismatch => "ArtifactMismatch",
-            Error::UnsupportedArtifact => "UnsupportedArtifact",
-            Error::Certificate(fault) => fault.name(),
-            Error::TransparencyLog(fault) => fault.name(),
-            Error::Timestamp(fault) => fault.name(),
-            Error::InvalidBundle => "InvalidBundle",
-            Error::UnsupportedBundle => "UnsupportedBundle",
-            Error::InvalidTrustRoot => "InvalidTrustRoot",
-            Error::Types => "Types",
-            Error::Crypto => "Crypto",
-            Error::Bundle => "Bundle",
-            Error::TrustRoot => "TrustRoot",
-            Error::TrustedCertificate => "TrustedCertificate",
-            Error::ArtifactRead(_) => "ArtifactRead",
-            Error::NoMemory => "NoMemory",
-            Error::TooFewLogs { .. } => "TooFewLogs",
-        }
+        refusal_name(self.number())
     }
 }
 
@@ -302,6 +247,7 @@ pub(crate) fn uncertified(fault: CertificateRefusal) -> Error
     match fault {
         CertificateRefusal::Malformed => Error::Certificate(CertificateError::Malformed),
         CertificateRefusal::ChainInvalid => Error::Certificate(CertificateError::ChainInvalid),
+        CertificateRefusal::NoTime => Error::Timestamp(TimestampError::NoVerifiedTimestamp),
         CertificateRefusal::NoValidAuthority { time } => {
             Error::Certificate(CertificateError::NoValidAuthority { time })
         }

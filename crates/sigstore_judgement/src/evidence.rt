@@ -4,7 +4,7 @@ ghost use Rattle.sigstore_judgement.specs.Evidence.{earlier, earliest_from, asks
 ghost use Rattle.sigstore_judgement.specs.Signer.{signer_as};
 
 use crate::report::VerificationResult;
-use crate::signing::Signing;
+use crate::signing::{Owner, Signing};
 use foundation::{NoMemory, Sequence};
 use jiff::Timestamp;
 use sigstore_certificate::VerificationPolicy;
@@ -84,16 +84,19 @@ pub(crate) fn report(signer: Signing<'_>, evidence: Evidence) -> VerificationRes
             sct_count,
             log_count,
         },
-        Signing::Certified(policy, info, _) => VerificationResult {
-            certificate: Some(info),
-            integrated_time,
-            certificate_verified: policy.certificate.verifies_chain(),
-            sct_verified: policy.certificate.verifies_sct(),
-            tlog_verified: policy.verify_tlog,
-            identity_policy_checked: asks_name(policy),
-            verified_timestamps: times,
-            sct_count,
-            log_count,
-        },
+        Signing::Certified(owner) => {
+            let Owner { policy, info, .. } = owner;
+            VerificationResult {
+                certificate: Some(info),
+                integrated_time,
+                certificate_verified: policy.certificate.verifies_chain(),
+                sct_verified: policy.certificate.verifies_sct(),
+                tlog_verified: policy.verify_tlog,
+                identity_policy_checked: asks_name(policy),
+                verified_timestamps: times,
+                sct_count,
+                log_count,
+            }
+        }
     }
 }

@@ -9,7 +9,7 @@ ghost use Rattle.sigstore_judgement.specs.Error.{by_crypto, by_certificate};
 ghost use Rattle.sigstore_judgement.specs.Evidence.{managed_evidence, owner_evidence, report_of};
 ghost use Rattle.sigstore_judgement.specs.Grounds.{grounds_by, trust_in};
 ghost use Rattle.sigstore_judgement.specs.Judged.{ready_as, bundle_in, ready_with, claimed_of, ready_of, prepared_of, managed_vouched_of, intermediates_in, owner_vouched_of, vouched_of, judged_had};
-ghost use Rattle.sigstore_judgement.specs.Policy.{meaning_of};
+ghost use Rattle.sigstore_policy.specs.Policy.{meaning_of};
 ghost use Rattle.sigstore_judgement.specs.Signer.{Managed, Certified, signer_as, first_checks_of};
 
 use crate::artifact::{ArtifactInput, KnownArtifact};
@@ -19,18 +19,17 @@ use crate::entries::{check_described, check_log, check_log_count};
 use crate::error::{Error, uncertified};
 use crate::evidence::{Evidence, earliest, joined, report};
 use crate::grounds::Grounds;
-use crate::policy::{PolicyKind, PublicKeyVerificationPolicy};
 use crate::report::VerificationResult;
-use crate::signing::{Signing, who_signed};
+use crate::signing::{Owner, Signing, who_signed};
 use crate::tokens::check_tokens;
 use crate::verified::verified_times;
-use certificate_claims::CertificateInfo;
 use foundation::Sequence;
 use jiff::Timestamp;
-use sigstore_certificate::{VerificationPolicy, judge_certificate};
+use sigstore_certificate::{Presented, TrustedAuthorities, judge_certificate};
 use sigstore_keys::{CryptoProvider, SigningScheme, VerificationKey};
+use sigstore_policy::{PolicyKind, PublicKeyVerificationPolicy};
 use sigstore_types::{Bundle, SignatureContent};
-use sigstore_types_parts::{Armor, DerCertificate, DerPublicKey, HashAlgorithm};
+use sigstore_types_parts::{Armor, DerPublicKey, HashAlgorithm};
 use std::alloc::Global;
 
 /// What was prepared of a bundle for an artifact: who signed, their key under the scheme of this bundle, what it says
@@ -113,7 +112,8 @@ fn key_and_claim<'b>(
     bundle: &'b Bundle,
 ) -> Result<(VerificationKey, Claim<'b>, Sequence<HashAlgorithm>), Error>
     ensures list { IfOk result (λ had. had.2 ≡ needed_of had.0.scheme (claim_as had.1)) }
-    ensures ok { IfOk result (λ had. ready_of (kind_in handed) (signer_as signer.now) bundle.now ≡ Ok (ready_with (signer_as signer.now) had.0 (claim_as had.1))) }
+    ensures ok { IfOk result (λ had. ready_of (kind_in handed) (signer_as signer.now) bundle.now
+        ≡ Ok (ready_with (signer_as signer.now) had.0 (claim_as had.1))) }
     ensures err { IfErr result (λ e. e ≢ Error.NoMemory → ready_of (kind_in handed) (signer_as signer.now) bundle.now ≡ Err e) }
 {
     let key = key_of(alloc, signer.key())?;
@@ -190,26 +190,30 @@ fn managed_vouched<C: CryptoProvider, M: Armor>(
 fn check_certificate<C: CryptoProvider, M: Armor>(
     alloc: Global,
     grounds: &Grounds<'_, C, M>,
-    policy: &VerificationPolicy,
-    info: &CertificateInfo,
-    certificate: &DerCertificate,
+    owner: &Owner<'_>,
     bundle: &Bundle,
     times: &[Timestamp],
 ) -> Result<u64, Error>
-    ensures ok { IfOk result (λ scts.
-        by_certificate (certified_of (trust_in (grounds_by C.CryptoProvider M.Armor grounds.now)) policy.now info.now certificate.now (intermediates_in bundle.now) times.now) ≡ Ok scts) }
-    ensures err { IfErr result (λ e. e ≢ Error.NoMemory →
-        by_certificate (certified_of (trust_in (grounds_by C.CryptoProvider M.Armor grounds.now)) policy.now info.now certificate.now (intermediates_in bundle.now) times.now) ≡ Err e) }
+    ensures ok { IfOk result (λ scts. by_certificate (certified_of (trust_in (grounds_by C.CryptoProvider M.Armor grounds.now))
+        owner.now.policy.now owner.now.info owner.now.certificate.now (intermediates_in bundle.now) times.now) ≡ Ok scts) }
+    ensures err { IfErr result (λ e. e ≢ Error.NoMemory → by_certificate (certified_of (trust_in (grounds_by C.CryptoProvider M.Armor grounds.now))
+        owner.now.policy.now owner.now.info owner.now.certificate.now (intermediates_in bundle.now) times.now) ≡ Err e) }
 {
+    let authorities = TrustedAuthorities {
+        anchors: grounds.material.anchors.as_slice(),
+        ct_logs: &grounds.material.ct_logs,
+    };
+    let presented = Presented {
+        info: &owner.info,
+        leaf: owner.certificate,
+        intermediates: bundle.intermediates(),
+    };
     match judge_certificate(
         alloc,
         grounds.provider,
-        grounds.material.anchors.as_slice(),
-        &grounds.material.ct_logs,
-        policy,
-        info,
-        certificate,
-        bundle.intermediates(),
+        &authorities,
+        owner.policy,
+        &presented,
         times,
     ) {
         Ok(scts) => Ok(scts),
@@ -224,26 +228,20 @@ fn owner_vouched<C: CryptoProvider, M: Armor>(
     alloc: Global,
     grounds: &Grounds<'_, C, M>,
     signer: &Signing<'_>,
-    policy: &VerificationPolicy,
-    info: &CertificateInfo,
-    certificate: &DerCertificate,
+    owner: &Owner<'_>,
     bundle: &Bundle,
 ) -> Result<Evidence, Error>
-    requires same { signer_as signer.now ≡ Certified policy.now info.now certificate.now }
-    ensures ok { IfOk result (λ evidence. owner_vouched_of (grounds_by C.CryptoProvider M.Armor grounds.now) policy.now info.now certificate.now bundle.now ≡ Ok evidence) }
+    requires same { signer_as signer.now ≡ Certified owner.now.policy.now owner.now.info owner.now.certificate.now }
+    ensures ok { IfOk result (λ evidence.
+        owner_vouched_of (grounds_by C.CryptoProvider M.Armor grounds.now) owner.now.policy.now owner.now.info owner.now.certificate.now bundle.now
+        ≡ Ok evidence) }
     ensures err { IfErr result (λ e. e ≢ Error.NoMemory →
-        owner_vouched_of (grounds_by C.CryptoProvider M.Armor grounds.now) policy.now info.now certificate.now bundle.now ≡ Err e) }
+        owner_vouched_of (grounds_by C.CryptoProvider M.Armor grounds.now) owner.now.policy.now owner.now.info owner.now.certificate.now bundle.now
+        ≡ Err e) }
 {
+    let policy = owner.policy;
     let times = verified_times(alloc, grounds, bundle)?;
-    let sct_count = check_certificate(
-        alloc,
-        grounds,
-        policy,
-        info,
-        certificate,
-        bundle,
-        times.as_slice(),
-    )?;
+    let sct_count = check_certificate(alloc, grounds, owner, bundle, times.as_slice())?;
     let entries = bundle.verification_material.tlog_entries.as_slice();
     let logged = check_log(alloc, grounds, signer, policy.verify_tlog, entries)?;
     check_log_count(policy.verify_tlog, policy.logs, logged.count)?;
@@ -264,19 +262,12 @@ fn vouched<C: CryptoProvider, M: Armor>(
     bundle: &Bundle,
 ) -> Result<Evidence, Error>
     ensures ok { IfOk result (λ evidence. vouched_of (grounds_by C.CryptoProvider M.Armor grounds.now) (signer_as signer.now) bundle.now ≡ Ok evidence) }
-    ensures err { IfErr result (λ e. e ≢ Error.NoMemory → vouched_of (grounds_by C.CryptoProvider M.Armor grounds.now) (signer_as signer.now) bundle.now ≡ Err e) }
+    ensures err { IfErr result (λ e. e ≢ Error.NoMemory → vouched_of (grounds_by C.CryptoProvider M.Armor grounds.now) (signer_as signer.now) bundle.now
+        ≡ Err e) }
 {
     match signer {
         Signing::Managed(policy) => managed_vouched(alloc, grounds, signer, policy, bundle),
-        Signing::Certified(policy, info, certificate) => owner_vouched(
-            alloc,
-            grounds,
-            signer,
-            policy,
-            info,
-            certificate,
-            bundle,
-        ),
+        Signing::Certified(owner) => owner_vouched(alloc, grounds, signer, owner, bundle),
     }
 }
 

@@ -2,6 +2,7 @@
 #![tactic(auto)]
 
 mod artifact;
+mod asked;
 mod claim;
 mod content;
 mod entries;
@@ -10,7 +11,7 @@ mod evidence;
 mod grounds;
 mod judge;
 mod laws;
-mod policy;
+mod names;
 mod prepared;
 mod report;
 mod signing;
@@ -21,6 +22,7 @@ mod under;
 mod verified;
 mod verifier;
 
+pub use asked::{Asked, Case};
 pub use error::{CertificateError, Error, TimestampError, TransparencyLogError};
 pub use evidence::Evidence;
 pub use judge::Ready;
@@ -28,13 +30,15 @@ pub use laws::{
     accepts_exactly, blob_and_reader_agree, log_refusals_have_causes, one_log_suffices,
     usable_exactly,
 };
-pub use policy::{Policy, PolicyKind, PublicKeyVerificationPolicy};
+pub use names::refusal_name;
 pub use prepared::prepare_reader;
 pub use report::{JudgedBundle, VerificationResult};
-pub use sigstore_certificate::{
-    CertificatePolicy, DigitallySigned, IdentityMatcher, SctRule, VerificationPolicy,
+pub use sigstore_certificate::{DigitallySigned, SctRule};
+pub use sigstore_policy::{
+    CertificatePolicy, IdentityMatcher, Policy, PolicyKind, PublicKeyVerificationPolicy,
+    SigningPolicy, VerificationPolicy,
 };
 pub use taking::{finalize_all, hashers_for};
 pub use trust::Material;
-pub use under::judge_bundle;
+pub use under::{judge_bundle, read_trust};
 pub use verifier::{Verifier, verify};

@@ -3,13 +3,13 @@ ghost use Rattle.std.specs.Prelude.{◌≡◌, ◌≢◌, Ok, Err, IfOk, IfErr, 
 ghost use Rattle.sigstore_types.specs.Bundle.{structure_of};
 ghost use Rattle.certificate_claims.specs.Info.{info_of};
 ghost use Rattle.sigstore_judgement.specs.Error.{by_types, by_info};
-ghost use Rattle.sigstore_judgement.specs.Policy.{meaning_of, Certificate};
+ghost use Rattle.sigstore_policy.specs.Policy.{meaning_of, Certificate};
 ghost use Rattle.sigstore_judgement.specs.Signer.{signer_as, key_in, validity_of, material_in, certificate_in, keyed_of, named_of, managed_of, owner_of, signer_of, first_checks_of};
 
 use crate::error::{CertificateError, Error, lowered};
-use crate::policy::{PolicyKind, PublicKeyVerificationPolicy};
 use certificate_claims::{CertificateInfo, parse_certificate_info};
 use sigstore_certificate::VerificationPolicy;
+use sigstore_policy::{PolicyKind, PublicKeyVerificationPolicy};
 use sigstore_types::{Bundle, VerificationMaterialContent, validate_structure};
 use sigstore_types_parts::{DerCertificate, DerPublicKey, TimeRange};
 use std::alloc::Global;
@@ -19,7 +19,15 @@ use std::alloc::Global;
 #[derive(Drop)]
 pub(crate) enum Signing<'a> {
     Managed(&'a PublicKeyVerificationPolicy),
-    Certified(&'a VerificationPolicy, CertificateInfo, &'a DerCertificate),
+    Certified(Owner<'a>),
+}
+
+/// The owner of a certificate: what is asked of them, what it says of them, and the certificate.
+#[derive(Drop)]
+pub(crate) struct Owner<'a> {
+    pub(crate) policy: &'a VerificationPolicy,
+    pub(crate) info: CertificateInfo,
+    pub(crate) certificate: &'a DerCertificate,
 }
 
 impl<'a> Signing<'a> {
@@ -29,7 +37,7 @@ impl<'a> Signing<'a> {
     {
         match self {
             Signing::Managed(policy) => &policy.key,
-            Signing::Certified(_, info, _) => &info.public_key,
+            Signing::Certified(owner) => &owner.info.public_key,
         }
     }
 }
@@ -71,7 +79,8 @@ fn check_keyed(bundle: &Bundle) -> Result<(), Error>
 
 // The certificate with which the bundle was signed.
 fn certificate_in(bundle: &Bundle) -> Result<&DerCertificate, Error>
-    ensures exact { MatchResult result (λ certificate. named_of (certificate_in bundle.now) ≡ Ok certificate.now) (λ e. named_of (certificate_in bundle.now) ≡ Err e) }
+    ensures exact { MatchResult result (λ certificate. named_of (certificate_in bundle.now) ≡ Ok certificate.now)
+        (λ e. named_of (certificate_in bundle.now) ≡ Err e) }
     ensures never { IfErr result (λ e. e ≢ Error.NoMemory) }
 {
     match bundle.signing_certificate() {
@@ -109,7 +118,7 @@ fn managed<'a>(
 
 // Under a policy for certificates the owner of the signing certificate signed.
 #[tactic(auto, unfolding(crate::specs::Signer::owner_of))]
-fn owner<'a>(
+fn certified<'a>(
     alloc: Global,
     policy: &'a VerificationPolicy,
     bundle: &'a Bundle,
@@ -121,7 +130,11 @@ fn owner<'a>(
     check_structure(bundle, policy.verify_tlog)?;
     let certificate = certificate_in(bundle)?;
     let info = info_in(alloc, certificate)?;
-    Ok(Signing::Certified(policy, info, certificate))
+    Ok(Signing::Certified(Owner {
+        policy,
+        info,
+        certificate,
+    }))
 }
 
 /// Who signed a bundle under a policy. Errors, in order: under a key `UnsupportedBundle` for a bundle of
@@ -137,7 +150,7 @@ pub(crate) fn who_signed<'a>(
     ensures memory { IfErr result (λ e. e ≡ Error.NoMemory → first_checks_of (meaning_of policy.entry) bundle.now ≡ Ok tt) }
 {
     match policy {
-        PolicyKind::Certificate(policy) => owner(alloc, policy, bundle),
+        PolicyKind::Certificate(policy) => certified(alloc, policy, bundle),
         PolicyKind::PublicKey(policy) => managed(policy, bundle),
     }
 }

@@ -1,19 +1,21 @@
 // The judgement of a bundle under a trust file, both from their bytes.
 ghost use Rattle.std.specs.Prelude.{◌≡◌, ◌≢◌, Ok, Err, IfOk, IfErr};
-ghost use Rattle.sigstore_keys.specs.Crypto.{crypto_by};
-ghost use Rattle.sigstore_judgement.specs.Under.{trust_of, bundle_of, Asked, JudgesBundle};
+ghost use Rattle.sigstore_keys.specs.Crypto.{crypto_with};
+ghost use Rattle.sigstore_judgement.specs.Under.{trust_of, bundle_of, asked_with, JudgesBundle};
 
+use crate::asked::{Asked, Case};
 use crate::error::{Error, lowered};
-use crate::policy::Policy;
 use crate::report::JudgedBundle;
 use crate::verifier::Verifier;
 use jiff::Timestamp;
-use sigstore_keys::{ArtifactSource, CryptoProvider};
+use sigstore_keys::{ArtifactSource, CryptoProvider, Providers};
+use sigstore_policy::Policy;
 use sigstore_types::{Bundle, TrustedRoot};
 use sigstore_types_parts::Armor;
 use std::alloc::Global;
 
-fn read_trust(alloc: Global, bytes: &[u8]) -> Result<TrustedRoot, Error>
+/// The trust file, from its bytes. Errors: `TrustRoot`.
+pub fn read_trust(alloc: Global, bytes: &[u8]) -> Result<TrustedRoot, Error>
     ensures ok { IfOk result (λ trust. trust_of bytes.now ≡ Ok trust) }
     ensures err { IfErr result (λ e. e ≢ Error.NoMemory → trust_of bytes.now ≡ Err e) }
 {
@@ -35,36 +37,40 @@ fn read_bundle(alloc: Global, bytes: &[u8]) -> Result<Bundle, Error>
 
 /// Judges a bundle under a trust file over an artifact that is read to its end, and keeps the digests that were
 /// needed. Errors are those of the first that refuses: `TrustRoot` for the file's bytes, those of `Verifier::new`,
-/// `InvalidBundle` for the bundle's bytes, those of
-/// `Verifier::verify_reader_kept`.
+/// `InvalidBundle` for the bundle's bytes, those of `Verifier::verify_reader_kept`.
 pub fn judge_bundle<C: CryptoProvider, M: Armor, A: ArtifactSource, P: Policy>(
     alloc: Global,
-    provider: &C,
-    armor: &M,
+    providers: &Providers<'_, C, M>,
     file: &[u8],
     now: Timestamp,
-    bundle_bytes: &[u8],
     artifact: &mut A,
-    max_artifact: u64,
-    policy: &P,
+    asked: &Asked<'_, P>,
 ) -> Result<JudgedBundle, Error>
-    ensures { let crypto = crypto_by C.CryptoProvider M.Armor provider.now armor.now in
-        let asked : Asked = record { crypto = crypto; policy = P.meant policy.now; now = now; bundle = bundle_bytes.now; max = max_artifact } in
-        JudgesBundle asked file.now (A.seen artifact.old) (A.seen artifact.new) result }
+    ensures { JudgesBundle (asked_with P.Policy (crypto_with C.CryptoProvider M.Armor providers.now) now asked.now) file.now
+        (A.seen artifact.old) (A.seen artifact.new) result }
 {
     let trust = match read_trust(alloc, file) {
         Ok(trust) => trust,
         Err(e) => return Err(e),
     };
-    let verifier = match Verifier::new(alloc, provider, armor, &trust) {
+    let verifier = match Verifier::new(alloc, providers.provider, providers.armor, &trust) {
         Ok(verifier) => verifier,
         Err(e) => return Err(e),
     };
-    let bundle = match read_bundle(alloc, bundle_bytes) {
+    let bundle = match read_bundle(alloc, asked.bundle) {
         Ok(bundle) => bundle,
         Err(e) => return Err(e),
     };
-    let kept = verifier.verify_reader_kept(alloc, artifact, max_artifact, &bundle, policy, now);
+    let kept = verifier.verify_reader_kept(
+        alloc,
+        artifact,
+        asked.max_artifact,
+        &Case {
+            bundle: &bundle,
+            policy: asked.policy,
+            moment: now,
+        },
+    );
     drop(bundle);
     kept
 }

@@ -27,9 +27,11 @@ fn check_told<C: CryptoProvider, M: Armor>(
     grounds: &Grounds<'_, C, M>,
     entry: &TransparencyLogEntry,
 ) -> Result<Option<Timestamp>, Error>
-    ensures ok { IfOk result (λ time. by_log (promise_judged (C.accepts grounds.now.provider.now) grounds.now.material.now.logs grounds.now.moment entry.now entry.now.inclusion_promise) ≡ Ok time) }
+    ensures ok { IfOk result (λ time. by_log (promise_judged (C.accepts grounds.now.provider.now) grounds.now.material.now.logs grounds.now.moment entry.now
+        entry.now.inclusion_promise) ≡ Ok time) }
     ensures err { IfErr result (λ e. e ≢ Error.NoMemory →
-        by_log (promise_judged (C.accepts grounds.now.provider.now) grounds.now.material.now.logs grounds.now.moment entry.now entry.now.inclusion_promise) ≡ Err e) }
+        by_log (promise_judged (C.accepts grounds.now.provider.now) grounds.now.material.now.logs grounds.now.moment entry.now entry.now.inclusion_promise)
+        ≡ Err e) }
 {
     match judge_promise(
         alloc,

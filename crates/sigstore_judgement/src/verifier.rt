@@ -1,26 +1,116 @@
 // The verification of a bundle over an artifact.
 ghost use Rattle.std.specs.Prelude.{◌≡◌, ◌≢◌, Ok, Err, IfOk, IfErr};
-ghost use Rattle.sigstore_keys.specs.Crypto.{crypto_by};
+ghost use Rattle.sigstore_keys.specs.Crypto.{crypto_with};
 ghost use Rattle.sigstore_judgement.specs.Artifact.{Blob, Digest, artifact_of};
-ghost use Rattle.sigstore_judgement.specs.Grounds.{grounds_by, terms_by};
-ghost use Rattle.sigstore_judgement.specs.Policy.{Meaning, meaning_of};
+ghost use Rattle.sigstore_judgement.specs.Grounds.{grounds_by, grounds_at, terms_over, terms_for};
+ghost use Rattle.sigstore_policy.specs.Policy.{meaning_of};
 ghost use Rattle.sigstore_judgement.specs.Trust.{material_of};
 ghost use Rattle.sigstore_judgement.specs.Promise.{Verifies, VerifiesKept, VerifiesHanded, VerifiesUnder};
 
 use crate::artifact::{ArtifactInput, KnownArtifact};
+use crate::asked::Case;
 use crate::error::Error;
 use crate::grounds::Grounds;
 use crate::judge::{judge, prepare};
-use crate::policy::{Policy, PolicyKind};
 use crate::report::{JudgedBundle, VerificationResult};
 use crate::taking::{digests_in, read_digests};
 use crate::trust::{Material, material_in};
 use jiff::Timestamp;
-use sigstore_keys::{ArtifactSource, CryptoProvider};
+use sigstore_keys::{ArtifactSource, CryptoProvider, Providers};
+use sigstore_policy::{Policy, PolicyKind};
 use sigstore_types::{Bundle, TrustedRoot};
 use sigstore_types_parts::{Armor, Artifact, ArtifactDigest};
 use std::alloc::Global;
 use std::slice;
+
+// An artifact that is read.
+fn judge_read<C: CryptoProvider, M: Armor, A: ArtifactSource>(
+    alloc: Global,
+    grounds: &Grounds<'_, C, M>,
+    source: &mut A,
+    max: u64,
+    policy: PolicyKind<'_>,
+    bundle: &Bundle,
+) -> Result<JudgedBundle, Error>
+    ensures { VerifiesKept (terms_over (grounds_by C.CryptoProvider M.Armor grounds.now) (meaning_of policy.entry)) bundle.now
+        (A.seen source.old) (A.seen source.new) max result }
+{
+    match prepare(alloc, ArtifactInput::Read, policy, bundle) {
+        Ok(ready) => match read_digests(alloc, source, max, ready.needed.as_slice()) {
+            Ok(digests) => {
+                let had = KnownArtifact {
+                    digests: digests.as_slice(),
+                    bytes: None,
+                };
+                match judge(alloc, grounds, ready, &had) {
+                    Ok(result) => Ok(JudgedBundle { result, digests }),
+                    Err(e) => Err(e),
+                }
+            }
+            Err(e) => {
+                drop(ready);
+                Err(e)
+            }
+        },
+        Err(e) => Err(e),
+    }
+}
+
+// An artifact of which all bytes are handed in.
+fn judge_blob<C: CryptoProvider, M: Armor>(
+    alloc: Global,
+    grounds: &Grounds<'_, C, M>,
+    bytes: &[u8],
+    policy: PolicyKind<'_>,
+    bundle: &Bundle,
+) -> Result<VerificationResult, Error>
+    ensures { VerifiesHanded (terms_over (grounds_by C.CryptoProvider M.Armor grounds.now) (meaning_of policy.entry)) bundle.now (Blob bytes.now) result }
+{
+    match prepare(alloc, ArtifactInput::Blob, policy, bundle) {
+        Ok(ready) => match digests_in(alloc, bytes, ready.needed.as_slice()) {
+            Ok(digests) => {
+                let had = KnownArtifact {
+                    digests: digests.as_slice(),
+                    bytes: Some(bytes),
+                };
+                judge(alloc, grounds, ready, &had)
+            }
+            Err(e) => {
+                drop(ready);
+                Err(e)
+            }
+        },
+        Err(e) => Err(e),
+    }
+}
+
+// An artifact of which one digest is handed in.
+fn judge_digest<C: CryptoProvider, M: Armor>(
+    alloc: Global,
+    grounds: &Grounds<'_, C, M>,
+    digest: &ArtifactDigest,
+    policy: PolicyKind<'_>,
+    bundle: &Bundle,
+) -> Result<VerificationResult, Error>
+    ensures { VerifiesHanded (terms_over (grounds_by C.CryptoProvider M.Armor grounds.now) (meaning_of policy.entry)) bundle.now
+        (Digest digest.now.0 digest.now.1) result }
+{
+    match prepare(
+        alloc,
+        ArtifactInput::Digest(digest.algorithm()),
+        policy,
+        bundle,
+    ) {
+        Ok(ready) => {
+            let had = KnownArtifact {
+                digests: slice::from_ref(digest),
+                bytes: None,
+            };
+            judge(alloc, grounds, ready, &had)
+        }
+        Err(e) => Err(e),
+    }
+}
 
 /// Verifies bundles by a provider, an armour and a trust file.
 #[derive(Drop)]
@@ -57,105 +147,13 @@ impl<'p, C: CryptoProvider, M: Armor> Verifier<'p, C, M> {
 
     // What a bundle is judged by at a moment.
     pub(crate) fn grounds(&self, now: Timestamp) -> Grounds<'_, C, M>
-        ensures { (policy : Meaning) → grounds_by C.CryptoProvider M.Armor result ≡ (terms_by C.CryptoProvider M.Armor self.now policy now).grounds }
+        ensures { grounds_by C.CryptoProvider M.Armor result ≡ grounds_at C.CryptoProvider M.Armor self.now now }
     {
         Grounds {
             provider: self.provider,
             armor: self.armor,
             material: &self.material,
             moment: now,
-        }
-    }
-
-    // An artifact that is read.
-    fn judge_read<A: ArtifactSource>(
-        &self,
-        alloc: Global,
-        source: &mut A,
-        max: u64,
-        bundle: &Bundle,
-        policy: PolicyKind<'_>,
-        now: Timestamp,
-    ) -> Result<JudgedBundle, Error>
-        ensures { VerifiesKept (terms_by C.CryptoProvider M.Armor self.now (meaning_of policy.entry) now) bundle.now
-            (A.seen source.old) (A.seen source.new) max result }
-    {
-        match prepare(alloc, ArtifactInput::Read, policy, bundle) {
-            Ok(ready) => match read_digests(alloc, source, max, ready.needed.as_slice()) {
-                Ok(digests) => {
-                    let had = KnownArtifact {
-                        digests: digests.as_slice(),
-                        bytes: None,
-                    };
-                    match judge(alloc, &self.grounds(now), ready, &had) {
-                        Ok(result) => Ok(JudgedBundle { result, digests }),
-                        Err(e) => Err(e),
-                    }
-                }
-                Err(e) => {
-                    drop(ready);
-                    Err(e)
-                }
-            },
-            Err(e) => Err(e),
-        }
-    }
-
-    // An artifact of which all bytes are handed in.
-    fn judge_blob(
-        &self,
-        alloc: Global,
-        bytes: &[u8],
-        bundle: &Bundle,
-        policy: PolicyKind<'_>,
-        now: Timestamp,
-    ) -> Result<VerificationResult, Error>
-        ensures { VerifiesHanded (terms_by C.CryptoProvider M.Armor self.now (meaning_of policy.entry) now) bundle.now (Blob bytes.now) result }
-    {
-        match prepare(alloc, ArtifactInput::Blob, policy, bundle) {
-            Ok(ready) => match digests_in(alloc, bytes, ready.needed.as_slice()) {
-                Ok(digests) => {
-                    let had = KnownArtifact {
-                        digests: digests.as_slice(),
-                        bytes: Some(bytes),
-                    };
-                    judge(alloc, &self.grounds(now), ready, &had)
-                }
-                Err(e) => {
-                    drop(ready);
-                    Err(e)
-                }
-            },
-            Err(e) => Err(e),
-        }
-    }
-
-    // An artifact of which one digest is handed in.
-    fn judge_digest(
-        &self,
-        alloc: Global,
-        digest: &ArtifactDigest,
-        bundle: &Bundle,
-        policy: PolicyKind<'_>,
-        now: Timestamp,
-    ) -> Result<VerificationResult, Error>
-        ensures { VerifiesHanded (terms_by C.CryptoProvider M.Armor self.now (meaning_of policy.entry) now) bundle.now
-            (Digest digest.now.0 digest.now.1) result }
-    {
-        match prepare(
-            alloc,
-            ArtifactInput::Digest(digest.algorithm()),
-            policy,
-            bundle,
-        ) {
-            Ok(ready) => {
-                let had = KnownArtifact {
-                    digests: slice::from_ref(digest),
-                    bytes: None,
-                };
-                judge(alloc, &self.grounds(now), ready, &had)
-            }
-            Err(e) => Err(e),
         }
     }
 
@@ -176,16 +174,17 @@ impl<'p, C: CryptoProvider, M: Armor> Verifier<'p, C, M> {
         &self,
         alloc: Global,
         artifact: Artifact<'_>,
-        bundle: &Bundle,
-        policy: &P,
-        now: Timestamp,
+        case: &Case<'_, P>,
     ) -> Result<VerificationResult, Error>
-        ensures { VerifiesHanded (terms_by C.CryptoProvider M.Armor self.now (P.meant policy.now) now) bundle.now (artifact_of artifact.entry) result }
+        ensures { VerifiesHanded (terms_for C.CryptoProvider M.Armor P.Policy self.now case.now) case.now.bundle.now (artifact_of artifact.entry) result }
     {
+        let grounds = self.grounds(case.moment);
         match artifact {
-            Artifact::Blob(bytes) => self.judge_blob(alloc, bytes, bundle, policy.kind(), now),
+            Artifact::Blob(bytes) => {
+                judge_blob(alloc, &grounds, bytes, case.policy.kind(), case.bundle)
+            }
             Artifact::Digest(digest) => {
-                self.judge_digest(alloc, &digest, bundle, policy.kind(), now)
+                judge_digest(alloc, &grounds, &digest, case.policy.kind(), case.bundle)
             }
         }
     }
@@ -198,14 +197,20 @@ impl<'p, C: CryptoProvider, M: Armor> Verifier<'p, C, M> {
         alloc: Global,
         source: &mut A,
         max: u64,
-        bundle: &Bundle,
-        policy: &P,
-        now: Timestamp,
+        case: &Case<'_, P>,
     ) -> Result<JudgedBundle, Error>
-        ensures { VerifiesKept (terms_by C.CryptoProvider M.Armor self.now (P.meant policy.now) now) bundle.now
+        ensures { VerifiesKept (terms_for C.CryptoProvider M.Armor P.Policy self.now case.now) case.now.bundle.now
             (A.seen source.old) (A.seen source.new) max result }
     {
-        self.judge_read(alloc, source, max, bundle, policy.kind(), now)
+        let grounds = self.grounds(case.moment);
+        judge_read(
+            alloc,
+            &grounds,
+            source,
+            max,
+            case.policy.kind(),
+            case.bundle,
+        )
     }
 
     /// Reads the artifact to its end and verifies the bundle over it. Errors as `verify_reader_kept`.
@@ -214,14 +219,12 @@ impl<'p, C: CryptoProvider, M: Armor> Verifier<'p, C, M> {
         alloc: Global,
         source: &mut A,
         max: u64,
-        bundle: &Bundle,
-        policy: &P,
-        now: Timestamp,
+        case: &Case<'_, P>,
     ) -> Result<VerificationResult, Error>
-        ensures { Verifies (terms_by C.CryptoProvider M.Armor self.now (P.meant policy.now) now) bundle.now
+        ensures { Verifies (terms_for C.CryptoProvider M.Armor P.Policy self.now case.now) case.now.bundle.now
             (A.seen source.old) (A.seen source.new) max result }
     {
-        let kept = self.verify_reader_kept(alloc, source, max, bundle, policy, now)?;
+        let kept = self.verify_reader_kept(alloc, source, max, case)?;
         Ok(kept.result)
     }
 }
@@ -230,17 +233,14 @@ impl<'p, C: CryptoProvider, M: Armor> Verifier<'p, C, M> {
 /// `Verifier::new`, then those of `Verifier::verify`.
 pub fn verify<P: Policy, C: CryptoProvider, M: Armor>(
     alloc: Global,
-    provider: &C,
-    armor: &M,
-    artifact: Artifact<'_>,
-    bundle: &Bundle,
-    policy: &P,
+    providers: &Providers<'_, C, M>,
     trusted_root: &TrustedRoot,
-    now: Timestamp,
+    artifact: Artifact<'_>,
+    case: &Case<'_, P>,
 ) -> Result<VerificationResult, Error>
-    ensures { VerifiesUnder (crypto_by C.CryptoProvider M.Armor provider.now armor.now) now (P.meant policy.now) trusted_root.now bundle.now
-        (artifact_of artifact.entry) result }
+    ensures { VerifiesUnder (crypto_with C.CryptoProvider M.Armor providers.now) case.now.moment (P.meant case.now.policy.now) trusted_root.now
+        case.now.bundle.now (artifact_of artifact.entry) result }
 {
-    let verifier = Verifier::new(alloc, provider, armor, trusted_root)?;
-    Ok(verifier.verify(alloc, artifact, bundle, policy, now)?)
+    let verifier = Verifier::new(alloc, providers.provider, providers.armor, trusted_root)?;
+    Ok(verifier.verify(alloc, artifact, case)?)
 }

@@ -16,7 +16,7 @@ returns-in-Ok-clause-ok g c policy =
     let given : given_of ready.needed digest ≡ Ok tt =
     ap (λ l. given_of l digest) (sym c.as_slice.ensures) ∙ sym c.in-Ok.ensures.exact in
     subst (λ (x : Result VerificationResult Error). IfOk c.judge.result (λ report. x ≡ Ok report))
-    (ap (λ (grounds : Grounds). judged_had grounds ready bundle digest None) (c.grounds.ensures policy)
+    (ap (λ (grounds : Grounds). judged_had grounds ready bundle digest None) c.grounds.ensures
     ∙ sym (given_steps (terms_by g.C.CryptoProvider g.M.Armor c.args.self.now policy c.args.now).grounds ready bundle digest given))
     c.judge.ensures.ok
 
@@ -28,6 +28,6 @@ returns-in-Ok-clause-err g c policy =
     let given : given_of ready.needed digest ≡ Ok tt =
     ap (λ l. given_of l digest) (sym c.as_slice.ensures) ∙ sym c.in-Ok.ensures.exact in
     subst (λ (x : Result VerificationResult Error). IfErr c.judge.result (λ e. e ≢ NoMemory → x ≡ Err e))
-    (ap (λ (grounds : Grounds). judged_had grounds ready bundle digest None) (c.grounds.ensures policy)
+    (ap (λ (grounds : Grounds). judged_had grounds ready bundle digest None) c.grounds.ensures
     ∙ sym (given_steps (terms_by g.C.CryptoProvider g.M.Armor c.args.self.now policy c.args.now).grounds ready bundle digest given))
     c.judge.ensures.err

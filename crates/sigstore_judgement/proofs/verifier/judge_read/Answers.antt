@@ -6,29 +6,28 @@ use Rattle.sigstore_keys.specs.Digest.{is_hashed}
 use Rattle.sigstore_judgement.specs.declared.error.Error.{Error}
 use Rattle.sigstore_judgement.specs.declared.report.VerificationResult.{VerificationResult}
 use Rattle.sigstore_judgement.specs.Artifact.{read_kind, digest_among}
-use Rattle.sigstore_judgement.specs.Grounds.{Grounds, grounds_by, terms_by}
+use Rattle.sigstore_judgement.specs.Grounds.{Grounds, grounds_by, terms_over}
 use Rattle.sigstore_judgement.specs.Judged.{ready_as, bundle_in, judged_had}
-use Rattle.sigstore_judgement.specs.Policy.{meaning_of}
+use Rattle.sigstore_policy.specs.Policy.{meaning_of}
 use Rattle.sigstore_judgement.specs.Taking.{Takes}
 use Rattle.sigstore_judgement.proofs.Stages.{judging_accepted, judging_refused, reading_refused, prepared_hashed}
-use Rattle.sigstore_judgement.proofs.verifier.Verifier.judge_read.Goals as goal
+use Rattle.sigstore_judgement.proofs.verifier.judge_read.Goals as goal
 
 pub returns-in-Ok-judge : goal.returns-in-Ok-judge
 returns-in-Ok-judge g c =
     let before = g.A.ArtifactSource.seen c.args.source.now in
     let after = g.A.ArtifactSource.seen c.read_digests.new.source in
-    let terms = terms_by g.C.CryptoProvider g.M.Armor c.args.self.now (meaning_of c.args.policy) c.args.now in
+    let terms = terms_over (grounds_by g.C.CryptoProvider g.M.Armor c.args.grounds.now) (meaning_of c.args.policy) in
     let ready = ready_as c.in-Ok.ready in
     let digests = c.in-Ok-read_digests.digests in
     let hashed : list_all is_hashed c.as_slice.result.now ≡ true =
     ap (list_all is_hashed) c.as_slice.ensures ∙ prepared_hashed read_kind terms.policy c.args.bundle.now ready refl c.in-Ok.ensures.ok in
     let judges : Grounds → Bundle → List (HashAlgorithm × List ℕ) → Result VerificationResult Error =
     λ grounds bundle taken. judged_had grounds ready bundle (digest_among taken) None in
-    let at = grounds_by g.C.CryptoProvider g.M.Armor c.grounds.result in
+    let at = grounds_by g.C.CryptoProvider g.M.Armor c.args.grounds.now in
     judging_accepted terms c.args.bundle.now before after c.args.max ready digests c.in-Ok-judge.result c.in-Ok.ensures.ok
     (subst (λ l. Takes before after c.args.max l (Ok digests)) c.as_slice.ensures (c.in-Ok-read_digests.ensures hashed)) (
-    ap (λ grounds. judges grounds c.args.bundle.now digests) (sym (c.grounds.ensures (meaning_of c.args.policy)))
-    ∙ ap (λ bundle. judges at bundle digests) (sym c.in-Ok.ensures.bundle)
+    ap (λ bundle. judges at bundle digests) (sym c.in-Ok.ensures.bundle)
     ∙ ap (judges at (bundle_in c.in-Ok.ready)) (sym c.as_slice-in-Ok-read_digests.ensures)
     ∙ c.in-Ok-judge.ensures.ok
     )
@@ -37,18 +36,17 @@ pub returns-in-Err-judge : goal.returns-in-Err-judge
 returns-in-Err-judge g c =
     let before = g.A.ArtifactSource.seen c.args.source.now in
     let after = g.A.ArtifactSource.seen c.read_digests.new.source in
-    let terms = terms_by g.C.CryptoProvider g.M.Armor c.args.self.now (meaning_of c.args.policy) c.args.now in
+    let terms = terms_over (grounds_by g.C.CryptoProvider g.M.Armor c.args.grounds.now) (meaning_of c.args.policy) in
     let ready = ready_as c.in-Ok.ready in
     let digests = c.in-Ok-read_digests.digests in
     let hashed : list_all is_hashed c.as_slice.result.now ≡ true =
     ap (list_all is_hashed) c.as_slice.ensures ∙ prepared_hashed read_kind terms.policy c.args.bundle.now ready refl c.in-Ok.ensures.ok in
     let judges : Grounds → Bundle → List (HashAlgorithm × List ℕ) → Result VerificationResult Error =
     λ grounds bundle taken. judged_had grounds ready bundle (digest_among taken) None in
-    let at = grounds_by g.C.CryptoProvider g.M.Armor c.grounds.result in
+    let at = grounds_by g.C.CryptoProvider g.M.Armor c.args.grounds.now in
     judging_refused terms c.args.bundle.now before after c.args.max ready digests c.in-Err-judge.e c.in-Ok.ensures.ok
     (subst (λ l. Takes before after c.args.max l (Ok digests)) c.as_slice.ensures (c.in-Ok-read_digests.ensures hashed)) (λ other.
-    ap (λ grounds. judges grounds c.args.bundle.now digests) (sym (c.grounds.ensures (meaning_of c.args.policy)))
-    ∙ ap (λ bundle. judges at bundle digests) (sym c.in-Ok.ensures.bundle)
+    ap (λ bundle. judges at bundle digests) (sym c.in-Ok.ensures.bundle)
     ∙ ap (judges at (bundle_in c.in-Ok.ready)) (sym c.as_slice-in-Ok-read_digests.ensures)
     ∙ c.in-Err-judge.ensures.err other
     )
@@ -57,7 +55,7 @@ pub returns-in-Err-read_digests : goal.returns-in-Err-read_digests
 returns-in-Err-read_digests g c =
     let before = g.A.ArtifactSource.seen c.args.source.now in
     let after = g.A.ArtifactSource.seen c.read_digests.new.source in
-    let terms = terms_by g.C.CryptoProvider g.M.Armor c.args.self.now (meaning_of c.args.policy) c.args.now in
+    let terms = terms_over (grounds_by g.C.CryptoProvider g.M.Armor c.args.grounds.now) (meaning_of c.args.policy) in
     let ready = ready_as c.in-Ok.ready in
     let hashed : list_all is_hashed c.as_slice.result.now ≡ true =
     ap (list_all is_hashed) c.as_slice.ensures ∙ prepared_hashed read_kind terms.policy c.args.bundle.now ready refl c.in-Ok.ensures.ok in
