@@ -1,8 +1,8 @@
 //! A caller of `sigstore_judgement`.
 use jiff::Timestamp;
-use sigstore_judgement::{Error, Policy, VerificationResult, Verifier};
+use sigstore_judgement::{Case, Error, Policy, VerificationResult, Verifier, read_trust};
 use sigstore_keys::CryptoProvider;
-use sigstore_types::{Bundle, TrustedRoot};
+use sigstore_types::Bundle;
 use sigstore_types_parts::{Armor, Artifact, TypesError};
 use std::alloc::Global;
 
@@ -13,10 +13,9 @@ pub fn verifier_of<'p, C: CryptoProvider, M: Armor>(
     armor: &'p M,
     trust_file: &[u8],
 ) -> Result<Verifier<'p, C, M>, Error> {
-    match TrustedRoot::from_json(alloc, trust_file) {
+    match read_trust(alloc, trust_file) {
         Ok(trusted) => Verifier::new(alloc, provider, armor, &trusted),
-        Err(TypesError::NoMemory) => Err(Error::NoMemory),
-        Err(_) => Err(Error::TrustRoot),
+        Err(fault) => Err(fault),
     }
 }
 
@@ -30,7 +29,14 @@ pub fn check_release<C: CryptoProvider, M: Armor, P: Policy>(
     now: Timestamp,
 ) -> Result<VerificationResult, Error> {
     match Bundle::from_json(alloc, bundle) {
-        Ok(bundle) => verifier.verify(alloc, Artifact::Blob(artifact), &bundle, policy, now),
+        Ok(bundle) => {
+            let case = Case {
+                bundle: &bundle,
+                policy,
+                moment: now,
+            };
+            verifier.verify(alloc, Artifact::Blob(artifact), &case)
+        }
         Err(TypesError::NoMemory) => Err(Error::NoMemory),
         Err(_) => Err(Error::InvalidBundle),
     }

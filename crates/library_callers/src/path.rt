@@ -1,7 +1,7 @@
 //! A caller of `path_core`.
 use foundation::Sequence;
 use jiff::Timestamp;
-use path_core::{Anchor, PathError, Purpose, Steps, find_path};
+use path_core::{Anchor, PathError, PathRequest, Purpose, Steps, find_path};
 use sigstore_keys::CryptoProvider;
 use sigstore_types_parts::{Bytes, DerCertificate};
 use std::alloc::Global;
@@ -24,17 +24,15 @@ pub fn issuer_key<C: CryptoProvider>(
     roots: &[Anchor],
     at: Timestamp,
 ) -> Result<Bytes, PathError> {
-    let purpose = Purpose::CodeSigning;
-    let mut steps = Steps::new();
-    let path = find_path(
-        alloc,
+    let request = PathRequest {
         provider,
         leaf,
         intermediates,
-        roots,
-        purpose,
+        anchors: roots,
+        purpose: Purpose::CodeSigning,
         at,
-        &mut steps,
-    )?;
+    };
+    let mut steps = Steps::new();
+    let path = find_path(alloc, &request, &mut steps)?;
     Ok(path.issuer_spki)
 }

@@ -3,6 +3,7 @@ use jiff::Timestamp;
 use sigstore_keys::CryptoProvider;
 use sigstore_tuf::{Error, MetadataStore, Repository, Updater};
 use sigstore_types_parts::{Armor, Bytes};
+use sigstore_verify::Anchor;
 use std::alloc::Global;
 
 fn file_by<C: CryptoProvider, M: Armor, R: Repository, S: MetadataStore>(
@@ -18,17 +19,15 @@ fn file_by<C: CryptoProvider, M: Armor, R: Repository, S: MetadataStore>(
 /// The newest file of a target in a repository, trusted from this root on; the store keeps what was adopted.
 pub fn newest_file<C: CryptoProvider, M: Armor, R: Repository, S: MetadataStore>(
     alloc: Global,
-    provider: &C,
-    armor: &M,
-    root: &[u8],
+    anchor: &Anchor<'_, C, M>,
     repo: &mut R,
     store: &mut S,
     path: &str,
-    now: Timestamp,
 ) -> Result<Bytes, Error> {
-    let client = Updater::<C, M, R, S>::new(alloc, provider, armor, repo, root)?;
+    let (provider, armor) = (anchor.providers.provider, anchor.providers.armor);
+    let client = Updater::<C, M, R, S>::new(alloc, provider, armor, repo, anchor.root)?;
     let mut client = client.with_store(alloc, store)?;
-    let file = file_by(alloc, &mut client, path, now);
+    let file = file_by(alloc, &mut client, path, anchor.now);
     drop(client);
     file
 }

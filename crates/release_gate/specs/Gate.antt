@@ -10,7 +10,7 @@ use Rattle.sigstore_judgement.specs.declared.error.Error.{Error}
 use Rattle.sigstore_judgement.specs.declared.error.Error.TheVariants as verify
 use Rattle.sigstore_judgement.specs.declared.trust.Material.{Material}
 use Rattle.sigstore_judgement.specs.Grounds.{Terms, terms_with}
-use Rattle.sigstore_judgement.specs.Policy.{Meaning}
+use Rattle.sigstore_policy.specs.Policy.{Meaning}
 use Rattle.sigstore_judgement.specs.Trust.{material_of}
 use Rattle.sigstore_judgement.specs.Under.{trust_of}
 use Rattle.sigstore_verify.specs.Cause.{ChainCause}
@@ -33,6 +33,9 @@ pub record GateInputs : Type 0 where
   pub anchor : Anchor
   pub policy : Meaning
   pub max : ℕ
+
+abbrev pub gate_inputs_by : Anchor → Meaning → ℕ → GateInputs
+gate_inputs_by anchor policy max = record { anchor = anchor; policy = policy; max = max }
 
 -- the outside at one moment
 pub record Outside : Type 0 where

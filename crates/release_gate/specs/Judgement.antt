@@ -5,7 +5,7 @@ use Rattle.sigstore_keys.specs.declared.provider.CryptoProvider as provider
 use Rattle.sigstore_keys.specs.declared.reader.ReadError.TheVariants.{Failed, TooLong}
 use Rattle.sigstore_judgement.specs.declared.error.Error.{Error}
 use Rattle.sigstore_judgement.specs.declared.error.Error.TheVariants.{ArtifactRead}
-use Rattle.sigstore_judgement.specs.declared.policy.Policy as policy
+use Rattle.sigstore_policy.specs.declared.policy.Policy as policy
 use Rattle.sigstore_judgement.specs.Grounds.{Terms, terms_by}
 use Rattle.release_gate.specs.declared.judgement.Judgement.{Judgement}
 use Rattle.release_gate.specs.declared.line.Verdict.{Verdict}

@@ -13,7 +13,8 @@ use Rattle.release_gate.specs.declared.gate.GateFault.TheVariants as gate
 use Rattle.release_gate.specs.declared.gate.Gated.{Gated}
 use Rattle.release_gate.specs.declared.line.GateLine.{GateLine}
 use Rattle.release_gate.specs.Folder.{Contents}
-use Rattle.release_gate.specs.Gate.{GateInputs, Outside, places_in, kept_of, terms_of, fault_of_tuf, fault_of_trust, gated_under, IsGated, GateCause, JudgesUnder}
+use Rattle.release_gate.specs.Gate.{GateInputs, Outside, places_in, kept_of, terms_of, fault_of_tuf, fault_of_trust, gated_under, IsGated}
+use Rattle.release_gate.specs.Gate.{GateCause, JudgesUnder}
 use Rattle.release_gate.specs.Names.{max_names, AreOnce}
 
 -- Nothing outside fails: a chain is offered whose file is usable as the trust file, and the folder tells its files, of which it lists few,

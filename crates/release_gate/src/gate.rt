@@ -1,11 +1,9 @@
 // The gate: from a pinned root down to each artifact of a folder.
 ghost use Rattle.std.specs.Prelude.{◌≡◌, ◌≢◌, Ok, Err, IfOk, IfErr};
 ghost use Rattle.sigstore_types_parts.specs.Entries.{text_cmp};
-ghost use Rattle.sigstore_keys.specs.Crypto.{crypto_by};
 ghost use Rattle.sigstore_judgement.specs.Grounds.{terms_by};
-ghost use Rattle.sigstore_verify.specs.Inputs.{Anchor};
-ghost use Rattle.sigstore_judgement.specs.Under.{trust_of};
-ghost use Rattle.release_gate.specs.Gate.{GateInputs, Outside, kept_of, fault_of_tuf, fault_of_trust, fault_of_stop, JudgesUnder};
+ghost use Rattle.sigstore_verify.specs.Inputs.{anchor_with};
+ghost use Rattle.release_gate.specs.Gate.{gate_inputs_by, outside_by, kept_of, fault_of_tuf, fault_of_trust, fault_of_stop, JudgesUnder};
 ghost use Rattle.release_gate.specs.Rests.{WalksUnder, Rests, AdmitsOn};
 ghost use Rattle.release_gate.specs.Promises.{Promises};
 
@@ -15,12 +13,11 @@ use crate::line::GateLine;
 use crate::walk::{FolderStop, judge_folder};
 use foundation::Sequence;
 use jiff::Timestamp;
-use sigstore_judgement::{Error, Policy, Verifier};
-use sigstore_keys::CryptoProvider;
-use sigstore_tuf::{MetadataStore, Repository, TrustChain, UpdaterConfig};
-use sigstore_types::TrustedRoot;
-use sigstore_types_parts::{Armor, Text, TypesError};
-use sigstore_verify::chain_from_root;
+use sigstore_judgement::{Error, Policy, Verifier, read_trust};
+use sigstore_keys::{CryptoProvider, Providers};
+use sigstore_tuf::{MetadataStore, Repository, TrustChain};
+use sigstore_types_parts::{Armor, Text};
+use sigstore_verify::{Anchor, chain_from_root};
 use std::alloc::Global;
 use std::fmt;
 
@@ -84,33 +81,20 @@ fn fault_of_stop(stop: FolderStop) -> GateFault
     }
 }
 
-// The trust file.
-fn read_trust(alloc: Global, file: &[u8]) -> Result<TrustedRoot, Error>
-    ensures ok { IfOk result (λ trust. trust_of file.now ≡ Ok trust) }
-    ensures err { IfErr result (λ e. e ≢ Error.NoMemory → trust_of file.now ≡ Err e) }
-{
-    match TrustedRoot::from_json(alloc, file) {
-        Ok(trust) => Ok(trust),
-        Err(TypesError::NoMemory) => Err(Error::NoMemory),
-        Err(_) => Err(Error::TrustRoot),
-    }
-}
-
 // A verifier over a trust file. Errors: `TrustRoot` for its bytes, then those of `Verifier::new`.
 fn verifier_over<'p, C: CryptoProvider, M: Armor>(
     alloc: Global,
-    provider: &'p C,
-    armor: &'p M,
+    providers: &Providers<'p, C, M>,
     file: &[u8],
 ) -> Result<Verifier<'p, C, M>, Error>
-    ensures provider { IfOk result (λ verifier. verifier.provider.now ≡ provider.now) }
-    ensures armor { IfOk result (λ verifier. verifier.armor.now ≡ armor.now) }
+    ensures provider { IfOk result (λ verifier. verifier.provider.now ≡ providers.now.provider.now) }
+    ensures armor { IfOk result (λ verifier. verifier.armor.now ≡ providers.now.armor.now) }
     ensures kept { IfOk result (λ verifier. kept_of file.now ≡ Ok verifier.material) }
     ensures err { IfErr result (λ e. e ≢ Error.NoMemory → kept_of file.now ≡ Err e) }
 {
     match read_trust(alloc, file) {
         Ok(trust) => {
-            let verifier = Verifier::new(alloc, provider, armor, &trust);
+            let verifier = Verifier::new(alloc, providers.provider, providers.armor, &trust);
             drop(trust);
             verifier
         }
@@ -157,43 +141,30 @@ pub fn gate_from_root<
     M: Armor,
 >(
     alloc: Global,
-    provider: &C,
-    armor: &M,
-    root_bytes: &[u8],
+    anchor: &Anchor<'_, C, M>,
     repo: &mut R,
     store: &mut S,
-    config: UpdaterConfig,
-    now: Timestamp,
     folder: &mut D,
     max_artifact: u64,
     policy: &P,
 ) -> Result<Gated, GateFault>
-    ensures promises { let crypto = crypto_by C.CryptoProvider M.Armor provider.now armor.now in
-        let anchor : Anchor = record { crypto = crypto; root = root_bytes.now; config = config; now = now } in
-        let given : GateInputs = record { anchor = anchor; policy = P.meant policy.now; max = max_artifact } in
-        let before : Outside = record { repo = R.seen repo.old; store = S.seen store.old; folder = D.seen folder.old } in
-        let after : Outside = record { repo = R.seen repo.new; store = S.seen store.new; folder = D.seen folder.new } in
-        Promises given before after result }
-    ensures rests { let crypto = crypto_by C.CryptoProvider M.Armor provider.now armor.now in
-        let anchor : Anchor = record { crypto = crypto; root = root_bytes.now; config = config; now = now } in
-        let given : GateInputs = record { anchor = anchor; policy = P.meant policy.now; max = max_artifact } in
-        Rests D.gave folder.old folder.new given result }
-    ensures admitted { let crypto = crypto_by C.CryptoProvider M.Armor provider.now armor.now in
-        let anchor : Anchor = record { crypto = crypto; root = root_bytes.now; config = config; now = now } in
-        let given : GateInputs = record { anchor = anchor; policy = P.meant policy.now; max = max_artifact } in
-        IfOk result (AdmitsOn D.gave given) }
+    ensures promises { Promises (gate_inputs_by (anchor_with C.CryptoProvider M.Armor anchor.entry.now) (P.meant policy.now) max_artifact)
+        (outside_by (R.seen repo.old) (S.seen store.old) (D.seen folder.old))
+        (outside_by (R.seen repo.new) (S.seen store.new) (D.seen folder.new)) result }
+    ensures rests { Rests D.gave folder.old folder.new
+        (gate_inputs_by (anchor_with C.CryptoProvider M.Armor anchor.entry.now) (P.meant policy.now) max_artifact) result }
+    ensures admitted { IfOk result (AdmitsOn D.gave
+        (gate_inputs_by (anchor_with C.CryptoProvider M.Armor anchor.entry.now) (P.meant policy.now) max_artifact)) }
 {
-    let chain = match chain_from_root(
-        alloc, provider, armor, root_bytes, repo, store, &config, now,
-    ) {
+    let chain = match chain_from_root(alloc, anchor, repo, store) {
         Ok(chain) => chain,
         Err(e) => return Err(fault_of_tuf(e)),
     };
-    let verifier = match verifier_over(alloc, provider, armor, chain.file.as_bytes()) {
+    let verifier = match verifier_over(alloc, &anchor.providers, chain.file.as_bytes()) {
         Ok(verifier) => verifier,
         Err(fault) => return Err(fault_of_trust(fault, chain)),
     };
-    match judge_under(alloc, &verifier, folder, max_artifact, policy, now) {
+    match judge_under(alloc, &verifier, folder, max_artifact, policy, anchor.now) {
         Ok(lines) => {
             drop(verifier);
             Ok(Gated { chain, lines })

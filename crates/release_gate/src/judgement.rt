@@ -123,7 +123,8 @@ impl<'j, 'p, C: CryptoProvider, M: Armor, P: Policy> Judgement<'j, 'p, C, M, P> 
         name: &str,
         file: &[u8],
     ) -> Result<Verdict, FolderStop>
-        ensures judges { Judges (λ files name bytes. by_bundle (terms_in C.CryptoProvider M.Armor P.Policy self.now) self.now.max bytes (bundle_of_bytes file.now))
+        ensures judges { Judges (λ files name bytes. by_bundle (terms_in C.CryptoProvider M.Armor P.Policy self.now) self.now.max bytes
+            (bundle_of_bytes file.now))
             (D.seen folder.old) (D.seen folder.new) name.now result }
         ensures rests { Reads D.gave (λ bytes. by_bundle (terms_in C.CryptoProvider M.Armor P.Policy self.now) self.now.max bytes (bundle_of_bytes file.now))
             self.now.max name.now folder.old folder.new result }

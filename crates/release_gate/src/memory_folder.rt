@@ -100,11 +100,14 @@ impl Folder for MemoryFolder {
     ghost gave = { λ d call e. Answers (told_contents d.files d.calls.faults) call (told_contents e.files e.calls.faults) };
 
     fn names(&mut self, alloc: Global) -> Result<Vec<Text>, FolderFault>
-        ensures lists { Lists (λ names. names.items) (told_contents self.old.files self.old.calls.faults) (told_contents self.new.files self.new.calls.faults) result }
+        ensures lists { Lists (λ names. names.items) (told_contents self.old.files self.old.calls.faults)
+            (told_contents self.new.files self.new.calls.faults) result }
         ensures failures { self.new.calls.failures ≡ self.old.calls.failures }
         ensures made { self.new.calls.made ≡ min (self.old.calls.made + 1) (2 ^ 64 - 1) }
-        ensures fails { fails_next self.old.calls.failures self.old.calls.made ≡ true → (result ≡ Err Failed) × Rose self.old.calls.faults self.new.calls.faults }
-        ensures serves { fails_next self.old.calls.failures self.old.calls.made ≡ false → (result ≢ Err Failed) × (self.new.calls.faults ≡ self.old.calls.faults) }
+        ensures fails { fails_next self.old.calls.failures self.old.calls.made ≡ true →
+            (result ≡ Err Failed) × Rose self.old.calls.faults self.new.calls.faults }
+        ensures serves { fails_next self.old.calls.failures self.old.calls.made ≡ false →
+            (result ≢ Err Failed) × (self.new.calls.faults ≡ self.old.calls.faults) }
         ensures never { self.old.calls.failures ≡ [] → self.new.calls.faults ≡ self.old.calls.faults }
     {
         if self.calls.next_fails() {
@@ -119,11 +122,14 @@ impl Folder for MemoryFolder {
         name: &str,
         max: u64,
     ) -> Result<Option<Bytes>, FolderFault>
-        ensures reads { ReadsBundle (told_contents self.old.files self.old.calls.faults) (told_contents self.new.files self.new.calls.faults) name.now max result }
+        ensures reads { ReadsBundle (told_contents self.old.files self.old.calls.faults)
+            (told_contents self.new.files self.new.calls.faults) name.now max result }
         ensures failures { self.new.calls.failures ≡ self.old.calls.failures }
         ensures made { self.new.calls.made ≡ min (self.old.calls.made + 1) (2 ^ 64 - 1) }
-        ensures fails { fails_next self.old.calls.failures self.old.calls.made ≡ true → (result ≡ Err Failed) × Rose self.old.calls.faults self.new.calls.faults }
-        ensures serves { fails_next self.old.calls.failures self.old.calls.made ≡ false → (result ≢ Err Failed) × (self.new.calls.faults ≡ self.old.calls.faults) }
+        ensures fails { fails_next self.old.calls.failures self.old.calls.made ≡ true →
+            (result ≡ Err Failed) × Rose self.old.calls.faults self.new.calls.faults }
+        ensures serves { fails_next self.old.calls.failures self.old.calls.made ≡ false →
+            (result ≢ Err Failed) × (self.new.calls.faults ≡ self.old.calls.faults) }
         ensures never { self.old.calls.failures ≡ [] → self.new.calls.faults ≡ self.old.calls.faults }
     {
         if self.calls.next_fails() {
@@ -133,10 +139,12 @@ impl Folder for MemoryFolder {
     }
 
     fn read_at(&mut self, name: &str, offset: u64, buf: &mut [u8]) -> Result<usize, FolderFault>
-        ensures reads { ReadsAt (told_contents self.old.files self.old.calls.faults) (told_contents self.new.files self.new.calls.faults) name.now offset buf.new result }
+        ensures reads { ReadsAt (told_contents self.old.files self.old.calls.faults)
+            (told_contents self.new.files self.new.calls.faults) name.now offset buf.new result }
         ensures failures { self.new.calls.failures ≡ self.old.calls.failures }
         ensures made { self.new.calls.made ≡ min (self.old.calls.made + 1) (2 ^ 64 - 1) }
-        ensures fails { fails_next self.old.calls.failures self.old.calls.made ≡ true → (result ≡ Err Failed) × Rose self.old.calls.faults self.new.calls.faults }
+        ensures fails { fails_next self.old.calls.failures self.old.calls.made ≡ true →
+            (result ≡ Err Failed) × Rose self.old.calls.faults self.new.calls.faults }
         ensures serves { fails_next self.old.calls.failures self.old.calls.made ≡ false → IsSome (at_name name.now self.old.files)
             → (result ≢ Err Failed) × (self.new.calls.faults ≡ self.old.calls.faults) }
     {

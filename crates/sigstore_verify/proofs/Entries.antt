@@ -10,7 +10,7 @@ use Rattle.sigstore_judgement.specs.declared.evidence.Evidence.{Evidence}
 use Rattle.sigstore_judgement.specs.Accepts.{AreLogged, Vouches}
 use Rattle.sigstore_judgement.specs.Entries.{IsLogged, Describes}
 use Rattle.sigstore_judgement.specs.Grounds.{Grounds}
-use Rattle.sigstore_judgement.specs.Policy.{Meaning, Certificate, PublicKey, asks_log}
+use Rattle.sigstore_policy.specs.Policy.{Meaning, Certificate, PublicKey, asks_log}
 use Rattle.sigstore_judgement.specs.Signer.{Signer, Managed, Certified, verifies_log, IsSigner}
 use Rattle.sigstore_verify.specs.OnePlace.{Admitted}
 

@@ -22,7 +22,7 @@ use Rattle.sigstore_judgement.specs.declared.report.VerificationResult.{Verifica
 use Rattle.sigstore_judgement.specs.Accepts.{Accepts}
 use Rattle.sigstore_judgement.specs.Artifact.{Artifact, digest_of}
 use Rattle.sigstore_judgement.specs.Grounds.{Terms}
-use Rattle.sigstore_judgement.specs.Policy.{asks_log}
+use Rattle.sigstore_policy.specs.Policy.{asks_log}
 
 -- ---- an entry at its place
 

@@ -1,12 +1,12 @@
 // The chain of documents that authorises the trust file, from a pinned root.
 ghost use Rattle.std.specs.Prelude.{◌≡◌, ℕ, List, Ok};
-ghost use Rattle.sigstore_keys.specs.Crypto.{crypto_by};
 ghost use Rattle.sigstore_tuf_rules.specs.Update.{first_root_of};
 ghost use Rattle.sigstore_tuf_rules.specs.Authorised.{crypto_in};
 ghost use Rattle.sigstore_verify.specs.FromRoot.{GivesChain};
-ghost use Rattle.sigstore_verify.specs.Inputs.{anchor_by, places_by};
+ghost use Rattle.sigstore_verify.specs.Inputs.{anchor_by, anchor_with, places_by};
 ghost use Rattle.sigstore_verify.specs.Promises.{PromisesChain};
 
+use crate::anchor::Anchor;
 use jiff::Timestamp;
 use sigstore_keys::CryptoProvider;
 use sigstore_tuf::{
@@ -48,21 +48,21 @@ fn chain_by<C: CryptoProvider, M: Armor, R: Repository, S: MetadataStore>(
 // The chain of documents that authorises the trust file.
 fn trust_chain<C: CryptoProvider, M: Armor, R: Repository, S: MetadataStore>(
     alloc: Global,
-    provider: &C,
-    armor: &M,
-    root_bytes: &[u8],
+    anchor: &Anchor<'_, C, M>,
     repo: &mut R,
     store: &mut S,
-    config: &UpdaterConfig,
-    now: Timestamp,
 ) -> Result<TrustChain, sigstore_tuf_parts::Error>
-    ensures { let crypto = crypto_by C.CryptoProvider M.Armor provider.now armor.now in
-        GivesChain (anchor_by crypto root_bytes.now config.now now)
+    ensures { GivesChain (anchor_with C.CryptoProvider M.Armor anchor.entry.now)
         (R.seen repo.old) (R.seen repo.new) (S.seen store.old) (S.seen store.new) result }
 {
-    match TrustedMetadataSet::from_root(alloc, provider, armor, root_bytes) {
+    match TrustedMetadataSet::from_root(
+        alloc,
+        anchor.providers.provider,
+        anchor.providers.armor,
+        anchor.root,
+    ) {
         Ok(mut set) => {
-            let given = chain_by(alloc, &mut set, repo, store, config, now);
+            let given = chain_by(alloc, &mut set, repo, store, &anchor.config, anchor.now);
             drop(set);
             given
         }
@@ -76,17 +76,12 @@ fn trust_chain<C: CryptoProvider, M: Armor, R: Repository, S: MetadataStore>(
 /// believed unsigned, and a fault of it is none.
 pub fn chain_from_root<R: Repository, S: MetadataStore, C: CryptoProvider, M: Armor>(
     alloc: Global,
-    provider: &C,
-    armor: &M,
-    root_bytes: &[u8],
+    anchor: &Anchor<'_, C, M>,
     repo: &mut R,
     store: &mut S,
-    config: &UpdaterConfig,
-    now: Timestamp,
 ) -> Result<TrustChain, sigstore_tuf_parts::Error>
-    ensures { let crypto = crypto_by C.CryptoProvider M.Armor provider.now armor.now in
-        PromisesChain (anchor_by crypto root_bytes.now config.now now) (places_by (R.seen repo.old) (S.seen store.old))
+    ensures { PromisesChain (anchor_with C.CryptoProvider M.Armor anchor.entry.now) (places_by (R.seen repo.old) (S.seen store.old))
         (places_by (R.seen repo.new) (S.seen store.new)) result }
 {
-    trust_chain(alloc, provider, armor, root_bytes, repo, store, config, now)
+    trust_chain(alloc, anchor, repo, store)
 }

@@ -1,16 +1,15 @@
 // The top call: from a pinned root down to one artifact.
 ghost use Rattle.std.specs.Prelude.{◌≡◌};
-ghost use Rattle.sigstore_keys.specs.Crypto.{crypto_by};
 ghost use Rattle.sigstore_verify.specs.FromRoot.{root_of_tuf, root_of_verify};
-ghost use Rattle.sigstore_verify.specs.Inputs.{anchor_by, inputs_by, outside_by};
+ghost use Rattle.sigstore_verify.specs.Inputs.{anchor_with, inputs_with, outside_by};
 ghost use Rattle.sigstore_verify.specs.Promises.{Promises};
 
+use crate::anchor::Anchor;
 use crate::chain::chain_from_root;
 use foundation::{Duplicate, NoMemory, Sequence};
-use jiff::Timestamp;
-use sigstore_judgement::{Error, JudgedBundle, Policy, VerificationResult, judge_bundle};
+use sigstore_judgement::{Asked, Error, JudgedBundle, Policy, VerificationResult, judge_bundle};
 use sigstore_keys::{ArtifactSource, CryptoProvider};
-use sigstore_tuf::{MetadataStore, Repository, TrustChain, UpdaterConfig};
+use sigstore_tuf::{MetadataStore, Repository, TrustChain};
 use sigstore_types_parts::{Armor, ArtifactDigest};
 use std::alloc::Global;
 use std::fmt;
@@ -82,39 +81,27 @@ pub fn verify_from_root<
     M: Armor,
 >(
     alloc: Global,
-    provider: &C,
-    armor: &M,
-    root_bytes: &[u8],
+    anchor: &Anchor<'_, C, M>,
     repo: &mut R,
     store: &mut S,
-    config: UpdaterConfig,
-    now: Timestamp,
-    bundle_bytes: &[u8],
     artifact: &mut A,
-    max_artifact: u64,
-    policy: &P,
+    asked: &Asked<'_, P>,
 ) -> Result<Acceptance, RootFault>
-    ensures { let crypto = crypto_by C.CryptoProvider M.Armor provider.now armor.now in
-        let given = inputs_by (anchor_by crypto root_bytes.now config now) (P.meant policy.now) bundle_bytes.now max_artifact in
-        Promises given (outside_by (R.seen repo.old) (S.seen store.old) (A.seen artifact.old))
+    ensures { Promises (inputs_with P.Policy (anchor_with C.CryptoProvider M.Armor anchor.entry.now) asked.now)
+        (outside_by (R.seen repo.old) (S.seen store.old) (A.seen artifact.old))
         (outside_by (R.seen repo.new) (S.seen store.new) (A.seen artifact.new)) result }
 {
-    let chain = match chain_from_root(
-        alloc, provider, armor, root_bytes, repo, store, &config, now,
-    ) {
+    let chain = match chain_from_root(alloc, anchor, repo, store) {
         Ok(chain) => chain,
         Err(e) => return Err(tuf_fault(e)),
     };
     match judge_bundle(
         alloc,
-        provider,
-        armor,
+        &anchor.providers,
         chain.file.as_bytes(),
-        now,
-        bundle_bytes,
+        anchor.now,
         artifact,
-        max_artifact,
-        policy,
+        asked,
     ) {
         Ok(kept) => {
             let JudgedBundle { result, digests } = kept;

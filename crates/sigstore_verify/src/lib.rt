@@ -2,16 +2,19 @@
 //! authorises the trust file, then the judgement of the bundle under it, whose names it passes on.
 #![tactic(auto)]
 
+mod anchor;
 mod chain;
 mod from_root;
 mod laws;
 
+pub use anchor::Anchor;
 pub use chain::{TRUST_PATH, chain_from_root};
 pub use from_root::{Acceptance, RootFault, verify_from_root};
 pub use laws::one_place_one_content;
 pub use sigstore_judgement::{
-    CertificateError, CertificatePolicy, DigitallySigned, Error, Evidence, IdentityMatcher,
-    JudgedBundle, Material, Policy, PolicyKind, PublicKeyVerificationPolicy, SctRule,
-    TimestampError, TransparencyLogError, VerificationPolicy, VerificationResult, Verifier,
-    accepts_exactly, blob_and_reader_agree, log_refusals_have_causes, usable_exactly, verify,
+    Asked, Case, CertificateError, CertificatePolicy, DigitallySigned, Error, Evidence,
+    IdentityMatcher, JudgedBundle, Material, Policy, PolicyKind, PublicKeyVerificationPolicy,
+    SctRule, SigningPolicy, TimestampError, TransparencyLogError, VerificationPolicy,
+    VerificationResult, Verifier, accepts_exactly, blob_and_reader_agree, log_refusals_have_causes,
+    usable_exactly, verify,
 };
