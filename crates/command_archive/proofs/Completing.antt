@@ -1,6 +1,5 @@
 -- Where nothing outside fails, `check` trusts an archive of a trusted chain, and `archive` writes a chain that is offered.
-use Rattle.std.proofs.Common.{◌≡◌, ◌⊎◌, inl, inr, ℕ, ◌≤◌, List, length, Some, None, Result, Ok, Err, Bool, true, false, codes, sym, ap, ◌∙◌, subst}
-use Rattle.std.specs.Result.{result_ok}
+use Rattle.std.proofs.Common.{◌≡◌, ◌⊎◌, inl, inr, ℕ, ◌≤◌, List, length, Result, Ok, Err, Bool, true, false, codes, sym, ap, ◌∙◌, subst}
 use Rattle.foundation.specs.Results.{ok_same, err_same, no_both}
 use Rattle.sigstore_tuf_text.specs.declared.error.Error.{Error as TufError}
 use Rattle.sigstore_tuf_text.specs.declared.error.Error.TheVariants as tuf
@@ -12,37 +11,39 @@ use Rattle.trust_archive.specs.Spelling.{spelling_of}
 use Rattle.trust_archive.proofs.Whole.{chain_complete}
 use Rattle.command_files.specs.Gather.{anchored_of}
 use Rattle.command_files.specs.declared.gather.Anchored.{Anchored}
-use Rattle.command_verify.specs.declared.answer.Answer.{Answer}
-use Rattle.command_verify.specs.declared.answer.Status.TheVariants as status
+use Rattle.command_files.specs.Answer.{answer}
+use Rattle.command_files.specs.Starting.{Command, now_of, unstarted, stopped, begun}
+use Rattle.command_files.specs.declared.answer.Answer.{Answer}
+use Rattle.command_files.specs.declared.answer.Status.TheVariants as status
+use Rattle.command_files.proofs.Starts.{quiet_not_rose, never_stopped, begun_same}
 use Rattle.command_verify.specs.Report.{chain_text}
-use Rattle.command_verify.specs.Run.{answer, anchor_of, Command, Environment}
-use Rattle.command_verify.proofs.Stopping.{never_stopped, read_same, quiet_not_rose}
+use Rattle.command_verify.specs.Run.{anchor_of, Environment}
 use Rattle.command_archive.specs.declared.layout.ArchiveLayout.{ArchiveLayout}
 use Rattle.command_archive.specs.declared.output.Output.{Output}
 use Rattle.command_archive.specs.declared.output.Output.TheVariants.{Lines, Archive}
-use Rattle.command_archive.specs.Run.{moment_of, max_archive, held_in, Holds, spelled, Judges, is_trusted, is_refused, Checks, unread, judged, Walks, walk_refused, walked_to, Commands, checked, walked, Proceeds, stopped, commanded, Says, misworded, worded}
+use Rattle.command_archive.specs.Run.{max_archive, held_in, Holds, spelled, Judges, is_trusted, is_refused, Checks, unread, judged, Walks, walk_refused, walked_to, Commands, checked, walked, Says}
+use Rattle.command_archive.specs.Layout.{archive_layout_of}
 use Rattle.command_archive.specs.Complete.{Favoured, anchor_in}
 use Rattle.command_files.proofs.Wholes.{same_whole, never_unread}
 
 -- what a favoured run says, it says as a command with these inputs
 module _ (check : Bool) (command : Command) (before after : Environment) (f : Favoured check command before after) (said : Output) where
-  pub commands_so : Says command before after said → Commands check (anchor_in f) before.outside after.outside said
-  commands_so (misworded line n s h e) = let never : None ≡ Some f.layout = sym n ∙ ap result_ok f.worded in cc
-  commands_so (worded layout l p) = by_layout layout (ok_same layout f.layout (sym l ∙ f.worded)) p
-    where
-      by_anchored : (found : Anchored) → found ≡ f.anchored → Commands f.layout.check (anchor_of found (moment_of f.layout command.clock)) before.outside after.outside said
-          → Commands check (anchor_in f) before.outside after.outside said
-      by_anchored found same c =
-          subst (λ b. Commands b (anchor_in f) before.outside after.outside said) f.is
-          (subst (λ (a : Anchored). Commands f.layout.check (anchor_of a (moment_of f.layout command.clock)) before.outside after.outside said) same c)
+  begun_so : (layout : ArchiveLayout) (anchored : Anchored) → layout ≡ f.layout → anchored ≡ f.anchored
+      → Commands layout.check (anchor_of anchored (now_of layout.places command.clock)) before.outside after.outside said → Commands check (anchor_in f) before.outside after.outside said
+  begun_so layout anchored l a c =
+      subst (λ b. Commands b (anchor_in f) before.outside after.outside said) f.is
+      (subst (λ (x : Anchored). Commands f.layout.check (anchor_of x (now_of f.layout.places command.clock)) before.outside after.outside said) a
+      (subst (λ (x : ArchiveLayout). Commands x.check (anchor_of anchored (now_of x.places command.clock)) before.outside after.outside said) l c))
 
-      by_proceeds : Proceeds f.layout.check (moment_of f.layout command.clock) before after said → Commands check (anchor_in f) before.outside after.outside said
-      by_proceeds (stopped stop line r s h e) = absurd (never_stopped anchored_of before.inputs after.inputs f.held f.anchored f.inputs.told f.inputs.quiet f.anchored_is stop line r h)
-      by_proceeds (commanded found r c) = by_anchored found (read_same anchored_of before.inputs after.inputs f.held f.anchored f.inputs.told f.inputs.quiet f.anchored_is found r) c
-
-      by_layout : (layout : ArchiveLayout) → layout ≡ f.layout → Proceeds layout.check (moment_of layout command.clock) before after said
-          → Commands check (anchor_in f) before.outside after.outside said
-      by_layout layout same p = by_proceeds (subst (λ (l : ArchiveLayout). Proceeds l.check (moment_of l command.clock) before after said) same p)
+  pub commands_so : Says command before after (Ok said) → Commands check (anchor_in f) before.outside after.outside said
+  commands_so (unstarted e s o eq) = no_both said e eq
+  commands_so (stopped line s o eq) =
+      absurd (never_stopped (archive_layout_of command.words) anchored_of before.inputs after.inputs f.layout f.held f.anchored f.worded f.inputs.told
+      (λ rose. quiet_not_rose before.inputs.faults after.inputs.faults f.inputs.quiet rose) f.anchored_is line s)
+  commands_so (begun layout anchored b c) =
+      let same = begun_same (archive_layout_of command.words) anchored_of before.inputs after.inputs f.layout f.held f.anchored f.worded f.inputs.told
+      (λ rose. quiet_not_rose before.inputs.faults after.inputs.faults f.inputs.quiet rose) f.anchored_is layout anchored b in
+      begun_so layout anchored same.0 same.1 c
 
 -- ---- `check`
 

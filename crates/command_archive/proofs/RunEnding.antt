@@ -1,10 +1,12 @@
 -- What the end of `archive` or `check` says of its run.
-use Rattle.std.proofs.Common.{inl, inr, ℕ, List, Result, IfOk, refl}
+use Rattle.std.proofs.Common.{inl, inr, ℕ, List, Result, refl}
 use Rattle.foundation.specs.Watched.{Watched}
 use Rattle.foundation.specs.declared.no_memory.NoMemory.{NoMemory}
-use Rattle.command_verify.specs.declared.answer.Status.{Status}
-use Rattle.command_verify.specs.Run.{Command, Environment, Ends}
-use Rattle.command_verify.proofs.RunEnding.{ends_so}
+use Rattle.command_files.specs.Ending.{Ends}
+use Rattle.command_files.specs.Starting.{Command}
+use Rattle.command_files.specs.declared.answer.Status.{Status}
+use Rattle.command_files.proofs.Endings.{ends_so}
+use Rattle.command_verify.specs.Run.{Environment}
 use Rattle.command_archive.specs.declared.output.Output.{Output}
 use Rattle.command_archive.specs.Output.{status_of, octets_of}
 use Rattle.command_archive.specs.Run.{Says, Means}
@@ -12,7 +14,7 @@ use Rattle.command_archive.specs.Complete.{CompletesArchive, CompletesCheck}
 use Rattle.command_archive.proofs.Ending.{said_means, said_archives, said_checks}
 
 module _ (command : Command) (before after : Environment) (out out' : Watched (List ℕ)) (said : Result Output NoMemory) (ended : Status)
-    (s : IfOk said (Says command before after)) (e : Ends status_of octets_of said out out' ended) where
+    (s : Says command before after said) (e : Ends status_of octets_of said out out' ended) where
   pub end_means : Means command before after out out' ended
   end_means =
       ends_so (Says command before after) (Means command before after out out') status_of octets_of said out out' ended s (λ same. same) (λ rose. rose)

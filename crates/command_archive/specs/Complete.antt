@@ -8,14 +8,15 @@ use Rattle.trust_archive.specs.Spelling.{spelling_of}
 use Rattle.command_files.specs.Inputs.{Held, watched}
 use Rattle.command_files.specs.Gather.{anchored_of}
 use Rattle.command_files.specs.declared.gather.Anchored.{Anchored}
-use Rattle.command_verify.specs.declared.answer.Status.{Status}
-use Rattle.command_verify.specs.declared.answer.Status.TheVariants as status
-use Rattle.command_verify.specs.Complete.{OrFails}
+use Rattle.command_files.specs.Ending.{TakesAll, OrFails}
+use Rattle.command_files.specs.Starting.{Command, now_of}
+use Rattle.command_files.specs.declared.answer.Status.{Status}
+use Rattle.command_files.specs.declared.answer.Status.TheVariants as status
 use Rattle.command_verify.specs.Report.{chain_text}
-use Rattle.command_verify.specs.Run.{Command, Environment, TakesAll, anchor_of}
+use Rattle.command_verify.specs.Run.{Environment, anchor_of}
 use Rattle.command_archive.specs.declared.layout.ArchiveLayout.{ArchiveLayout}
 use Rattle.command_archive.specs.Layout.{archive_layout_of}
-use Rattle.command_archive.specs.Run.{moment_of, max_archive, Holds}
+use Rattle.command_archive.specs.Run.{max_archive, Holds}
 
 -- the words are those of the command, and told inputs are read without a fault and are these
 pub record Favoured (check : Bool) (command : Command) (before after : Environment) : Type 0 where
@@ -29,7 +30,7 @@ pub record Favoured (check : Bool) (command : Command) (before after : Environme
 
 -- from what the chain is trusted
 abbrev pub anchor_in : {check : Bool} {command : Command} {before after : Environment} → Favoured check command before after → Anchor
-anchor_in {command = command} f = anchor_of f.anchored (moment_of f.layout command.clock)
+anchor_in {command = command} f = anchor_of f.anchored (now_of f.layout.places command.clock)
 
 -- the chain's archive was taken whole
 pub record WritesChain (chain : TrustChain) (out out' : Watched (List ℕ)) (ended : Status) : Type 0 where

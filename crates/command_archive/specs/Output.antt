@@ -1,7 +1,7 @@
 -- What the commands write, and their status where it is taken whole.
 use Rattle.std.specs.Prelude.{ℕ, List}
-use Rattle.command_verify.specs.declared.answer.Status.{Status}
-use Rattle.command_verify.specs.declared.answer.Status.TheVariants as status
+use Rattle.command_files.specs.declared.answer.Status.{Status}
+use Rattle.command_files.specs.declared.answer.Status.TheVariants as status
 use Rattle.command_archive.specs.declared.output.Output.{Output}
 use Rattle.command_archive.specs.declared.output.Output.TheVariants.{Lines, Archive}
 

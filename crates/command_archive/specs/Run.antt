@@ -1,8 +1,7 @@
 -- A run of `archive` or `check`: what it says, and why.
-use Rattle.std.specs.Prelude.{◌≡◌, ◌≢◌, ℕ, ◌^◌, List, codes, Bool, true, false, unwrap_or, Some, None, Result, Ok, Err}
-use Rattle.std.specs.Result.{result_ok}
-use Rattle.jiff_core.specs.declared.timestamp.Timestamp as jiff
+use Rattle.std.specs.Prelude.{◌≡◌, ◌≢◌, ℕ, ◌^◌, List, codes, Bool, true, false, Result, Ok, Err, IfOk}
 use Rattle.foundation.specs.Watched.{Watched, Rose}
+use Rattle.foundation.specs.declared.no_memory.NoMemory.{NoMemory}
 use Rattle.sigstore_tuf_text.specs.declared.error.Error.{Error as TufError}
 use Rattle.sigstore_tuf_text.specs.declared.error.Error.TheVariants as tuf
 use Rattle.sigstore_tuf_rules.specs.declared.chain.TrustChain.{TrustChain}
@@ -16,28 +15,23 @@ use Rattle.trust_archive.specs.Cause.{ArchiveCause}
 use Rattle.trust_archive.specs.Error as refusal
 use Rattle.trust_archive.specs.Judgement.{chain_of}
 use Rattle.trust_archive.specs.Spelling.{spelling_of}
-use Rattle.command_files.specs.Gather.{anchored_of, ReadsAs}
+use Rattle.command_files.specs.Answer.{answer}
+use Rattle.command_files.specs.Ending.{TakesAll}
+use Rattle.command_files.specs.Gather.{anchored_of}
 use Rattle.command_files.specs.Printed.{pair_line, refused_line}
+use Rattle.command_files.specs.Starting.{Command, now_of, Decides}
 use Rattle.command_files.specs.Whole.{GivesWhole, Unread}
-use Rattle.command_files.specs.declared.gather.Anchored.{Anchored}
-use Rattle.command_files.specs.declared.gather.CommandStop.{CommandStop}
-use Rattle.command_files.specs.declared.gather.CommandStop.TheVariants.{Words}
-use Rattle.command_verify.specs.declared.answer.Answer.{Answer}
-use Rattle.command_verify.specs.declared.answer.Status.{Status}
-use Rattle.command_verify.specs.declared.answer.Status.TheVariants as status
+use Rattle.command_files.specs.declared.answer.Answer.{Answer}
+use Rattle.command_files.specs.declared.answer.Status.{Status}
+use Rattle.command_files.specs.declared.answer.Status.TheVariants as status
 use Rattle.command_verify.specs.Report.{chain_text}
-use Rattle.command_verify.specs.Run.{answer, stop_answer, tuf_answer, anchor_of, Command, Environment, TakesAll}
-use Rattle.command_archive.specs.declared.layout.ArchiveLayout.{ArchiveLayout}
+use Rattle.command_verify.specs.Run.{tuf_answer, anchor_of, Environment}
 use Rattle.command_archive.specs.declared.output.Output.{Output}
 use Rattle.command_archive.specs.declared.output.Output.TheVariants.{Lines, Archive}
 use Rattle.command_archive.specs.Layout.{archive_layout_of}
 use Rattle.command_archive.specs.Output.{status_of, octets_of}
 
 -- ---- what is given
-
--- the instant of the words, else the clock's
-abbrev pub moment_of : ArchiveLayout → jiff.Timestamp → jiff.Timestamp
-moment_of layout clock = unwrap_or layout.now clock
 
 -- the greatest length of an archive: 256 MiB
 abbrev pub max_archive : ℕ
@@ -101,25 +95,17 @@ pub data Commands (check : Bool) (anchor : Anchor) (before after : Outside) (sai
   walked : check ≡ false → after.source ≡ before.source → Walks anchor (places_in before) (places_in after) said
       → Commands check anchor before after said
 
--- Once the words are read: the inputs first, then the command. Where an input is refused nothing else is called.
-pub data Proceeds (check : Bool) (now : jiff.Timestamp) (before after : Environment) (said : Output) : Type 0 where
-  stopped : (stop : CommandStop) (line : Answer) → ReadsAs anchored_of before.inputs after.inputs (Err stop)
-      → after.outside ≡ before.outside → stop_answer stop ≡ Some line → said ≡ Lines line
-      → Proceeds check now before after said
-  commanded : (anchored : Anchored) → ReadsAs anchored_of before.inputs after.inputs (Ok anchored)
-      → Commands check (anchor_of anchored now) before.outside after.outside said → Proceeds check now before after said
-
--- The words first. Where they are refused nothing is called.
-pub data Says (command : Command) (before after : Environment) (said : Output) : Type 0 where
-  misworded : (line : Answer) → result_ok (archive_layout_of command.words) ≡ None → after ≡ before
-      → stop_answer Words ≡ Some line → said ≡ Lines line → Says command before after said
-  worded : (layout : ArchiveLayout) → archive_layout_of command.words ≡ Ok layout
-      → Proceeds layout.check (moment_of layout command.clock) before after said → Says command before after said
+-- The words first, then the inputs, then the command.
+abbrev pub Says : Command → Environment → Environment → Result Output NoMemory → Type 0
+Says command before after result =
+    Decides (archive_layout_of command.words) anchored_of Lines
+    (λ layout anchored old new said.
+    IfOk said (Commands layout.check (anchor_of anchored (now_of layout.places command.clock)) old new)) before after result
 
 -- what is said was taken whole, and this is its status
 pub record SaysWhole (command : Command) (before after : Environment) (out out' : Watched (List ℕ)) (ended : Status) : Type 0 where
   pub said : Output
-  pub says : Says command before after said
+  pub says : Says command before after (Ok said)
   pub written : TakesAll out out' (octets_of said)
   pub ended_is : ended ≡ status_of said
 

@@ -1,7 +1,7 @@
 // What the commands write.
 ghost use Rattle.command_archive.specs.Output.{status_of, octets_of};
 
-use command_verify::{Answer, Said, Status};
+use command_files::{Answer, Said, Status};
 use sigstore_types_parts::Bytes;
 
 /// What a command writes: a line or lines, with the status that they have where they are taken whole; or an archive.

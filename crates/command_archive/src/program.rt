@@ -1,25 +1,27 @@
 // A run of `archive` or `check`.
 ghost use Rattle.std.specs.Prelude.{◌≡◌, ◌≢◌, Some, Ok, Err, IfOk, IfErr, codes};
-ghost use Rattle.sigstore_verify.specs.Inputs.{outside_by, places_by};
-ghost use Rattle.sigstore_verify.specs.Promises.{PromisesChain};
-ghost use Rattle.command_verify.specs.Run.{command_by, environment_by, said_of, anchor_of};
+ghost use Rattle.sigstore_verify.specs.Inputs.{anchor_with, outside_by, places_by};
+ghost use Rattle.command_files.specs.Starting.{command_of};
+ghost use Rattle.command_verify.specs.Run.{environment_by, said_of};
 ghost use Rattle.command_verify.specs.Report.{chain_text};
-ghost use Rattle.command_archive.specs.Run.{held_in, Holds, Why, archive_answer, unread_answer, spelled, Judges, Checks, Walks, Commands, Proceeds, Says, Means};
+ghost use Rattle.command_archive.specs.Run.{held_in, Holds, Why, archive_answer, unread_answer, spelled, Judges, Checks, Walks, Commands, Says, Means};
 ghost use Rattle.command_archive.specs.Complete.{CompletesCheck, CompletesArchive};
 ghost use Rattle.trust_archive.specs.Spelling.{spelling_of};
 
-use crate::layout::archive_layout;
+use crate::layout::{ArchiveLayout, archive_layout};
 use crate::output::Output;
-use command_files::{Anchored, CommandStop, Inputs, Sink, WholeFault, gather_anchor, read_whole};
-use command_verify::{Answer, Status, finish, pair, refusal, refused_tuf, report_chain, stopped};
+use command_files::{
+    Anchored, Answer, CommandLine, Inputs, Sink, Started, Status, WholeFault, finish, pair,
+    read_whole, refusal, start,
+};
+use command_verify::{refused_tuf, report_chain};
 use foundation::NoMemory;
-use jiff::Timestamp;
-use sigstore_keys::ArtifactSource;
+use sigstore_keys::{ArtifactSource, CryptoProvider, Providers};
 use sigstore_tuf::{MetadataStore, Repository, TrustChain, UpdaterConfig};
-use sigstore_types_parts::Text;
-use sigstore_verify::{TRUST_PATH, chain_from_root};
+use sigstore_types_parts::{Armor, Text};
+use sigstore_verify::{Anchor, TRUST_PATH, chain_from_root};
 use std::alloc::Global;
-use trust_archive::{ArchiveError, read_archive, write_archive};
+use trust_archive::{ArchiveError, ArchiveTerms, read_archive, write_archive};
 
 // The greatest length of an archive in bytes: 256 MiB.
 const MAX_ARCHIVE: u64 = 268_435_456;
@@ -50,40 +52,36 @@ fn trusted(alloc: Global, chain: &TrustChain) -> Result<Answer, NoMemory>
 }
 
 // The chain that an archive's bytes hold.
-fn held(
+fn held<C: CryptoProvider, M: Armor>(
     alloc: Global,
-    anchored: &Anchored,
-    now: Timestamp,
+    anchor: &Anchor<'_, C, M>,
     bytes: &[u8],
 ) -> Result<TrustChain, ArchiveError>
-    ensures ok { IfOk result (λ chain. held_in (anchor_of anchored.now now) bytes.now ≡ Ok chain) }
-    ensures err { IfErr result (λ e. e ≢ ArchiveError.NoMemory → held_in (anchor_of anchored.now now) bytes.now ≡ Err e) }
-    ensures trusted { IfOk result (Holds (anchor_of anchored.now now) bytes.now) }
-    ensures cause { IfErr result (λ e. e ≢ ArchiveError.NoMemory → Why (anchor_of anchored.now now) bytes.now e) }
+    ensures ok { IfOk result (λ chain. held_in (anchor_with C.CryptoProvider M.Armor anchor.entry.now) bytes.now ≡ Ok chain) }
+    ensures err { IfErr result (λ e. e ≢ ArchiveError.NoMemory →
+        held_in (anchor_with C.CryptoProvider M.Armor anchor.entry.now) bytes.now ≡ Err e) }
+    ensures trusted { IfOk result (Holds (anchor_with C.CryptoProvider M.Armor anchor.entry.now) bytes.now) }
+    ensures cause { IfErr result (λ e. e ≢ ArchiveError.NoMemory →
+        Why (anchor_with C.CryptoProvider M.Armor anchor.entry.now) bytes.now e) }
 {
-    let config = UpdaterConfig::default();
-    read_archive(
-        alloc,
-        &anchored.tables.provider,
-        &anchored.tables.armor,
-        anchored.root.as_bytes(),
-        TRUST_PATH,
-        config.max_delegations,
-        now,
-        bytes,
-    )
+    let terms = ArchiveTerms {
+        root: anchor.root,
+        path: TRUST_PATH,
+        max_delegations: anchor.config.max_delegations,
+        moment: anchor.now,
+    };
+    read_archive(alloc, &anchor.providers, &terms, bytes)
 }
 
 // What is said of an archive's bytes.
-fn judged(
+fn judged<C: CryptoProvider, M: Armor>(
     alloc: Global,
-    anchored: &Anchored,
-    now: Timestamp,
+    anchor: &Anchor<'_, C, M>,
     bytes: &[u8],
 ) -> Result<Answer, NoMemory>
-    ensures { IfOk result (Judges (anchor_of anchored.now now) bytes.now) }
+    ensures { IfOk result (Judges (anchor_with C.CryptoProvider M.Armor anchor.entry.now) bytes.now) }
 {
-    match held(alloc, anchored, now, bytes) {
+    match held(alloc, anchor, bytes) {
         Ok(chain) => {
             let said = trusted(alloc, &chain);
             drop(chain);
@@ -106,17 +104,16 @@ fn unread(alloc: Global) -> Result<Answer, NoMemory>
 }
 
 // The archive is read to its end, and judged.
-fn checked<A: ArtifactSource>(
+fn checked<C: CryptoProvider, M: Armor, A: ArtifactSource>(
     alloc: Global,
-    anchored: &Anchored,
-    now: Timestamp,
+    anchor: &Anchor<'_, C, M>,
     archive: &mut A,
 ) -> Result<Answer, NoMemory>
-    ensures { IfOk result (Checks (anchor_of anchored.now now) (A.seen archive.old) (A.seen archive.new)) }
+    ensures { IfOk result (Checks (anchor_with C.CryptoProvider M.Armor anchor.entry.now) (A.seen archive.old) (A.seen archive.new)) }
 {
     match read_whole(alloc, archive, MAX_ARCHIVE) {
         Ok(bytes) => {
-            let said = judged(alloc, anchored, now, bytes.as_bytes());
+            let said = judged(alloc, anchor, bytes.as_bytes());
             drop(bytes);
             said
         }
@@ -144,42 +141,17 @@ fn spelled(alloc: Global, chain: &TrustChain) -> Result<Output, NoMemory>
     }
 }
 
-// The chain that is walked to.
-fn given<R: Repository, S: MetadataStore>(
-    alloc: Global,
-    anchored: &Anchored,
-    now: Timestamp,
-    repo: &mut R,
-    store: &mut S,
-) -> Result<TrustChain, sigstore_tuf_parts::Error>
-    ensures { PromisesChain (anchor_of anchored.now now) (places_by (R.seen repo.old) (S.seen store.old))
-        (places_by (R.seen repo.new) (S.seen store.new)) result }
-{
-    let config = UpdaterConfig::default();
-    chain_from_root(
-        alloc,
-        &anchored.tables.provider,
-        &anchored.tables.armor,
-        anchored.root.as_bytes(),
-        repo,
-        store,
-        &config,
-        now,
-    )
-}
-
 // The chain is walked to, and written.
-fn walked<R: Repository, S: MetadataStore>(
+fn walked<C: CryptoProvider, M: Armor, R: Repository, S: MetadataStore>(
     alloc: Global,
-    anchored: &Anchored,
-    now: Timestamp,
+    anchor: &Anchor<'_, C, M>,
     repo: &mut R,
     store: &mut S,
 ) -> Result<Output, NoMemory>
-    ensures { IfOk result (Walks (anchor_of anchored.now now) (places_by (R.seen repo.old) (S.seen store.old))
+    ensures { IfOk result (Walks (anchor_with C.CryptoProvider M.Armor anchor.entry.now) (places_by (R.seen repo.old) (S.seen store.old))
         (places_by (R.seen repo.new) (S.seen store.new))) }
 {
-    match given(alloc, anchored, now, repo, store) {
+    match chain_from_root(alloc, anchor, repo, store) {
         Ok(chain) => {
             let said = spelled(alloc, &chain);
             drop(chain);
@@ -198,84 +170,59 @@ fn walked<R: Repository, S: MetadataStore>(
 }
 
 // What a command does with its inputs.
-fn commanded<R: Repository, S: MetadataStore, A: ArtifactSource>(
+fn commanded<C: CryptoProvider, M: Armor, R: Repository, S: MetadataStore, A: ArtifactSource>(
     alloc: Global,
     check: bool,
-    anchored: &Anchored,
-    now: Timestamp,
+    anchor: &Anchor<'_, C, M>,
     repo: &mut R,
     store: &mut S,
     archive: &mut A,
 ) -> Result<Output, NoMemory>
-    ensures { IfOk result (Commands check (anchor_of anchored.now now) (outside_by (R.seen repo.old) (S.seen store.old) (A.seen archive.old))
+    ensures { IfOk result (Commands check (anchor_with C.CryptoProvider M.Armor anchor.entry.now)
+        (outside_by (R.seen repo.old) (S.seen store.old) (A.seen archive.old))
         (outside_by (R.seen repo.new) (S.seen store.new) (A.seen archive.new))) }
 {
     if check {
-        match checked(alloc, anchored, now, archive) {
+        match checked(alloc, anchor, archive) {
             Ok(line) => Ok(Output::Lines(line)),
             Err(e) => Err(e),
         }
     } else {
-        walked(alloc, anchored, now, repo, store)
+        walked(alloc, anchor, repo, store)
     }
 }
 
-// The inputs, then the command.
-fn proceed<I: Inputs, R: Repository, S: MetadataStore, A: ArtifactSource>(
+// The words and the inputs, then the command.
+fn decide<I: Inputs, R: Repository, S: MetadataStore, A: ArtifactSource>(
     alloc: Global,
-    check: bool,
-    now: Timestamp,
+    line: &CommandLine<'_>,
     inputs: &mut I,
     repo: &mut R,
     store: &mut S,
     archive: &mut A,
 ) -> Result<Output, NoMemory>
-    ensures { IfOk result (Proceeds check now
+    ensures { Says (command_of line.now)
         (environment_by (I.seen inputs.old) (R.seen repo.old) (S.seen store.old) (A.seen archive.old))
-        (environment_by (I.seen inputs.new) (R.seen repo.new) (S.seen store.new) (A.seen archive.new))) }
+        (environment_by (I.seen inputs.new) (R.seen repo.new) (S.seen store.new) (A.seen archive.new)) result }
 {
-    match gather_anchor(alloc, inputs) {
-        Ok(anchored) => {
-            let said = commanded(alloc, check, &anchored, now, repo, store, archive);
+    match start::<ArchiveLayout, Anchored, I>(alloc, archive_layout(alloc, line.words), inputs) {
+        Ok(Started::Asked(layout, anchored)) => {
+            let ArchiveLayout { check, places } = layout;
+            let anchor = Anchor {
+                providers: Providers {
+                    provider: &anchored.tables.provider,
+                    armor: &anchored.tables.armor,
+                },
+                root: anchored.root.as_bytes(),
+                config: UpdaterConfig::default(),
+                now: places.moment(line.clock),
+            };
+            let said = commanded(alloc, check, &anchor, repo, store, archive);
             drop(anchored);
             said
         }
-        Err(stop) => match stopped(alloc, stop) {
-            Ok(line) => Ok(Output::Lines(line)),
-            Err(e) => Err(e),
-        },
-    }
-}
-
-// The words, then the inputs and the command.
-fn decide<I: Inputs, R: Repository, S: MetadataStore, A: ArtifactSource>(
-    alloc: Global,
-    words: &[Text],
-    clock: Timestamp,
-    inputs: &mut I,
-    repo: &mut R,
-    store: &mut S,
-    archive: &mut A,
-) -> Result<Output, NoMemory>
-    ensures { IfOk result (Says (command_by words.now clock)
-        (environment_by (I.seen inputs.old) (R.seen repo.old) (S.seen store.old) (A.seen archive.old))
-        (environment_by (I.seen inputs.new) (R.seen repo.new) (S.seen store.new) (A.seen archive.new))) }
-{
-    let found = match archive_layout(alloc, words) {
-        Ok(found) => found,
-        Err(e) => return Err(e),
-    };
-    match found {
-        Some(layout) => {
-            let now = layout.now.unwrap_or(clock);
-            let check = layout.check;
-            drop(layout);
-            proceed(alloc, check, now, inputs, repo, store, archive)
-        }
-        None => match stopped(alloc, CommandStop::Words) {
-            Ok(line) => Ok(Output::Lines(line)),
-            Err(e) => Err(e),
-        },
+        Ok(Started::Stopped(said)) => Ok(Output::Lines(said)),
+        Err(e) => Err(e),
     }
 }
 
@@ -286,27 +233,26 @@ fn decide<I: Inputs, R: Repository, S: MetadataStore, A: ArtifactSource>(
 /// where memory was wanting; then nothing was written.
 pub fn run_archive<I: Inputs, R: Repository, S: MetadataStore, A: ArtifactSource, K: Sink>(
     alloc: Global,
-    words: &[Text],
-    clock: Timestamp,
+    line: &CommandLine<'_>,
     inputs: &mut I,
     repo: &mut R,
     store: &mut S,
     archive: &mut A,
     out: &mut K,
 ) -> Status
-    ensures means { Means (command_by words.now clock)
+    ensures means { Means (command_of line.now)
         (environment_by (I.seen inputs.old) (R.seen repo.old) (S.seen store.old) (A.seen archive.old))
         (environment_by (I.seen inputs.new) (R.seen repo.new) (S.seen store.new) (A.seen archive.new))
         (K.seen out.old) (K.seen out.new) result }
-    ensures archives { CompletesArchive (command_by words.now clock)
+    ensures archives { CompletesArchive (command_of line.now)
         (environment_by (I.seen inputs.old) (R.seen repo.old) (S.seen store.old) (A.seen archive.old))
         (environment_by (I.seen inputs.new) (R.seen repo.new) (S.seen store.new) (A.seen archive.new))
         (K.seen out.old) (K.seen out.new) result }
-    ensures checks { CompletesCheck (command_by words.now clock)
+    ensures checks { CompletesCheck (command_of line.now)
         (environment_by (I.seen inputs.old) (R.seen repo.old) (S.seen store.old) (A.seen archive.old))
         (environment_by (I.seen inputs.new) (R.seen repo.new) (S.seen store.new) (A.seen archive.new))
         (K.seen out.old) (K.seen out.new) result }
 {
-    let said = decide(alloc, words, clock, inputs, repo, store, archive);
+    let said = decide(alloc, line, inputs, repo, store, archive);
     finish(&said, out)
 }

@@ -1,6 +1,6 @@
 -- Two checkpoints of one tree, whose tiles are served, are said to be consistent.
-use Rattle.std.proofs.Common.{◌≡◌, ℕ, List, Some, None, Ok, sym, ap, ◌∙◌, subst}
-use Rattle.foundation.specs.Results.{ok_same}
+use Rattle.std.proofs.Common.{◌≡◌, ℕ, List, Ok, sym, ap, ◌∙◌, subst}
+use Rattle.foundation.specs.Results.{ok_same, no_both}
 use Rattle.sigstore_keys.specs.Good.{Judge}
 use Rattle.sigstore_entries.specs.declared.checkpoint.Checkpoint.{Checkpoint}
 use Rattle.log_tiles.specs.Auditing.{signed_pair}
@@ -8,11 +8,12 @@ use Rattle.log_tiles.proofs.Audited.{refused_served}
 use Rattle.command_files.specs.Gather.{tables_in}
 use Rattle.command_files.specs.declared.tables.Tables.{Tables}
 use Rattle.command_files.proofs.Wholes.{same_whole, never_unread}
-use Rattle.command_verify.specs.declared.answer.Answer.{Answer}
-use Rattle.command_verify.proofs.Stopping.{never_stopped, read_same, quiet_not_rose}
-use Rattle.command_audit.specs.declared.layout.AuditWords.{AuditWords}
-use Rattle.command_audit.specs.Layout.{layout_said}
-use Rattle.command_audit.specs.Run.{Environment, max_checkpoint, judge_of, consistent_answer, Judges, is_joined, is_refused, AuditsSecond, second_unread, judged, Audits, first_unread, first_read, Proceeds, stopped, audited, Says, misworded, worded}
+use Rattle.command_files.proofs.Starts.{quiet_not_rose, never_stopped, begun_same}
+use Rattle.command_files.specs.Starting.{unstarted, stopped, begun}
+use Rattle.command_files.specs.declared.answer.Answer.{Answer}
+use Rattle.command_audit.specs.declared.layout.AuditLayout.{AuditLayout}
+use Rattle.command_audit.specs.Layout.{audit_layout_of}
+use Rattle.command_audit.specs.Run.{Environment, max_checkpoint, judge_of, consistent_answer, Judges, is_joined, is_refused, AuditsSecond, second_unread, judged, Audits, first_unread, first_read, Says}
 use Rattle.command_audit.specs.Complete.{Favoured}
 
 module _ (words : List (List ℕ)) (before after : Environment) (older newer : Checkpoint) (f : Favoured words before after older newer) where
@@ -22,34 +23,40 @@ module _ (words : List (List ℕ)) (before after : Environment) (older newer : C
   abbrev accepts : Judge
   accepts = judge_of f.tables
 
-  sizes_same : (a b : Checkpoint) → signed_pair accepts f.asked.key f.first f.second ≡ Ok (a, b) → consistent_answer a.tree_size b.tree_size ≡ consistent_answer older.tree_size newer.tree_size
+  sizes_same : (a b : Checkpoint) → signed_pair accepts f.layout.key f.first f.second ≡ Ok (a, b) → consistent_answer a.tree_size b.tree_size ≡ consistent_answer older.tree_size newer.tree_size
   sizes_same a b h = ap (λ (p : Checkpoint × Checkpoint). consistent_answer p.0.tree_size p.1.tree_size) (ok_same (a, b) (older, newer) (sym h ∙ f.signed))
 
-  judged_so : (said : Answer) → Judges accepts f.asked.key f.first f.second before.log.tiles after.log.tiles said → S said
+  judged_so : (said : Answer) → Judges accepts f.layout.key f.first f.second before.outside.tiles after.outside.tiles said → S said
   judged_so said (is_joined a b hashes h j s) = s ∙ sizes_same a b h
   judged_so said (is_refused e n c s) =
-      absurd (n (refused_served accepts f.asked.key f.first f.second older newer f.leaves before.log.tiles after.log.tiles e f.signed f.of_tree f.serves c))
+      absurd (n (refused_served accepts f.layout.key f.first f.second older newer f.leaves before.outside.tiles after.outside.tiles e f.signed f.of_tree f.serves c))
 
-  second_so : (said : Answer) → AuditsSecond accepts f.asked.key f.first before.log.second after.log.second before.log.tiles after.log.tiles said → S said
+  second_so : (said : Answer) → AuditsSecond accepts f.layout.key f.first before.outside.second after.outside.second before.outside.tiles after.outside.tiles said → S said
   second_so said (second_unread u t s) =
-      absurd (never_unread before.log.second after.log.second max_checkpoint f.second f.second_told.told (λ rose. quiet_not_rose before.log.second.faults after.log.second.faults f.second_told.quiet rose) f.second_short u)
+      absurd (never_unread before.outside.second after.outside.second max_checkpoint f.second f.second_told.told (λ rose. quiet_not_rose before.outside.second.faults after.outside.second.faults f.second_told.quiet rose) f.second_short u)
   second_so said (judged second w j) =
-      judged_so said (subst (λ b. Judges accepts f.asked.key f.first b before.log.tiles after.log.tiles said)
-      (same_whole before.log.second after.log.second max_checkpoint f.second second f.second_told.told w) j)
+      judged_so said (subst (λ b. Judges accepts f.layout.key f.first b before.outside.tiles after.outside.tiles said)
+      (same_whole before.outside.second after.outside.second max_checkpoint f.second second f.second_told.told w) j)
 
-  audits_so : (said : Answer) → Audits accepts f.asked.key before.log after.log said → S said
+  audits_so : (said : Answer) → Audits accepts f.layout.key before.outside after.outside said → S said
   audits_so said (first_unread u a t s) =
-      absurd (never_unread before.log.first after.log.first max_checkpoint f.first f.first_told.told (λ rose. quiet_not_rose before.log.first.faults after.log.first.faults f.first_told.quiet rose) f.first_short u)
+      absurd (never_unread before.outside.first after.outside.first max_checkpoint f.first f.first_told.told (λ rose. quiet_not_rose before.outside.first.faults after.outside.first.faults f.first_told.quiet rose) f.first_short u)
   audits_so said (first_read first w j) =
-      second_so said (subst (λ b. AuditsSecond accepts f.asked.key b before.log.second after.log.second before.log.tiles after.log.tiles said)
-      (same_whole before.log.first after.log.first max_checkpoint f.first first f.first_told.told w) j)
+      second_so said (subst (λ b. AuditsSecond accepts f.layout.key b before.outside.second after.outside.second before.outside.tiles after.outside.tiles said)
+      (same_whole before.outside.first after.outside.first max_checkpoint f.first first f.first_told.told w) j)
 
-  proceeds_so : (said : Answer) → Proceeds f.asked.key before after said → S said
-  proceeds_so said (stopped stop r l h) = absurd (never_stopped tables_in before.inputs after.inputs f.held f.tables f.inputs.told f.inputs.quiet f.tables_are stop said r h)
-  proceeds_so said (audited tables r a) =
-      audits_so said (subst (λ (t : Tables). Audits (judge_of t) f.asked.key before.log after.log said) (read_same tables_in before.inputs after.inputs f.held f.tables f.inputs.told f.inputs.quiet f.tables_are tables r) a)
+  begun_so : (layout : AuditLayout) (tables : Tables) (said : Answer) → layout ≡ f.layout → tables ≡ f.tables
+      → Audits (judge_of tables) layout.key before.outside after.outside said → S said
+  begun_so layout tables said l t a =
+      audits_so said (subst (λ (x : Tables). Audits (judge_of x) f.layout.key before.outside after.outside said) t
+      (subst (λ (x : AuditLayout). Audits (judge_of tables) x.key before.outside after.outside said) l a))
 
-  pub says_consistent : (said : Answer) → Says words before after said → S said
-  says_consistent said (misworded n s h) = let never : None ≡ Some f.asked.layout = sym n ∙ ap layout_said f.worded in cc
-  says_consistent said (worded asked w p) =
-      proceeds_so said (subst (λ (q : AuditWords). Proceeds q.key before after said) (ok_same asked f.asked (sym w ∙ f.worded)) p)
+  pub says_consistent : (said : Answer) → Says words before after (Ok said) → S said
+  says_consistent said (unstarted e s o eq) = no_both said e eq
+  says_consistent said (stopped line s o eq) =
+      absurd (never_stopped (audit_layout_of words) tables_in before.inputs after.inputs f.layout f.held f.tables f.worded f.inputs.told
+      (λ rose. quiet_not_rose before.inputs.faults after.inputs.faults f.inputs.quiet rose) f.tables_are line s)
+  says_consistent said (begun layout tables b a) =
+      let same = begun_same (audit_layout_of words) tables_in before.inputs after.inputs f.layout f.held f.tables f.worded f.inputs.told
+      (λ rose. quiet_not_rose before.inputs.faults after.inputs.faults f.inputs.quiet rose) f.tables_are layout tables b in
+      begun_so layout tables said same.0 same.1 a

@@ -1,6 +1,6 @@
 -- When `audit` has to find two checkpoints consistent: where they are of one tree, and nothing outside fails.
-use Rattle.std.specs.Prelude.{◌≡◌, ◌⊎◌, ℕ, ◌≤◌, List, length, Ok}
-use Rattle.foundation.specs.Watched.{Watched, Rose}
+use Rattle.std.specs.Prelude.{◌≡◌, ℕ, ◌≤◌, List, length, Ok}
+use Rattle.foundation.specs.Watched.{Watched}
 use Rattle.sigstore_entries.specs.declared.checkpoint.Checkpoint.{Checkpoint}
 use Rattle.sigstore_verify.specs.Complete.{TellsQuietly}
 use Rattle.log_tiles.specs.Source.{Leaves}
@@ -9,32 +9,32 @@ use Rattle.log_tiles.specs.Proving.{Serves}
 use Rattle.command_files.specs.Inputs.{Held, watched}
 use Rattle.command_files.specs.Gather.{tables_in}
 use Rattle.command_files.specs.declared.tables.Tables.{Tables}
-use Rattle.command_verify.specs.declared.answer.Status.{Status}
-use Rattle.command_verify.specs.declared.answer.Status.TheVariants as status
-use Rattle.command_verify.specs.Run.{TakesAll}
-use Rattle.command_audit.specs.declared.layout.AuditWords.{AuditWords}
-use Rattle.command_audit.specs.Layout.{audit_words_of}
+use Rattle.command_files.specs.Ending.{TakesAll, OrFails}
+use Rattle.command_files.specs.declared.answer.Status.{Status}
+use Rattle.command_files.specs.declared.answer.Status.TheVariants as status
+use Rattle.command_audit.specs.declared.layout.AuditLayout.{AuditLayout}
+use Rattle.command_audit.specs.Layout.{audit_layout_of}
 use Rattle.command_audit.specs.Run.{Environment, max_checkpoint, judge_of, consistent_answer}
 
 -- The words meet their grammar; told inputs and checkpoints are read without a fault and are these; both are signed under the key, and of
 -- the tree of the leaves that the tiles' source serves.
 pub record Favoured (words : List (List ℕ)) (before after : Environment) (older newer : Checkpoint) : Type 0 where
-  pub asked : AuditWords
-  pub worded : audit_words_of words ≡ Ok asked
+  pub layout : AuditLayout
+  pub worded : audit_layout_of words ≡ Ok layout
   pub held : Held
   pub inputs : TellsQuietly (watched before.inputs) (watched after.inputs) held
   pub tables : Tables
   pub tables_are : tables_in held ≡ Ok tables
   pub first : List ℕ
-  pub first_told : TellsQuietly before.log.first after.log.first first
+  pub first_told : TellsQuietly before.outside.first after.outside.first first
   pub first_short : length first ≤ max_checkpoint
   pub second : List ℕ
-  pub second_told : TellsQuietly before.log.second after.log.second second
+  pub second_told : TellsQuietly before.outside.second after.outside.second second
   pub second_short : length second ≤ max_checkpoint
-  pub signed : signed_pair (judge_of tables) asked.key first second ≡ Ok (older, newer)
+  pub signed : signed_pair (judge_of tables) layout.key first second ≡ Ok (older, newer)
   pub leaves : Leaves
   pub of_tree : AreOfTree older newer leaves
-  pub serves : Serves leaves newer.tree_size before.log.tiles after.log.tiles
+  pub serves : Serves leaves newer.tree_size before.outside.tiles after.outside.tiles
 
 -- that they are consistent was taken whole
 pub record SaysConsistent (older newer : Checkpoint) (out out' : Watched (List ℕ)) (ended : Status) : Type 0 where
@@ -45,4 +45,4 @@ pub record SaysConsistent (older newer : Checkpoint) (out out' : Watched (List �
 abbrev pub Completes : List (List ℕ) → Environment → Environment → Watched (List ℕ) → Watched (List ℕ) → Status → Type 0
 Completes words before after out out' ended =
     (older newer : Checkpoint) → Favoured words before after older newer
-    → (ended ≡ status.Memory) ⊎ (((ended ≡ status.Output) × Rose out.faults out'.faults) ⊎ SaysConsistent older newer out out' ended)
+    → OrFails out out' ended (SaysConsistent older newer out out' ended)

@@ -1,7 +1,8 @@
 -- A run of `audit`: what it says, and why.
-use Rattle.std.specs.Prelude.{◌≡◌, ◌≢◌, ℕ, ◌^◌, List, ◌∷◌, ◌++◌, codes, Some, None, Ok, Err}
+use Rattle.std.specs.Prelude.{◌≡◌, ◌≢◌, ℕ, ◌^◌, List, ◌∷◌, ◌++◌, codes, Result, Ok, IfOk}
 use Rattle.std.specs.Fmt.{decimal}
 use Rattle.foundation.specs.Watched.{Watched, Rose}
+use Rattle.foundation.specs.declared.no_memory.NoMemory as wanting
 use Rattle.sigstore_keys.specs.Good.{Judge}
 use Rattle.sigstore_entries.specs.declared.checkpoint.Checkpoint.{Checkpoint}
 use Rattle.log_tiles.specs.Source.{Leaves}
@@ -9,20 +10,20 @@ use Rattle.log_tiles.specs.Auditing.{AuditCause, signed_pair, AreJoined}
 use Rattle.log_tiles.specs.Error as refusal
 use Rattle.log_tiles.specs.declared.error.TileError.{TileError}
 use Rattle.log_tiles.specs.declared.error.TileError.TheVariants.{TileFailed, NoMemory}
+use Rattle.command_files.specs.Answer.{answer}
+use Rattle.command_files.specs.Ending.{TakesAll}
+use Rattle.command_files.specs.Gather.{tables_in}
 use Rattle.command_files.specs.Inputs.{Supply}
-use Rattle.command_files.specs.Rows.{accepts_of}
-use Rattle.command_files.specs.Gather.{tables_in, ReadsAs}
 use Rattle.command_files.specs.Printed.{pair_line, refused_line}
+use Rattle.command_files.specs.Rows.{accepts_of}
+use Rattle.command_files.specs.Starting as start
+use Rattle.command_files.specs.Starting.{Decides}
 use Rattle.command_files.specs.Whole.{GivesWhole, Unread}
-use Rattle.command_files.specs.declared.gather.CommandStop.{CommandStop}
-use Rattle.command_files.specs.declared.gather.CommandStop.TheVariants.{Words}
+use Rattle.command_files.specs.declared.answer.Answer.{Answer}
+use Rattle.command_files.specs.declared.answer.Status.{Status}
+use Rattle.command_files.specs.declared.answer.Status.TheVariants as status
 use Rattle.command_files.specs.declared.tables.Tables.{Tables}
-use Rattle.command_verify.specs.declared.answer.Answer.{Answer}
-use Rattle.command_verify.specs.declared.answer.Status.{Status}
-use Rattle.command_verify.specs.declared.answer.Status.TheVariants as status
-use Rattle.command_verify.specs.Run.{answer, stop_answer, TakesAll}
-use Rattle.command_audit.specs.declared.layout.AuditWords.{AuditWords}
-use Rattle.command_audit.specs.Layout.{audit_words_of, audit_layout_of}
+use Rattle.command_audit.specs.Layout.{audit_layout_of}
 
 -- ---- what is found and left
 
@@ -35,12 +36,12 @@ pub record Log : Type 0 where
 abbrev pub log_by : Watched (List ℕ) → Watched (List ℕ) → Watched Leaves → Log
 log_by first second tiles = record { first = first; second = second; tiles = tiles }
 
-pub record Environment : Type 0 where
-  pub inputs : Supply
-  pub log : Log
+-- and with them, but for its output
+abbrev pub Environment : Type 0
+Environment = start.Environment Log
 
 abbrev pub environment_by : Supply → Watched (List ℕ) → Watched (List ℕ) → Watched Leaves → Environment
-environment_by inputs first second tiles = record { inputs = inputs; log = log_by first second tiles }
+environment_by inputs first second tiles = record { inputs = inputs; outside = log_by first second tiles }
 
 -- the greatest length of a checkpoint: 64 KiB
 abbrev pub max_checkpoint : ℕ
@@ -89,23 +90,16 @@ pub data Audits (accepts : Judge) (key : List ℕ) (before after : Log) (said : 
   first_read : (first : List ℕ) → GivesWhole before.first after.first max_checkpoint first
       → AuditsSecond accepts key first before.second after.second before.tiles after.tiles said → Audits accepts key before after said
 
--- Once the words are read: the input provider, then the checkpoints. Where it is refused nothing else is called.
-pub data Proceeds (key : List ℕ) (before after : Environment) (said : Answer) : Type 0 where
-  stopped : (stop : CommandStop) → ReadsAs tables_in before.inputs after.inputs (Err stop) → after.log ≡ before.log
-      → stop_answer stop ≡ Some said → Proceeds key before after said
-  audited : (tables : Tables) → ReadsAs tables_in before.inputs after.inputs (Ok tables)
-      → Audits (judge_of tables) key before.log after.log said → Proceeds key before after said
-
--- The words first. Where they are refused nothing is called.
-pub data Says (words : List (List ℕ)) (before after : Environment) (said : Answer) : Type 0 where
-  misworded : audit_layout_of words ≡ None → after ≡ before → stop_answer Words ≡ Some said → Says words before after said
-  worded : (asked : AuditWords) → audit_words_of words ≡ Ok asked → Proceeds asked.key before after said
-      → Says words before after said
+-- The words first, then the input provider, then the checkpoints.
+abbrev pub Says : List (List ℕ) → Environment → Environment → Result Answer wanting.NoMemory → Type 0
+Says words before after result =
+    Decides (audit_layout_of words) tables_in (λ said. said)
+    (λ layout tables old new said. IfOk said (Audits (judge_of tables) layout.key old new)) before after result
 
 -- what is said was taken whole, and this is its status
 pub record SaysWhole (words : List (List ℕ)) (before after : Environment) (out out' : Watched (List ℕ)) (ended : Status) : Type 0 where
   pub said : Answer
-  pub says : Says words before after said
+  pub says : Says words before after (Ok said)
   pub written : TakesAll out out' said.text
   pub ended_is : ended ≡ said.status
 

@@ -5,4 +5,4 @@ mod layout;
 mod program;
 
 pub use layout::{AuditLayout, audit_layout};
-pub use program::run_audit;
+pub use program::{Checkpoints, run_audit};

@@ -2,27 +2,30 @@
 ghost use Rattle.std.specs.Prelude.{◌≡◌, ◌++◌, ◌∷◌, codes, Ok, IfOk, OnOk, string_bytes};
 ghost use Rattle.std.specs.Fmt.{decimal};
 ghost use Rattle.command_files.specs.Printed.{pair_line};
-ghost use Rattle.sigstore_entries.specs.declared.checkpoint.Checkpoint.{Checkpoint};
-ghost use Rattle.sigstore_entries.specs.Checkpoint.{checkpoint_of};
 ghost use Rattle.command_files.specs.Rows.{accepts_of};
-ghost use Rattle.command_audit.specs.Run.{log_by, environment_by, judge_of, consistent_answer, refused_answer, unread_answer, Judges, AuditsSecond, Audits, Proceeds, Says, Means};
+ghost use Rattle.command_audit.specs.Run.{log_by, environment_by, judge_of, consistent_answer, refused_answer, unread_answer, Judges, AuditsSecond, Audits, Says, Means};
 ghost use Rattle.command_audit.specs.Complete.{Completes};
 
-use crate::layout::read_words;
+use crate::layout::{AuditLayout, audit_layout};
 use command_files::{
-    CommandStop, Inputs, Sink, TableProvider, UsageFault, WholeFault, push_decimal, read_whole,
-    take_tables,
+    Answer, Inputs, Sink, Started, Status, TableProvider, Tables, WholeFault, finish, pair,
+    push_decimal, read_whole, refusal, start,
 };
-use command_verify::{Answer, Status, finish, pair, refusal, stopped};
 use foundation::NoMemory;
 use log_tiles::{TileError, TileSource, audit};
-use sigstore_entries::Checkpoint;
 use sigstore_keys::ArtifactSource;
-use sigstore_types_parts::{DerPublicKey, Text, TypesError};
+use sigstore_types_parts::{DerPublicKey, Text};
 use std::alloc::Global;
 
 // The greatest length of a checkpoint in bytes: 64 KiB.
 const MAX_CHECKPOINT: u64 = 65_536;
+
+/// The two checkpoints of an audit: the older one, and the newer one.
+#[derive(Drop)]
+pub struct Checkpoints<A, B> {
+    pub first: A,
+    pub second: B,
+}
 
 // Why nothing was found: an input's line, or a refusal's.
 fn refused(alloc: Global, e: &TileError) -> Result<Answer, NoMemory>
@@ -34,6 +37,7 @@ fn refused(alloc: Global, e: &TileError) -> Result<Answer, NoMemory>
     }
 }
 
+// That the trees of two checkpoints are consistent, by their sizes.
 #[tactic(auto, unfolding(command_files::specs::Printed::pair_line))]
 fn consistent(alloc: Global, first: u64, second: u64) -> Result<Answer, NoMemory>
     ensures { IfOk result (λ said. said ≡ consistent_answer first second) }
@@ -50,38 +54,6 @@ fn consistent(alloc: Global, first: u64, second: u64) -> Result<Answer, NoMemory
     })
 }
 
-// The size of the tree of a checkpoint.
-fn size_in(alloc: Global, text: &[u8]) -> Result<u64, NoMemory>
-    requires { (c : Checkpoint) × (checkpoint_of text.now ≡ Ok c) }
-    ensures { IfOk result (λ n. (c : Checkpoint) → checkpoint_of text.now ≡ Ok c → n ≡ c.tree_size) }
-{
-    match Checkpoint::from_text(alloc, text) {
-        Ok(checkpoint) => {
-            let size = checkpoint.tree_size();
-            drop(checkpoint);
-            Ok(size)
-        }
-        Err(TypesError::NoMemory) => Err(NoMemory),
-        Err(_) => unreachable!(),
-    }
-}
-
-// That the trees of two checkpoints are consistent.
-fn joined(alloc: Global, first: &[u8], second: &[u8]) -> Result<Answer, NoMemory>
-    requires first { (c : Checkpoint) × (checkpoint_of first.now ≡ Ok c) }
-    requires second { (c : Checkpoint) × (checkpoint_of second.now ≡ Ok c) }
-    ensures { IfOk result (λ said. (older newer : Checkpoint) → checkpoint_of first.now ≡ Ok older → checkpoint_of second.now ≡ Ok newer
-        → said ≡ consistent_answer older.tree_size newer.tree_size) }
-{
-    match size_in(alloc, first) {
-        Ok(older) => match size_in(alloc, second) {
-            Ok(newer) => consistent(alloc, older, newer),
-            Err(e) => Err(e),
-        },
-        Err(e) => Err(e),
-    }
-}
-
 // The judgement of two checkpoints.
 fn judged<T: TileSource>(
     alloc: Global,
@@ -94,9 +66,10 @@ fn judged<T: TileSource>(
     ensures { IfOk result (Judges (accepts_of provider.now.rows) key.now first.now second.now (T.seen tiles.old) (T.seen tiles.new)) }
 {
     match audit(alloc, provider, key, first, second, tiles) {
-        Ok(proof) => {
-            drop(proof);
-            joined(alloc, first, second)
+        Ok(found) => {
+            let (older, newer) = (found.first, found.second);
+            drop(found);
+            consistent(alloc, older, newer)
         }
         Err(TileError::NoMemory) => Err(NoMemory),
         Err(e) => {
@@ -143,17 +116,17 @@ fn audited<A: ArtifactSource, B: ArtifactSource, T: TileSource>(
     alloc: Global,
     provider: &TableProvider,
     key: &DerPublicKey,
-    first: &mut A,
-    second: &mut B,
+    checkpoints: &mut Checkpoints<A, B>,
     tiles: &mut T,
 ) -> Result<Answer, NoMemory>
     ensures { IfOk result (Audits (accepts_of provider.now.rows) key.now
-        (log_by (A.seen first.old) (B.seen second.old) (T.seen tiles.old))
-        (log_by (A.seen first.new) (B.seen second.new) (T.seen tiles.new))) }
+        (log_by (A.seen checkpoints.old.first) (B.seen checkpoints.old.second) (T.seen tiles.old))
+        (log_by (A.seen checkpoints.new.first) (B.seen checkpoints.new.second) (T.seen tiles.new))) }
 {
-    match read_whole(alloc, first, MAX_CHECKPOINT) {
+    match read_whole(alloc, &mut checkpoints.first, MAX_CHECKPOINT) {
         Ok(older) => {
-            let said = second_audited(alloc, provider, key, older.as_bytes(), second, tiles);
+            let newer = &mut checkpoints.second;
+            let said = second_audited(alloc, provider, key, older.as_bytes(), newer, tiles);
             drop(older);
             said
         }
@@ -163,50 +136,27 @@ fn audited<A: ArtifactSource, B: ArtifactSource, T: TileSource>(
     }
 }
 
-// The provider's tables, then the checkpoints.
-fn proceed<I: Inputs, A: ArtifactSource, B: ArtifactSource, T: TileSource>(
-    alloc: Global,
-    key: &DerPublicKey,
-    inputs: &mut I,
-    first: &mut A,
-    second: &mut B,
-    tiles: &mut T,
-) -> Result<Answer, NoMemory>
-    ensures { IfOk result (Proceeds key.now
-        (environment_by (I.seen inputs.old) (A.seen first.old) (B.seen second.old) (T.seen tiles.old))
-        (environment_by (I.seen inputs.new) (A.seen first.new) (B.seen second.new) (T.seen tiles.new))) }
-{
-    match take_tables(alloc, inputs) {
-        Ok(tables) => {
-            let said = audited(alloc, &tables.provider, key, first, second, tiles);
-            drop(tables);
-            said
-        }
-        Err(stop) => stopped(alloc, stop),
-    }
-}
-
-// The words, then the inputs and the checkpoints.
+// The words and the provider's tables, then the checkpoints.
 fn decide<I: Inputs, A: ArtifactSource, B: ArtifactSource, T: TileSource>(
     alloc: Global,
     words: &[Text],
     inputs: &mut I,
-    first: &mut A,
-    second: &mut B,
+    checkpoints: &mut Checkpoints<A, B>,
     tiles: &mut T,
 ) -> Result<Answer, NoMemory>
-    ensures { IfOk result (Says words.now
-        (environment_by (I.seen inputs.old) (A.seen first.old) (B.seen second.old) (T.seen tiles.old))
-        (environment_by (I.seen inputs.new) (A.seen first.new) (B.seen second.new) (T.seen tiles.new))) }
+    ensures { Says words.now
+        (environment_by (I.seen inputs.old) (A.seen checkpoints.old.first) (B.seen checkpoints.old.second) (T.seen tiles.old))
+        (environment_by (I.seen inputs.new) (A.seen checkpoints.new.first) (B.seen checkpoints.new.second) (T.seen tiles.new)) result }
 {
-    match read_words(alloc, words) {
-        Ok(asked) => {
-            let said = proceed(alloc, &asked.key, inputs, first, second, tiles);
-            drop(asked);
+    match start::<AuditLayout, Tables, I>(alloc, audit_layout(alloc, words), inputs) {
+        Ok(Started::Asked(layout, tables)) => {
+            let said = audited(alloc, &tables.provider, &layout.key, checkpoints, tiles);
+            drop(tables);
+            drop(layout);
             said
         }
-        Err(UsageFault::Usage) => stopped(alloc, CommandStop::Words),
-        Err(UsageFault::NoMemory) => Err(NoMemory),
+        Ok(Started::Stopped(said)) => Ok(said),
+        Err(e) => Err(e),
     }
 }
 
@@ -218,20 +168,19 @@ pub fn run_audit<I: Inputs, A: ArtifactSource, B: ArtifactSource, T: TileSource,
     alloc: Global,
     words: &[Text],
     inputs: &mut I,
-    first: &mut A,
-    second: &mut B,
+    checkpoints: &mut Checkpoints<A, B>,
     tiles: &mut T,
     out: &mut K,
 ) -> Status
     ensures means { Means words.now
-        (environment_by (I.seen inputs.old) (A.seen first.old) (B.seen second.old) (T.seen tiles.old))
-        (environment_by (I.seen inputs.new) (A.seen first.new) (B.seen second.new) (T.seen tiles.new))
+        (environment_by (I.seen inputs.old) (A.seen checkpoints.old.first) (B.seen checkpoints.old.second) (T.seen tiles.old))
+        (environment_by (I.seen inputs.new) (A.seen checkpoints.new.first) (B.seen checkpoints.new.second) (T.seen tiles.new))
         (K.seen out.old) (K.seen out.new) result }
     ensures complete { Completes words.now
-        (environment_by (I.seen inputs.old) (A.seen first.old) (B.seen second.old) (T.seen tiles.old))
-        (environment_by (I.seen inputs.new) (A.seen first.new) (B.seen second.new) (T.seen tiles.new))
+        (environment_by (I.seen inputs.old) (A.seen checkpoints.old.first) (B.seen checkpoints.old.second) (T.seen tiles.old))
+        (environment_by (I.seen inputs.new) (A.seen checkpoints.new.first) (B.seen checkpoints.new.second) (T.seen tiles.new))
         (K.seen out.old) (K.seen out.new) result }
 {
-    let said = decide(alloc, words, inputs, first, second, tiles);
+    let said = decide(alloc, words, inputs, checkpoints, tiles);
     finish(&said, out)
 }

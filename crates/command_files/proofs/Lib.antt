@@ -1,9 +1,11 @@
 mod Cuts
+pub mod Endings
 pub mod Folds
 mod Keyed
 mod Pieces
 mod Printing
 mod Readings
 pub mod RowFacts
+pub mod Starts
 mod TakenSoFar
 pub mod Wholes

@@ -1,4 +1,4 @@
--- The inputs of a run, read in their order: the policy, the provider's tables, the root, the bundle.
+-- The inputs of a run, read in their order: the policy, the provider's tables, the root, the bundle; of some runs not all of them.
 use Rattle.std.specs.Prelude.{◌≡◌, ◌≢◌, ◌⊎◌, ℕ, List, length, codes, nat_lt, if◌then◌else◌, Option, Some, None, Result}
 use Rattle.std.specs.Prelude.{Ok, Err, IfOk, IfErr, ⊤}
 use Rattle.foundation.specs.Steps.{◌>>=◌}
@@ -17,7 +17,7 @@ use Rattle.command_files.specs.declared.gather.CommandStop.TheVariants.{Words, M
 use Rattle.command_files.specs.declared.gather.Gathered.{Gathered}
 use Rattle.command_files.specs.declared.gather.Anchored.{Anchored}
 use Rattle.command_files.specs.declared.gather.Governed.{Governed}
-use Rattle.command_files.specs.declared.policy.PolicyFile.{PolicyFile}
+use Rattle.sigstore_policy.specs.declared.policy.SigningPolicy.{SigningPolicy}
 use Rattle.command_files.specs.declared.tables.Tables.{Tables}
 
 -- the greatest length of an input in bytes
@@ -54,28 +54,11 @@ by_form which (Ok x) = Ok x
 by_form which (Err usage.Usage) = Err (Malformed which)
 by_form which (Err usage.NoMemory) = Err Memory
 
-unfoldable pub policy_in : Held → Result PolicyFile CommandStop
+unfoldable pub policy_in : Held → Result SigningPolicy CommandStop
 policy_in held = input_of Policy held >>= λ bytes. by_form Policy (policy_of bytes)
 
 unfoldable pub tables_in : Held → Result Tables CommandStop
 tables_in held = input_of Provider held >>= λ bytes. by_form Provider (tables_of bytes)
-
-abbrev pub made_of : PolicyFile → Tables → List ℕ → List ℕ → Gathered
-made_of policy tables root bundle = record { policy = policy; tables = tables; root = root; bundle = bundle }
-
--- the root and the bundle, after the others
-unfoldable pub signed_in : PolicyFile → Tables → Held → Result Gathered CommandStop
-signed_in policy tables held =
-    input_of Root held >>= λ root.
-    input_of Bundle held >>= λ bundle.
-    Ok (made_of policy tables root bundle)
-
--- the inputs, or the first refusal
-unfoldable pub gathered_of : Held → Result Gathered CommandStop
-gathered_of held =
-    policy_in held >>= λ policy.
-    tables_in held >>= λ tables.
-    signed_in policy tables held
 
 -- the tables and the root alone, or the first refusal
 unfoldable pub anchored_of : Held → Result Anchored CommandStop
@@ -90,6 +73,21 @@ governed_of held =
     policy_in held >>= λ policy.
     anchored_of held >>= λ anchored.
     Ok (record { policy = policy; anchored = anchored })
+
+abbrev pub with_bundle : Governed → List ℕ → Gathered
+with_bundle governed bundle = record {
+  policy = governed.policy;
+  tables = governed.anchored.tables;
+  root = governed.anchored.root;
+  bundle = bundle;
+}
+
+-- the bundle behind them, or the first refusal
+unfoldable pub gathered_of : Held → Result Gathered CommandStop
+gathered_of held =
+    governed_of held >>= λ governed.
+    input_of Bundle held >>= λ bundle.
+    Ok (with_bundle governed bundle)
 
 -- bytes that told inputs hold within their limit, and that are outside their grammar
 pub record IsMalformed {A : Type 0} (which : InputFile) (reads : List ℕ → Result A UsageFault) (seen : Supply) : Type 0 where

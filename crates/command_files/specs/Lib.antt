@@ -11,4 +11,8 @@ pub mod Named
 pub mod Layout
 pub mod Printed
 pub mod Gather
+pub mod Answer
+pub mod Ending
+pub mod Starting
+pub mod Subject
 pub mod Whole

@@ -1,15 +1,18 @@
 // The inputs of a run.
-ghost use Rattle.std.specs.Prelude.{◌≡◌, ◌≢◌, Ok, Err, IfOk, IfErr};
+ghost use Rattle.std.specs.Prelude.{◌≡◌, ◌≢◌, Result, Ok, Err, IfOk, IfErr};
+ghost use Rattle.command_files.specs.Inputs.{Held};
 ghost use Rattle.command_files.specs.declared.inputs.InputFile.TheVariants.{Policy, Provider};
+ghost use Rattle.command_files.specs.declared.gather.CommandStop.{CommandStop};
 ghost use Rattle.command_files.specs.declared.gather.CommandStop.TheVariants.{Memory};
 ghost use Rattle.command_files.specs.Policy.{policy_of};
 ghost use Rattle.command_files.specs.Tables.{tables_of};
-ghost use Rattle.command_files.specs.Gather.{limit_of, word_of, stop_of, by_form, input_of, policy_in, tables_in, signed_in, gathered_of, anchored_of, governed_of, ReadsAs};
+ghost use Rattle.command_files.specs.Gather.{limit_of, word_of, stop_of, by_form, input_of, policy_in, tables_in, anchored_of, governed_of, with_bundle, gathered_of, ReadsAs};
 
 use crate::inputs::{InputFault, InputFile, Inputs};
-use crate::policy::{PolicyFile, read_policy};
+use crate::policy::read_policy;
 use crate::tables::{Tables, read_provider};
 use crate::usage_fault::UsageFault;
+use sigstore_policy::SigningPolicy;
 use sigstore_types_parts::Bytes;
 use std::alloc::Global;
 use std::{error, fmt};
@@ -28,26 +31,36 @@ pub enum CommandStop {
     Memory,
 }
 
-/// The inputs of a run.
+/// What the inputs of a command hold.
+pub trait Gather: Sized + Drop {
+    /// What told inputs hold, or the first refusal.
+    ghost gathered: { Held → Result Self CommandStop };
+
+    /// Reads the inputs, one after the other. Errors: `Malformed` or `Input` of the first that is refused; `Memory`.
+    fn gather<I: Inputs>(alloc: Global, inputs: &mut I) -> Result<Self, CommandStop>
+        ensures { ReadsAs gathered (I.seen inputs.old) (I.seen inputs.new) result };
+}
+
+/// The inputs of a run that judges one bundle, in their order: the policy, the provider's tables, the root, the bundle.
 #[derive(Drop)]
 pub struct Gathered {
-    pub policy: PolicyFile,
+    pub policy: SigningPolicy,
     pub tables: Tables,
     pub root: Bytes,
     pub bundle: Bytes,
 }
 
-/// The inputs of a run that judges documents alone: who decides signatures, and the pinned root.
+/// The inputs of a run that judges documents alone, in their order: who decides signatures, and the pinned root.
 #[derive(Drop)]
 pub struct Anchored {
     pub tables: Tables,
     pub root: Bytes,
 }
 
-/// The inputs of a run that judges many artifacts: the policy, and by what it is judged.
+/// The inputs of a run that judges many artifacts, in their order: the policy, and by what it is judged.
 #[derive(Drop)]
 pub struct Governed {
-    pub policy: PolicyFile,
+    pub policy: SigningPolicy,
     pub anchored: Anchored,
 }
 
@@ -101,7 +114,7 @@ fn take_input<I: Inputs>(
     }
 }
 
-fn formed_policy(alloc: Global, bytes: Bytes) -> Result<PolicyFile, CommandStop>
+fn formed_policy(alloc: Global, bytes: Bytes) -> Result<SigningPolicy, CommandStop>
     ensures ok { IfOk result (λ policy. by_form Policy (policy_of bytes) ≡ Ok policy) }
     ensures err { IfErr result (λ e. e ≢ Memory → by_form Policy (policy_of bytes) ≡ Err e) }
 {
@@ -123,7 +136,7 @@ fn formed_tables(alloc: Global, bytes: Bytes) -> Result<Tables, CommandStop>
     }
 }
 
-fn take_policy<I: Inputs>(alloc: Global, inputs: &mut I) -> Result<PolicyFile, CommandStop>
+fn take_policy<I: Inputs>(alloc: Global, inputs: &mut I) -> Result<SigningPolicy, CommandStop>
     ensures { ReadsAs policy_in (I.seen inputs.old) (I.seen inputs.new) result }
 {
     match take_input(alloc, inputs, InputFile::Policy) {
@@ -135,81 +148,73 @@ fn take_policy<I: Inputs>(alloc: Global, inputs: &mut I) -> Result<PolicyFile, C
     }
 }
 
-/// The tables of the input provider. Errors: `Malformed` or `Input` of it; `Memory`.
-pub fn take_tables<I: Inputs>(alloc: Global, inputs: &mut I) -> Result<Tables, CommandStop>
-    ensures { ReadsAs tables_in (I.seen inputs.old) (I.seen inputs.new) result }
-{
-    match take_input(alloc, inputs, InputFile::Provider) {
-        Ok(bytes) => match formed_tables(alloc, bytes) {
-            Ok(tables) => Ok(tables),
-            Err(e) => Err(e),
-        },
-        Err(e) => Err(e),
-    }
-}
+impl Gather for Tables {
+    ghost gathered = { tables_in };
 
-// The root and the bundle.
-fn take_signed<I: Inputs>(
-    alloc: Global,
-    inputs: &mut I,
-    policy: PolicyFile,
-    tables: Tables,
-) -> Result<Gathered, CommandStop>
-    ensures { ReadsAs (signed_in policy tables) (I.seen inputs.old) (I.seen inputs.new) result }
-{
-    match take_input(alloc, inputs, InputFile::Root) {
-        Ok(root) => match take_input(alloc, inputs, InputFile::Bundle) {
-            Ok(bundle) => Ok(Gathered {
-                policy,
-                tables,
-                root,
-                bundle,
-            }),
-            Err(e) => Err(e),
-        },
-        Err(e) => Err(e),
-    }
-}
-
-/// The inputs in their order: policy, provider, root, bundle. Errors: `Malformed` or `Input` of the first that is refused; `Memory`.
-pub fn gather_inputs<I: Inputs>(alloc: Global, inputs: &mut I) -> Result<Gathered, CommandStop>
-    ensures { ReadsAs gathered_of (I.seen inputs.old) (I.seen inputs.new) result }
-{
-    match take_policy(alloc, inputs) {
-        Ok(policy) => match take_tables(alloc, inputs) {
-            Ok(tables) => match take_signed(alloc, inputs, policy, tables) {
-                Ok(gathered) => Ok(gathered),
+    fn gather<I: Inputs>(alloc: Global, inputs: &mut I) -> Result<Tables, CommandStop> {
+        match take_input(alloc, inputs, InputFile::Provider) {
+            Ok(bytes) => match formed_tables(alloc, bytes) {
+                Ok(tables) => Ok(tables),
                 Err(e) => Err(e),
             },
             Err(e) => Err(e),
-        },
-        Err(e) => Err(e),
+        }
     }
 }
 
-/// The inputs of a run that judges documents alone, in their order: provider, root. Errors as `gather_inputs`.
-pub fn gather_anchor<I: Inputs>(alloc: Global, inputs: &mut I) -> Result<Anchored, CommandStop>
-    ensures { ReadsAs anchored_of (I.seen inputs.old) (I.seen inputs.new) result }
-{
-    match take_tables(alloc, inputs) {
-        Ok(tables) => match take_input(alloc, inputs, InputFile::Root) {
-            Ok(root) => Ok(Anchored { tables, root }),
+impl Gather for Anchored {
+    ghost gathered = { anchored_of };
+
+    fn gather<I: Inputs>(alloc: Global, inputs: &mut I) -> Result<Anchored, CommandStop> {
+        match Tables::gather(alloc, inputs) {
+            Ok(tables) => match take_input(alloc, inputs, InputFile::Root) {
+                Ok(root) => Ok(Anchored { tables, root }),
+                Err(e) => Err(e),
+            },
             Err(e) => Err(e),
-        },
-        Err(e) => Err(e),
+        }
     }
 }
 
-/// The inputs of a run that judges many artifacts, in their order: policy, provider, root. Errors as `gather_inputs`.
-pub fn gather_governed<I: Inputs>(alloc: Global, inputs: &mut I) -> Result<Governed, CommandStop>
-    ensures { ReadsAs governed_of (I.seen inputs.old) (I.seen inputs.new) result }
-{
-    match take_policy(alloc, inputs) {
-        Ok(policy) => match gather_anchor(alloc, inputs) {
-            Ok(anchored) => Ok(Governed { policy, anchored }),
+impl Gather for Governed {
+    ghost gathered = { governed_of };
+
+    fn gather<I: Inputs>(alloc: Global, inputs: &mut I) -> Result<Governed, CommandStop> {
+        match take_policy(alloc, inputs) {
+            Ok(policy) => match Anchored::gather(alloc, inputs) {
+                Ok(anchored) => Ok(Governed { policy, anchored }),
+                Err(e) => Err(e),
+            },
             Err(e) => Err(e),
-        },
-        Err(e) => Err(e),
+        }
+    }
+}
+
+// The same with a bundle.
+fn with_bundle(governed: Governed, bundle: Bytes) -> Gathered
+    ensures { result ≡ with_bundle governed bundle }
+{
+    let Governed { policy, anchored } = governed;
+    let Anchored { tables, root } = anchored;
+    Gathered {
+        policy,
+        tables,
+        root,
+        bundle,
+    }
+}
+
+impl Gather for Gathered {
+    ghost gathered = { gathered_of };
+
+    fn gather<I: Inputs>(alloc: Global, inputs: &mut I) -> Result<Gathered, CommandStop> {
+        match Governed::gather(alloc, inputs) {
+            Ok(governed) => match take_input(alloc, inputs, InputFile::Bundle) {
+                Ok(bundle) => Ok(with_bundle(governed, bundle)),
+                Err(e) => Err(e),
+            },
+            Err(e) => Err(e),
+        }
     }
 }
 

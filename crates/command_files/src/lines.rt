@@ -62,7 +62,8 @@ fn take_text<S: ByLine>(alloc: Global, state: &mut S, text: &str) -> Result<(), 
     }
 }
 
-/// Takes the lines of a file in turn. Errors: `Usage` for bytes that aren't UTF-8, a last line without its line feed, and a line that is refused; `NoMemory`.
+/// Takes the lines of a file in turn. Errors: `Usage` for bytes that aren't UTF-8, a last line without its line feed, and a
+/// line that is refused; `NoMemory`.
 pub fn take_file<S: ByLine>(alloc: Global, state: &mut S, bytes: &[u8]) -> Result<(), UsageFault>
     ensures ok { OnOk result (file_folded_of S.takes state.old bytes.now ≡ Ok state.new) }
     ensures err { IfErr result (λ e. e ≢ UsageFault.NoMemory → file_folded_of S.takes state.old bytes.now ≡ Err e) }

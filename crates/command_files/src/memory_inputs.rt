@@ -46,7 +46,9 @@ impl MemoryInputs {
         ensures calls { self.new.calls ≡ self.old.calls }
         ensures missing { self.new.missing ≡ self.old.missing }
         ensures put { held_of self.new.root self.new.bundle self.new.policy self.new.provider which ≡ Some bytes }
-        ensures others { (other : InputFile) → other ≢ which → held_of self.new.root self.new.bundle self.new.policy self.new.provider other ≡ held_of self.old.root self.old.bundle self.old.policy self.old.provider other }
+        ensures others { (other : InputFile) → other ≢ which →
+            held_of self.new.root self.new.bundle self.new.policy self.new.provider other
+            ≡ held_of self.old.root self.old.bundle self.old.policy self.old.provider other }
     {
         match which {
             InputFile::Root => self.root = Some(bytes),
@@ -72,11 +74,16 @@ impl Inputs for MemoryInputs {
     ghost seen = { λ i. told_inputs i.root i.bundle i.policy i.provider i.calls.faults i.missing };
 
     fn read(&mut self, alloc: Global, which: InputFile, max: u64) -> Result<Bytes, InputFault>
-        ensures gives { Gives which (told_inputs self.old.root self.old.bundle self.old.policy self.old.provider self.old.calls.faults self.old.missing) (told_inputs self.new.root self.new.bundle self.new.policy self.new.provider self.new.calls.faults self.new.missing) max result }
+        ensures gives { Gives which
+            (told_inputs self.old.root self.old.bundle self.old.policy self.old.provider self.old.calls.faults self.old.missing)
+            (told_inputs self.new.root self.new.bundle self.new.policy self.new.provider self.new.calls.faults self.new.missing)
+            max result }
         ensures failures { self.new.calls.failures ≡ self.old.calls.failures }
         ensures made { self.new.calls.made ≡ min (self.old.calls.made + 1) (2 ^ 64 - 1) }
-        ensures fails { fails_next self.old.calls.failures self.old.calls.made ≡ true → (result ≡ Err InputFault.Failed) × Rose self.old.calls.faults self.new.calls.faults }
-        ensures serves { fails_next self.old.calls.failures self.old.calls.made ≡ false → (result ≢ Err InputFault.Failed) × (self.new.calls.faults ≡ self.old.calls.faults) }
+        ensures fails { fails_next self.old.calls.failures self.old.calls.made ≡ true →
+            (result ≡ Err InputFault.Failed) × Rose self.old.calls.faults self.new.calls.faults }
+        ensures serves { fails_next self.old.calls.failures self.old.calls.made ≡ false →
+            (result ≢ Err InputFault.Failed) × (self.new.calls.faults ≡ self.old.calls.faults) }
         ensures never { self.old.calls.failures ≡ [] → (result ≢ Err InputFault.Failed) × (self.new.calls.faults ≡ self.old.calls.faults) }
     {
         // (it counts as missing until it is given)

@@ -46,11 +46,13 @@ impl Sink for MemorySink {
     ghost seen = { λ s. record { told = Some s.bytes.items; faults = s.calls.faults } };
 
     fn write(&mut self, bytes: &[u8]) -> Result<usize, SinkFault>
-        ensures writes { Writes (record { told = Some self.old.bytes.items; faults = self.old.calls.faults }) (record { told = Some self.new.bytes.items; faults = self.new.calls.faults }) bytes.now result }
+        ensures writes { Writes (record { told = Some self.old.bytes.items; faults = self.old.calls.faults })
+            (record { told = Some self.new.bytes.items; faults = self.new.calls.faults }) bytes.now result }
         ensures room { self.new.room ≡ self.old.room }
         ensures failures { self.new.calls.failures ≡ self.old.calls.failures }
         ensures made { self.new.calls.made ≡ min (self.old.calls.made + 1) (2 ^ 64 - 1) }
-        ensures answer { result ≡ write_of (fails_next self.old.calls.failures self.old.calls.made) (self.old.room - length self.old.bytes.items) bytes.now }
+        ensures answer { result ≡ write_of (fails_next self.old.calls.failures self.old.calls.made)
+            (self.old.room - length self.old.bytes.items) bytes.now }
         ensures serves { OnOk result (self.new.calls.faults ≡ self.old.calls.faults) }
         ensures never { self.old.calls.failures ≡ [] → result ≡ write_of false (self.old.room - length self.old.bytes.items) bytes.now }
     {

@@ -1,106 +1,81 @@
 // The policy file.
-ghost use Rattle.std.specs.Prelude.{◌≡◌, ◌≢◌, Ok, Err, IfOk, IfErr, OnOk, Some, None};
-ghost use Rattle.command_files.specs.Lines.{cut_of};
-ghost use Rattle.command_files.specs.declared.policy.PolicyFile.TheVariants.{Key};
-ghost use Rattle.command_files.specs.Policy.{key_line_of, first_line_of, waived_of, once, threshold_in, threshold_of, key_logs_of, key_later_of};
-ghost use Rattle.command_files.specs.Policy.{rest_of, identity_as, identity_of, keyless_waiver_of, keyless_line_of, later_line_of, policy_line_of, policy_of};
+ghost use Rattle.std.specs.Prelude.{◌≡◌, ◌≢◌, Ok, Err, IfOk, IfErr, OnOk, Some};
+ghost use Rattle.command_files.specs.Policy.{name_of, is_among, once, threshold_in, threshold_of, rest_of, identity_as, identity_of, row_of, line_of};
+ghost use Rattle.command_files.specs.Policy.{bare, key_line_of, first_line_of, asked_by, keyed_by, applied, begun_of, later_line_of, policy_line_of, policy_of};
 
 use crate::fields::spelled;
 use crate::lines::{ByLine, cut, take_file};
 use crate::usage_fault::UsageFault;
+use foundation::Sequence;
 use sigstore_entries::shortest_decimal;
 use sigstore_keys::LogThreshold;
-use sigstore_types_parts::{ByteString, DerPublicKey, Text};
+use sigstore_policy::{
+    CertificatePolicy, IdentityMatcher, PublicKeyVerificationPolicy, SigningPolicy,
+    VerificationPolicy,
+};
+use sigstore_types_parts::{ByteString, Text};
 use std::alloc::Global;
 use std::num::NonZeroU8;
 
-/// The name in the certificate of whoever signed.
+/// A line behind the first one: what it asks for, or passes over.
 #[derive(Debug, PartialEq, Drop)]
-pub enum IdentityLine {
-    /// A name of any sort.
-    Exact(Text),
-    /// An e-mail address.
-    Email(Text),
-    /// A URI.
-    Uri(Text),
+pub enum PolicyLine {
+    /// The log isn't verified.
+    SkipTlog,
+    /// Nothing of the certificate is verified but its names.
+    SkipChain,
+    /// The certificate's timestamps aren't verified.
+    SkipSct,
+    /// The name in the certificate.
+    Identity(IdentityMatcher),
+    /// Who vouched for that name.
+    Issuer(Text),
+    /// How many logs of certificates have to vouch.
+    Scts(LogThreshold),
+    /// How many transparency logs have to vouch.
+    Logs(LogThreshold),
 }
 
-/// A policy for a signer with a certificate: the name in it, who vouched for the name, what is passed over: the log, the
-/// certificate's chain, its timestamps; and how many logs of certificates and transparency logs have to vouch, where the
-/// file says so.
-#[derive(Debug, PartialEq, Drop)]
-pub struct KeylessFile {
-    pub identity: Option<IdentityLine>,
-    pub issuer: Option<Text>,
-    pub skip_tlog: bool,
-    pub skip_chain: bool,
-    pub skip_sct: bool,
-    pub scts: Option<LogThreshold>,
-    pub logs: Option<LogThreshold>,
+/// A policy as the lines so far mean it, and the names of those behind the first one.
+#[derive(Drop)]
+pub struct Draft {
+    pub policy: SigningPolicy,
+    pub stood: Sequence<Text>,
 }
 
-/// A policy: who signs.
-#[derive(Debug, PartialEq, Drop)]
-pub enum PolicyFile {
-    /// Whoever has the key; whether the log is passed over, and how many logs have to vouch, where the file says so.
-    Key {
-        key: DerPublicKey,
-        skip_tlog: bool,
-        logs: Option<LogThreshold>,
-    },
-    /// Whoever has a certificate of that name.
-    Keyless(KeylessFile),
-}
+// ---- a line stands at most once
 
-fn key_line(alloc: Global, line: &str) -> Result<PolicyFile, UsageFault>
-    ensures ok { IfOk result (λ p. key_line_of line.now ≡ Ok p) }
-    ensures err { IfErr result (λ e. e ≢ UsageFault.NoMemory → key_line_of line.now ≡ Err e) }
+// The name of a line: its first word; of a waiver all of it.
+fn name_of(line: &str) -> &str
+    ensures { result.now ≡ name_of line.now }
 {
     match cut(line, ' ') {
-        Some(("key", text)) => match spelled(alloc, text) {
-            Ok(key) => Ok(PolicyFile::Key {
-                key: ByteString::new(key),
-                skip_tlog: false,
-                logs: None,
-            }),
-            Err(e) => Err(e),
-        },
-        _ => Err(UsageFault::Usage),
+        Some(("skip", _)) => line,
+        Some((word, _)) => word,
+        None => line,
     }
 }
 
-fn first_line(alloc: Global, line: &str) -> Result<PolicyFile, UsageFault>
-    ensures ok { IfOk result (λ p. first_line_of line.now ≡ Ok p) }
-    ensures err { IfErr result (λ e. e ≢ UsageFault.NoMemory → first_line_of line.now ≡ Err e) }
+fn is_among(name: &str, names: &[Text]) -> bool
+    ensures { result ≡ is_among name.now names.now }
 {
-    if line == "keyless" {
-        return Ok(PolicyFile::Keyless(KeylessFile {
-            identity: None,
-            issuer: None,
-            skip_tlog: false,
-            skip_chain: false,
-            skip_sct: false,
-            scts: None,
-            logs: None,
-        }));
-    }
-    match key_line(alloc, line) {
-        Ok(policy) => Ok(policy),
-        Err(e) => Err(e),
-    }
+    names.iter().any(|other| name == other.as_str())
 }
 
-// A line that stands twice is a mistake of whoever made the file, and what was meant in its place is lost.
-fn waive(waived: &mut bool) -> Result<(), UsageFault>
-    ensures ok { OnOk result (waived_of waived.old ≡ Ok waived.new) }
-    ensures err { IfErr result (λ e. waived_of waived.old ≡ Err e) }
+// A line that stands twice is a mistake of whoever made the file, and what was meant in its place is lost; of two
+// names, or two numbers, whoever reads the file may overlook one.
+fn once(alloc: Global, stood: &mut Sequence<Text>, name: &str) -> Result<(), UsageFault>
+    ensures ok { OnOk result (once stood.old name.now ≡ Ok stood.new) }
+    ensures err { IfErr result (λ e. e ≢ UsageFault.NoMemory → once stood.old name.now ≡ Err e) }
 {
-    if *waived {
+    if is_among(name, stood.as_slice()) {
         return Err(UsageFault::Usage);
     }
-    *waived = true;
+    stood.push(Text::new(alloc, name)?)?;
     Ok(())
 }
+
+// ---- what stands behind a line's words
 
 fn threshold_in(number: u64) -> Result<LogThreshold, UsageFault>
     ensures { result ≡ threshold_in (Some number) }
@@ -124,45 +99,6 @@ fn threshold(text: &str) -> Result<LogThreshold, UsageFault>
     }
 }
 
-// Of two numbers whoever reads the file may overlook the lower one.
-fn ask_logs(asked: &mut Option<LogThreshold>, text: &str) -> Result<(), UsageFault>
-    ensures ok { OnOk result (once asked.old (threshold_of text.now) ≡ Ok asked.new) }
-    ensures err { IfErr result (λ e. once asked.old (threshold_of text.now) ≡ Err e) }
-{
-    if asked.is_some() {
-        return Err(UsageFault::Usage);
-    }
-    *asked = Some(threshold(text)?);
-    Ok(())
-}
-
-fn key_logs(logs: &mut Option<LogThreshold>, line: &str) -> Result<(), UsageFault>
-    ensures ok { OnOk result (key_logs_of logs.old (cut_of 32 line.now) ≡ Ok logs.new) }
-    ensures err { IfErr result (λ e. key_logs_of logs.old (cut_of 32 line.now) ≡ Err e) }
-{
-    match cut(line, ' ') {
-        Some(("logs", text)) => ask_logs(logs, text),
-        _ => Err(UsageFault::Usage),
-    }
-}
-
-// Under a key no certificate is judged: a line about one would look as if something had come of it.
-fn key_line_after(
-    key: &DerPublicKey,
-    skip_tlog: &mut bool,
-    logs: &mut Option<LogThreshold>,
-    line: &str,
-) -> Result<(), UsageFault>
-    ensures ok { OnOk result (key_later_of key.now skip_tlog.old logs.old line.now ≡ Ok (Key key.now skip_tlog.new logs.new)) }
-    ensures err { IfErr result (λ e. key_later_of key.now skip_tlog.old logs.old line.now ≡ Err e) }
-{
-    if line == "skip tlog" {
-        waive(skip_tlog)
-    } else {
-        key_logs(logs, line)
-    }
-}
-
 // The rest of a line. An empty one is a value that was lost while the file was made, and it would name nobody.
 fn rest(alloc: Global, text: &str) -> Result<Text, UsageFault>
     ensures ok { IfOk result (λ t. rest_of text.now ≡ Ok t) }
@@ -174,18 +110,20 @@ fn rest(alloc: Global, text: &str) -> Result<Text, UsageFault>
     Ok(Text::new(alloc, text)?)
 }
 
-fn identity_as(sort: &str, text: Text) -> Result<IdentityLine, UsageFault>
+fn identity_as(sort: &str, text: Text) -> Result<IdentityMatcher, UsageFault>
     ensures { result ≡ identity_as sort.now text }
 {
     match sort {
-        "exact" => Ok(IdentityLine::Exact(text)),
-        "email" => Ok(IdentityLine::Email(text)),
-        "uri" => Ok(IdentityLine::Uri(text)),
+        "exact" => Ok(IdentityMatcher::Exact(text)),
+        "email" => Ok(IdentityMatcher::Email(text)),
+        "uri" => Ok(IdentityMatcher::Uri(text)),
+        "email-like" => Ok(IdentityMatcher::EmailLike(text)),
+        "uri-like" => Ok(IdentityMatcher::UriLike(text)),
         _ => Err(UsageFault::Usage),
     }
 }
 
-fn identity(alloc: Global, text: &str) -> Result<IdentityLine, UsageFault>
+fn identity(alloc: Global, text: &str) -> Result<IdentityMatcher, UsageFault>
     ensures ok { IfOk result (λ i. identity_of text.now ≡ Ok i) }
     ensures err { IfErr result (λ e. e ≢ UsageFault.NoMemory → identity_of text.now ≡ Err e) }
 {
@@ -195,88 +133,149 @@ fn identity(alloc: Global, text: &str) -> Result<IdentityLine, UsageFault>
     }
 }
 
-// Of two names whoever reads the file may overlook the one that somebody else put there.
-fn name_identity(
-    alloc: Global,
-    named: &mut Option<IdentityLine>,
-    text: &str,
-) -> Result<(), UsageFault>
-    ensures ok { OnOk result (once named.old (identity_of text.now) ≡ Ok named.new) }
-    ensures err { IfErr result (λ e. e ≢ UsageFault.NoMemory → once named.old (identity_of text.now) ≡ Err e) }
+// ---- the table of lines
+
+// A line by its first word and what is behind it.
+fn row(alloc: Global, word: &str, text: &str) -> Result<PolicyLine, UsageFault>
+    ensures ok { IfOk result (λ l. row_of word.now text.now ≡ Ok l) }
+    ensures err { IfErr result (λ e. e ≢ UsageFault.NoMemory → row_of word.now text.now ≡ Err e) }
 {
-    if named.is_some() {
-        return Err(UsageFault::Usage);
+    match (word, text) {
+        ("skip", "tlog") => Ok(PolicyLine::SkipTlog),
+        ("skip", "chain") => Ok(PolicyLine::SkipChain),
+        ("skip", "sct") => Ok(PolicyLine::SkipSct),
+        ("identity", text) => Ok(PolicyLine::Identity(identity(alloc, text)?)),
+        ("issuer", text) => Ok(PolicyLine::Issuer(rest(alloc, text)?)),
+        ("scts", text) => Ok(PolicyLine::Scts(threshold(text)?)),
+        ("logs", text) => Ok(PolicyLine::Logs(threshold(text)?)),
+        _ => Err(UsageFault::Usage),
     }
-    *named = Some(identity(alloc, text)?);
+}
+
+fn line_read(alloc: Global, line: &str) -> Result<PolicyLine, UsageFault>
+    ensures ok { IfOk result (λ l. line_of line.now ≡ Ok l) }
+    ensures err { IfErr result (λ e. e ≢ UsageFault.NoMemory → line_of line.now ≡ Err e) }
+{
+    match cut(line, ' ') {
+        Some((word, text)) => match row(alloc, word, text) {
+            Ok(line) => Ok(line),
+            Err(e) => Err(e),
+        },
+        None => Err(UsageFault::Usage),
+    }
+}
+
+// ---- what a line does
+
+fn ask(policy: &mut VerificationPolicy, line: PolicyLine)
+    ensures { policy.new ≡ asked_by policy.old line }
+{
+    match line {
+        PolicyLine::SkipTlog => policy.verify_tlog = false,
+        PolicyLine::SkipChain => policy.certificate = CertificatePolicy::Skip,
+        PolicyLine::SkipSct => policy.certificate = policy.certificate.without_sct(),
+        PolicyLine::Identity(identity) => policy.identity = Some(identity),
+        PolicyLine::Issuer(issuer) => policy.issuer = Some(issuer),
+        PolicyLine::Scts(count) => policy.scts = count,
+        PolicyLine::Logs(count) => policy.logs = count,
+    }
+}
+
+// Under a key no certificate is judged: a line about one would look as if something had come of it.
+fn ask_of_key(policy: &mut PublicKeyVerificationPolicy, line: PolicyLine) -> Result<(), UsageFault>
+    ensures ok { OnOk result (keyed_by policy.old line ≡ Ok policy.new) }
+    ensures err { IfErr result (λ e. keyed_by policy.old line ≡ Err e) }
+{
+    match line {
+        PolicyLine::SkipTlog => policy.verify_tlog = false,
+        PolicyLine::Logs(count) => policy.logs = count,
+        _ => return Err(UsageFault::Usage),
+    }
     Ok(())
 }
 
-// The same of issuers.
-fn name_issuer(alloc: Global, issuer: &mut Option<Text>, text: &str) -> Result<(), UsageFault>
-    ensures ok { OnOk result (once issuer.old (rest_of text.now) ≡ Ok issuer.new) }
-    ensures err { IfErr result (λ e. e ≢ UsageFault.NoMemory → once issuer.old (rest_of text.now) ≡ Err e) }
-{
-    if issuer.is_some() {
-        return Err(UsageFault::Usage);
-    }
-    *issuer = Some(rest(alloc, text)?);
-    Ok(())
-}
-
-impl KeylessFile {
-    fn take_waiver(&mut self, check: &str) -> Result<(), UsageFault>
-        ensures ok { OnOk result (keyless_waiver_of self.old check.now ≡ Ok self.new) }
-        ensures err { IfErr result (λ e. keyless_waiver_of self.old check.now ≡ Err e) }
-    {
-        match check {
-            "tlog" => waive(&mut self.skip_tlog),
-            "chain" => waive(&mut self.skip_chain),
-            "sct" => waive(&mut self.skip_sct),
-            _ => Err(UsageFault::Usage),
-        }
-    }
-
-    fn take_line(&mut self, alloc: Global, line: &str) -> Result<(), UsageFault>
-        ensures ok { OnOk result (keyless_line_of self.old line.now ≡ Ok self.new) }
-        ensures err { IfErr result (λ e. e ≢ UsageFault.NoMemory → keyless_line_of self.old line.now ≡ Err e) }
-    {
-        match cut(line, ' ') {
-            Some(("skip", check)) => self.take_waiver(check),
-            Some(("identity", text)) => name_identity(alloc, &mut self.identity, text),
-            Some(("issuer", text)) => name_issuer(alloc, &mut self.issuer, text),
-            Some(("scts", text)) => ask_logs(&mut self.scts, text),
-            Some(("logs", text)) => ask_logs(&mut self.logs, text),
-            _ => Err(UsageFault::Usage),
-        }
-    }
-}
-
-fn later_line(alloc: Global, policy: &mut PolicyFile, line: &str) -> Result<(), UsageFault>
-    ensures ok { OnOk result (later_line_of policy.old line.now ≡ Ok policy.new) }
-    ensures err { IfErr result (λ e. e ≢ UsageFault.NoMemory → later_line_of policy.old line.now ≡ Err e) }
+fn apply(policy: &mut SigningPolicy, line: PolicyLine) -> Result<(), UsageFault>
+    ensures ok { OnOk result (applied policy.old line ≡ Ok policy.new) }
+    ensures err { IfErr result (λ e. applied policy.old line ≡ Err e) }
 {
     match policy {
-        PolicyFile::Key {
-            key,
-            skip_tlog,
-            logs,
-        } => key_line_after(key, skip_tlog, logs, line),
-        PolicyFile::Keyless(file) => file.take_line(alloc, line),
+        SigningPolicy::Certificate(policy) => {
+            ask(policy, line);
+            Ok(())
+        }
+        SigningPolicy::PublicKey(policy) => ask_of_key(policy, line),
     }
 }
 
-impl ByLine for Option<PolicyFile> {
+// ---- the file
+
+// What is asked by the word `keyless` alone.
+fn bare() -> VerificationPolicy
+    ensures { result ≡ bare }
+{
+    VerificationPolicy::any_identity()
+}
+
+fn key_line(alloc: Global, line: &str) -> Result<PublicKeyVerificationPolicy, UsageFault>
+    ensures ok { IfOk result (λ p. key_line_of line.now ≡ Ok p) }
+    ensures err { IfErr result (λ e. e ≢ UsageFault.NoMemory → key_line_of line.now ≡ Err e) }
+{
+    match cut(line, ' ') {
+        Some(("key", text)) => match spelled(alloc, text) {
+            Ok(key) => Ok(PublicKeyVerificationPolicy::new(ByteString::new(key))),
+            Err(e) => Err(e),
+        },
+        _ => Err(UsageFault::Usage),
+    }
+}
+
+fn first_line(alloc: Global, line: &str) -> Result<SigningPolicy, UsageFault>
+    ensures ok { IfOk result (λ p. first_line_of line.now ≡ Ok p) }
+    ensures err { IfErr result (λ e. e ≢ UsageFault.NoMemory → first_line_of line.now ≡ Err e) }
+{
+    if line == "keyless" {
+        return Ok(SigningPolicy::Certificate(bare()));
+    }
+    match key_line(alloc, line) {
+        Ok(policy) => Ok(SigningPolicy::PublicKey(policy)),
+        Err(e) => Err(e),
+    }
+}
+
+fn begin(alloc: Global, line: &str) -> Result<Draft, UsageFault>
+    ensures ok { IfOk result (λ d. begun_of line.now ≡ Ok d) }
+    ensures err { IfErr result (λ e. e ≢ UsageFault.NoMemory → begun_of line.now ≡ Err e) }
+{
+    match first_line(alloc, line) {
+        Ok(policy) => Ok(Draft {
+            policy,
+            stood: Sequence::new(alloc),
+        }),
+        Err(e) => Err(e),
+    }
+}
+
+fn later_line(alloc: Global, draft: &mut Draft, line: &str) -> Result<(), UsageFault>
+    ensures ok { OnOk result (later_line_of draft.old line.now ≡ Ok draft.new) }
+    ensures err { IfErr result (λ e. e ≢ UsageFault.NoMemory → later_line_of draft.old line.now ≡ Err e) }
+{
+    once(alloc, &mut draft.stood, name_of(line))?;
+    let line = line_read(alloc, line)?;
+    apply(&mut draft.policy, line)
+}
+
+impl ByLine for Option<Draft> {
     ghost takes = { policy_line_of };
 
     fn take(&mut self, alloc: Global, line: &str) -> Result<(), UsageFault> {
         match self {
-            Some(policy) => match later_line(alloc, policy, line) {
+            Some(draft) => match later_line(alloc, draft, line) {
                 Ok(()) => Ok(()),
                 Err(e) => Err(e),
             },
-            None => match first_line(alloc, line) {
-                Ok(policy) => {
-                    *self = Some(policy);
+            None => match begin(alloc, line) {
+                Ok(draft) => {
+                    *self = Some(draft);
                     Ok(())
                 }
                 Err(e) => Err(e),
@@ -287,17 +286,18 @@ impl ByLine for Option<PolicyFile> {
 
 /// The policy of a file: `key BASE64`, and in any order, each at most once, `skip tlog` and `logs N`; or `keyless`, and in
 /// any order, each at most once, `skip tlog`, `skip chain`, `skip sct`, `scts N`, `logs N`, `issuer TEXT`, and one of
-/// `identity exact TEXT`, `identity email TEXT` and `identity uri TEXT`. N is the shortest decimal of a number from 1 to
-/// 255. Errors: `Usage` for every other file; `NoMemory`.
+/// `identity exact TEXT`, `identity email TEXT`, `identity uri TEXT`, `identity email-like PATTERN` and
+/// `identity uri-like PATTERN`. N is the shortest decimal of a number from 1 to 255. Errors: `Usage` for every other
+/// file; `NoMemory`.
 #[tactic(auto, unfolding(crate::specs::Policy::policy_of))]
-pub fn read_policy(alloc: Global, bytes: &[u8]) -> Result<PolicyFile, UsageFault>
+pub fn read_policy(alloc: Global, bytes: &[u8]) -> Result<SigningPolicy, UsageFault>
     ensures ok { IfOk result (λ p. policy_of bytes.now ≡ Ok p) }
     ensures err { IfErr result (λ e. e ≢ UsageFault.NoMemory → policy_of bytes.now ≡ Err e) }
 {
-    let mut found: Option<PolicyFile> = None;
+    let mut found: Option<Draft> = None;
     match take_file(alloc, &mut found, bytes) {
         Ok(()) => match found {
-            Some(policy) => Ok(policy),
+            Some(draft) => Ok(draft.policy),
             None => Err(UsageFault::Usage),
         },
         Err(e) => Err(e),

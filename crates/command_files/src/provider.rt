@@ -10,12 +10,13 @@ ghost use Rattle.std.specs.Prelude.{IfOk};
 
 use crate::byte_map::ByteMap;
 use crate::rows::{AcceptRow, is_der};
+use crate::subject::Subject;
 use crate::tables::{TableArmor, TableProvider};
 use base64::DecodeAllocError;
 use base64::engine::general_purpose::STANDARD;
 use foundation::{Duplicate, NoMemory, Sequence};
-use sigstore_keys::{CryptoProvider, SigningScheme, sha256, sha384, sha512};
-use sigstore_types_parts::{Armor, Bytes, HashAlgorithm};
+use sigstore_keys::{CryptoProvider, SigningScheme};
+use sigstore_types_parts::{Armor, Bytes};
 use std::alloc::Global;
 
 // Whether some of these rows is that of a scheme, a raw key, a subject and a signature.
@@ -65,16 +66,8 @@ impl CryptoProvider for TableProvider {
         message: &[u8],
         signature: &[u8],
     ) -> bool {
-        match scheme.hash_algorithm() {
-            Some(HashAlgorithm::Sha2256) => {
-                self.accepts(scheme, key, sha256(message).as_bytes(), signature)
-            }
-            Some(HashAlgorithm::Sha2384) => {
-                self.accepts(scheme, key, sha384(message).as_bytes(), signature)
-            }
-            Some(_) => self.accepts(scheme, key, sha512(message).as_bytes(), signature),
-            None => self.accepts(scheme, key, message, signature),
-        }
+        let subject = Subject::new(scheme, message);
+        self.accepts(scheme, key, subject.as_bytes(), signature)
     }
 
     fn verify_prehashed(

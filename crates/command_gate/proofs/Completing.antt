@@ -1,6 +1,5 @@
 -- Where nothing outside fails, the lines on the folder are said.
-use Rattle.std.proofs.Common.{◌≡◌, ◌⊎◌, inl, inr, ℕ, List, Some, None, Result, Ok, Err, sym, ap, ◌∙◌, subst}
-use Rattle.std.specs.Result.{result_ok}
+use Rattle.std.proofs.Common.{◌≡◌, ◌⊎◌, inl, inr, ℕ, List, Some, Result, Ok, Err, sym, ap, ◌∙◌, subst}
 use Rattle.foundation.specs.Watched.{Watched}
 use Rattle.foundation.specs.Results.{ok_same, err_same, no_both, some_same}
 use Rattle.sigstore_tuf_rules.specs.declared.chain.TrustChain.{TrustChain}
@@ -11,15 +10,17 @@ use Rattle.release_gate.specs.Promises.{Promises, Favours, IsJudgedUnder}
 use Rattle.release_gate.specs.declared.gate.Gated.{Gated}
 use Rattle.release_gate.specs.declared.gate.GateFault.{GateFault}
 use Rattle.release_gate.specs.declared.gate.GateFault.TheVariants as gate
+use Rattle.command_files.specs.Ending.{TakesAll}
 use Rattle.command_files.specs.Gather.{governed_of}
+use Rattle.command_files.specs.Starting.{Command, now_of, unstarted, stopped, begun}
+use Rattle.command_files.specs.declared.answer.Answer.{Answer}
 use Rattle.command_files.specs.declared.gather.Governed.{Governed}
-use Rattle.command_verify.proofs.Stopping.{never_stopped, read_same}
-use Rattle.command_verify.specs.declared.answer.Answer.{Answer}
-use Rattle.command_verify.specs.Run.{Command, TakesAll}
-use Rattle.command_gate.specs.declared.layout.GateLayout.{GateLayout}
+use Rattle.command_files.specs.declared.layout.Layout.{Layout}
+use Rattle.command_files.proofs.Starts.{quiet_not_rose, never_stopped, begun_same}
+use Rattle.command_gate.specs.Layout.{gate_layout_of}
 use Rattle.command_gate.specs.Lines.{lines_answer}
-use Rattle.command_gate.specs.Run.{given_by, moment_of, Environment, fault_answer, answer_of, Resting, Judges, Proceeds, stopped, judged, Says, misworded, worded}
-use Rattle.command_gate.specs.Complete.{Favoured, given_of, Completes}
+use Rattle.command_gate.specs.Run.{given_by, Environment, fault_answer, answer_of, Resting, Judges, Says}
+use Rattle.command_gate.specs.Complete.{Favoured, favoured_in, Completes}
 
 unsaid : (said : Answer) → fault_answer gate.NoMemory ≡ Some said → ⊥
 unfolding fault_answer
@@ -64,22 +65,27 @@ module _ (resting : Resting) (given : GateInputs) (before after : Outside) (chai
 
 module _ (resting : Resting) (command : Command) (before after : Environment) (chain : TrustChain) (contents : Contents) (f : Favoured command before after chain contents) (said : Answer) where
   abbrev S : Type 0
-  S = SaysLines (given_of f) before.outside after.outside chain contents f.outside said
+  S = SaysLines (favoured_in f) before.outside after.outside chain contents f.outside said
 
-  proceeds_so : Proceeds resting (moment_of f.layout command.clock) before after said → S
-  proceeds_so (stopped stop r s h) = absurd (never_stopped governed_of before.inputs after.inputs f.held f.governed f.inputs.told f.inputs.quiet f.governed_is stop said r h)
-  proceeds_so (judged found r j) =
-      judges_so resting (given_of f) before.outside after.outside chain contents f.outside said
-      (subst (λ (g : Governed). Judges resting (given_by g (moment_of f.layout command.clock)) before.outside after.outside said)
-      (read_same governed_of before.inputs after.inputs f.held f.governed f.inputs.told f.inputs.quiet f.governed_is found r) j)
+  begun_so : (layout : Layout) (governed : Governed) → layout ≡ f.layout → governed ≡ f.governed
+      → Judges resting (given_by governed (now_of layout command.clock)) before.outside after.outside said → S
+  begun_so layout governed l g j =
+      judges_so resting (favoured_in f) before.outside after.outside chain contents f.outside said
+      (subst (λ (x : Governed). Judges resting (given_by x (now_of f.layout command.clock)) before.outside after.outside said) g
+      (subst (λ (x : Layout). Judges resting (given_by governed (now_of x command.clock)) before.outside after.outside said) l j))
 
-  says_so : Says resting command before after said → S
-  says_so (misworded n s h) = let never : None ≡ Some f.layout = sym n ∙ ap result_ok f.worded in cc
-  says_so (worded layout l p) =
-      proceeds_so (subst (λ (x : GateLayout). Proceeds resting (moment_of x command.clock) before after said) (ok_same layout f.layout (sym l ∙ f.worded)) p)
+  says_so : Says resting command before after (Ok said) → S
+  says_so (unstarted e s o eq) = no_both said e eq
+  says_so (stopped other s o eq) =
+      absurd (never_stopped (gate_layout_of command.words) governed_of before.inputs after.inputs f.layout f.held f.governed f.worded f.inputs.told
+      (λ rose. quiet_not_rose before.inputs.faults after.inputs.faults f.inputs.quiet rose) f.governed_is other s)
+  says_so (begun layout governed b j) =
+      let same = begun_same (gate_layout_of command.words) governed_of before.inputs after.inputs f.layout f.held f.governed f.worded f.inputs.told
+      (λ rose. quiet_not_rose before.inputs.faults after.inputs.faults f.inputs.quiet rose) f.governed_is layout governed b in
+      begun_so layout governed same.0 same.1 j
 
 pub said_completes : (resting : Resting) (command : Command) (before after : Environment) (out out' : Watched (List ℕ)) (said : Answer)
-    → Says resting command before after said → TakesAll out out' said.text → Completes command before after out out' said.status
+    → Says resting command before after (Ok said) → TakesAll out out' said.text → Completes command before after out out' said.status
 said_completes resting command before after out out' said s w chain contents f =
     let t = says_so resting command before after chain contents f said s in
     inr (inr (

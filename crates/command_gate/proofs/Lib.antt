@@ -1,4 +1,3 @@
-mod Naming
 mod LineByLine
 mod Saying
 mod Meaning

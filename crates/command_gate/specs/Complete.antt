@@ -10,28 +10,28 @@ use Rattle.release_gate.specs.declared.gate.Gated.{Gated}
 use Rattle.command_files.specs.Inputs.{Held, watched}
 use Rattle.command_files.specs.Gather.{governed_of}
 use Rattle.command_files.specs.declared.gather.Governed.{Governed}
-use Rattle.command_verify.specs.Complete.{OrFails}
-use Rattle.command_verify.specs.declared.answer.Status.{Status}
-use Rattle.command_verify.specs.Run.{Command, TakesAll}
-use Rattle.command_gate.specs.declared.layout.GateLayout.{GateLayout}
+use Rattle.command_files.specs.Ending.{TakesAll, OrFails}
+use Rattle.command_files.specs.Starting.{Command, now_of}
+use Rattle.command_files.specs.declared.answer.Status.{Status}
+use Rattle.command_files.specs.declared.layout.Layout.{Layout}
 use Rattle.command_gate.specs.Layout.{gate_layout_of}
 use Rattle.command_gate.specs.Lines.{lines_text, status_by}
-use Rattle.command_gate.specs.Run.{Environment, given_by, moment_of}
+use Rattle.command_gate.specs.Run.{Environment, given_by}
 
 -- The words meet their grammar, told inputs are read without a fault and are these, and nothing fails of what the judgement goes to: a
 -- chain is offered whose file is usable as the trust file, and the folder tells its files, of which it lists few, and none twice.
 pub record Favoured (command : Command) (before after : Environment) (chain : TrustChain) (contents : Contents) : Type 0 where
-  pub layout : GateLayout
+  pub layout : Layout
   pub worded : gate_layout_of command.words ≡ Ok layout
   pub held : Held
   pub inputs : TellsQuietly (watched before.inputs) (watched after.inputs) held
   pub governed : Governed
   pub governed_is : governed_of held ≡ Ok governed
-  pub outside : Favours (given_by governed (moment_of layout command.clock)) before.outside after.outside chain contents
+  pub outside : Favours (given_by governed (now_of layout command.clock)) before.outside after.outside chain contents
 
-abbrev pub given_of : {command : Command} {before after : Environment} {chain : TrustChain} {contents : Contents}
+abbrev pub favoured_in : {command : Command} {before after : Environment} {chain : TrustChain} {contents : Contents}
     → Favoured command before after chain contents → GateInputs
-given_of {command} f = given_by f.governed (moment_of f.layout command.clock)
+favoured_in {command} f = given_by f.governed (now_of f.layout command.clock)
 
 -- the folder was judged under the chain, its lines were taken whole, and the status is theirs
 pub record WritesLines (given : GateInputs) (before : Outside) (chain : TrustChain) (out out' : Watched (List ℕ)) (ended : Status) : Type 0 where
@@ -46,5 +46,5 @@ pub record WritesLines (given : GateInputs) (before : Outside) (chain : TrustCha
 abbrev pub Completes : Command → Environment → Environment → Watched (List ℕ) → Watched (List ℕ) → Status → Type 0
 Completes command before after out out' ended =
     (chain : TrustChain) (contents : Contents) (f : Favoured command before after chain contents)
-    → OrFails out out' ended (WritesLines (given_of f) before.outside chain out out' ended
+    → OrFails out out' ended (WritesLines (favoured_in f) before.outside chain out out' ended
     × StaysWarm after.outside.store f.outside.offer)

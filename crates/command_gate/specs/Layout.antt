@@ -1,37 +1,21 @@
 -- Where the objects of a run over a folder lie, by the words of its command.
-use Rattle.std.specs.Prelude.{ℕ, List, [], ◌∷◌, codes, Result, Ok}
-use Rattle.foundation.specs.Steps.{◌>>=◌}
-use Rattle.command_files.specs.Named.{Values, named_of, text_at, moment_at}
+use Rattle.std.specs.Prelude.{ℕ, List, [], ◌∷◌, codes, Result}
+use Rattle.command_files.specs.Layout.{Form, layout_under}
 use Rattle.command_files.specs.declared.usage_fault.UsageFault.{UsageFault}
-use Rattle.command_gate.specs.declared.layout.GateLayout.{GateLayout}
-
--- the layout of values by their names, the first of which is that of the file of rows
-abbrev pub layout_in : List ℕ → Values → Result GateLayout UsageFault
-layout_in rows found = do
-  now ← moment_at (codes "--now") found
-  Ok (record {
-    root = text_at (codes "--root") found;
-    repository = text_at (codes "--repository") found;
-    store = text_at (codes "--store") found;
-    folder = text_at (codes "--folder") found;
-    policy = text_at (codes "--policy") found;
-    provider = text_at rows found;
-    now = now;
-  })
+use Rattle.command_files.specs.declared.layout.Layout.{Layout}
 
 -- the names that are wanted
 abbrev pub places : List ℕ → List (List ℕ)
 places rows =
     codes "--root" ∷ codes "--repository" ∷ codes "--store" ∷ codes "--folder" ∷ codes "--policy" ∷ rows ∷ []
 
--- the layout of a command's words: these names are wanted, and an instant may stand
-abbrev pub layout_under : List ℕ → List (List ℕ) → List ℕ → List (List ℕ) → Result GateLayout UsageFault
-layout_under command wanted rows words = named_of command wanted (codes "--now" ∷ []) words >>= layout_in rows
+abbrev pub folder_form : List ℕ → List ℕ → Form
+folder_form command rows = record { command = command; wanted = places rows; judged = codes "--folder"; rows = rows }
 
 -- the layout of the words after the first, which is `gate`: the rows are those of a provider file
-unfoldable pub gate_layout_of : List (List ℕ) → Result GateLayout UsageFault
-gate_layout_of words = layout_under (codes "gate") (places (codes "--provider")) (codes "--provider") words
+unfoldable pub gate_layout_of : List (List ℕ) → Result Layout UsageFault
+gate_layout_of words = layout_under (folder_form (codes "gate") (codes "--provider")) words
 
 -- the layout of the words after the first, which is `gate-questions`: the rows are of signatures that aren't good
-unfoldable pub asked_gate_layout_of : List (List ℕ) → Result GateLayout UsageFault
-asked_gate_layout_of words = layout_under (codes "gate-questions") (places (codes "--refused")) (codes "--refused") words
+unfoldable pub asked_gate_layout_of : List (List ℕ) → Result Layout UsageFault
+asked_gate_layout_of words = layout_under (folder_form (codes "gate-questions") (codes "--refused")) words

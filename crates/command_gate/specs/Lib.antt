@@ -1,5 +1,4 @@
 pub mod Complete
 pub mod Layout
 pub mod Lines
-pub mod Names
 pub mod Run

@@ -6,11 +6,11 @@ use Rattle.release_gate.specs.declared.line.GateLine.{GateLine}
 use Rattle.release_gate.specs.declared.line.Verdict.{Verdict}
 use Rattle.release_gate.specs.declared.line.Verdict.TheVariants.{Admitted, Unsigned, BundleTooLong, Denied}
 use Rattle.command_files.specs.Printed.{printed, pair_line, text_line}
-use Rattle.command_verify.specs.declared.answer.Answer.{Answer}
-use Rattle.command_verify.specs.declared.answer.Status.{Status}
-use Rattle.command_verify.specs.declared.answer.Status.TheVariants as status
-use Rattle.command_verify.specs.Run.{answer}
-use Rattle.command_gate.specs.Names.{refusal_name}
+use Rattle.sigstore_judgement.specs.Names.{refusal_name}
+use Rattle.command_files.specs.Answer.{answer}
+use Rattle.command_files.specs.declared.answer.Answer.{Answer}
+use Rattle.command_files.specs.declared.answer.Status.{Status}
+use Rattle.command_files.specs.declared.answer.Status.TheVariants as status
 
 -- `deny NAME REASON`
 abbrev pub denial_line : List ℕ → List ℕ → List ℕ

@@ -1,58 +1,59 @@
 -- A run of `gate`: what it says, and why.
-use Rattle.std.specs.Prelude.{◌≡◌, ◌⊎◌, ℕ, List, codes, true, false, unwrap_or, Option, Some, None, Result, Ok, Err, ⊤}
-use Rattle.std.specs.Result.{result_ok}
+use Rattle.std.specs.Prelude.{◌≡◌, ◌⊎◌, ℕ, List, codes, true, false, Option, Some, None, Result, Ok, Err, IfOk, ⊤}
 use Rattle.jiff_core.specs.declared.timestamp.Timestamp as jiff
 use Rattle.foundation.specs.Watched.{Watched, Rose}
+use Rattle.foundation.specs.declared.no_memory.NoMemory.{NoMemory}
 use Rattle.sigstore_keys.specs.Crypto.{Crypto}
+use Rattle.sigstore_policy.specs.Policy.{Meaning, meaning_in}
 use Rattle.sigstore_tuf_rules.specs.Config.{default_config}
 use Rattle.sigstore_tuf_outside.specs.Repository.{Files, Folders}
+use Rattle.sigstore_verify.specs.Inputs.{anchor_by}
 use Rattle.release_gate.specs.Folder.{Contents}
-use Rattle.release_gate.specs.Gate.{GateInputs, Outside, outside_by, IsGated, GateCause}
+use Rattle.release_gate.specs.Gate.{GateInputs, gate_inputs_by, Outside, outside_by, IsGated, GateCause}
 use Rattle.release_gate.specs.Promises.{Promises}
 use Rattle.release_gate.specs.declared.gate.Gated.{Gated}
 use Rattle.release_gate.specs.declared.gate.GateFault.{GateFault}
 use Rattle.release_gate.specs.declared.gate.GateFault.TheVariants as gate
+use Rattle.command_files.specs.Answer.{answer}
+use Rattle.command_files.specs.Ending.{TakesAll}
+use Rattle.command_files.specs.Gather.{governed_of}
 use Rattle.command_files.specs.Inputs.{Supply}
-use Rattle.command_files.specs.Gather.{word_of, governed_of, MalformedCause, StopCause, ReadsAs}
-use Rattle.command_files.specs.Printed.{line_of, pair_line}
+use Rattle.command_files.specs.Printed.{pair_line}
+use Rattle.command_files.specs.Starting as start
+use Rattle.command_files.specs.Starting.{Command, now_of, Begins, Decides, Misuses, LacksInput}
 use Rattle.command_files.specs.Tables.{crypto_of}
+use Rattle.command_files.specs.declared.answer.Answer.{Answer}
+use Rattle.command_files.specs.declared.answer.Status.{Status}
+use Rattle.command_files.specs.declared.answer.Status.TheVariants as status
 use Rattle.command_files.specs.declared.gather.Governed.{Governed}
-use Rattle.command_files.specs.declared.gather.CommandStop.{CommandStop}
-use Rattle.command_files.specs.declared.gather.CommandStop.TheVariants.{Words, Input}
-use Rattle.command_files.specs.declared.inputs.InputFile.{InputFile}
-use Rattle.command_files.specs.declared.policy.PolicyFile.{PolicyFile}
-use Rattle.command_verify.specs.Meant.{policy_meant}
-use Rattle.command_verify.specs.declared.answer.Answer.{Answer}
-use Rattle.command_verify.specs.declared.answer.Status.{Status}
-use Rattle.command_verify.specs.declared.answer.Status.TheVariants as status
-use Rattle.command_verify.specs.Run.{answer, stop_answer, tuf_answer, verify_answer, max_artifact, Command, TakesAll}
-use Rattle.command_gate.specs.declared.layout.GateLayout.{GateLayout}
+use Rattle.command_files.specs.declared.layout.Layout.{Layout}
+use Rattle.command_verify.specs.Run.{tuf_answer, verify_answer, max_artifact}
+use Rattle.command_gate.specs.declared.judging.FolderRequest.{FolderRequest}
 use Rattle.command_gate.specs.Layout.{gate_layout_of}
 use Rattle.command_gate.specs.Lines.{lines_text, all_admitted, lines_answer}
 
 -- ---- what is given
 
--- what the judgement of a folder is given: who decides signatures and reads armoured texts, the root, what the policy file asks for,
--- the program's limits, and the moment
-abbrev pub given_with : Crypto → List ℕ → PolicyFile → jiff.Timestamp → GateInputs
-given_with crypto root policy now = record {
-  anchor = record { crypto = crypto; root = root; config = default_config; now = now };
-  policy = policy_meant policy;
-  max = max_artifact;
-}
+-- what the judgement of a folder is given: who decides signatures and reads armoured texts, the policy, the root, the program's limits, and
+-- the moment
+abbrev pub given_with : Crypto → Meaning → List ℕ → jiff.Timestamp → GateInputs
+given_with crypto policy root now = gate_inputs_by (anchor_by crypto root default_config now) policy max_artifact
+
+-- what is asked for
+abbrev pub given_of : Crypto → FolderRequest → GateInputs
+given_of crypto request = given_with crypto (meaning_in request.policy.now) request.root.now request.moment
+
+-- what the inputs ask for, but for their tables
+abbrev pub given_under : Crypto → Governed → jiff.Timestamp → GateInputs
+given_under crypto governed now = given_with crypto (meaning_in governed.policy) governed.anchored.root now
 
 -- the same of the inputs, whose tables decide
 abbrev pub given_by : Governed → jiff.Timestamp → GateInputs
-given_by governed now = given_with (crypto_of governed.anchored.tables) governed.anchored.root governed.policy now
+given_by governed now = given_under (crypto_of governed.anchored.tables) governed now
 
--- the instant of the words, else the clock's
-abbrev pub moment_of : GateLayout → jiff.Timestamp → jiff.Timestamp
-moment_of layout clock = unwrap_or layout.now clock
-
--- what a run finds and leaves, but for its output: the inputs, and what the judgement goes to
-pub record Environment : Type 0 where
-  pub inputs : Supply
-  pub outside : Outside
+-- what a run finds and leaves, but for its output
+abbrev pub Environment : Type 0
+Environment = start.Environment Outside
 
 abbrev pub environment_by : Supply → Watched Folders → Watched Files → Watched Contents → Environment
 environment_by inputs repo store folder = record { inputs = inputs; outside = outside_by repo store folder }
@@ -91,31 +92,22 @@ pub record Judges (resting : Resting) (given : GateInputs) (before after : Outsi
   pub rests : resting given judged
   pub says : answer_of judged ≡ Some said
 
--- Once the words are read: the inputs first, then the folder. Where an input is refused nothing else is called.
-pub data Proceeds (resting : Resting) (now : jiff.Timestamp) (before after : Environment) (said : Answer) : Type 0 where
-  stopped : (stop : CommandStop) → ReadsAs governed_of before.inputs after.inputs (Err stop) → after.outside ≡ before.outside
-      → stop_answer stop ≡ Some said → Proceeds resting now before after said
-  judged : (governed : Governed) → ReadsAs governed_of before.inputs after.inputs (Ok governed)
-      → Judges resting (given_by governed now) before.outside after.outside said → Proceeds resting now before after said
-
--- The words first. Where they are refused nothing is called.
-pub data Says (resting : Resting) (command : Command) (before after : Environment) (said : Answer) : Type 0 where
-  misworded : result_ok (gate_layout_of command.words) ≡ None → after ≡ before → stop_answer Words ≡ Some said
-      → Says resting command before after said
-  worded : (layout : GateLayout) → gate_layout_of command.words ≡ Ok layout
-      → Proceeds resting (moment_of layout command.clock) before after said → Says resting command before after said
+-- The words first, then the inputs, then the folder.
+abbrev pub Says : Resting → Command → Environment → Environment → Result Answer NoMemory → Type 0
+Says resting command before after result =
+    Decides (gate_layout_of command.words) governed_of (λ said. said)
+    (λ layout governed old new said. IfOk said (Judges resting (given_by governed (now_of layout command.clock)) old new)) before after result
 
 -- ---- what each status means
 
 -- the words give a layout, and the inputs were read
 pub record Asked (command : Command) (before after : Environment) : Type 0 where
-  pub layout : GateLayout
-  pub worded : gate_layout_of command.words ≡ Ok layout
+  pub layout : Layout
   pub governed : Governed
-  pub read : ReadsAs governed_of before.inputs after.inputs (Ok governed)
+  pub read : Begins (gate_layout_of command.words) governed_of before.inputs after.inputs layout governed
 
 abbrev pub given_in : {command : Command} {before after : Environment} → Asked command before after → GateInputs
-given_in {command} asked = given_by asked.governed (moment_of asked.layout command.clock)
+given_in {command} asked = given_by asked.governed (now_of asked.layout command.clock)
 
 -- the folder was judged, and the sink took exactly its lines
 pub record Gates (command : Command) (before after : Environment) (out out' : Watched (List ℕ)) : Type 0 where
@@ -144,27 +136,12 @@ pub record Faults (command : Command) (before after : Environment) (out out' : W
   pub is : said.status ≡ ended
   pub written : TakesAll out out' said.text
 
--- The words are outside their grammar, and nothing was called; or the policy or the provider's file is, and only the inputs were; and
--- the sink took exactly the line that says so.
-abbrev pub Misuses : Command → Environment → Environment → Watched (List ℕ) → Watched (List ℕ) → Type 0
-Misuses command before after out out' =
-    ((result_ok (gate_layout_of command.words) ≡ None) × (after ≡ before) × TakesAll out out' (line_of (codes "usage")))
-    ⊎ ((which : InputFile) × MalformedCause which before.inputs × (after.outside ≡ before.outside)
-    × TakesAll out out' (pair_line (codes "usage") (word_of which)))
-
--- This input is the last that wasn't given, and the count of the inputs' faults rose, or told inputs lack it or hold it longer than its
--- limit; nothing but the inputs was called; and the sink took exactly the line that names it.
-abbrev pub LacksInput : Environment → Environment → Watched (List ℕ) → Watched (List ℕ) → Type 0
-LacksInput before after out out' =
-    (which : InputFile) × StopCause before.inputs after.inputs (Input which) × (after.outside ≡ before.outside)
-    × TakesAll out out' (pair_line (codes "input") (word_of which))
-
 -- What each status means. 0: every line admits. 1: some line denies, or there are none, since no chain is trusted or its trust file
 -- can't be used. 3: an input, or the folder. 4: the count of the sink's faults rose. 5: nothing was written.
 abbrev pub Means : Command → Environment → Environment → Watched (List ℕ) → Watched (List ℕ) → Status → Type 0
 Means command before after out out' status.Accepted = Admits command before after out out'
 Means command before after out out' status.Refused = Denies command before after out out' ⊎ Faults command before after out out' status.Refused
-Means command before after out out' status.Usage = Misuses command before after out out'
+Means command before after out out' status.Usage = Misuses (gate_layout_of command.words) before after out out'
 Means command before after out out' status.Input = LacksInput before after out out' ⊎ Faults command before after out out' status.Input
 Means command before after out out' status.Output = Rose out.faults out'.faults
 Means command before after out out' status.Memory = out' ≡ out

@@ -1,116 +1,55 @@
 // The words of the commands that judge or ask over a folder.
 ghost use Rattle.std.specs.Prelude.{◌≡◌, ◌≢◌, Ok, Err, IfOk, IfErr};
-ghost use Rattle.std.specs.Result.{result_ok};
-ghost use Rattle.command_files.specs.Named.{texts};
-ghost use Rattle.command_gate.specs.Layout.{layout_in, layout_under, gate_layout_of, asked_gate_layout_of};
+ghost use Rattle.command_gate.specs.Layout.{gate_layout_of, asked_gate_layout_of};
 
-use command_files::{UsageFault, moment_at, named_words, text_at};
-use foundation::NoMemory;
-use jiff::Timestamp;
-use sigstore_types_parts::{Text, TextMap};
+use command_files::{Form, Layout, UsageFault, layout_under};
+use sigstore_types_parts::Text;
 use std::alloc::Global;
 
-/// Where the objects of `gate` lie, and the instant at which it judges; without one the clock counts. `folder` holds the
-/// artifacts and their bundles. `provider` is the file of rows: the provider's, or that of the refused signatures.
-#[derive(Drop)]
-pub struct GateLayout {
-    pub root: Text,
-    pub repository: Text,
-    pub store: Text,
-    pub folder: Text,
-    pub policy: Text,
-    pub provider: Text,
-    pub now: Option<Timestamp>,
-}
-
-// The layout of values by their names; `rows` is the name of the file of rows.
-fn layout_in(alloc: Global, rows: &str, found: &TextMap<Text>) -> Result<GateLayout, UsageFault>
-    ensures ok { IfOk result (λ l. layout_in rows.now found.now ≡ Ok l) }
-    ensures err { IfErr result (λ e. e ≢ UsageFault.NoMemory → layout_in rows.now found.now ≡ Err e) }
-{
-    let now = moment_at(found, "--now")?;
-    Ok(GateLayout {
-        root: text_at(alloc, found, "--root")?,
-        repository: text_at(alloc, found, "--repository")?,
-        store: text_at(alloc, found, "--store")?,
-        folder: text_at(alloc, found, "--folder")?,
-        policy: text_at(alloc, found, "--policy")?,
-        provider: text_at(alloc, found, rows)?,
-        now,
-    })
-}
-
-// The layout of a command's words.
-fn read_under(
-    alloc: Global,
-    command: &str,
-    wanted: &[&str],
-    rows: &str,
-    words: &[Text],
-) -> Result<GateLayout, UsageFault>
-    ensures ok { IfOk result (λ l. layout_under command.now (texts wanted.now) rows.now words.now ≡ Ok l) }
-    ensures err { IfErr result (λ e. e ≢ UsageFault.NoMemory →
-        layout_under command.now (texts wanted.now) rows.now words.now ≡ Err e) }
-{
-    match named_words(alloc, command, wanted, &["--now"], words) {
-        Ok(found) => {
-            let layout = layout_in(alloc, rows, &found);
-            drop(found);
-            layout
-        }
-        Err(e) => Err(e),
-    }
-}
-
-// The layout of a command's words; none for other words.
-fn layout_under(
-    alloc: Global,
-    command: &str,
-    wanted: &[&str],
-    rows: &str,
-    words: &[Text],
-) -> Result<Option<GateLayout>, NoMemory>
-    ensures { IfOk result (λ found.
-        found ≡ result_ok (layout_under command.now (texts wanted.now) rows.now words.now)) }
-{
-    match read_under(alloc, command, wanted, rows, words) {
-        Ok(layout) => Ok(Some(layout)),
-        Err(UsageFault::Usage) => Ok(None),
-        Err(UsageFault::NoMemory) => Err(NoMemory),
-    }
-}
-
 /// The layout that the words give: `gate`, then `--root=`, `--repository=`, `--store=`, `--folder=`, `--policy=` and
-/// `--provider=`, each once, and `--now=` at most once, in any order; none for other words.
+/// `--provider=`, each once, and `--now=` at most once, in any order. What is judged is the folder, which holds the
+/// artifacts and their bundles. Errors: `Usage` for other words; `NoMemory`.
 #[tactic(auto, unfolding(crate::specs::Layout::gate_layout_of))]
-pub fn gate_layout(alloc: Global, words: &[Text]) -> Result<Option<GateLayout>, NoMemory>
-    ensures { IfOk result (λ found. found ≡ result_ok (gate_layout_of words.now)) }
+pub fn gate_layout(alloc: Global, words: &[Text]) -> Result<Layout, UsageFault>
+    ensures ok { IfOk result (λ l. gate_layout_of words.now ≡ Ok l) }
+    ensures err { IfErr result (λ e. e ≢ UsageFault.NoMemory → gate_layout_of words.now ≡ Err e) }
 {
-    let wanted = [
-        "--root",
-        "--repository",
-        "--store",
-        "--folder",
-        "--policy",
-        "--provider",
-    ];
-    layout_under(alloc, "gate", &wanted, "--provider", words)
+    let form = Form {
+        command: "gate",
+        wanted: &[
+            "--root",
+            "--repository",
+            "--store",
+            "--folder",
+            "--policy",
+            "--provider",
+        ],
+        judged: "--folder",
+        rows: "--provider",
+    };
+    layout_under(alloc, &form, words)
 }
 
 /// The layout that the words of a run that notes a folder's questions give: `gate-questions`, then those of
-/// `gate_layout` with `refused` in the place of `provider`; none for other words. The rows of that file are signatures
-/// that are known not to be good.
+/// `gate_layout` with `refused` in the place of `provider`. The rows of that file are signatures that are known not to be
+/// good. Errors: `Usage` for other words; `NoMemory`.
 #[tactic(auto, unfolding(crate::specs::Layout::asked_gate_layout_of))]
-pub fn asked_gate_layout(alloc: Global, words: &[Text]) -> Result<Option<GateLayout>, NoMemory>
-    ensures { IfOk result (λ found. found ≡ result_ok (asked_gate_layout_of words.now)) }
+pub fn asked_gate_layout(alloc: Global, words: &[Text]) -> Result<Layout, UsageFault>
+    ensures ok { IfOk result (λ l. asked_gate_layout_of words.now ≡ Ok l) }
+    ensures err { IfErr result (λ e. e ≢ UsageFault.NoMemory → asked_gate_layout_of words.now ≡ Err e) }
 {
-    let wanted = [
-        "--root",
-        "--repository",
-        "--store",
-        "--folder",
-        "--policy",
-        "--refused",
-    ];
-    layout_under(alloc, "gate-questions", &wanted, "--refused", words)
+    let form = Form {
+        command: "gate-questions",
+        wanted: &[
+            "--root",
+            "--repository",
+            "--store",
+            "--folder",
+            "--policy",
+            "--refused",
+        ],
+        judged: "--folder",
+        rows: "--refused",
+    };
+    layout_under(alloc, &form, words)
 }

@@ -3,13 +3,10 @@
 #![tactic(auto)]
 
 mod judging;
-mod laws;
 mod layout;
 mod lines;
-mod names;
 mod program;
 
-pub use judging::gate_folder;
-pub use laws::denials_are_named;
-pub use layout::{GateLayout, asked_gate_layout, gate_layout};
+pub use judging::{FolderRequest, gate_folder};
+pub use layout::{asked_gate_layout, gate_layout};
 pub use program::run_gate;

@@ -1,13 +1,11 @@
 // The lines that a gate writes, and the status that they have.
 ghost use Rattle.std.specs.Prelude.{◌≡◌, ◌++◌, IfOk, OnOk, string_bytes};
 ghost use Rattle.command_gate.specs.Lines.{denial_line, verdict_line, lines_text, is_admitted, all_admitted, status_by, lines_answer};
-ghost use Rattle.command_gate.specs.Names.{refusal_name};
 
-use crate::names::refusal_name;
-use command_files::{push_decimal, push_line, push_printed, push_text_line};
-use command_verify::{Answer, Status};
+use command_files::{Answer, Status, push_decimal, push_line, push_printed, push_text_line};
 use foundation::NoMemory;
 use release_gate::{GateLine, Verdict};
+use sigstore_judgement::refusal_name;
 use sigstore_types_parts::Text;
 use std::alloc::Global;
 

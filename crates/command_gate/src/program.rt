@@ -2,20 +2,22 @@
 ghost use Rattle.std.specs.Prelude.{◌≡◌, Some, IfOk};
 ghost use Rattle.release_gate.specs.Gate.{outside_by};
 ghost use Rattle.release_gate.specs.Rests.{Rests};
-ghost use Rattle.command_verify.specs.Run.{command_by};
-ghost use Rattle.command_gate.specs.Run.{environment_by, given_by, fault_answer, answer_of, Judges, Proceeds, Says, Means, Rested};
+ghost use Rattle.command_files.specs.Starting.{command_of};
+ghost use Rattle.command_gate.specs.Run.{environment_by, given_by, fault_answer, answer_of, Judges, Says, Means, Rested};
 ghost use Rattle.command_gate.specs.Complete.{Completes};
 
-use crate::judging::gate_folder;
+use crate::judging::{FolderRequest, gate_folder};
 use crate::layout::gate_layout;
 use crate::lines::lines_said;
-use command_files::{Anchored, CommandStop, Governed, Inputs, Sink, gather_governed};
-use command_verify::{Answer, Status, finish, pair, refused_tuf, refused_verify, stopped};
+use command_files::{
+    Answer, CommandLine, Governed, Inputs, Sink, Started, Status, finish, pair, start,
+};
+use command_verify::{refused_tuf, refused_verify};
 use foundation::NoMemory;
 use jiff::Timestamp;
 use release_gate::{Folder, GateFault, Gated};
+use sigstore_keys::Providers;
 use sigstore_tuf::{MetadataStore, Repository};
-use sigstore_types_parts::Text;
 use std::alloc::Global;
 
 // What is said of a folder that isn't judged.
@@ -59,71 +61,45 @@ fn judge<R: Repository, S: MetadataStore, D: Folder>(
     store: &mut S,
     folder: &mut D,
 ) -> Result<Answer, NoMemory>
-    ensures { IfOk result (Judges (Rests D.gave folder.old folder.new) (given_by governed now) (outside_by (R.seen repo.old) (S.seen store.old) (D.seen folder.old))
+    ensures { IfOk result (Judges (Rests D.gave folder.old folder.new) (given_by governed now)
+        (outside_by (R.seen repo.old) (S.seen store.old) (D.seen folder.old))
         (outside_by (R.seen repo.new) (S.seen store.new) (D.seen folder.new))) }
 {
-    let Governed { policy, anchored } = governed;
-    let Anchored { tables, root } = anchored;
-    let judged = gate_folder(
-        alloc,
-        policy,
-        root.as_bytes(),
-        &tables.provider,
-        &tables.armor,
-        now,
-        repo,
-        store,
-        folder,
-    );
+    let request = FolderRequest {
+        policy: &governed.policy,
+        root: governed.anchored.root.as_bytes(),
+        moment: now,
+    };
+    let providers = Providers {
+        provider: &governed.anchored.tables.provider,
+        armor: &governed.anchored.tables.armor,
+    };
+    let judged = gate_folder(alloc, &request, providers, repo, store, folder);
     let said = answered(alloc, &judged);
     drop(judged);
     said
 }
 
-// The inputs, then the folder.
-fn proceed<I: Inputs, R: Repository, S: MetadataStore, D: Folder>(
-    alloc: Global,
-    now: Timestamp,
-    inputs: &mut I,
-    repo: &mut R,
-    store: &mut S,
-    folder: &mut D,
-) -> Result<Answer, NoMemory>
-    ensures { IfOk result (Proceeds (Rests D.gave folder.old folder.new) now
-        (environment_by (I.seen inputs.old) (R.seen repo.old) (S.seen store.old) (D.seen folder.old))
-        (environment_by (I.seen inputs.new) (R.seen repo.new) (S.seen store.new) (D.seen folder.new))) }
-{
-    match gather_governed(alloc, inputs) {
-        Ok(governed) => judge(alloc, governed, now, repo, store, folder),
-        Err(stop) => stopped(alloc, stop),
-    }
-}
-
-// The words, then the inputs and the folder.
+// The words and the inputs, then the folder.
 fn decide<I: Inputs, R: Repository, S: MetadataStore, D: Folder>(
     alloc: Global,
-    words: &[Text],
-    clock: Timestamp,
+    line: &CommandLine<'_>,
     inputs: &mut I,
     repo: &mut R,
     store: &mut S,
     folder: &mut D,
 ) -> Result<Answer, NoMemory>
-    ensures { IfOk result (Says (Rests D.gave folder.old folder.new) (command_by words.now clock)
+    ensures { Says (Rests D.gave folder.old folder.new) (command_of line.now)
         (environment_by (I.seen inputs.old) (R.seen repo.old) (S.seen store.old) (D.seen folder.old))
-        (environment_by (I.seen inputs.new) (R.seen repo.new) (S.seen store.new) (D.seen folder.new))) }
+        (environment_by (I.seen inputs.new) (R.seen repo.new) (S.seen store.new) (D.seen folder.new)) result }
 {
-    let found = match gate_layout(alloc, words) {
-        Ok(found) => found,
-        Err(e) => return Err(e),
-    };
-    match found {
-        Some(layout) => {
-            let now = layout.now.unwrap_or(clock);
-            drop(layout);
-            proceed(alloc, now, inputs, repo, store, folder)
+    match start(alloc, gate_layout(alloc, line.words), inputs) {
+        Ok(Started::Asked(layout, governed)) => {
+            let now = layout.moment(line.clock);
+            judge(alloc, governed, now, repo, store, folder)
         }
-        None => stopped(alloc, CommandStop::Words),
+        Ok(Started::Stopped(said)) => Ok(said),
+        Err(e) => Err(e),
     }
 }
 
@@ -134,27 +110,26 @@ fn decide<I: Inputs, R: Repository, S: MetadataStore, D: Folder>(
 /// written.
 pub fn run_gate<I: Inputs, R: Repository, S: MetadataStore, D: Folder, K: Sink>(
     alloc: Global,
-    words: &[Text],
-    clock: Timestamp,
+    line: &CommandLine<'_>,
     inputs: &mut I,
     repo: &mut R,
     store: &mut S,
     folder: &mut D,
     out: &mut K,
 ) -> Status
-    ensures means { Means (command_by words.now clock)
+    ensures means { Means (command_of line.now)
         (environment_by (I.seen inputs.old) (R.seen repo.old) (S.seen store.old) (D.seen folder.old))
         (environment_by (I.seen inputs.new) (R.seen repo.new) (S.seen store.new) (D.seen folder.new))
         (K.seen out.old) (K.seen out.new) result }
-    ensures complete { Completes (command_by words.now clock)
+    ensures complete { Completes (command_of line.now)
         (environment_by (I.seen inputs.old) (R.seen repo.old) (S.seen store.old) (D.seen folder.old))
         (environment_by (I.seen inputs.new) (R.seen repo.new) (S.seen store.new) (D.seen folder.new))
         (K.seen out.old) (K.seen out.new) result }
-    ensures rests { Rested (Rests D.gave folder.old folder.new) (command_by words.now clock)
+    ensures rests { Rested (Rests D.gave folder.old folder.new) (command_of line.now)
         (environment_by (I.seen inputs.old) (R.seen repo.old) (S.seen store.old) (D.seen folder.old))
         (environment_by (I.seen inputs.new) (R.seen repo.new) (S.seen store.new) (D.seen folder.new))
         (K.seen out.old) (K.seen out.new) result }
 {
-    let said = decide(alloc, words, clock, inputs, repo, store, folder);
+    let said = decide(alloc, line, inputs, repo, store, folder);
     finish(&said, out)
 }

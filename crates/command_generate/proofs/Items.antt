@@ -6,8 +6,8 @@ use Rattle.foundation.specs.declared.no_memory.NoMemory.{NoMemory as NoMem}
 use Rattle.command_files.specs.declared.usage_fault.UsageFault.TheVariants.{Usage}
 use Rattle.command_files.specs.declared.gather.CommandStop.TheVariants.{Words}
 use Rattle.command_files.specs.Tables.{crypto_of}
-use Rattle.command_verify.specs.declared.answer.Answer.{Answer}
-use Rattle.command_verify.specs.Run.{stop_answer}
+use Rattle.command_files.specs.Answer.{stop_answer}
+use Rattle.command_files.specs.declared.answer.Answer.{Answer}
 use Rattle.command_generate.specs.Generate.{asked_of, SaysOf}
 use Rattle.jiff_core.specs.declared.timestamp.Timestamp as jiff
 use Rattle.sigstore_keys.specs.Crypto.{Crypto}
@@ -21,8 +21,8 @@ use Rattle.sigstore_tuf_text.specs.declared.error.Error.{Error as TufError}
 use Rattle.sigstore_judgement.specs.declared.error.Error.{Error}
 use Rattle.sigstore_judgement.specs.declared.error.Error.TheVariants as verify
 use Rattle.sigstore_judgement.specs.declared.report.JudgedBundle.{JudgedBundle}
-use Rattle.sigstore_judgement.specs.declared.policy.PublicKeyVerificationPolicy.{PublicKeyVerificationPolicy}
-use Rattle.sigstore_judgement.specs.Policy.{PublicKey}
+use Rattle.sigstore_policy.specs.declared.public_key.PublicKeyVerificationPolicy.{PublicKeyVerificationPolicy}
+use Rattle.sigstore_policy.specs.Policy.{PublicKey}
 use Rattle.sigstore_verify.specs.declared.from_root.Acceptance.{Acceptance}
 use Rattle.sigstore_verify.specs.declared.from_root.RootFault.{RootFault}
 use Rattle.sigstore_verify.specs.declared.from_root.RootFault.TheVariants.{Tuf, Verify, NoMemory}

@@ -11,10 +11,11 @@ use Rattle.command_files.specs.declared.usage_fault.UsageFault.{UsageFault}
 use Rattle.command_files.specs.declared.usage_fault.UsageFault.TheVariants.{Usage}
 use Rattle.command_generate.specs.Supplies.{Plan, IsPlan}
 use Rattle.command_generate.specs.Judged.{outcomes_of, summary_of}
-use Rattle.command_verify.specs.Run.{answer, TakesAll}
-use Rattle.command_verify.specs.declared.answer.Answer.{Answer}
-use Rattle.command_verify.specs.declared.answer.Status.{Status}
-use Rattle.command_verify.specs.declared.answer.Status.TheVariants as status
+use Rattle.command_files.specs.Answer.{answer}
+use Rattle.command_files.specs.Ending.{TakesAll}
+use Rattle.command_files.specs.declared.answer.Answer.{Answer}
+use Rattle.command_files.specs.declared.answer.Status.{Status}
+use Rattle.command_files.specs.declared.answer.Status.TheVariants as status
 use Rattle.command_generate.specs.declared.generated.Asked.{Asked}
 
 -- ---- the words

@@ -8,7 +8,7 @@ use Rattle.sigstore_tuf_rules.specs.Config.{default_config}
 use Rattle.sigstore_judgement.specs.declared.error.Error.{Error}
 use Rattle.sigstore_judgement.specs.declared.report.JudgedBundle.{JudgedBundle}
 use Rattle.sigstore_judgement.specs.Error.{number_of, name_of}
-use Rattle.sigstore_judgement.specs.Policy.{PublicKey}
+use Rattle.sigstore_policy.specs.Policy.{PublicKey}
 use Rattle.sigstore_verify.specs.Inputs.{VerifyInputs}
 use Rattle.sigstore_verify.specs.declared.from_root.Acceptance.{Acceptance}
 use Rattle.sigstore_verify.specs.declared.from_root.RootFault.{RootFault}

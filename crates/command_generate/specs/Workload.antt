@@ -1,7 +1,7 @@
 -- A workload: what is verified, and under which policy.
 use Rattle.std.specs.Prelude.{◌≡◌, ℕ, true, List, [], Some}
 use Rattle.sigstore_tuf_outside.specs.Memory.{told_folders}
-use Rattle.sigstore_judgement.specs.declared.policy.PublicKeyVerificationPolicy.{PublicKeyVerificationPolicy}
+use Rattle.sigstore_policy.specs.declared.public_key.PublicKeyVerificationPolicy.{PublicKeyVerificationPolicy}
 use Rattle.command_files.specs.declared.tables.Tables.{Tables}
 use Rattle.workload.specs.Keys.{spki}
 use Rattle.workload.specs.Drawn.{drawn_from}

@@ -4,8 +4,9 @@ ghost use Rattle.std.specs.Result.{result_ok};
 ghost use Rattle.command_generate.specs.Generate.{below_of, count_of, asked_in, asked_of, is_generate, SaysOf, GenerateMeans};
 
 use crate::summary::summarise;
-use command_files::{CommandStop, Sink, UsageFault, named_words, text_at};
-use command_verify::{Answer, Status, finish, stopped};
+use command_files::{
+    Answer, CommandStop, Sink, Status, UsageFault, finish, named_words, stopped, text_at,
+};
 use foundation::NoMemory;
 use sigstore_entries::shortest_decimal;
 use sigstore_types_parts::{Text, TextMap};

@@ -10,8 +10,9 @@ use crate::generating::Workload;
 use crate::steady::{SteadyRepository, SteadySource};
 use crate::supplies::Item;
 use foundation::{NoMemory, Sequence};
+use sigstore_keys::Providers;
 use sigstore_tuf::{MemoryStore, UpdaterConfig};
-use sigstore_verify::{Acceptance, Error, RootFault, verify_from_root};
+use sigstore_verify::{Acceptance, Anchor, Asked, Error, RootFault, verify_from_root};
 use std::alloc::Global;
 use workload::{moment, publish, repository_offers};
 
@@ -32,19 +33,27 @@ fn verified(alloc: Global, workload: &Workload, item: &Item) -> Result<Acceptanc
     let mut artifact = SteadySource {
         left: item.artifact.as_bytes(),
     };
+    let anchor = Anchor {
+        providers: Providers {
+            provider: &workload.provider,
+            armor: &workload.armor,
+        },
+        root: workload.root.as_bytes(),
+        config: UpdaterConfig::default(),
+        now: moment(),
+    };
+    let asked = Asked {
+        bundle: item.bundle.as_bytes(),
+        max_artifact: item.artifact.as_bytes().len() as u64,
+        policy: &workload.policy,
+    };
     verify_from_root(
         alloc,
-        &workload.provider,
-        &workload.armor,
-        workload.root.as_bytes(),
+        &anchor,
         &mut repository,
         &mut store,
-        UpdaterConfig::default(),
-        moment(),
-        item.bundle.as_bytes(),
         &mut artifact,
-        item.artifact.as_bytes().len() as u64,
-        &workload.policy,
+        &asked,
     )
 }
 

@@ -1,6 +1,3 @@
-mod GateMeaning
 mod Meaning
-mod GateEnding
-mod RunEnding
 mod Sufficing
 mod SufficingForFolder

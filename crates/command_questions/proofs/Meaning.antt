@@ -1,61 +1,35 @@
--- What status 0 means.
-use Rattle.std.proofs.Common.{◌≡◌, ℕ, List, Some, Ok, Err, sym, ap, ◌∙◌, subst, Result}
-use Rattle.std.specs.Result.{result_ok}
+-- What status 0 of a run of questions means.
+use Rattle.std.proofs.Common.{◌≡◌, ℕ, List, Result, Ok, sym, ap, ◌∙◌, subst}
 use Rattle.foundation.specs.Watched.{Watched}
-use Rattle.foundation.specs.Results.{some_same}
-use Rattle.jiff_core.specs.declared.timestamp.Timestamp as jiff
-use Rattle.command_files.specs.Layout.{asked_layout_of}
-use Rattle.command_files.specs.declared.layout.Layout.{Layout}
+use Rattle.foundation.specs.Results.{ok_same, no_both}
+use Rattle.command_files.specs.Ending.{TakesAll, SaysAndEnds}
+use Rattle.command_files.specs.Inputs.{Held}
+use Rattle.command_files.specs.Starting.{Environment, unstarted, stopped, begun}
+use Rattle.command_files.specs.declared.answer.Answer.{Answer}
+use Rattle.command_files.specs.declared.answer.Status.{Status}
+use Rattle.command_files.specs.declared.answer.Status.TheVariants.{Accepted}
 use Rattle.command_files.specs.declared.gather.CommandStop.{CommandStop}
-use Rattle.command_files.specs.declared.gather.CommandStop.TheVariants as stop
+use Rattle.command_files.specs.declared.tables.Tables.{Tables}
 use Rattle.command_files.specs.declared.usage_fault.UsageFault.{UsageFault}
-use Rattle.command_verify.specs.declared.answer.Status.{Status}
-use Rattle.command_verify.specs.declared.answer.Status.TheVariants.{Accepted, Usage, Input}
-use Rattle.command_verify.specs.declared.answer.Answer.{Answer}
-use Rattle.command_verify.specs.Run.{stop_answer, TakesAll, Command, Environment}
-use Rattle.command_questions.specs.Means.{Proceeds, rows, stopped, Decides, misworded, worded, RunsTo, unwritten, cut, written, WritesRows}
+use Rattle.command_files.proofs.Endings.{ends_so}
+use Rattle.command_files.proofs.Starts.{stopped_means}
+use Rattle.command_questions.specs.Means.{SaysOf, WritesOf}
 
--- what is said of a stop doesn't end as questions do
-abbrev status_of : Answer → Status
-status_of said = said.status
+module _ {L A O : Type 0} (words : Result L UsageFault) (of : Held → Result A CommandStop) (Asks : L → A → Tables → O → O → Type 0) (before after : Environment O) (out out' : Watched (List ℕ)) where
+  -- what a status means
+  abbrev M : Status → Type 0
+  M s = s ≡ Accepted → WritesOf words of Asks before after out out'
 
-not_asked : (why : CommandStop) (said : Answer) → stop_answer why ≡ Some said → said.status ≡ Accepted → ⊥
-unfolding stop_answer
-not_asked stop.Words said h e = let same : Usage ≡ said.status = ap status_of (some_same _ said h) in cc
-not_asked (stop.Malformed which) said h e = let same : Usage ≡ said.status = ap status_of (some_same _ said h) in cc
-not_asked (stop.Input which) said h e = let same : Input ≡ said.status = ap status_of (some_same _ said h) in cc
-not_asked stop.Memory said h e = cc
-
-pub found_layout : (words : List (List ℕ)) (layout : Layout) → Some layout ≡ result_ok (asked_layout_of words) → asked_layout_of words ≡ Ok layout
-found_layout words layout h = by (asked_layout_of words) h
-  where
-    by : (r : Result Layout UsageFault) → Some layout ≡ result_ok r → r ≡ Ok layout
-    by (Ok x) h = ap Ok (sym (some_same layout x h))
-    by (Err e) h = cc
-
--- the moment, as it was taken
-pub at_moment : (taken now : jiff.Timestamp) (before after : Environment) (said : Answer) → taken ≡ now
-    → Proceeds taken before after said → Proceeds now before after said
-at_moment taken now before after said same proceeds = subst (λ t. Proceeds t before after said) same proceeds
-
-module _ (command : Command) (before after : Environment) (out out' : Watched (List ℕ)) where
-  wrote : (said : Answer) → Decides command before after said → TakesAll out out' said.text → said.status ≡ Accepted → WritesRows command before after out out'
-  wrote said (misworded none same line) takes e = absurd (not_asked stop.Words said line e)
-  wrote said (worded layout is (stopped why read same line)) takes e = absurd (not_asked why said line e)
-  wrote said (worded layout is (rows gathered tables read asks reads ended)) takes e = record {
-    layout = layout;
-    worded = is;
-    gathered = gathered;
-    inputs = read;
-    asks = asks;
-    tables = tables;
-    text = said.text;
-    rows = reads;
-    written = takes;
-  }
+  said_rows : (said : Answer) → SaysOf words of Asks before after (Ok said) → TakesAll out out' said.text → M said.status
+  said_rows said (unstarted e s o eq) takes = no_both said e eq
+  said_rows said (stopped line s o eq) takes =
+      λ e. absurd (stopped_means words of before after out out' (λ s. s ≡ Accepted → ⊥) (λ m h. cc) (λ l h. cc) o line s
+      (subst (λ (a : Answer). TakesAll out out' a.text) (ok_same said line eq) takes) (ap (λ (a : Answer). a.status) (sym (ok_same said line eq)) ∙ e))
+  said_rows said (begun layout given b r) takes =
+      λ e. record { layout = layout; given = given; read = b; tables = r.tables; asks = r.asks; text = said.text; rows = r.rows; written = takes }
 
   -- where questions are asked, the rows were written
-  pub asked_rows : (ended : Status) → RunsTo command before after out out' ended → ended ≡ Accepted → WritesRows command before after out out'
-  asked_rows ended (unwritten same is) e = cc
-  asked_rows ended (cut said fault d w is) e = cc
-  asked_rows ended (written said d takes is) e = wrote said d takes (sym is ∙ e)
+  pub asked_rows : (ended : Status) → SaysAndEnds (SaysOf words of Asks before after) out out' ended → M ended
+  asked_rows ended r =
+      ends_so (SaysOf words of Asks before after) M (λ (a : Answer). a.status) (λ (a : Answer). a.text) r.said out out' ended r.says
+      (λ same e. cc) (λ rose e. cc) said_rows r.ends

@@ -12,10 +12,9 @@ use Rattle.sigstore_keys.specs.Crypto.{Crypto}
 use Rattle.sigstore_judgement.specs.declared.trust.Material.{Material}
 use Rattle.sigstore_judgement.specs.Trust.{material_of}
 use Rattle.sigstore_judgement.specs.Under.{terms_of}
-use Rattle.sigstore_judgement.specs.Policy.{Meaning}
+use Rattle.sigstore_policy.specs.Policy.{meaning_in}
 use Rattle.sigstore_tuf_rules.specs.declared.chain.TrustChain.{TrustChain}
 use Rattle.sigstore_tuf_rules.specs.declared.config.UpdaterConfig.{UpdaterConfig}
-use Rattle.sigstore_tuf_rules.specs.Config.{default_config}
 use Rattle.trust_archive.specs.Archive.{IsArchive}
 use Rattle.trust_archive.specs.Spelling.{spelling_of}
 use Rattle.sigstore_verify.specs.declared.from_root.Acceptance.{Acceptance}
@@ -25,14 +24,14 @@ use Rattle.sigstore_verify.specs.Inputs.{Anchor, VerifyInputs, Outside, asked_by
 use Rattle.sigstore_verify.specs.Promises.{Promises}
 use Rattle.command_files.specs.declared.gather.Gathered.{Gathered}
 use Rattle.command_files.specs.declared.tables.TableProvider.{TableProvider}
+use Rattle.command_files.specs.declared.tables.Tables.{Tables}
 use Rattle.command_files.specs.Tables.{crypto_of}
-use Rattle.command_verify.specs.Meant.{meaning_asked, policy_meant}
-use Rattle.command_verify.specs.Run.{given_with, request_of, max_artifact}
+use Rattle.command_verify.specs.Run.{given_with, given_of, given_under}
+use Rattle.command_verify.specs.declared.request.VerifyRequest.{VerifyRequest}
 use Rattle.question_notes.specs.Believing.{believing}
 use Rattle.question_notes.specs.declared.noted.Noted.{Noted}
-use Rattle.command_questions.specs.declared.request.Request.{Request}
 use Rattle.command_questions.specs.Means.{Asks}
-use Rattle.command_questions.specs.Suffice.{inputs_of, IsTrustedAlone, IsAcceptedOver, IsAcceptedAlone, Suffice}
+use Rattle.command_questions.specs.Suffice.{IsTrustedAlone, IsAcceptedOver, IsAcceptedAlone, Suffice}
 
 -- the archive that was written is read again
 pub trusted_alone : (anchor : Anchor) (chain again : TrustChain) (bytes read : List ℕ) (config : UpdaterConfig) → spelling_of chain ≡ Ok bytes
@@ -51,45 +50,36 @@ trusted_alone anchor chain again bytes read config spelled same limits held =
 -- ---- a verification
 
 -- the run with the provider that notes
-pub ran_noting : (request : Request) (before after : Outside) (result : Result Acceptance RootFault) (held given : TableProvider) (config : UpdaterConfig)
-    → held ≡ given → config ≡ default_config
-    → Promises (record { anchor = record { crypto = believing held.rows; root = request.root.now; config = config; now = request.moment }; policy = meaning_asked request.policy.now; bundle = request.bundle.now; max = max_artifact }) before after result
-    → Runs (inputs_of (believing given.rows) request) before after result
-ran_noting request before after result held given config same limits promises =
-    let with_limits : Promises (inputs_of (believing held.rows) request) before after result =
-    subst (λ (c : UpdaterConfig). Promises (record { anchor = record { crypto = believing held.rows; root = request.root.now; config = c; now = request.moment }; policy = meaning_asked request.policy.now; bundle = request.bundle.now; max = max_artifact }) before after result) limits promises in
-    subst (λ (t : TableProvider). Runs (inputs_of (believing t.rows) request) before after result) same with_limits.runs
+pub ran_noting : (request : VerifyRequest) (before after : Outside) (result : Result Acceptance RootFault) (held given : TableProvider) → held ≡ given
+    → Promises (given_of (believing held.rows) request) before after result → Runs (given_of (believing given.rows) request) before after result
+ran_noting request before after result held given same promises =
+    subst (λ (t : TableProvider). Runs (given_of (believing t.rows) request) before after result) same promises.runs
 
--- what is asked of a verification, as one value
-abbrev inputs_with : Crypto → Meaning → List ℕ → List ℕ → jiff.Timestamp → VerifyInputs
-inputs_with crypto policy root bundle now = record {
-  anchor = record { crypto = crypto; root = root; config = default_config; now = now };
-  policy = policy;
-  bundle = bundle;
-  max = max_artifact;
-}
-
-module _ (gathered : Gathered) (now : jiff.Timestamp) (policy : Meaning) (root bundle : List ℕ) (meant : policy ≡ policy_meant gathered.policy)
-    (rooted : root ≡ gathered.root) (bundled : bundle ≡ gathered.bundle) where
-  same_inputs : (crypto : Crypto) → inputs_with crypto policy root bundle now ≡ given_with crypto (request_of gathered) now
+module _ (gathered : Gathered) (now : jiff.Timestamp) (root bundle : List ℕ) (rooted : root ≡ gathered.root) (bundled : bundle ≡ gathered.bundle) where
+  same_inputs : (crypto : Crypto) → given_with crypto (meaning_in gathered.policy) root bundle now ≡ given_under crypto gathered now
   same_inputs crypto =
-      ap (λ (p : Meaning). inputs_with crypto p root bundle now) meant
-      ∙ (ap (λ (r : List ℕ). inputs_with crypto (policy_meant gathered.policy) r bundle now) rooted
-      ∙ ap (λ (b : List ℕ). inputs_with crypto (policy_meant gathered.policy) gathered.root b now) bundled)
+      ap (λ (r : List ℕ). given_with crypto (meaning_in gathered.policy) r bundle now) rooted
+      ∙ ap (λ (b : List ℕ). given_with crypto (meaning_in gathered.policy) gathered.root b now) bundled
 
   -- what was noted is asked by the inputs, and suffices
   pub asks : (before after : Outside) (judged : Result Acceptance RootFault) (held : TableProvider) (noted : Result Noted NoMemory)
-      → held ≡ gathered.tables.provider → Runs (inputs_with (believing held.rows) policy root bundle now) before after judged
-      → IfOk noted (λ n. Suffice (inputs_with (crypto_of n.tables) policy root bundle now) judged) → IfOk noted (λ n. Asks gathered now n.tables before after)
+      → held ≡ gathered.tables.provider → Runs (given_with (believing held.rows) (meaning_in gathered.policy) root bundle now) before after judged
+      → IfOk noted (λ n. Suffice (given_with (crypto_of n.tables) (meaning_in gathered.policy) root bundle now) judged)
+      → IfOk noted (λ n. Asks gathered now n.tables before after)
   asks before after judged held (Err e) same runs suffice = tt
   asks before after judged held (Ok n) same runs suffice =
-      let asked : Runs (inputs_with (believing gathered.tables.provider.rows) policy root bundle now) before after judged =
-      subst (λ (t : TableProvider). Runs (inputs_with (believing t.rows) policy root bundle now) before after judged) same runs in
+      let asked : Runs (given_with (believing gathered.tables.provider.rows) (meaning_in gathered.policy) root bundle now) before after judged =
+      subst (λ (t : TableProvider). Runs (given_with (believing t.rows) (meaning_in gathered.policy) root bundle now) before after judged) same runs in
       record {
         judged = judged;
         runs = subst (λ (given : VerifyInputs). Runs given before after judged) (same_inputs (believing gathered.tables.provider.rows)) asked;
         suffice = subst (λ (given : VerifyInputs). Suffice given judged) (same_inputs (crypto_of n.tables)) suffice;
       }
+
+-- at the same moment
+pub asks_at : (gathered : Gathered) (now told : jiff.Timestamp) (rows : Tables) (before after : Outside) → now ≡ told → Asks gathered now rows before after
+    → Asks gathered told rows before after
+asks_at gathered now told rows before after same a = subst (λ n. Asks gathered n rows before after) same a
 
 -- ---- where the check ends well
 

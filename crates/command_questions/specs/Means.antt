@@ -1,18 +1,23 @@
 -- What a run asks and writes: the rows that were noted, which suffice, and nothing else; or the line of a stop.
-use Rattle.std.specs.Prelude.{◌≡◌, ℕ, List, Some, None, Result, Ok, Err}
-use Rattle.std.specs.Result.{result_ok}
+use Rattle.std.specs.Prelude.{◌≡◌, ℕ, List, Result, Ok, IfOk}
 use Rattle.jiff_core.specs.declared.timestamp.Timestamp as jiff
 use Rattle.foundation.specs.Watched.{Watched}
-use Rattle.command_files.specs.Sink.{WritesText}
+use Rattle.foundation.specs.declared.no_memory.NoMemory.{NoMemory}
+use Rattle.command_files.specs.Ending.{TakesAll, SaysAndEnds}
+use Rattle.command_files.specs.Gather.{gathered_of}
+use Rattle.command_files.specs.Inputs.{Held}
 use Rattle.command_files.specs.Layout.{asked_layout_of}
+use Rattle.command_files.specs.Starting as start
+use Rattle.command_files.specs.Starting.{Command, now_of, Begins, Decides}
 use Rattle.command_files.specs.Tables.{tables_of, crypto_of}
-use Rattle.command_files.specs.Gather.{gathered_of, ReadsAs}
-use Rattle.command_files.specs.declared.layout.Layout.{Layout}
-use Rattle.command_files.specs.declared.gather.Gathered.{Gathered}
+use Rattle.command_files.specs.declared.answer.Answer.{Answer}
+use Rattle.command_files.specs.declared.answer.Status.{Status}
+use Rattle.command_files.specs.declared.answer.Status.TheVariants.{Accepted}
 use Rattle.command_files.specs.declared.gather.CommandStop.{CommandStop}
-use Rattle.command_files.specs.declared.gather.CommandStop.TheVariants.{Words}
-use Rattle.command_files.specs.declared.sink.SinkFault.{SinkFault}
+use Rattle.command_files.specs.declared.gather.Gathered.{Gathered}
+use Rattle.command_files.specs.declared.layout.Layout.{Layout}
 use Rattle.command_files.specs.declared.tables.Tables.{Tables}
+use Rattle.command_files.specs.declared.usage_fault.UsageFault.{UsageFault}
 use Rattle.sigstore_verify.specs.declared.from_root.Acceptance.{Acceptance}
 use Rattle.sigstore_verify.specs.declared.from_root.RootFault.{RootFault}
 use Rattle.sigstore_verify.specs.Inputs.{Outside}
@@ -20,11 +25,10 @@ use Rattle.sigstore_verify.specs.FromRoot.{Runs}
 use Rattle.question_notes.specs.Believing.{believing}
 use Rattle.question_notes.specs.Notes.{Asked}
 use Rattle.question_notes.specs.Holds.{TextsHold, HasRowsAlone}
-use Rattle.command_verify.specs.declared.answer.Status.{Status}
-use Rattle.command_verify.specs.declared.answer.Status.TheVariants.{Accepted, Output, Memory}
-use Rattle.command_verify.specs.declared.answer.Answer.{Answer}
-use Rattle.command_verify.specs.Run.{stop_answer, TakesAll, given_with, request_of, now_of, Command, Environment}
+use Rattle.command_verify.specs.Run.{given_under, Environment}
 use Rattle.command_questions.specs.Suffice.{Suffice}
+
+-- ---- of any judgement
 
 -- A text of questions: it is read as these tables and holds what may be noted, each armoured text in it holds what its row says,
 -- and each of its lines is a row's.
@@ -34,45 +38,53 @@ pub record IsQuestions (text : List ℕ) (tables : Tables) : Type 0 where
   pub texts : TextsHold tables
   pub alone : HasRowsAlone text
 
+-- what is said of rows that were noted: they, as a provider file
+pub record SaysRows (Asks : Tables → Type 0) (said : Answer) : Type 0 where
+  pub tables : Tables
+  pub asks : Asks tables
+  pub rows : IsQuestions said.text tables
+  pub accepted : said.status ≡ Accepted
+
+-- what is said: the words first, then the inputs, and then the rows of what they ask
+abbrev pub SaysOf : {L A O : Type 0} → Result L UsageFault → (Held → Result A CommandStop) → (L → A → Tables → O → O → Type 0)
+    → start.Environment O → start.Environment O → Result Answer NoMemory → Type 0
+SaysOf words of Asks before after result =
+    Decides words of (λ said. said) (λ layout given old new said. IfOk said (SaysRows (λ tables. Asks layout given tables old new)))
+    before after result
+
+-- the words and the inputs were read, this was asked, and the sink took exactly a text of its questions
+pub record WritesOf {L A O : Type 0} (words : Result L UsageFault) (of : Held → Result A CommandStop)
+    (Asks : L → A → Tables → O → O → Type 0) (before after : start.Environment O) (out out' : Watched (List ℕ)) : Type 0 where
+  pub layout : L
+  pub given : A
+  pub read : Begins words of before.inputs after.inputs layout given
+  pub tables : Tables
+  pub asks : Asks layout given tables before.outside after.outside
+  pub text : List ℕ
+  pub rows : IsQuestions text tables
+  pub written : TakesAll out out' text
+
+-- ---- of the verification of a bundle
+
 -- What was run is the verification of these inputs at the moment, in which the signatures of the file `refused` aren't good and
 -- all others are. What it came to is told to nobody, but the rows suffice for it.
 pub record Asks (gathered : Gathered) (now : jiff.Timestamp) (rows : Tables) (before after : Outside) : Type 0 where
   pub judged : Result Acceptance RootFault
-  pub runs : Runs (given_with (believing gathered.tables.provider.rows) (request_of gathered) now) before after judged
-  pub suffice : Suffice (given_with (crypto_of rows) (request_of gathered) now) judged
+  pub runs : Runs (given_under (believing gathered.tables.provider.rows) gathered now) before after judged
+  pub suffice : Suffice (given_under (crypto_of rows) gathered now) judged
 
--- what is said once the words are read: the rows that were noted, as a provider file; or the line of the input that is refused
-pub data Proceeds (now : jiff.Timestamp) (before after : Environment) (said : Answer) : Type 0 where
-  rows : (gathered : Gathered) (tables : Tables) → ReadsAs gathered_of before.inputs after.inputs (Ok gathered)
-      → Asks gathered now tables before.outside after.outside → IsQuestions said.text tables → said.status ≡ Accepted
-      → Proceeds now before after said
-  stopped : (stop : CommandStop) → ReadsAs gathered_of before.inputs after.inputs (Err stop) → after.outside ≡ before.outside
-      → stop_answer stop ≡ Some said → Proceeds now before after said
+-- by what the words and the inputs ask for
+abbrev pub AsksFor : Command → Layout → Gathered → Tables → Outside → Outside → Type 0
+AsksFor command layout gathered rows before after = Asks gathered (now_of layout command.clock) rows before after
 
--- what is said: the words first, then the inputs and the questions
-pub data Decides (command : Command) (before after : Environment) (said : Answer) : Type 0 where
-  misworded : result_ok (asked_layout_of command.words) ≡ None → after ≡ before → stop_answer Words ≡ Some said
-      → Decides command before after said
-  worded : (layout : Layout) → asked_layout_of command.words ≡ Ok layout
-      → Proceeds (now_of layout command.clock) before after said → Decides command before after said
+abbrev pub Says : Command → Environment → Environment → Result Answer NoMemory → Type 0
+Says command before after result = SaysOf (asked_layout_of command.words) gathered_of (AsksFor command) before after result
 
--- a run: what is said is written; nothing is where memory is wanting, and a part of the text where a write failed
-pub data RunsTo (command : Command) (before after : Environment) (out out' : Watched (List ℕ)) (ended : Status) : Type 0 where
-  unwritten : out' ≡ out → ended ≡ Memory → RunsTo command before after out out' ended
-  cut : (said : Answer) (fault : SinkFault) → Decides command before after said → WritesText out out' said.text (Err fault)
-      → ended ≡ Output → RunsTo command before after out out' ended
-  written : (said : Answer) → Decides command before after said → TakesAll out out' said.text → ended ≡ said.status
-      → RunsTo command before after out out' ended
+-- a run: what is said is written
+abbrev pub RunsTo : Command → Environment → Environment → Watched (List ℕ) → Watched (List ℕ) → Status → Type 0
+RunsTo command before after out out' ended = SaysAndEnds (Says command before after) out out' ended
 
 -- what status 0 means: the words and the inputs were read, the verification was run in which all but the refused signatures are
 -- good, and the sink took exactly a text of questions, which suffice for what it came to
-pub record WritesRows (command : Command) (before after : Environment) (out out' : Watched (List ℕ)) : Type 0 where
-  pub layout : Layout
-  pub worded : asked_layout_of command.words ≡ Ok layout
-  pub gathered : Gathered
-  pub inputs : ReadsAs gathered_of before.inputs after.inputs (Ok gathered)
-  pub tables : Tables
-  pub asks : Asks gathered (now_of layout command.clock) tables before.outside after.outside
-  pub text : List ℕ
-  pub rows : IsQuestions text tables
-  pub written : TakesAll out out' text
+abbrev pub WritesRows : Command → Environment → Environment → Watched (List ℕ) → Watched (List ℕ) → Type 0
+WritesRows command before after out out' = WritesOf (asked_layout_of command.words) gathered_of (AsksFor command) before after out out'

@@ -5,7 +5,6 @@ use Rattle.sigstore_types.specs.declared.trusted_root.TrustedRoot.{TrustedRoot}
 use Rattle.sigstore_types.specs.Bundle.{bundle_of_bytes}
 use Rattle.sigstore_types.specs.TrustedRoot.{trusted_root_of_bytes}
 use Rattle.sigstore_types_parts.specs.declared.hash_algorithm.ArtifactDigest.{ArtifactDigest}
-use Rattle.sigstore_keys.specs.Crypto.{Crypto}
 use Rattle.sigstore_judgement.specs.declared.report.VerificationResult.{VerificationResult}
 use Rattle.sigstore_judgement.specs.declared.trust.Material.{Material}
 use Rattle.sigstore_judgement.specs.Artifact.{read_kind, digest_among}
@@ -14,7 +13,6 @@ use Rattle.sigstore_judgement.specs.Judged.{Ready, prepared_of, judged_by}
 use Rattle.sigstore_judgement.specs.Trust.{material_of}
 use Rattle.sigstore_judgement.specs.Under.{terms_of}
 use Rattle.sigstore_tuf_rules.specs.declared.chain.TrustChain.{TrustChain}
-use Rattle.sigstore_tuf_rules.specs.Config.{default_config}
 use Rattle.trust_archive.specs.Archive.{IsArchive}
 use Rattle.trust_archive.specs.Spelling.{spelling_of}
 use Rattle.sigstore_verify.specs.declared.from_root.Acceptance.{Acceptance}
@@ -25,20 +23,6 @@ use Rattle.sigstore_verify.specs.Inputs.{Anchor, VerifyInputs, asked_by}
 use Rattle.release_gate.specs.declared.gate.Gated.{Gated}
 use Rattle.release_gate.specs.declared.gate.GateFault.{GateFault}
 use Rattle.release_gate.specs.declared.gate.GateFault.TheVariants as gate
-use Rattle.command_verify.specs.Meant.{meaning_asked}
-use Rattle.command_verify.specs.Run.{max_artifact}
-use Rattle.command_questions.specs.declared.request.Request.{Request}
-
--- ---- what is asked of a verification
-
--- the inputs but for the tables, with who decides signatures and reads armoured texts
-abbrev pub inputs_of : Crypto → Request → VerifyInputs
-inputs_of crypto request = record {
-  anchor = record { crypto = crypto; root = request.root.now; config = default_config; now = request.moment };
-  policy = meaning_asked request.policy.now;
-  bundle = request.bundle.now;
-  max = max_artifact;
-}
 
 -- ---- what stands by rows alone
 

@@ -1,11 +1,13 @@
 // What a refusal holds beside its number and its name.
 use crate::last_asked::LastAsked;
 use crate::reading_store::ReadingStore;
-use command_files::{Gathered, Inputs, Sink, gather_inputs, read_layout};
-use command_verify::{Answer, Status, VerifyRequest, finish, verify_request};
-use foundation::{Duplicate, NoMemory};
+use command_files::{
+    Answer, CommandLine, Gathered, Inputs, Sink, Started, Status, finish, read_layout, start,
+};
+use command_verify::{VerifyRequest, verify_request};
+use foundation::NoMemory;
 use jiff::Timestamp;
-use sigstore_keys::ArtifactSource;
+use sigstore_keys::{ArtifactSource, Providers};
 use sigstore_tuf::{MetadataStore, Repository};
 use sigstore_types::{Bundle, TrustedRoot};
 use sigstore_types_parts::Text;
@@ -67,62 +69,41 @@ fn judged_details<R: Repository, S: MetadataStore, A: ArtifactSource>(
     store: &mut S,
     artifact: &mut A,
 ) -> Result<String, NoMemory> {
-    let Gathered {
-        policy,
-        tables,
-        root,
-        bundle,
-    } = gathered;
-    let copy = bundle.duplicate(alloc)?;
     let request = VerifyRequest {
-        policy,
-        root,
-        bundle,
+        policy: &gathered.policy,
+        root: gathered.root.as_bytes(),
+        bundle: gathered.bundle.as_bytes(),
+        moment: now,
     };
-    let judged = verify_request(
-        alloc,
-        request,
-        &tables.provider,
-        &tables.armor,
-        now,
-        repo,
-        store,
-        artifact,
-    );
-    let text = details(alloc, &judged, copy.as_bytes(), repo.name());
+    let providers = Providers {
+        provider: &gathered.tables.provider,
+        armor: &gathered.tables.armor,
+    };
+    let judged = verify_request(alloc, &request, providers, repo, store, artifact);
+    let text = details(alloc, &judged, request.bundle, repo.name());
     drop(judged);
     text
 }
 
-// What ends a run without a text.
-fn silent(alloc: Global, status: Status) -> Answer {
-    Answer {
-        status,
-        text: Text::from_string(String::new(alloc)),
-    }
-}
-
-// The words, then the inputs and the verification.
+// The words and the inputs, then the verification.
 fn decide<I: Inputs, R: Repository, S: MetadataStore, A: ArtifactSource>(
     alloc: Global,
-    words: &[Text],
-    clock: Timestamp,
+    line: &CommandLine<'_>,
     inputs: &mut I,
     repo: &mut LastAsked<R>,
     store: &mut S,
     artifact: &mut A,
 ) -> Result<Answer, NoMemory> {
-    let now = match read_layout(alloc, words)? {
-        Some(layout) => layout.now.unwrap_or(clock),
-        None => return Ok(silent(alloc, Status::Usage)),
+    let (status, text) = match start(alloc, read_layout(alloc, line.words), inputs)? {
+        Started::Asked(layout, gathered) => {
+            let now = layout.moment(line.clock);
+            let text = judged_details(alloc, gathered, now, repo, store, artifact)?;
+            (Status::Accepted, text)
+        }
+        Started::Stopped(said) => (said.status, String::new(alloc)),
     };
-    let gathered = match gather_inputs(alloc, inputs) {
-        Ok(gathered) => gathered,
-        Err(_) => return Ok(silent(alloc, Status::Input)),
-    };
-    let text = judged_details(alloc, gathered, now, repo, store, artifact)?;
     Ok(Answer {
-        status: Status::Accepted,
+        status,
         text: Text::from_string(text),
     })
 }
@@ -131,17 +112,16 @@ fn decide<I: Inputs, R: Repository, S: MetadataStore, A: ArtifactSource>(
 /// bundle or a trust file the member that is misread; behind a refusal of the documents the file that was asked
 /// for last. Nothing is written where the bundle is accepted. It is for a reader's eye: no contract speaks of
 /// the text, and no verdict rests on it. The store is only read. Status 0 where the text was written whole, 2 for
-/// faulty words, 3 where an input isn't read, 4 where a write failed, 5 where memory was wanting.
+/// words or a file outside their grammar, 3 where an input isn't read, 4 where a write failed, 5 where memory was wanting.
 pub fn run_details<I: Inputs, R: Repository, S: MetadataStore, A: ArtifactSource, K: Sink>(
     alloc: Global,
-    words: &[Text],
-    clock: Timestamp,
+    line: &CommandLine<'_>,
     inputs: &mut I,
     repo: &mut LastAsked<R>,
     store: &mut ReadingStore<S>,
     artifact: &mut A,
     out: &mut K,
 ) -> Status {
-    let said = decide(alloc, words, clock, inputs, repo, store, artifact);
+    let said = decide(alloc, line, inputs, repo, store, artifact);
     finish(&said, out)
 }

@@ -3,50 +3,44 @@ ghost use Rattle.std.specs.Prelude.{◌≡◌, IfOk};
 ghost use Rattle.release_gate.specs.Gate.{outside_by};
 ghost use Rattle.release_gate.specs.Promises.{Promises};
 ghost use Rattle.question_notes.specs.Believing.{believing};
-ghost use Rattle.command_verify.specs.declared.answer.Status.TheVariants.{Accepted};
-ghost use Rattle.command_verify.specs.Run.{command_by};
-ghost use Rattle.command_gate.specs.Run.{environment_by, given_with};
-ghost use Rattle.command_questions.specs.GateMeans.{Asks, Proceeds, Decides, RunsTo, WritesRows};
+ghost use Rattle.command_files.specs.Starting.{command_of};
+ghost use Rattle.command_files.specs.declared.answer.Status.TheVariants.{Accepted};
+ghost use Rattle.command_gate.specs.Run.{environment_by, given_of};
+ghost use Rattle.command_questions.specs.GateMeans.{Asks, Says, RunsTo, WritesRows};
 
 use crate::program::questions_text;
 use crate::reading_store::ReadingStore;
 use crate::suffice::sufficient_for_folder;
-use command_files::{Anchored, CommandStop, Governed, Inputs, PolicyFile, Sink, gather_governed};
-use command_gate::{asked_gate_layout, gate_folder};
-use command_verify::{Answer, Status, finish, stopped};
+use command_files::{Answer, CommandLine, Governed, Inputs, Sink, Started, Status, finish, start};
+use command_gate::{FolderRequest, asked_gate_layout, gate_folder};
 use foundation::NoMemory;
 use jiff::Timestamp;
 use question_notes::{Noted, Notes, NotingArmor, NotingProvider};
 use release_gate::{Folder, GateFault, Gated};
+use sigstore_keys::Providers;
 use sigstore_tuf::{MetadataStore, Repository};
-use sigstore_types_parts::Text;
 use std::alloc::Global;
 
 // Judges the folder, refuses what the tables of the notes hold, and notes what else it asks.
 fn gate_noting<R: Repository, S: MetadataStore, D: Folder>(
     alloc: Global,
     notes: &Notes<'_>,
-    policy: PolicyFile,
-    root: &[u8],
-    now: Timestamp,
+    request: &FolderRequest<'_>,
     repo: &mut R,
     store: &mut S,
     folder: &mut D,
 ) -> Result<Gated, GateFault>
-    ensures { Promises (given_with (believing notes.now.refused.now.rows) root.now policy now) (outside_by (R.seen repo.old) (S.seen store.old) (D.seen folder.old))
+    ensures { Promises (given_of (believing notes.now.refused.now.rows) request.now)
+        (outside_by (R.seen repo.old) (S.seen store.old) (D.seen folder.old))
         (outside_by (R.seen repo.new) (S.seen store.new) (D.seen folder.new)) result }
 {
-    gate_folder(
-        alloc,
-        policy,
-        root,
-        &NotingProvider::new(notes),
-        &NotingArmor::new(notes),
-        now,
-        repo,
-        store,
-        folder,
-    )
+    let provider = NotingProvider::new(notes);
+    let armor = NotingArmor::new(notes);
+    let providers = Providers {
+        provider: &provider,
+        armor: &armor,
+    };
+    gate_folder(alloc, request, providers, repo, store, folder)
 }
 
 // What the judgement of a folder asks, which suffices for the chain of documents that it came to; its verdicts are thrown
@@ -59,84 +53,45 @@ fn asked<R: Repository, S: MetadataStore, D: Folder>(
     store: &mut S,
     folder: &mut D,
 ) -> Result<Noted, NoMemory>
-    ensures { IfOk result (λ noted. Asks governed now noted.tables (outside_by (R.seen repo.old) (S.seen store.old) (D.seen folder.old))
+    ensures { IfOk result (λ noted. Asks governed now noted.tables
+        (outside_by (R.seen repo.old) (S.seen store.old) (D.seen folder.old))
         (outside_by (R.seen repo.new) (S.seen store.new) (D.seen folder.new))) }
 {
-    let Governed { policy, anchored } = governed;
-    let Anchored { tables, root } = anchored;
-    let notes = Notes::new(alloc, &tables.provider);
-    let judged = gate_noting(
-        alloc,
-        &notes,
-        policy,
-        root.as_bytes(),
-        now,
-        repo,
-        store,
-        folder,
-    );
-    let noted = sufficient_for_folder(alloc, notes, root.as_bytes(), now, &judged);
+    let request = FolderRequest {
+        policy: &governed.policy,
+        root: governed.anchored.root.as_bytes(),
+        moment: now,
+    };
+    let notes = Notes::new(alloc, &governed.anchored.tables.provider);
+    let judged = gate_noting(alloc, &notes, &request, repo, store, folder);
+    let noted = sufficient_for_folder(alloc, notes, &request, &judged);
     drop(judged);
-    drop(tables);
     noted
 }
 
-// The inputs, then the questions.
-fn proceed<I: Inputs, R: Repository, S: MetadataStore, D: Folder>(
-    alloc: Global,
-    now: Timestamp,
-    inputs: &mut I,
-    repo: &mut R,
-    store: &mut S,
-    folder: &mut D,
-) -> Result<Answer, NoMemory>
-    ensures { IfOk result (Proceeds now
-        (environment_by (I.seen inputs.old) (R.seen repo.old) (S.seen store.old) (D.seen folder.old))
-        (environment_by (I.seen inputs.new) (R.seen repo.new) (S.seen store.new) (D.seen folder.new))) }
-{
-    match gather_governed(alloc, inputs) {
-        Ok(governed) => match asked(alloc, governed, now, repo, store, folder) {
-            Ok(noted) => Ok(questions_text(noted)),
-            Err(e) => Err(e),
-        },
-        Err(stop) => match stopped(alloc, stop) {
-            Ok(said) => Ok(said),
-            Err(e) => Err(e),
-        },
-    }
-}
-
-// The words, then the inputs and the questions.
+// The words and the inputs, then the questions.
 fn decide<I: Inputs, R: Repository, S: MetadataStore, D: Folder>(
     alloc: Global,
-    words: &[Text],
-    clock: Timestamp,
+    line: &CommandLine<'_>,
     inputs: &mut I,
     repo: &mut R,
     store: &mut S,
     folder: &mut D,
 ) -> Result<Answer, NoMemory>
-    ensures { IfOk result (Decides (command_by words.now clock)
+    ensures { Says (command_of line.now)
         (environment_by (I.seen inputs.old) (R.seen repo.old) (S.seen store.old) (D.seen folder.old))
-        (environment_by (I.seen inputs.new) (R.seen repo.new) (S.seen store.new) (D.seen folder.new))) }
+        (environment_by (I.seen inputs.new) (R.seen repo.new) (S.seen store.new) (D.seen folder.new)) result }
 {
-    let found = match asked_gate_layout(alloc, words) {
-        Ok(found) => found,
-        Err(e) => return Err(e),
-    };
-    match found {
-        Some(layout) => {
-            let now = layout.now.unwrap_or(clock);
-            drop(layout);
-            match proceed(alloc, now, inputs, repo, store, folder) {
-                Ok(said) => Ok(said),
+    match start(alloc, asked_gate_layout(alloc, line.words), inputs) {
+        Ok(Started::Asked(layout, governed)) => {
+            let now = layout.moment(line.clock);
+            match asked(alloc, governed, now, repo, store, folder) {
+                Ok(noted) => Ok(questions_text(noted)),
                 Err(e) => Err(e),
             }
         }
-        None => match stopped(alloc, CommandStop::Words) {
-            Ok(said) => Ok(said),
-            Err(e) => Err(e),
-        },
+        Ok(Started::Stopped(said)) => Ok(said),
+        Err(e) => Err(e),
     }
 }
 
@@ -148,23 +103,22 @@ fn decide<I: Inputs, R: Repository, S: MetadataStore, D: Folder>(
 /// has no room for a question that is needed; then nothing was written.
 pub fn run_gate_questions<I: Inputs, R: Repository, S: MetadataStore, D: Folder, K: Sink>(
     alloc: Global,
-    words: &[Text],
-    clock: Timestamp,
+    line: &CommandLine<'_>,
     inputs: &mut I,
     repo: &mut R,
     store: &mut ReadingStore<S>,
     folder: &mut D,
     out: &mut K,
 ) -> Status
-    ensures runs { RunsTo (command_by words.now clock)
+    ensures runs { RunsTo (command_of line.now)
         (environment_by (I.seen inputs.old) (R.seen repo.old) (⟦<ReadingStore<S> as MetadataStore>⟧.seen store.old) (D.seen folder.old))
         (environment_by (I.seen inputs.new) (R.seen repo.new) (⟦<ReadingStore<S> as MetadataStore>⟧.seen store.new) (D.seen folder.new))
         (K.seen out.old) (K.seen out.new) result }
-    ensures rows { result ≡ Accepted → WritesRows (command_by words.now clock)
+    ensures rows { result ≡ Accepted → WritesRows (command_of line.now)
         (environment_by (I.seen inputs.old) (R.seen repo.old) (⟦<ReadingStore<S> as MetadataStore>⟧.seen store.old) (D.seen folder.old))
         (environment_by (I.seen inputs.new) (R.seen repo.new) (⟦<ReadingStore<S> as MetadataStore>⟧.seen store.new) (D.seen folder.new))
         (K.seen out.old) (K.seen out.new) }
 {
-    let said = decide(alloc, words, clock, inputs, repo, store, folder);
+    let said = decide(alloc, line, inputs, repo, store, folder);
     finish(&said, out)
 }

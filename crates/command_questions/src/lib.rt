@@ -8,7 +8,6 @@ mod gate;
 mod last_asked;
 mod program;
 mod reading_store;
-mod request;
 mod suffice;
 
 pub use details::run_details;

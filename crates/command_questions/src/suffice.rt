@@ -4,27 +4,28 @@ ghost use Rattle.std.specs.Prelude.{◌≡◌, Ok, OnOk, IfOk};
 ghost use Rattle.sigstore_judgement.specs.Grounds.{terms_by};
 ghost use Rattle.sigstore_types.specs.TrustedRoot.{trusted_root_of_bytes};
 ghost use Rattle.command_files.specs.Tables.{crypto_of};
-ghost use Rattle.command_verify.specs.Meant.{meaning_asked};
-ghost use Rattle.command_verify.specs.Run.{anchor_of};
-ghost use Rattle.command_questions.specs.Suffice.{inputs_of, IsTrustedAlone, IsAcceptedOver, IsAcceptedAlone, Suffice, SufficeForFolder};
+ghost use Rattle.sigstore_policy.specs.Policy.{meaning_in};
+ghost use Rattle.sigstore_tuf_rules.specs.Config.{default_config};
+ghost use Rattle.sigstore_verify.specs.Inputs.{anchor_by};
+ghost use Rattle.command_gate.specs.Run as gate;
+ghost use Rattle.command_verify.specs.Run.{given_of};
+ghost use Rattle.command_questions.specs.Suffice.{IsTrustedAlone, IsAcceptedOver, IsAcceptedAlone, Suffice, SufficeForFolder};
 
-use crate::request::Request;
 use command_files::Tables;
+use command_gate::FolderRequest;
+use command_verify::VerifyRequest;
 use foundation::NoMemory;
 use jiff::Timestamp;
 use question_notes::{Noted, Notes};
 use release_gate::{GateFault, Gated};
 use sigstore_judgement::prepare_reader;
-use sigstore_keys::CryptoProvider;
+use sigstore_keys::{CryptoProvider, Providers};
 use sigstore_tuf::{TrustChain, UpdaterConfig};
 use sigstore_types::{Bundle, TrustedRoot};
 use sigstore_types_parts::{Armor, ArtifactDigest};
-use sigstore_verify::{Acceptance, RootFault, Verifier};
+use sigstore_verify::{Acceptance, RootFault, TRUST_PATH, Verifier};
 use std::alloc::Global;
-use trust_archive::{read_archive, write_archive};
-
-// The target that is the trust file.
-const TRUST_PATH: &str = "trusted_root.json";
+use trust_archive::{ArchiveTerms, read_archive, write_archive};
 
 // A chain of documents, which is trusted by these rows alone; else a row is lacking, for which there was no memory or no
 // room.
@@ -35,22 +36,23 @@ fn check_chain(
     now: Timestamp,
     chain: &TrustChain,
 ) -> Result<(), NoMemory>
-    ensures { OnOk result (IsTrustedAlone (anchor_of (record { tables = tables.now; root = root.now }) now) chain.now) }
+    ensures { OnOk result (IsTrustedAlone (anchor_by (crypto_of tables.now) root.now default_config now) chain.now) }
 {
     let Ok(archive) = write_archive(alloc, chain) else {
         return Err(NoMemory);
     };
     let config = UpdaterConfig::default();
-    match read_archive(
-        alloc,
-        &tables.provider,
-        &tables.armor,
+    let providers = Providers {
+        provider: &tables.provider,
+        armor: &tables.armor,
+    };
+    let terms = ArchiveTerms {
         root,
-        TRUST_PATH,
-        config.max_delegations,
-        now,
-        archive.as_bytes(),
-    ) {
+        path: TRUST_PATH,
+        max_delegations: config.max_delegations,
+        moment: now,
+    };
+    match read_archive(alloc, &providers, &terms, archive.as_bytes()) {
         Ok(again) => {
             drop(again);
             Ok(())
@@ -63,11 +65,12 @@ fn check_chain(
 fn check_digests<C: CryptoProvider, M: Armor>(
     alloc: Global,
     verifier: &Verifier<'_, C, M>,
-    request: &Request<'_>,
+    request: &VerifyRequest<'_>,
     bundle: &Bundle,
     digests: &[ArtifactDigest],
 ) -> Result<(), NoMemory>
-    ensures { OnOk result (IsAcceptedOver (terms_by C.CryptoProvider M.Armor verifier.now (meaning_asked request.now.policy.now) request.now.moment) bundle.now digests.now) }
+    ensures { OnOk result (IsAcceptedOver
+        (terms_by C.CryptoProvider M.Armor verifier.now (meaning_in request.now.policy.now) request.now.moment) bundle.now digests.now) }
 {
     let Ok(ready) = prepare_reader(alloc, bundle, request.policy) else {
         return Err(NoMemory);
@@ -85,12 +88,12 @@ fn check_digests<C: CryptoProvider, M: Armor>(
 fn check_bundle(
     alloc: Global,
     tables: &Tables,
-    request: &Request<'_>,
+    request: &VerifyRequest<'_>,
     accepted: &Acceptance,
     trust: &TrustedRoot,
 ) -> Result<(), NoMemory>
     requires { trusted_root_of_bytes accepted.now.chain.file ≡ Ok trust.now }
-    ensures { OnOk result (IsAcceptedAlone (inputs_of (crypto_of tables.now) request.now) accepted.now) }
+    ensures { OnOk result (IsAcceptedAlone (given_of (crypto_of tables.now) request.now) accepted.now) }
 {
     let Ok(bundle) = Bundle::from_json(alloc, request.bundle) else {
         return Err(NoMemory);
@@ -115,10 +118,10 @@ fn check_bundle(
 fn check_accepted(
     alloc: Global,
     tables: &Tables,
-    request: &Request<'_>,
+    request: &VerifyRequest<'_>,
     accepted: &Acceptance,
 ) -> Result<(), NoMemory>
-    ensures { OnOk result (Suffice (inputs_of (crypto_of tables.now) request.now) (Ok accepted.now)) }
+    ensures { OnOk result (Suffice (given_of (crypto_of tables.now) request.now) (Ok accepted.now)) }
 {
     check_chain(alloc, tables, request.root, request.moment, &accepted.chain)?;
     let Ok(trust) = TrustedRoot::from_json(alloc, accepted.chain.file.as_bytes()) else {
@@ -133,10 +136,10 @@ fn check_accepted(
 fn check_judged(
     alloc: Global,
     tables: &Tables,
-    request: &Request<'_>,
+    request: &VerifyRequest<'_>,
     judged: &Result<Acceptance, RootFault>,
 ) -> Result<(), NoMemory>
-    ensures { OnOk result (Suffice (inputs_of (crypto_of tables.now) request.now) judged.now) }
+    ensures { OnOk result (Suffice (given_of (crypto_of tables.now) request.now) judged.now) }
 {
     match judged {
         Ok(accepted) => check_accepted(alloc, tables, request, accepted),
@@ -152,15 +155,16 @@ fn check_judged(
 fn check_gated(
     alloc: Global,
     tables: &Tables,
-    root: &[u8],
-    now: Timestamp,
+    request: &FolderRequest<'_>,
     judged: &Result<Gated, GateFault>,
 ) -> Result<(), NoMemory>
-    ensures { OnOk result (SufficeForFolder (anchor_of (record { tables = tables.now; root = root.now }) now) judged.now) }
+    ensures { OnOk result (SufficeForFolder (gate.given_of (crypto_of tables.now) request.now).anchor judged.now) }
 {
     match judged {
-        Ok(gated) => check_chain(alloc, tables, root, now, &gated.chain),
-        Err(GateFault::Trust { chain, .. }) => check_chain(alloc, tables, root, now, chain),
+        Ok(gated) => check_chain(alloc, tables, request.root, request.moment, &gated.chain),
+        Err(GateFault::Trust { chain, .. }) => {
+            check_chain(alloc, tables, request.root, request.moment, chain)
+        }
         Err(GateFault::Tuf(_)) => Ok(()),
         Err(GateFault::FolderFailed) => Ok(()),
         Err(GateFault::DoubledName { .. }) => Ok(()),
@@ -174,10 +178,10 @@ fn check_gated(
 pub(crate) fn sufficient(
     alloc: Global,
     notes: Notes<'_>,
-    request: &Request<'_>,
+    request: &VerifyRequest<'_>,
     judged: &Result<Acceptance, RootFault>,
 ) -> Result<Noted, NoMemory>
-    ensures { IfOk result (λ noted. Suffice (inputs_of (crypto_of noted.tables) request.now) judged.now) }
+    ensures { IfOk result (λ noted. Suffice (given_of (crypto_of noted.tables) request.now) judged.now) }
 {
     let Some(noted) = notes.into_noted() else {
         return Err(NoMemory);
@@ -195,16 +199,15 @@ pub(crate) fn sufficient(
 pub(crate) fn sufficient_for_folder(
     alloc: Global,
     notes: Notes<'_>,
-    root: &[u8],
-    now: Timestamp,
+    request: &FolderRequest<'_>,
     judged: &Result<Gated, GateFault>,
 ) -> Result<Noted, NoMemory>
-    ensures { IfOk result (λ noted. SufficeForFolder (anchor_of (record { tables = noted.tables; root = root.now }) now) judged.now) }
+    ensures { IfOk result (λ noted. SufficeForFolder (gate.given_of (crypto_of noted.tables) request.now).anchor judged.now) }
 {
     let Some(noted) = notes.into_noted() else {
         return Err(NoMemory);
     };
-    match check_gated(alloc, &noted.tables, root, now, judged) {
+    match check_gated(alloc, &noted.tables, request, judged) {
         Ok(()) => Ok(noted),
         Err(e) => {
             drop(noted);

@@ -1,24 +1,25 @@
 -- What each status of a run means.
-use Rattle.std.proofs.Common.{◌≡◌, inl, inr, ℕ, List, Some, None, Ok, Err, refl, sym, ◌∙◌, subst}
-use Rattle.std.specs.Result.{result_ok}
+use Rattle.std.proofs.Common.{◌≡◌, ℕ, List, Some, Result, Ok, Err, refl, sym, ◌∙◌, subst}
 use Rattle.foundation.specs.Watched.{Watched}
 use Rattle.foundation.specs.Results.{ok_same, some_same}
+use Rattle.foundation.specs.declared.no_memory.NoMemory.{NoMemory}
 use Rattle.sigstore_verify.specs.declared.from_root.RootFault.{RootFault}
 use Rattle.sigstore_verify.specs.declared.from_root.RootFault.TheVariants as root
 use Rattle.sigstore_verify.specs.Inputs.{VerifyInputs}
 use Rattle.sigstore_verify.specs.FromRoot.{Runs}
 use Rattle.sigstore_verify.specs.Cause.{RootCause}
 use Rattle.sigstore_verify.proofs.RootCauses.{runs_cause}
+use Rattle.command_files.specs.Answer.{answer}
+use Rattle.command_files.specs.Ending.{TakesAll}
+use Rattle.command_files.specs.Gather.{gathered_of}
 use Rattle.command_files.specs.Layout.{layout_of}
-use Rattle.command_files.specs.Gather.{gathered_of, StopCause, ReadsAs}
-use Rattle.command_files.specs.declared.layout.Layout.{Layout}
-use Rattle.command_files.specs.declared.gather.Gathered.{Gathered}
-use Rattle.command_files.specs.declared.gather.CommandStop.{CommandStop}
-use Rattle.command_files.specs.declared.gather.CommandStop.TheVariants.{Words, Malformed, Input, Memory}
-use Rattle.command_verify.specs.declared.answer.Status.{Status}
-use Rattle.command_verify.specs.declared.answer.Status.TheVariants as status
-use Rattle.command_verify.specs.declared.answer.Answer.{Answer}
-use Rattle.command_verify.specs.Run.{answer, stop_answer, tuf_answer, verify_answer, refusal_answer, given_by, now_of, Command, Environment, Judges, want_judging, refused, reported, Proceeds, want_inputs, stopped, judged, Decides, want_words, misworded, worded, RunsTo, unwritten, cut, written, TakesAll, Means}
+use Rattle.command_files.specs.Starting.{Command, now_of, unstarted, stopped, begun}
+use Rattle.command_files.specs.declared.answer.Answer.{Answer}
+use Rattle.command_files.specs.declared.answer.Status.{Status}
+use Rattle.command_files.specs.declared.answer.Status.TheVariants as status
+use Rattle.command_files.proofs.Endings.{ends_so}
+use Rattle.command_files.proofs.Starts.{stopped_means}
+use Rattle.command_verify.specs.Run.{tuf_answer, verify_answer, refusal_answer, Environment, Asked, given_in, Judges, want_judging, refused, reported, Says, RunsTo, Means}
 
 module _ (command : Command) (before after : Environment) (out out' : Watched (List ℕ)) where
   abbrev M : Status → Type 0
@@ -31,20 +32,9 @@ module _ (command : Command) (before after : Environment) (out out' : Watched (L
   as_said : (a b : Answer) → a ≡ b → (W a.text → M a.status) → W b.text → M b.status
   as_said a b e f = subst (λ (x : Answer). W x.text → M x.status) e f
 
-  misworded_means : (said : Answer) → result_ok (layout_of command.words) ≡ None → after ≡ before → stop_answer Words ≡ Some said → W said.text → M said.status
-  unfolding stop_answer
-  misworded_means said n s h = as_said _ said (some_same _ said h) (λ w. inl (n, s, w))
-
-  stopped_means : (stop : CommandStop) (said : Answer) → StopCause before.inputs after.inputs stop → after.outside ≡ before.outside → stop_answer stop ≡ Some said → W said.text → M said.status
-  unfolding stop_answer
-  stopped_means Words said c s h = absurd c
-  stopped_means (Malformed which) said c s h = as_said _ said (some_same _ said h) (λ w. inr (which, c, s, w))
-  stopped_means (Input which) said c s h = as_said _ said (some_same _ said h) (λ w. (which, c, s, w))
-  stopped_means Memory said c s h = cc
-
-  module _ (layout : Layout) (worded_is : layout_of command.words ≡ Ok layout) (gathered : Gathered) (read : ReadsAs gathered_of before.inputs after.inputs (Ok gathered)) where
+  module _ (asked : Asked command before after) where
     abbrev given : VerifyInputs
-    given = given_by gathered (now_of layout command.clock)
+    given = given_in asked
 
     caused : {fault : RootFault} → Runs given before.outside after.outside (Err fault) → RootCause given before.outside after.outside fault
     caused {fault} v = runs_cause given before.outside after.outside fault v
@@ -52,29 +42,24 @@ module _ (command : Command) (before after : Environment) (out out' : Watched (L
     refused_means : (fault : RootFault) (said : Answer) → Runs given before.outside after.outside (Err fault) → refusal_answer fault ≡ Some said → W said.text → M said.status
     unfolding refusal_answer tuf_answer verify_answer
     refused_means (root.Tuf e) said v h =
-        as_said _ said (some_same _ said h) (λ w. record { layout = layout; worded = worded_is; gathered = gathered; read = read; fault = root.Tuf e; verified = v; cause = caused v; said = tuf_answer e; line = refl; written = w })
+        as_said _ said (some_same _ said h) (λ w. record { asked = asked; fault = root.Tuf e; verified = v; cause = caused v; said = tuf_answer e; line = refl; written = w })
     refused_means (root.Verify e chain) said v h =
-        as_said _ said (some_same _ said h) (λ w. record { layout = layout; worded = worded_is; gathered = gathered; read = read; fault = root.Verify e chain; verified = v; cause = caused v; said = verify_answer e; line = refl; written = w })
+        as_said _ said (some_same _ said h) (λ w. record { asked = asked; fault = root.Verify e chain; verified = v; cause = caused v; said = verify_answer e; line = refl; written = w })
     refused_means root.NoMemory said v h = cc
 
-    judged_means : (said : Answer) → Judges gathered (now_of layout command.clock) before.outside after.outside (Ok said) → W said.text → M said.status
+    judged_means : (said : Answer) → Judges asked.gathered (now_of asked.layout command.clock) before.outside after.outside (Ok said) → W said.text → M said.status
     judged_means said (want_judging r e v eq) = cc
     judged_means said (refused fault other v h eq) = as_said other said (sym (ok_same said other eq)) (refused_means fault other v h)
     judged_means said (reported rooted other v a h eq) =
         as_said (answer status.Accepted h.text) said (sym (ok_same said other eq ∙ h.said_is))
-        (λ w. record { layout = layout; worded = worded_is; gathered = gathered; read = read; rooted = rooted; verified = v; accepted = a; text = h.text; reported = h.reported; written = w })
+        (λ w. record { asked = asked; rooted = rooted; verified = v; accepted = a; text = h.text; reported = h.reported; written = w })
 
-  proceeds_means : (layout : Layout) → layout_of command.words ≡ Ok layout → (said : Answer) → Proceeds (now_of layout command.clock) before after (Ok said) → W said.text → M said.status
-  proceeds_means layout l said (want_inputs stop e p s eq) = cc
-  proceeds_means layout l said (stopped stop other p s h eq) = as_said other said (sym (ok_same said other eq)) (stopped_means stop other p.cause s h)
-  proceeds_means layout l said (judged g p j) = judged_means layout l g p said j
-
-  decided_means : (said : Answer) → Decides command before after (Ok said) → W said.text → M said.status
-  decided_means said (want_words e s eq) = cc
-  decided_means said (misworded other n s h eq) = as_said other said (sym (ok_same said other eq)) (misworded_means other n s h)
-  decided_means said (worded layout l p) = proceeds_means layout l said p
+  said_means : (said : Answer) → Says command before after (Ok said) → W said.text → M said.status
+  said_means said (unstarted e s o eq) = cc
+  said_means said (stopped other s o eq) =
+      as_said other said (sym (ok_same said other eq)) (stopped_means (layout_of command.words) gathered_of before after out out' M (λ m. m) (λ l. l) o other s)
+  said_means said (begun layout gathered b j) = judged_means (record { layout = layout; gathered = gathered; read = b }) said j
 
   pub run_means : (ended : Status) → RunsTo command before after out out' ended → M ended
-  run_means ended (unwritten e d o s) = subst M (sym s) o
-  run_means ended (cut said fault d w s) = subst M (sym s) w.failed
-  run_means ended (written said d w s) = subst M (sym s) (decided_means said d w)
+  run_means ended r =
+      ends_so (Says command before after) M (λ (a : Answer). a.status) (λ (a : Answer). a.text) r.said out out' ended r.says (λ same. same) (λ rose. rose) said_means r.ends

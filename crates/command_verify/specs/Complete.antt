@@ -1,6 +1,6 @@
 -- When a run of the program has to accept, and what it says where it hasn't to: over an offered chain, where nothing outside fails.
-use Rattle.std.specs.Prelude.{◌≡◌, ◌⊎◌, ℕ, List, Some, Result, Ok, Err}
-use Rattle.foundation.specs.Watched.{Watched, Rose}
+use Rattle.std.specs.Prelude.{◌≡◌, ℕ, List, Some, Result, Ok, Err}
+use Rattle.foundation.specs.Watched.{Watched}
 use Rattle.sigstore_tuf_rules.specs.declared.chain.TrustChain.{TrustChain}
 use Rattle.sigstore_verify.specs.declared.from_root.Acceptance.{Acceptance}
 use Rattle.sigstore_verify.specs.declared.from_root.RootFault.{RootFault}
@@ -11,10 +11,11 @@ use Rattle.command_files.specs.Layout.{layout_of}
 use Rattle.command_files.specs.Gather.{gathered_of}
 use Rattle.command_files.specs.declared.layout.Layout.{Layout}
 use Rattle.command_files.specs.declared.gather.Gathered.{Gathered}
-use Rattle.command_verify.specs.declared.answer.Status.{Status}
-use Rattle.command_verify.specs.declared.answer.Status.TheVariants as status
-use Rattle.command_verify.specs.declared.answer.Answer.{Answer}
-use Rattle.command_verify.specs.Run.{Command, Environment, given_by, now_of, refusal_answer, SaysReport, TakesAll}
+use Rattle.command_files.specs.declared.answer.Status.{Status}
+use Rattle.command_files.specs.declared.answer.Answer.{Answer}
+use Rattle.command_files.specs.Ending.{TakesAll, OrFails}
+use Rattle.command_files.specs.Starting.{Command, now_of}
+use Rattle.command_verify.specs.Run.{Environment, given_by, refusal_answer, SaysReport}
 
 -- The words meet their grammar, told inputs are read without a fault and are these, and nothing fails of what the verification
 -- goes to.
@@ -28,29 +29,25 @@ pub record Favoured (command : Command) (before after : Environment) (chain : Tr
   pub outside : Favours (given_by gathered (now_of layout command.clock)) before.outside after.outside chain bytes
 
 -- what is said of an answer of the top call: the report of an acceptance, the line of a refusal
-abbrev pub Says : Result Acceptance RootFault → Answer → Type 0
-Says (Ok rooted) said = SaysReport rooted said
-Says (Err fault) said = refusal_answer fault ≡ Some said
+abbrev pub SaysOf : Result Acceptance RootFault → Answer → Type 0
+SaysOf (Ok rooted) said = SaysReport rooted said
+SaysOf (Err fault) said = refusal_answer fault ≡ Some said
 
-abbrev pub given_in : {command : Command} {before after : Environment} {chain : TrustChain} {bytes : List ℕ}
+abbrev pub favoured_in : {command : Command} {before after : Environment} {chain : TrustChain} {bytes : List ℕ}
     → Favoured command before after chain bytes → VerifyInputs
-given_in {command} f = given_by f.gathered (now_of f.layout command.clock)
+favoured_in {command} f = given_by f.gathered (now_of f.layout command.clock)
 
 -- what the verdict makes the program say was written whole, and its status is the run's
 pub record SaysVerdict (given : VerifyInputs) (chain : TrustChain) (bytes : List ℕ) (out out' : Watched (List ℕ))
     (ended : Status) : Type 0 where
   pub said : Answer
-  pub says : Says (rooted_of chain (verdict_of given chain.file bytes)) said
+  pub says : SaysOf (rooted_of chain (verdict_of given chain.file bytes)) said
   pub written : TakesAll out out' said.text
   pub ended_is : ended ≡ said.status
-
--- Memory was wanting, or the sink failed, or P.
-abbrev pub OrFails : Watched (List ℕ) → Watched (List ℕ) → Status → Type 0 → Type 0
-OrFails out out' ended P = (ended ≡ status.Memory) ⊎ (((ended ≡ status.Output) × Rose out.faults out'.faults) ⊎ P)
 
 -- Where a chain is offered and nothing outside fails, the run says the verdict over it, with status 0 for an acceptance and 1 for a
 -- refusal, and the store stays warm; or memory was wanting, with status 5; or the sink failed, with status 4.
 abbrev pub Completes : Command → Environment → Environment → Watched (List ℕ) → Watched (List ℕ) → Status → Type 0
 Completes command before after out out' ended =
     (chain : TrustChain) (bytes : List ℕ) (f : Favoured command before after chain bytes)
-    → OrFails out out' ended (SaysVerdict (given_in f) chain bytes out out' ended × StaysWarm after.outside.store f.outside.offer)
+    → OrFails out out' ended (SaysVerdict (favoured_in f) chain bytes out out' ended × StaysWarm after.outside.store f.outside.offer)

@@ -1,4 +1,3 @@
-pub mod Meant
 pub mod Report
 pub mod Run
 pub mod Complete

@@ -1,18 +1,19 @@
 // A run of the program.
-ghost use Rattle.std.specs.Prelude.{◌≡◌, IfOk};
-ghost use Rattle.command_files.specs.Sink.{WritesText};
+ghost use Rattle.std.specs.Prelude.{IfOk};
+ghost use Rattle.command_files.specs.Starting.{command_of};
 ghost use Rattle.sigstore_verify.specs.Inputs.{outside_by};
 ghost use Rattle.command_verify.specs.Complete.{Completes};
-ghost use Rattle.command_verify.specs.Run.{command_by, environment_by, Reports, Answers, Judges, Proceeds, Decides, RunsTo, Means};
+ghost use Rattle.command_verify.specs.Run.{environment_by, Reports, Answers, Judges, Says, RunsTo, Means};
 
-use crate::answer::{Answer, Status, refused, refused_tuf, stopped};
-use crate::ending::finish;
-use crate::meant::{VerifyRequest, verify_request};
+use crate::refusals::{refused, refused_tuf};
 use crate::report::report;
-use command_files::{CommandStop, Gathered, Inputs, Sink, gather_inputs, read_layout};
+use crate::request::{VerifyRequest, verify_request};
+use command_files::{
+    Answer, CommandLine, Gathered, Inputs, Sink, Started, Status, finish, read_layout, start,
+};
 use foundation::NoMemory;
 use jiff::Timestamp;
-use sigstore_keys::ArtifactSource;
+use sigstore_keys::{ArtifactSource, Providers};
 use sigstore_tuf::{MetadataStore, Repository};
 use sigstore_types_parts::Text;
 use sigstore_verify::{Acceptance, RootFault};
@@ -60,79 +61,46 @@ fn judge<R: Repository, S: MetadataStore, A: ArtifactSource>(
     store: &mut S,
     artifact: &mut A,
 ) -> Result<Answer, NoMemory>
-    ensures { Judges gathered now (outside_by (R.seen repo.old) (S.seen store.old) (A.seen artifact.old))
+    ensures { Judges gathered now
+        (outside_by (R.seen repo.old) (S.seen store.old) (A.seen artifact.old))
         (outside_by (R.seen repo.new) (S.seen store.new) (A.seen artifact.new)) result }
 {
-    let Gathered {
-        policy,
-        tables,
-        root,
-        bundle,
-    } = gathered;
     let request = VerifyRequest {
-        policy,
-        root,
-        bundle,
+        policy: &gathered.policy,
+        root: gathered.root.as_bytes(),
+        bundle: gathered.bundle.as_bytes(),
+        moment: now,
     };
-    let judged = verify_request(
-        alloc,
-        request,
-        &tables.provider,
-        &tables.armor,
-        now,
-        repo,
-        store,
-        artifact,
-    );
+    let providers = Providers {
+        provider: &gathered.tables.provider,
+        armor: &gathered.tables.armor,
+    };
+    let judged = verify_request(alloc, &request, providers, repo, store, artifact);
     let said = answered(alloc, &judged);
     drop(judged);
     said
 }
 
-// The inputs, then the verification.
-fn proceed<I: Inputs, R: Repository, S: MetadataStore, A: ArtifactSource>(
-    alloc: Global,
-    now: Timestamp,
-    inputs: &mut I,
-    repo: &mut R,
-    store: &mut S,
-    artifact: &mut A,
-) -> Result<Answer, NoMemory>
-    ensures { Proceeds now
-        (environment_by (I.seen inputs.old) (R.seen repo.old) (S.seen store.old) (A.seen artifact.old))
-        (environment_by (I.seen inputs.new) (R.seen repo.new) (S.seen store.new) (A.seen artifact.new)) result }
-{
-    match gather_inputs(alloc, inputs) {
-        Ok(gathered) => judge(alloc, gathered, now, repo, store, artifact),
-        Err(stop) => stopped(alloc, stop),
-    }
-}
-
-// The words, then the inputs and the verification.
+// The words and the inputs, then the verification.
 fn decide<I: Inputs, R: Repository, S: MetadataStore, A: ArtifactSource>(
     alloc: Global,
-    words: &[Text],
-    clock: Timestamp,
+    line: &CommandLine<'_>,
     inputs: &mut I,
     repo: &mut R,
     store: &mut S,
     artifact: &mut A,
 ) -> Result<Answer, NoMemory>
-    ensures { Decides (command_by words.now clock)
+    ensures { Says (command_of line.now)
         (environment_by (I.seen inputs.old) (R.seen repo.old) (S.seen store.old) (A.seen artifact.old))
         (environment_by (I.seen inputs.new) (R.seen repo.new) (S.seen store.new) (A.seen artifact.new)) result }
 {
-    let found = match read_layout(alloc, words) {
-        Ok(found) => found,
-        Err(e) => return Err(e),
-    };
-    match found {
-        Some(layout) => {
-            let now = layout.now.unwrap_or(clock);
-            drop(layout);
-            proceed(alloc, now, inputs, repo, store, artifact)
+    match start(alloc, read_layout(alloc, line.words), inputs) {
+        Ok(Started::Asked(layout, gathered)) => {
+            let now = layout.moment(line.clock);
+            judge(alloc, gathered, now, repo, store, artifact)
         }
-        None => stopped(alloc, CommandStop::Words),
+        Ok(Started::Stopped(said)) => Ok(said),
+        Err(e) => Err(e),
     }
 }
 
@@ -141,27 +109,26 @@ fn decide<I: Inputs, R: Repository, S: MetadataStore, A: ArtifactSource>(
 /// memory was wanting; then nothing was written.
 pub fn run<I: Inputs, R: Repository, S: MetadataStore, A: ArtifactSource, K: Sink>(
     alloc: Global,
-    words: &[Text],
-    clock: Timestamp,
+    line: &CommandLine<'_>,
     inputs: &mut I,
     repo: &mut R,
     store: &mut S,
     artifact: &mut A,
     out: &mut K,
 ) -> Status
-    ensures means { Means (command_by words.now clock)
+    ensures means { Means (command_of line.now)
         (environment_by (I.seen inputs.old) (R.seen repo.old) (S.seen store.old) (A.seen artifact.old))
         (environment_by (I.seen inputs.new) (R.seen repo.new) (S.seen store.new) (A.seen artifact.new))
         (K.seen out.old) (K.seen out.new) result }
-    ensures runs { RunsTo (command_by words.now clock)
+    ensures runs { RunsTo (command_of line.now)
         (environment_by (I.seen inputs.old) (R.seen repo.old) (S.seen store.old) (A.seen artifact.old))
         (environment_by (I.seen inputs.new) (R.seen repo.new) (S.seen store.new) (A.seen artifact.new))
         (K.seen out.old) (K.seen out.new) result }
-    ensures complete { Completes (command_by words.now clock)
+    ensures complete { Completes (command_of line.now)
         (environment_by (I.seen inputs.old) (R.seen repo.old) (S.seen store.old) (A.seen artifact.old))
         (environment_by (I.seen inputs.new) (R.seen repo.new) (S.seen store.new) (A.seen artifact.new))
         (K.seen out.old) (K.seen out.new) result }
 {
-    let said = decide(alloc, words, clock, inputs, repo, store, artifact);
+    let said = decide(alloc, line, inputs, repo, store, artifact);
     finish(&said, out)
 }

@@ -1,7 +1,7 @@
 // What an audit goes to.
 ghost use Rattle.std.specs.Prelude.{◌≡◌};
 
-use command_audit::AuditLayout;
+use command_audit::{AuditLayout, Checkpoints};
 use command_files::{FileInputs, StdoutSink};
 use log_tiles::FileTiles;
 use sigstore_keys::FileSource;
@@ -13,8 +13,7 @@ use std::rt::Runtime;
 #[derive(Drop)]
 pub struct AuditObjects<'r, X: Runtime + AllocGlobal> {
     pub inputs: FileInputs<'r, X>,
-    pub first: FileSource<'r, X>,
-    pub second: FileSource<'r, X>,
+    pub checkpoints: Checkpoints<FileSource<'r, X>, FileSource<'r, X>>,
     pub tiles: FileTiles<'r, X>,
     pub out: StdoutSink<'r, X>,
 }
@@ -29,8 +28,8 @@ pub fn audit_objects_at<X: Runtime + AllocGlobal>(
     layout: AuditLayout,
 ) -> AuditObjects<'_, X>
     ensures provider { result.inputs.provider ≡ layout.provider }
-    ensures first { result.first.path ≡ layout.first }
-    ensures second { result.second.path ≡ layout.second }
+    ensures first { result.checkpoints.first.path ≡ layout.first }
+    ensures second { result.checkpoints.second.path ≡ layout.second }
     ensures tiles { result.tiles.dir ≡ layout.tiles }
 {
     let AuditLayout {
@@ -44,8 +43,10 @@ pub fn audit_objects_at<X: Runtime + AllocGlobal>(
     let alloc = rt.alloc();
     AuditObjects {
         inputs: FileInputs::new(rt, empty(alloc), empty(alloc), empty(alloc), provider),
-        first: FileSource::new(rt, first),
-        second: FileSource::new(rt, second),
+        checkpoints: Checkpoints {
+            first: FileSource::new(rt, first),
+            second: FileSource::new(rt, second),
+        },
         tiles: FileTiles::new(rt, tiles),
         out: StdoutSink::new(rt),
     }

@@ -29,7 +29,7 @@ fn nowhere(alloc: Global) -> Layout {
         repository: empty(alloc),
         store: empty(alloc),
         bundle: empty(alloc),
-        artifact: empty(alloc),
+        judged: empty(alloc),
         policy: empty(alloc),
         provider: empty(alloc),
         now: None,
@@ -54,14 +54,14 @@ pub fn objects_at<X: Runtime + AllocGlobal>(rt: &X, layout: Option<Layout>) -> O
     ensures provider { IfSome layout (λ l. result.inputs.provider ≡ l.provider) }
     ensures repository { IfSome layout (λ l. result.repository.dir ≡ l.repository) }
     ensures store { IfSome layout (λ l. result.store.dir ≡ l.store) }
-    ensures artifact { IfSome layout (λ l. result.artifact.path ≡ l.artifact) }
+    ensures artifact { IfSome layout (λ l. result.artifact.path ≡ l.judged) }
 {
     let Layout {
         root,
         repository,
         store,
         bundle,
-        artifact,
+        judged,
         policy,
         provider,
         ..
@@ -70,7 +70,7 @@ pub fn objects_at<X: Runtime + AllocGlobal>(rt: &X, layout: Option<Layout>) -> O
         inputs: FileInputs::new(rt, root, bundle, policy, provider),
         repository: FileRepository::new(rt, repository),
         store: FileStore::new(rt, store),
-        artifact: FileSource::new(rt, artifact),
+        artifact: FileSource::new(rt, judged),
         out: StdoutSink::new(rt),
     }
 }

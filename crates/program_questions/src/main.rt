@@ -3,18 +3,22 @@
 //! verification it writes what the refusal holds, for a reader's eye. It judges nothing.
 #![tactic(auto)]
 
-use command_files::{Layout, read_asked_layout, read_layout};
-use command_gate::{GateLayout, asked_gate_layout};
+use command_files::{
+    CommandLine, Layout, Status, exit_code, or_none, read_asked_layout, read_layout,
+};
+use command_gate::asked_gate_layout;
 use command_questions::{LastAsked, ReadingStore, run_details, run_gate_questions, run_questions};
-use command_verify::{Status, exit_code};
 use foundation::NoMemory;
 use program_objects::{GateObjects, Objects, clock_of, gate_objects_at, objects_at, words_of};
-use sigstore_types_parts::Text;
 use std::process::ExitCode;
 use std::rt::Runtime;
 
 // Runs over the real objects that the words name. The store is read, and nothing is written to it.
-fn asked<X: Runtime + AllocGlobal>(rt: &X, words: &[Text], layout: Option<Layout>) -> Status {
+fn asked<X: Runtime + AllocGlobal>(
+    rt: &X,
+    line: &CommandLine<'_>,
+    layout: Option<Layout>,
+) -> Status {
     let Objects {
         mut inputs,
         mut repository,
@@ -24,8 +28,7 @@ fn asked<X: Runtime + AllocGlobal>(rt: &X, words: &[Text], layout: Option<Layout
     } = objects_at(rt, layout);
     run_questions(
         rt.alloc(),
-        words,
-        clock_of(rt),
+        line,
         &mut inputs,
         &mut repository,
         &mut ReadingStore::new(store),
@@ -35,7 +38,11 @@ fn asked<X: Runtime + AllocGlobal>(rt: &X, words: &[Text], layout: Option<Layout
 }
 
 // The same for what a refusal holds.
-fn detailed<X: Runtime + AllocGlobal>(rt: &X, words: &[Text], layout: Option<Layout>) -> Status {
+fn detailed<X: Runtime + AllocGlobal>(
+    rt: &X,
+    line: &CommandLine<'_>,
+    layout: Option<Layout>,
+) -> Status {
     let Objects {
         mut inputs,
         repository,
@@ -45,8 +52,7 @@ fn detailed<X: Runtime + AllocGlobal>(rt: &X, words: &[Text], layout: Option<Lay
     } = objects_at(rt, layout);
     run_details(
         rt.alloc(),
-        words,
-        clock_of(rt),
+        line,
         &mut inputs,
         &mut LastAsked::new(rt.alloc(), repository),
         &mut ReadingStore::new(store),
@@ -56,7 +62,7 @@ fn detailed<X: Runtime + AllocGlobal>(rt: &X, words: &[Text], layout: Option<Lay
 }
 
 // The same for what the judgement of a folder asks.
-fn gate_asked<X: Runtime + AllocGlobal>(rt: &X, words: &[Text], layout: GateLayout) -> Status {
+fn gate_asked<X: Runtime + AllocGlobal>(rt: &X, line: &CommandLine<'_>, layout: Layout) -> Status {
     let GateObjects {
         mut inputs,
         mut repository,
@@ -66,8 +72,7 @@ fn gate_asked<X: Runtime + AllocGlobal>(rt: &X, words: &[Text], layout: GateLayo
     } = gate_objects_at(rt, layout);
     run_gate_questions(
         rt.alloc(),
-        words,
-        clock_of(rt),
+        line,
         &mut inputs,
         &mut repository,
         &mut ReadingStore::new(store),
@@ -78,14 +83,19 @@ fn gate_asked<X: Runtime + AllocGlobal>(rt: &X, words: &[Text], layout: GateLayo
 
 fn status_of<X: Runtime + AllocGlobal>(rt: &X) -> Result<Status, NoMemory> {
     let words = words_of(rt)?;
-    let layout = read_layout(rt.alloc(), &words)?;
+    let line = CommandLine {
+        words: &words,
+        clock: clock_of(rt),
+    };
+    let layout = or_none(read_layout(rt.alloc(), &words))?;
     if layout.is_some() {
-        return Ok(detailed(rt, &words, layout));
+        return Ok(detailed(rt, &line, layout));
     }
-    if let Some(layout) = asked_gate_layout(rt.alloc(), &words)? {
-        return Ok(gate_asked(rt, &words, layout));
+    if let Some(layout) = or_none(asked_gate_layout(rt.alloc(), &words))? {
+        return Ok(gate_asked(rt, &line, layout));
     }
-    Ok(asked(rt, &words, read_asked_layout(rt.alloc(), &words)?))
+    let layout = or_none(read_asked_layout(rt.alloc(), &words))?;
+    Ok(asked(rt, &line, layout))
 }
 
 fn main(rt: HostRuntime) -> ExitCode {

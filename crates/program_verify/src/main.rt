@@ -6,10 +6,10 @@
 
 use command_archive::{ArchiveLayout, archive_layout, run_archive};
 use command_audit::{AuditLayout, audit_layout, run_audit};
-use command_files::{StdoutSink, read_layout};
-use command_gate::{GateLayout, gate_layout, run_gate};
+use command_files::{CommandLine, Layout, Status, StdoutSink, exit_code, or_none, read_layout};
+use command_gate::{gate_layout, run_gate};
 use command_generate::{is_generate, run_generate};
-use command_verify::{Status, exit_code, run};
+use command_verify::run;
 use foundation::NoMemory;
 use program_objects::{
     AuditObjects, GateObjects, Objects, audit_objects_at, clock_of, gate_objects_at, objects_at,
@@ -20,18 +20,21 @@ use std::process::ExitCode;
 use std::rt::Runtime;
 
 // Runs `archive` or `check` over the real objects that its words name.
-fn archived<X: Runtime + AllocGlobal>(rt: &X, words: &[Text], layout: ArchiveLayout) -> Status {
+fn archived<X: Runtime + AllocGlobal>(
+    rt: &X,
+    line: &CommandLine<'_>,
+    layout: ArchiveLayout,
+) -> Status {
     let Objects {
         mut inputs,
         mut repository,
         mut store,
         mut artifact,
         mut out,
-    } = objects_at(rt, Some(layout.into_layout(rt.alloc())));
+    } = objects_at(rt, Some(layout.places));
     run_archive(
         rt.alloc(),
-        words,
-        clock_of(rt),
+        line,
         &mut inputs,
         &mut repository,
         &mut store,
@@ -44,8 +47,7 @@ fn archived<X: Runtime + AllocGlobal>(rt: &X, words: &[Text], layout: ArchiveLay
 fn audited<X: Runtime + AllocGlobal>(rt: &X, words: &[Text], layout: AuditLayout) -> Status {
     let AuditObjects {
         mut inputs,
-        mut first,
-        mut second,
+        mut checkpoints,
         mut tiles,
         mut out,
     } = audit_objects_at(rt, layout);
@@ -53,15 +55,14 @@ fn audited<X: Runtime + AllocGlobal>(rt: &X, words: &[Text], layout: AuditLayout
         rt.alloc(),
         words,
         &mut inputs,
-        &mut first,
-        &mut second,
+        &mut checkpoints,
         &mut tiles,
         &mut out,
     )
 }
 
 // Runs `gate` over the real objects that its words name.
-fn gated<X: Runtime + AllocGlobal>(rt: &X, words: &[Text], layout: GateLayout) -> Status {
+fn gated<X: Runtime + AllocGlobal>(rt: &X, line: &CommandLine<'_>, layout: Layout) -> Status {
     let GateObjects {
         mut inputs,
         mut repository,
@@ -71,12 +72,35 @@ fn gated<X: Runtime + AllocGlobal>(rt: &X, words: &[Text], layout: GateLayout) -
     } = gate_objects_at(rt, layout);
     run_gate(
         rt.alloc(),
-        words,
-        clock_of(rt),
+        line,
         &mut inputs,
         &mut repository,
         &mut store,
         &mut folder,
+        &mut out,
+    )
+}
+
+// Runs `verify` over the real objects that its words name.
+fn verified<X: Runtime + AllocGlobal>(
+    rt: &X,
+    line: &CommandLine<'_>,
+    layout: Option<Layout>,
+) -> Status {
+    let Objects {
+        mut inputs,
+        mut repository,
+        mut store,
+        mut artifact,
+        mut out,
+    } = objects_at(rt, layout);
+    run(
+        rt.alloc(),
+        line,
+        &mut inputs,
+        &mut repository,
+        &mut store,
+        &mut artifact,
         &mut out,
     )
 }
@@ -92,32 +116,21 @@ fn status_of<X: Runtime + AllocGlobal>(rt: &X) -> Result<Status, NoMemory> {
     if is_generate(&words) {
         return Ok(generated(rt, &words));
     }
-    if let Some(layout) = archive_layout(rt.alloc(), &words)? {
-        return Ok(archived(rt, &words, layout));
-    }
-    if let Some(layout) = audit_layout(rt.alloc(), &words)? {
+    if let Some(layout) = or_none(audit_layout(rt.alloc(), &words))? {
         return Ok(audited(rt, &words, layout));
     }
-    if let Some(layout) = gate_layout(rt.alloc(), &words)? {
-        return Ok(gated(rt, &words, layout));
+    let line = CommandLine {
+        words: &words,
+        clock: clock_of(rt),
+    };
+    if let Some(layout) = or_none(archive_layout(rt.alloc(), &words))? {
+        return Ok(archived(rt, &line, layout));
     }
-    let Objects {
-        mut inputs,
-        mut repository,
-        mut store,
-        mut artifact,
-        mut out,
-    } = objects_at(rt, read_layout(rt.alloc(), &words)?);
-    Ok(run(
-        rt.alloc(),
-        &words,
-        clock_of(rt),
-        &mut inputs,
-        &mut repository,
-        &mut store,
-        &mut artifact,
-        &mut out,
-    ))
+    if let Some(layout) = or_none(gate_layout(rt.alloc(), &words))? {
+        return Ok(gated(rt, &line, layout));
+    }
+    let layout = or_none(read_layout(rt.alloc(), &words))?;
+    Ok(verified(rt, &line, layout))
 }
 
 fn main(rt: HostRuntime) -> ExitCode {

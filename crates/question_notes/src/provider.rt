@@ -3,8 +3,8 @@ ghost use Rattle.std.specs.Prelude.{◌≡◌, not};
 ghost use Rattle.command_files.specs.Rows.{accepts_of};
 
 use crate::notes::Notes;
-use sigstore_keys::{CryptoProvider, SigningScheme, sha256, sha384, sha512};
-use sigstore_types_parts::HashAlgorithm;
+use command_files::Subject;
+use sigstore_keys::{CryptoProvider, SigningScheme};
 
 /// Refuses the signatures of a table, which are known not to be good; accepts every other one and notes the
 /// question: what is judged by it is no verdict.
@@ -42,16 +42,8 @@ impl CryptoProvider for NotingProvider<'_> {
         message: &[u8],
         signature: &[u8],
     ) -> bool {
-        match scheme.hash_algorithm() {
-            Some(HashAlgorithm::Sha2256) => {
-                self.answer(scheme, key, sha256(message).as_bytes(), signature)
-            }
-            Some(HashAlgorithm::Sha2384) => {
-                self.answer(scheme, key, sha384(message).as_bytes(), signature)
-            }
-            Some(_) => self.answer(scheme, key, sha512(message).as_bytes(), signature),
-            None => self.answer(scheme, key, message, signature),
-        }
+        let subject = Subject::new(scheme, message);
+        self.answer(scheme, key, subject.as_bytes(), signature)
     }
 
     fn verify_prehashed(

@@ -1,7 +1,6 @@
 -- Answers that are a judge's own decide as that judge.
 use Rattle.std.proofs.Common.{◌≡◌, ℕ, List, Bool, true, false, if◌then◌else◌, refl, sym, subst, Option, Result}
 use Rattle.std.proofs.Math.Path.{fun_ext}
-use Rattle.jiff_core.specs.declared.timestamp.Timestamp as jiff
 use Rattle.sigstore_keys.specs.Good.{Judge}
 use Rattle.command_files.specs.Rows.{AcceptRows, accepts_of}
 use Rattle.sigstore_keys.specs.Crypto.{Crypto}
@@ -9,8 +8,8 @@ use Rattle.sigstore_verify.specs.declared.from_root.Acceptance.{Acceptance}
 use Rattle.sigstore_verify.specs.declared.from_root.RootFault.{RootFault}
 use Rattle.sigstore_verify.specs.Inputs.{Outside}
 use Rattle.sigstore_verify.specs.Promises.{Promises}
-use Rattle.command_verify.specs.Run.{given_with}
-use Rattle.command_verify.specs.declared.meant.VerifyRequest.{VerifyRequest}
+use Rattle.command_verify.specs.Run.{given_of}
+use Rattle.command_verify.specs.declared.request.VerifyRequest.{VerifyRequest}
 use Rattle.questions_tests.specs.Answered.{AreAnswers, by_answers}
 
 by_cases : (good refused judged : Bool) → (good ≡ true → judged ≡ true) → (refused ≡ true → judged ≡ false)
@@ -30,9 +29,9 @@ module _ (armored : List ℕ → Bool) (key_in certificate_in : List ℕ → Opt
   crypto_with judge = record { accepts = judge; armored = armored; key_in = key_in; certificate_in = certificate_in }
 
   -- what is promised by answers alone is promised under each judge who agrees with them
-  pub promised : (judge : Judge) (good refused : AcceptRows) (request : VerifyRequest) (now : jiff.Timestamp) (before after : Outside)
+  pub promised : (judge : Judge) (good refused : AcceptRows) (request : VerifyRequest) (before after : Outside)
       (result : Result Acceptance RootFault)
-      → Promises (given_with (crypto_with (by_answers good refused judge)) request now) before after result
-      → AreAnswers judge good refused → Promises (given_with (crypto_with judge) request now) before after result
-  promised judge good refused request now before after result promises are =
-      subst (λ j. Promises (given_with (crypto_with j) request now) before after result) (answers_decide judge good refused are) promises
+      → Promises (given_of (crypto_with (by_answers good refused judge)) request) before after result
+      → AreAnswers judge good refused → Promises (given_of (crypto_with judge) request) before after result
+  promised judge good refused request before after result promises are =
+      subst (λ j. Promises (given_of (crypto_with j) request) before after result) (answers_decide judge good refused are) promises

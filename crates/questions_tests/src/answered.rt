@@ -3,17 +3,16 @@
 ghost use Rattle.std.specs.Prelude.{◌≡◌, List, ℕ, Bool};
 ghost use Rattle.sigstore_keys.specs.declared.scheme.SigningScheme.{SigningScheme};
 ghost use Rattle.sigstore_keys.specs.Crypto.{Crypto};
-ghost use Rattle.sigstore_verify.specs.Inputs.{Outside};
+ghost use Rattle.sigstore_verify.specs.Inputs.{outside_by};
 ghost use Rattle.sigstore_verify.specs.Promises.{Promises};
-ghost use Rattle.command_verify.specs.Run.{given_with};
+ghost use Rattle.command_verify.specs.Run.{given_of};
 ghost use Rattle.questions_tests.specs.Answered.{AreAnswers, by_answers};
 
-use command_files::TableProvider;
+use command_files::{Subject, TableProvider};
 use command_verify::{VerifyRequest, verify_request};
-use jiff::Timestamp;
-use sigstore_keys::{ArtifactSource, CryptoProvider, SigningScheme, sha256, sha384, sha512};
+use sigstore_keys::{ArtifactSource, CryptoProvider, Providers, SigningScheme};
 use sigstore_tuf::{MetadataStore, Repository};
-use sigstore_types_parts::{Armor, HashAlgorithm};
+use sigstore_types_parts::Armor;
 use sigstore_verify::{Acceptance, RootFault};
 use std::alloc::Global;
 use std::marker::PhantomData;
@@ -27,11 +26,11 @@ pub(crate) trait AnyJudge {
 // Answers the questions whose answers are known, and ends the process at each other one. So it answers as everyone does
 // who agrees with what is known.
 #[derive(Drop)]
-struct Answered<'a, X: Abort, J: AnyJudge> {
-    rt: &'a X,
-    good: &'a TableProvider,
-    refused: &'a TableProvider,
-    judge: PhantomData<J>,
+pub(crate) struct Answered<'a, X: Abort, J: AnyJudge> {
+    pub(crate) rt: &'a X,
+    pub(crate) good: &'a TableProvider,
+    pub(crate) refused: &'a TableProvider,
+    pub(crate) judge: PhantomData<J>,
 }
 
 impl<X: Abort, J: AnyJudge> Answered<'_, X, J> {
@@ -58,16 +57,8 @@ impl<X: Abort, J: AnyJudge> CryptoProvider for Answered<'_, X, J> {
         message: &[u8],
         signature: &[u8],
     ) -> bool {
-        match scheme.hash_algorithm() {
-            Some(HashAlgorithm::Sha2256) => {
-                self.answer(scheme, key, sha256(message).as_bytes(), signature)
-            }
-            Some(HashAlgorithm::Sha2384) => {
-                self.answer(scheme, key, sha384(message).as_bytes(), signature)
-            }
-            Some(_) => self.answer(scheme, key, sha512(message).as_bytes(), signature),
-            None => self.answer(scheme, key, message, signature),
-        }
+        let subject = Subject::new(scheme, message);
+        self.answer(scheme, key, subject.as_bytes(), signature)
     }
 
     fn verify_prehashed(
@@ -91,28 +82,23 @@ pub(crate) fn verify_by_answers<
     A: ArtifactSource,
     M: Armor,
 >(
-    rt: &X,
-    judge: PhantomData<J>,
     alloc: Global,
-    request: VerifyRequest,
-    good: &TableProvider,
-    refused: &TableProvider,
-    armor: &M,
-    now: Timestamp,
+    request: &VerifyRequest<'_>,
+    answers: Providers<'_, Answered<'_, X, J>, M>,
     repo: &mut R,
     store: &mut S,
     artifact: &mut A,
 ) -> Result<Acceptance, RootFault>
-    ensures { let crypto : Crypto = record { accepts = J.judges; armored = M.armored armor.now; key_in = M.key_in armor.now; certificate_in = M.certificate_in armor.now } in
-        let before : Outside = record { repo = R.seen repo.old; store = S.seen store.old; source = A.seen artifact.old } in
-        let after : Outside = record { repo = R.seen repo.new; store = S.seen store.new; source = A.seen artifact.new } in
-        AreAnswers J.judges good.now.rows refused.now.rows → Promises (given_with crypto request now) before after result }
+    ensures { let armor = answers.entry.armor.now in
+        let crypto : Crypto = record {
+          accepts = J.judges;
+          armored = M.armored armor;
+          key_in = M.key_in armor;
+          certificate_in = M.certificate_in armor;
+        } in
+        AreAnswers J.judges answers.entry.provider.now.good.now.rows answers.entry.provider.now.refused.now.rows → Promises (given_of crypto request.now)
+        (outside_by (R.seen repo.old) (S.seen store.old) (A.seen artifact.old))
+        (outside_by (R.seen repo.new) (S.seen store.new) (A.seen artifact.new)) result }
 {
-    let provider = Answered {
-        rt,
-        good,
-        refused,
-        judge,
-    };
-    verify_request(alloc, request, &provider, armor, now, repo, store, artifact)
+    verify_request(alloc, request, answers, repo, store, artifact)
 }

@@ -2,9 +2,8 @@
 use crate::runs::{NONE, inputs, repository, sink, taken, words};
 use crate::tables::{bytes, check, good, no_failures};
 use crate::world::{BUNDLE, RELEASE, ROWS};
-use command_files::InputFile;
+use command_files::{CommandLine, InputFile, Status};
 use command_questions::{ReadingStore, run_gate_questions};
-use command_verify::Status;
 use jiff::Timestamp;
 use release_gate::MemoryFolder;
 use sigstore_tuf::MemoryStore;
@@ -41,8 +40,10 @@ fn asked<X: AllocGlobal + Abort>(rt: &X, line: &str) -> (Status, String) {
     let mut sink = sink(rt);
     let ended = run_gate_questions(
         rt.alloc(),
-        &words,
-        Timestamp::UNIX_EPOCH,
+        &CommandLine {
+            words: &words,
+            clock: Timestamp::UNIX_EPOCH,
+        },
         &mut inputs,
         &mut repo,
         &mut store,

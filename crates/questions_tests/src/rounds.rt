@@ -2,17 +2,20 @@
 // two authorities of one name, the second of which issued the certificate; two that have the name and the number of a
 // token's signer, the second of which stamped; a checkpoint's lines under the log's hint, the last of which the log
 // wrote. Whoever judges signatures here finds those good that the world's maker told.
-use crate::answered::{AnyJudge, verify_by_answers};
+use crate::answered::{Answered, AnyJudge, verify_by_answers};
 use crate::choices::{
     BUNDLE, POLICY, RELEASE, ROOT, SECOND_ROOT, SNAPSHOT, TARGETS, TIMESTAMP, TRUE_ROWS, TRUST,
     TRUST_NAME,
 };
 use crate::tables::{bytes, check, good, halves, no_failures, string, there};
-use command_files::{Gathered, InputFile, MemoryInputs, MemorySink, gather_inputs, read_provider};
+use command_files::{
+    CommandLine, Gather, Gathered, InputFile, MemoryInputs, MemorySink, Status, TableProvider,
+    read_provider,
+};
 use command_questions::{ReadingStore, run_questions};
-use command_verify::{Status, VerifyRequest, run};
+use command_verify::{VerifyRequest, run};
 use jiff::Timestamp;
-use sigstore_keys::MemorySource;
+use sigstore_keys::{MemorySource, Providers};
 use sigstore_tuf::{MemoryRepository, MemoryStore};
 use sigstore_types_parts::{Bytes, Text};
 use std::marker::PhantomData;
@@ -114,8 +117,10 @@ fn asked<X: AllocGlobal + Abort>(rt: &X, case: Case, refused: &str) -> String {
     let (mut artifact, mut sink) = (artifact(rt), sink(rt));
     let ended = run_questions(
         rt.alloc(),
-        &words,
-        Timestamp::UNIX_EPOCH,
+        &CommandLine {
+            words: &words,
+            clock: Timestamp::UNIX_EPOCH,
+        },
         &mut inputs,
         &mut repo,
         &mut store,
@@ -143,8 +148,10 @@ fn verified<X: AllocGlobal + Abort>(rt: &X, case: Case, rows: &str) -> String {
     let (mut artifact, mut sink) = (artifact(rt), sink(rt));
     let _ = run(
         rt.alloc(),
-        &words,
-        Timestamp::UNIX_EPOCH,
+        &CommandLine {
+            words: &words,
+            clock: Timestamp::UNIX_EPOCH,
+        },
         &mut inputs,
         &mut repo,
         &mut store,
@@ -217,47 +224,55 @@ impl AnyJudge for Somebody {
     ghost judges = { λ scheme key subject signature. false };
 }
 
-// Whether the verification accepts that has no answers but these. It ends the process where it asks for another one.
-fn accepted_by_answers<X: AllocGlobal + Abort>(rt: &X, case: Case, found: &Ended) -> bool {
-    let mut inputs = inputs(rt, case, found.last.as_str());
-    let Gathered {
-        policy,
-        tables,
-        root,
-        bundle,
-    } = good(rt, gather_inputs(rt.alloc(), &mut inputs));
-    drop(inputs);
-    let refused = good(rt, read_provider(rt.alloc(), found.refused.as_bytes()));
+// Whether the verification of these inputs accepts that has no answers but theirs and the refused ones. It ends the process
+// where it asks for another one.
+fn accepts<X: AllocGlobal + Abort>(rt: &X, gathered: &Gathered, refused: &TableProvider) -> bool {
     let (mut repo, mut store, mut artifact) = (
         repository(rt),
         MemoryStore::new(rt.alloc()),
         artifact(rt),
     );
-    let judged = verify_by_answers(
+    let answered = Answered {
         rt,
-        PhantomData::<Somebody>,
+        good: &gathered.tables.provider,
+        refused,
+        judge: PhantomData::<Somebody>,
+    };
+    let request = VerifyRequest {
+        policy: &gathered.policy,
+        root: gathered.root.as_bytes(),
+        bundle: gathered.bundle.as_bytes(),
+        moment: good(rt, MOMENT.parse::<Timestamp>()),
+    };
+    let judged = verify_by_answers(
         rt.alloc(),
-        VerifyRequest {
-            policy,
-            root,
-            bundle,
+        &request,
+        Providers {
+            provider: &answered,
+            armor: &gathered.tables.armor,
         },
-        &tables.provider,
-        &refused.provider,
-        &tables.armor,
-        good(rt, MOMENT.parse::<Timestamp>()),
         &mut repo,
         &mut store,
         &mut artifact,
     );
-    drop(tables);
-    drop(refused);
     drop(repo);
     drop(store);
     drop(artifact);
-    let accepts = judged.is_ok();
+    let accepted = judged.is_ok();
     drop(judged);
-    accepts
+    accepted
+}
+
+// The same over the rows of the last round.
+fn accepted_by_answers<X: AllocGlobal + Abort>(rt: &X, case: Case, found: &Ended) -> bool {
+    let mut inputs = inputs(rt, case, found.last.as_str());
+    let gathered = good(rt, Gathered::gather(rt.alloc(), &mut inputs));
+    drop(inputs);
+    let refused = good(rt, read_provider(rt.alloc(), found.refused.as_bytes()));
+    let accepted = accepts(rt, &gathered, &refused.provider);
+    drop(gathered);
+    drop(refused);
+    accepted
 }
 
 // How many rounds there are and how many rows are refused; how the verification ends over the good rows of the first

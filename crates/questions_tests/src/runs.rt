@@ -4,9 +4,9 @@ use crate::world::{
     BUNDLE, POLICY, RELEASE, ROOT, ROWS, SECOND_ROOT, SNAPSHOT, TARGETS, TIMESTAMP, TRUST,
     TRUST_NAME,
 };
-use command_files::{InputFile, MemoryInputs, MemorySink};
+use command_files::{CommandLine, InputFile, MemoryInputs, MemorySink, Status};
 use command_questions::{LastAsked, ReadingStore, run_details, run_questions};
-use command_verify::{Status, run};
+use command_verify::run;
 use jiff::Timestamp;
 use sigstore_keys::MemorySource;
 use sigstore_tuf::{MemoryRepository, MemoryStore, MetadataStore, StoreFault};
@@ -119,8 +119,10 @@ fn verified<X: AllocGlobal + Abort>(rt: &X, change: Change) -> String {
     let mut sink = sink(rt);
     let status: Status = run(
         rt.alloc(),
-        &words,
-        Timestamp::UNIX_EPOCH,
+        &CommandLine {
+            words: &words,
+            clock: Timestamp::UNIX_EPOCH,
+        },
         &mut inputs,
         &mut repo,
         &mut store,
@@ -175,8 +177,10 @@ fn asked<X: AllocGlobal + Abort>(rt: &X, line: &str, refused: &str) -> (Status, 
     let mut sink = sink(rt);
     let ended = run_questions(
         rt.alloc(),
-        &words,
-        Timestamp::UNIX_EPOCH,
+        &CommandLine {
+            words: &words,
+            clock: Timestamp::UNIX_EPOCH,
+        },
         &mut inputs,
         &mut repo,
         &mut store,
@@ -273,8 +277,10 @@ fn detailed<X: AllocGlobal + Abort>(rt: &X, change: Change) -> String {
     let mut sink = sink(rt);
     let ended = run_details(
         rt.alloc(),
-        &words,
-        Timestamp::UNIX_EPOCH,
+        &CommandLine {
+            words: &words,
+            clock: Timestamp::UNIX_EPOCH,
+        },
         &mut inputs,
         &mut repo,
         &mut store,

@@ -2,8 +2,7 @@
 use crate::fixture::{PARTS, inputs, measured, repository, root, store, targets};
 use crate::tables::{Change, bytes, change_in, failures, good, hold, text_of, there, words};
 use command_archive::run_archive;
-use command_files::MemorySink;
-use command_verify::Status;
+use command_files::{CommandLine, MemorySink, Status};
 use jiff::Timestamp;
 use sigstore_keys::MemorySource;
 use std::num::NonZeroU32;
@@ -36,11 +35,13 @@ fn ended<X: AllocGlobal + Abort>(
     let failures = failures(rt, change.of("artifact fails", ""));
     let mut archive = MemorySource::new(bytes(rt, octets), step, failures);
     let words = words(rt, line);
-    let clock = Timestamp::UNIX_EPOCH;
+    let line = CommandLine {
+        words: &words,
+        clock: Timestamp::UNIX_EPOCH,
+    };
     let status = run_archive(
         rt.alloc(),
-        &words,
-        clock,
+        &line,
         &mut inputs,
         &mut repo,
         &mut store,

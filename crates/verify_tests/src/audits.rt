@@ -1,8 +1,7 @@
 // Audits over the tiles of seven leaves, the hashes of which are their numbers 32 times over.
 use crate::tables::{bytes, failures, good, hold, string, text_of, there, words};
-use command_audit::run_audit;
-use command_files::{InputFile, MemoryInputs, MemorySink};
-use command_verify::Status;
+use command_audit::{Checkpoints, run_audit};
+use command_files::{InputFile, MemoryInputs, MemorySink, Status};
 use log_tiles::MemoryTiles;
 use sigstore_keys::MemorySource;
 use sigstore_types_parts::{Hash, Sha256Hash};
@@ -73,8 +72,10 @@ pub(crate) fn said<X: AllocGlobal + Abort>(rt: &X, row: &str) -> String {
     let second = there(rt, parts.next());
     let count = there(rt, parts.next());
     let fails = parts.next().unwrap_or("");
-    let mut first = source(rt, first, fails == "first");
-    let mut second = source(rt, second, fails == "second");
+    let mut checkpoints = Checkpoints {
+        first: source(rt, first, fails == "first"),
+        second: source(rt, second, fails == "second"),
+    };
     let tiles_fail = failures(rt, if fails == "tiles" { "1" } else { "" });
     let mut tiles = MemoryTiles::new(leaves(rt, count), tiles_fail);
     let mut inputs = MemoryInputs::new(failures(rt, if fails == "inputs" { "1" } else { "" }));
@@ -86,14 +87,12 @@ pub(crate) fn said<X: AllocGlobal + Abort>(rt: &X, row: &str) -> String {
         rt.alloc(),
         &words,
         &mut inputs,
-        &mut first,
-        &mut second,
+        &mut checkpoints,
         &mut tiles,
         &mut sink,
     );
     drop(words);
-    drop(first);
-    drop(second);
+    drop(checkpoints);
     drop(tiles);
     drop(inputs);
     ended(rt, status, sink)

@@ -5,14 +5,16 @@ use crate::tables::{
 use crate::{
     archives, audits, delegated, gate_runs, gates, hostile, keyless, keyless_data, logged,
 };
-use command_files::{InputFile, MemoryInputs, MemorySink};
+use command_files::{
+    CommandLine, InputFile, MemoryInputs, MemorySink, Status, TableArmor, TableProvider, Tables,
+};
 use command_generate::{is_generate, run_generate};
-use command_verify::{Status, run};
+use command_verify::run;
 use jiff::Timestamp;
-use sigstore_keys::{MemorySource, sha256};
-use sigstore_tuf::{MemoryRepository, MemoryStore, MetadataStore};
+use sigstore_keys::{MemorySource, Providers, sha256};
+use sigstore_tuf::{MemoryRepository, MemoryStore, MetadataStore, UpdaterConfig};
 use sigstore_types_parts::{Bytes, DigestBytes, Text};
-use sigstore_verify::RootFault;
+use sigstore_verify::{Anchor, RootFault};
 use std::process::Abort;
 
 // The answer of a call: what a run says, what it leaves in the store, or the display text of a refusal.
@@ -404,20 +406,31 @@ fn ended<X: AllocGlobal + Abort>(
         return status;
     }
     let mut artifact = artifact(rt, change);
-    let clock = Timestamp::UNIX_EPOCH;
-    let status = run(
-        rt.alloc(),
-        &words,
-        clock,
-        inputs,
-        repo,
-        store,
-        &mut artifact,
-        sink,
-    );
+    let line = CommandLine {
+        words: &words,
+        clock: Timestamp::UNIX_EPOCH,
+    };
+    let status = run(rt.alloc(), &line, inputs, repo, store, &mut artifact, sink);
     drop(words);
     drop(artifact);
     status
+}
+
+// From what the libraries trust the fixture's documents.
+pub(crate) fn anchor<'a, X: Abort>(
+    rt: &X,
+    tables: &'a Tables,
+    root: &'a Bytes,
+) -> Anchor<'a, TableProvider, TableArmor> {
+    Anchor {
+        providers: Providers {
+            provider: &tables.provider,
+            armor: &tables.armor,
+        },
+        root: root.as_bytes(),
+        config: UpdaterConfig::default(),
+        now: good(rt, "2025-01-01T00:00:00Z".parse::<Timestamp>()),
+    }
 }
 
 // How a run over the changed fixture and a store ends.

@@ -2,9 +2,8 @@
 use crate::fixture::{PARTS, inputs, repository, root, store, targets};
 use crate::gates::folder;
 use crate::tables::{Change, change_in, failures, good, hold, text_of, there, words};
-use command_files::MemorySink;
+use command_files::{CommandLine, MemorySink, Status};
 use command_gate::run_gate;
-use command_verify::Status;
 use jiff::Timestamp;
 use std::process::Abort;
 
@@ -22,11 +21,13 @@ fn ended<X: AllocGlobal + Abort>(
     let mut store = store(rt, change);
     let mut folder = folder(rt, change, files);
     let words = words(rt, line);
-    let clock = Timestamp::UNIX_EPOCH;
+    let line = CommandLine {
+        words: &words,
+        clock: Timestamp::UNIX_EPOCH,
+    };
     let status = run_gate(
         rt.alloc(),
-        &words,
-        clock,
+        &line,
         &mut inputs,
         &mut repo,
         &mut store,

@@ -3,16 +3,17 @@ ghost use Rattle.std.specs.Prelude.{◌≡◌, IfErr};
 ghost use Rattle.foundation.specs.Watched.{untold, Since};
 ghost use Rattle.release_gate.specs.Folder.{ListingCause, Answers};
 
-use crate::fixture::{PARTS, SPKI, bundle, given_root, provider, repository, root, targets};
+use crate::fixture::{
+    PARTS, SPKI, anchor, bundle, given_root, provider, repository, root, targets,
+};
 use crate::tables::{
     Change, change_in, check, failures, good, halves, hold, number, string, text, text_of, there,
 };
 use command_files::{Tables, read_provider};
-use jiff::Timestamp;
 use release_gate::{
     FileFolder, Folder, FolderFault, GateFault, GateLine, Gated, MemoryFolder, gate_from_root,
 };
-use sigstore_tuf::{MemoryRepository, MemoryStore, UpdaterConfig};
+use sigstore_tuf::{MemoryRepository, MemoryStore};
 use sigstore_types_parts::{Bytes, DerPublicKey, Text};
 use sigstore_verify::PublicKeyVerificationPolicy;
 use std::alloc::Global;
@@ -244,19 +245,8 @@ fn judged<X: AllocGlobal + Abort, D: Folder>(
     let mut store = MemoryStore::new(rt.alloc());
     let key = good(rt, DerPublicKey::from_base64(rt.alloc(), SPKI));
     let policy = PublicKeyVerificationPolicy::new(key).skip_tlog_unsafe();
-    let judged = gate_from_root(
-        rt.alloc(),
-        &tables.provider,
-        &tables.armor,
-        root.as_bytes(),
-        repo,
-        &mut store,
-        UpdaterConfig::default(),
-        good(rt, "2025-01-01T00:00:00Z".parse::<Timestamp>()),
-        folder,
-        5,
-        &policy,
-    );
+    let anchor = anchor(rt, tables, root);
+    let judged = gate_from_root(rt.alloc(), &anchor, repo, &mut store, folder, 5, &policy);
     drop(policy);
     drop(store);
     judged

@@ -1,14 +1,15 @@
 // What repositories, stores, bundles, readers, inputs and sinks can do: each call and each length, and how the program
 // answers it.
 use crate::fixture::{
-    PARTS, SPKI, bundle, given_root, provider, repository, root, said_of, targets,
+    PARTS, SPKI, anchor, bundle, given_root, provider, repository, root, said_of, targets,
 };
 use crate::tables::{Change, change_in, failures, good, halves, hold, number, source, string};
 use command_files::{Tables, read_provider};
-use jiff::Timestamp;
-use sigstore_tuf::{MemoryRepository, MemoryStore, UpdaterConfig};
+use sigstore_tuf::{MemoryRepository, MemoryStore};
 use sigstore_types_parts::{Bytes, DerPublicKey};
-use sigstore_verify::{Acceptance, PublicKeyVerificationPolicy, RootFault, verify_from_root};
+use sigstore_verify::{
+    Acceptance, Asked, PublicKeyVerificationPolicy, RootFault, verify_from_root,
+};
 use std::process::Abort;
 
 // A row: the part, the first and the last number that stand in its place in turn, and from which number on which answer
@@ -117,20 +118,13 @@ fn judged<X: AllocGlobal + Abort>(
     let bundle = bundle(rt, unchanged(false));
     let key = good(rt, DerPublicKey::from_base64(rt.alloc(), SPKI));
     let policy = PublicKeyVerificationPolicy::new(key).skip_tlog_unsafe();
-    let judged = verify_from_root(
-        rt.alloc(),
-        &tables.provider,
-        &tables.armor,
-        root.as_bytes(),
-        repo,
-        &mut store,
-        UpdaterConfig::default(),
-        good(rt, "2025-01-01T00:00:00Z".parse::<Timestamp>()),
-        bundle.as_bytes(),
-        &mut artifact,
-        max,
-        &policy,
-    );
+    let asked = Asked {
+        bundle: bundle.as_bytes(),
+        max_artifact: max,
+        policy: &policy,
+    };
+    let anchor = anchor(rt, tables, root);
+    let judged = verify_from_root(rt.alloc(), &anchor, repo, &mut store, &mut artifact, &asked);
     drop(policy);
     drop(bundle);
     drop(artifact);

@@ -2,9 +2,10 @@
 // the whole result, and how many logs vouched.
 use crate::fault::Fault;
 use crate::objects::Objects;
-use command_files::{Gathered, gather_inputs};
+use command_files::{Gather, Gathered};
 use command_verify::{VerifyRequest, verify_request};
 use jiff::Timestamp;
+use sigstore_keys::Providers;
 use sigstore_pem::PemArmor;
 use sigstore_verify::{Acceptance, Error, RootFault, VerificationResult};
 use std::alloc::Global;
@@ -83,26 +84,23 @@ pub fn push_found(
     now: Timestamp,
     text: &mut String,
 ) -> Result<(), Fault> {
-    let Ok(gathered) = gather_inputs(alloc, &mut objects.inputs) else {
+    let Ok(gathered) = Gathered::gather(alloc, &mut objects.inputs) else {
         return Ok(());
     };
-    let Gathered {
-        policy,
-        tables,
-        root,
-        bundle,
-    } = gathered;
     let request = VerifyRequest {
-        policy,
-        root,
-        bundle,
+        policy: &gathered.policy,
+        root: gathered.root.as_bytes(),
+        bundle: gathered.bundle.as_bytes(),
+        moment: now,
+    };
+    let providers = Providers {
+        provider: &gathered.tables.provider,
+        armor: &PemArmor,
     };
     let judged = verify_request(
         alloc,
-        request,
-        &tables.provider,
-        &PemArmor,
-        now,
+        &request,
+        providers,
         &mut objects.repository,
         &mut objects.store,
         &mut objects.artifact,

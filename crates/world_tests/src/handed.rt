@@ -4,11 +4,11 @@ use crate::fault::Fault;
 use crate::objects::artifact;
 use crate::world::World;
 use command_files::{Tables, read_policy, read_provider};
-use command_verify::{AskedPolicy, policy_meant};
 use jiff::Timestamp;
-use sigstore_judgement::{judge_bundle, verify};
-use sigstore_keys::sha256;
+use sigstore_judgement::{Asked, Case, judge_bundle, verify};
+use sigstore_keys::{Providers, sha256};
 use sigstore_pem::PemArmor;
+use sigstore_policy::SigningPolicy;
 use sigstore_types::{Artifact, ArtifactDigest, Bundle, Bytes, HashAlgorithm, TrustedRoot};
 use std::alloc::Global;
 
@@ -26,21 +26,27 @@ fn push_read(
     alloc: Global,
     world: &World,
     tables: &Tables,
-    policy: &AskedPolicy,
+    policy: &SigningPolicy,
     now: Timestamp,
     text: &mut String,
 ) -> Result<(), Fault> {
     let mut artifact = artifact(alloc, world)?;
+    let providers = Providers {
+        provider: &tables.provider,
+        armor: &PemArmor,
+    };
+    let asked = Asked {
+        bundle: octets(world, "bundle.json"),
+        max_artifact: world.number("most").unwrap_or(u64::MAX),
+        policy,
+    };
     let judged = judge_bundle(
         alloc,
-        &tables.provider,
-        &PemArmor,
+        &providers,
         trust_file(world),
         now,
-        octets(world, "bundle.json"),
         &mut artifact,
-        world.number("most").unwrap_or(u64::MAX),
-        policy,
+        &asked,
     );
     drop(artifact);
     match judged {
@@ -66,7 +72,7 @@ fn push_handed(
     alloc: Global,
     world: &World,
     tables: &Tables,
-    policy: &AskedPolicy,
+    policy: &SigningPolicy,
     now: Timestamp,
     text: &mut String,
 ) -> Result<(), Fault> {
@@ -78,16 +84,16 @@ fn push_handed(
     };
     let how = world.text("handed").unwrap_or("");
     let artifact = handed(alloc, octets(world, "artifact"), how)?;
-    let judged = verify(
-        alloc,
-        &tables.provider,
-        &PemArmor,
-        artifact,
-        &bundle,
+    let providers = Providers {
+        provider: &tables.provider,
+        armor: &PemArmor,
+    };
+    let case = Case {
+        bundle: &bundle,
         policy,
-        &trust,
-        now,
-    );
+        moment: now,
+    };
+    let judged = verify(alloc, &providers, &trust, artifact, &case);
     match judged {
         Ok(result) => push_result(alloc, text, &result),
         Err(refusal) => push_refusal(text, &refusal),
@@ -109,10 +115,9 @@ pub fn push_alone(
     let Ok(tables) = read_provider(alloc, octets(world, "provider")) else {
         return Err(Fault::World);
     };
-    let Ok(file) = read_policy(alloc, octets(world, "policy")) else {
+    let Ok(policy) = read_policy(alloc, octets(world, "policy")) else {
         return Err(Fault::World);
     };
-    let policy = policy_meant(file);
     match world.text("handed") {
         Some(_) => push_handed(alloc, world, &tables, &policy, now, text),
         None => push_read(alloc, world, &tables, &policy, now, text),

@@ -4,6 +4,7 @@ use crate::fault::Fault;
 use crate::handed::{is_handed, push_alone};
 use crate::objects::Objects;
 use crate::world::World;
+use command_files::CommandLine;
 use command_verify::run;
 use jiff::Timestamp;
 use serde_json::Value;
@@ -46,8 +47,10 @@ fn run_over(alloc: Global, world: &World, text: &mut String) -> Result<u64, Faul
     let mut objects = Objects::new(alloc, world)?;
     let status = run(
         alloc,
-        &words,
-        Timestamp::UNIX_EPOCH,
+        &CommandLine {
+            words: &words,
+            clock: Timestamp::UNIX_EPOCH,
+        },
         &mut objects.inputs,
         &mut objects.repository,
         &mut objects.store,

@@ -1,11 +1,26 @@
-use Rattle.std.proofs.Common.{refl, sym, ◌∙◌}
-use Rattle.command_archive.specs.Run.{misworded}
-use Rattle.command_archive.proofs.Saying.{says_worded}
+use Rattle.std.proofs.Common.{refl}
+use Rattle.command_files.specs.Starting.{unstarted, stopped, begun}
+use Rattle.command_files.proofs.Starts.{began, was_stopped}
+use Rattle.command_archive.specs.Layout.{archive_layout_of}
+use Rattle.command_archive.proofs.Saying.{commanded_at}
 use Rattle.command_archive.proofs.program.decide.Goals as goal
 
-pub returns-in-Some : goal.returns-in-Some
-returns-in-Some g c =
-    says_worded _ _ _ c.in-Ok.found c.in-Some.layout c.unwrap_or-now.result c.proceed.result c.in-Some.is c.in-Ok.ensures c.unwrap_or-now.ensures c.proceed.ensures
+pub returns-in-Ok-Asked : goal.returns-in-Ok-Asked
+returns-in-Ok-Asked g c =
+    begun c.in-Ok-Asked.layout c.in-Ok-Asked.anchored
+    (began _ _ _ _ c.in-Ok-Asked.field-0 c.in-Ok-Asked.layout c.in-Ok-Asked.anchored c.in-Ok-Asked.field-0-is
+    (c.in-Ok-Asked.ensures (archive_layout_of c.args.line.now.words.now) (record { ok = c.archive_layout.ensures.ok; err = c.archive_layout.ensures.err })))
+    (commanded_at c.in-Ok-Asked.layout.check c.in-Ok-Asked.anchored c.moment.result _ c.as_bytes.result.now c.default.result _ _ c.commanded-said.result
+    c.as_bytes.ensures c.default.ensures c.moment.ensures c.commanded-said.ensures)
 
-pub returns-in-Ok-stopped : goal.returns-in-Ok-stopped
-returns-in-Ok-stopped g c = misworded c.in-Ok-stopped.line (sym c.in-Ok.ensures ∙ c.in-None.is) refl c.in-Ok-stopped.ensures refl
+pub returns-in-Ok-Stopped : goal.returns-in-Ok-Stopped
+returns-in-Ok-Stopped g c =
+    stopped c.in-Ok-Stopped.said
+    (was_stopped _ _ _ _ c.in-Ok-Stopped.field-0 c.in-Ok-Stopped.said c.in-Ok-Stopped.field-0-is
+    (c.in-Ok-Stopped.ensures (archive_layout_of c.args.line.now.words.now) (record { ok = c.archive_layout.ensures.ok; err = c.archive_layout.ensures.err })))
+    refl refl
+
+pub returns-in-Err : goal.returns-in-Err
+returns-in-Err g c =
+    unstarted c.in-Err.e
+    (c.in-Err.ensures (archive_layout_of c.args.line.now.words.now) (record { ok = c.archive_layout.ensures.ok; err = c.archive_layout.ensures.err })) refl refl

@@ -3,6 +3,5 @@ use Rattle.command_questions.proofs.gate.asked.Goals as goal
 
 pub returns : goal.returns
 returns g c =
-    asks c.args.governed c.args.now _ _ c.gate_noting-judged.result c.as_bytes.result.now c.as_bytes-2.result.now c.new-notes.result.refused.now
-    c.sufficient_for_folder-noted.result c.as_bytes.ensures c.as_bytes-2.ensures c.new-notes.ensures c.gate_noting-judged.ensures
-    c.sufficient_for_folder-noted.ensures
+    asks c.args.governed c.args.now c.as_bytes.result.now _ _ c.gate_noting-judged.result c.new-notes.result.refused.now c.sufficient_for_folder-noted.result
+    c.as_bytes.ensures c.new-notes.ensures c.gate_noting-judged.ensures c.sufficient_for_folder-noted.ensures

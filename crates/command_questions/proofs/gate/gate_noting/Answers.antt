@@ -5,5 +5,5 @@ use Rattle.command_questions.proofs.gate.gate_noting.Goals as goal
 
 pub returns : goal.returns
 returns g c =
-    gated_noting c.args.root.now c.args.policy c.args.now _ _ _ c.new.result.notes.now.refused.now c.args.notes.now.refused.now
-    (ap (λ (n : Notes). n.refused.now) c.new.ensures) c.gate_folder.ensures.promises
+    gated_noting c.args.request.now _ _ _ c.new-provider.result.notes.now.refused.now c.args.notes.now.refused.now
+    (ap (λ (n : Notes). n.refused.now) c.new-provider.ensures) c.gate_folder.ensures.promises

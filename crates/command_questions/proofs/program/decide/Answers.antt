@@ -1,12 +1,37 @@
-use Rattle.std.proofs.Common.{◌∙◌, sym, refl}
-use Rattle.command_questions.specs.Means.{misworded, worded}
-use Rattle.command_questions.proofs.Meaning.{found_layout, at_moment}
+use Rattle.std.proofs.Common.{refl}
+use Rattle.command_files.specs.Starting.{unstarted, stopped, begun}
+use Rattle.command_files.proofs.Starts.{began, was_stopped}
+use Rattle.command_files.specs.Layout.{asked_layout_of}
+use Rattle.command_questions.proofs.Sufficing.{asks_at}
 use Rattle.command_questions.proofs.program.decide.Goals as goal
 
-pub returns-in-Ok-proceed : goal.returns-in-Ok-proceed
-returns-in-Ok-proceed g c =
-    worded c.in-Some.layout (found_layout _ _ (sym c.in-Some.is ∙ c.in-Ok.ensures))
-    (at_moment c.unwrap_or-now.result _ _ _ _ c.unwrap_or-now.ensures c.in-Ok-proceed.ensures)
+pub returns-in-Ok : goal.returns-in-Ok
+returns-in-Ok g c =
+    begun c.in-Ok-Asked.layout c.in-Ok-Asked.gathered
+    (began _ _ _ _ c.in-Ok-Asked.field-0 c.in-Ok-Asked.layout c.in-Ok-Asked.gathered c.in-Ok-Asked.field-0-is
+    (c.in-Ok-Asked.ensures (asked_layout_of c.args.line.now.words.now) (record { ok = c.read_asked_layout.ensures.ok; err = c.read_asked_layout.ensures.err })))
+    (record {
+      tables = c.in-Ok.noted.tables;
+      asks = asks_at c.in-Ok-Asked.gathered c.moment-now.result _ c.in-Ok.noted.tables _ _ c.moment-now.ensures c.in-Ok.ensures;
+      rows = c.questions_text.ensures.rows;
+      accepted = c.questions_text.ensures.status;
+    })
 
-pub returns-in-Ok-stopped : goal.returns-in-Ok-stopped
-returns-in-Ok-stopped g c = misworded (sym c.in-Ok.ensures ∙ c.in-None.is) refl c.in-Ok-stopped.ensures
+pub returns-in-Err-asked : goal.returns-in-Err-asked
+returns-in-Err-asked g c =
+    begun c.in-Ok-Asked.layout c.in-Ok-Asked.gathered
+    (began _ _ _ _ c.in-Ok-Asked.field-0 c.in-Ok-Asked.layout c.in-Ok-Asked.gathered c.in-Ok-Asked.field-0-is
+    (c.in-Ok-Asked.ensures (asked_layout_of c.args.line.now.words.now) (record { ok = c.read_asked_layout.ensures.ok; err = c.read_asked_layout.ensures.err })))
+    tt
+
+pub returns-in-Ok-Stopped : goal.returns-in-Ok-Stopped
+returns-in-Ok-Stopped g c =
+    stopped c.in-Ok-Stopped.said
+    (was_stopped _ _ _ _ c.in-Ok-Stopped.field-0 c.in-Ok-Stopped.said c.in-Ok-Stopped.field-0-is
+    (c.in-Ok-Stopped.ensures (asked_layout_of c.args.line.now.words.now) (record { ok = c.read_asked_layout.ensures.ok; err = c.read_asked_layout.ensures.err })))
+    refl refl
+
+pub returns-in-Err : goal.returns-in-Err
+returns-in-Err g c =
+    unstarted c.in-Err.e
+    (c.in-Err.ensures (asked_layout_of c.args.line.now.words.now) (record { ok = c.read_asked_layout.ensures.ok; err = c.read_asked_layout.ensures.err })) refl refl

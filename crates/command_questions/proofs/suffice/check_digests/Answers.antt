@@ -3,12 +3,12 @@ use Rattle.sigstore_types.specs.declared.bundle.Bundle.{Bundle}
 use Rattle.sigstore_judgement.specs.Artifact.{digest_among}
 use Rattle.sigstore_judgement.specs.Grounds.{terms_by}
 use Rattle.sigstore_judgement.specs.Judged.{ready_as, judged_by}
-use Rattle.command_verify.specs.Meant.{meaning_asked}
+use Rattle.sigstore_policy.specs.Policy.{meaning_in}
 use Rattle.command_questions.proofs.suffice.check_digests.Goals as goal
 
 pub returns-in-Ok-judge_digests : goal.returns-in-Ok-judge_digests
 returns-in-Ok-judge_digests g c =
-    let policy = meaning_asked c.args.request.now.policy.now in
+    let policy = meaning_in c.args.request.now.policy.now in
     let terms = terms_by g.C.CryptoProvider g.M.Armor c.args.verifier.now policy c.args.request.now.moment in
     record {
       ready = ready_as c.in-Ok.ready;

@@ -1,13 +1,25 @@
 use Rattle.std.proofs.Common.{refl}
-use Rattle.command_verify.specs.Run.{want_words}
-use Rattle.command_verify.proofs.RunFacts.{decided_misworded, decided_worded}
+use Rattle.command_files.specs.Layout.{layout_of}
+use Rattle.command_files.specs.Starting.{unstarted, stopped, begun}
+use Rattle.command_files.proofs.Starts.{began, was_stopped}
+use Rattle.command_verify.proofs.RunFacts.{judges_at}
 use Rattle.command_verify.proofs.program.decide.Goals as goal
 
+pub returns-in-Ok-Asked : goal.returns-in-Ok-Asked
+returns-in-Ok-Asked g c =
+    begun c.in-Ok-Asked.layout c.in-Ok-Asked.gathered
+    (began _ _ _ _ c.in-Ok-Asked.field-0 c.in-Ok-Asked.layout c.in-Ok-Asked.gathered c.in-Ok-Asked.field-0-is
+    (c.in-Ok-Asked.ensures (layout_of c.args.line.now.words.now) (record { ok = c.read_layout.ensures.ok; err = c.read_layout.ensures.err })))
+    (judges_at c.in-Ok-Asked.gathered c.moment-now.result _ _ _ c.judge.result c.moment-now.ensures c.judge.ensures)
+
+pub returns-in-Ok-Stopped : goal.returns-in-Ok-Stopped
+returns-in-Ok-Stopped g c =
+    stopped c.in-Ok-Stopped.said
+    (was_stopped _ _ _ _ c.in-Ok-Stopped.field-0 c.in-Ok-Stopped.said c.in-Ok-Stopped.field-0-is
+    (c.in-Ok-Stopped.ensures (layout_of c.args.line.now.words.now) (record { ok = c.read_layout.ensures.ok; err = c.read_layout.ensures.err })))
+    refl refl
+
 pub returns-in-Err : goal.returns-in-Err
-returns-in-Err g c = want_words c.in-Err.e refl refl
-
-pub returns-in-Some : goal.returns-in-Some
-returns-in-Some g c = decided_worded _ _ _ c.in-Ok.found c.in-Some.layout c.unwrap_or-now.result _ c.in-Some.is c.in-Ok.ensures c.unwrap_or-now.ensures c.proceed.ensures
-
-pub returns-in-None : goal.returns-in-None
-returns-in-None g c = decided_misworded _ _ c.in-Ok.found c.stopped.result c.in-None.is c.in-Ok.ensures c.stopped.ensures
+returns-in-Err g c =
+    unstarted c.in-Err.e
+    (c.in-Err.ensures (layout_of c.args.line.now.words.now) (record { ok = c.read_layout.ensures.ok; err = c.read_layout.ensures.err })) refl refl

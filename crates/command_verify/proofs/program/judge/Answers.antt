@@ -3,4 +3,4 @@ use Rattle.command_verify.proofs.program.judge.Goals as goal
 
 pub returns : goal.returns
 returns g c =
-    judged_answered c.args.gathered c.args.now _ _ c.verify_request-judged.result c.answered-said.result c.verify_request-judged.ensures c.answered-said.ensures
+    judged_answered c.args.gathered c.args.now _ _ _ _ c.verify_request-judged.result c.answered-said.result c.as_bytes.ensures c.as_bytes-2.ensures c.verify_request-judged.ensures c.answered-said.ensures
