@@ -1,4 +1,3 @@
-pub mod ClaimNames
 pub mod Claims
 pub mod Info
 pub mod Names

@@ -4,7 +4,6 @@
 mod artifact;
 mod asked;
 mod claim;
-mod conditions;
 mod content;
 mod entries;
 mod error;
@@ -13,7 +12,6 @@ mod grounds;
 mod judge;
 mod laws;
 mod names;
-mod parties;
 mod prepared;
 mod report;
 mod signing;
@@ -26,7 +24,7 @@ mod verifier;
 
 pub use asked::{Asked, Case};
 pub use error::{CertificateError, Error, TimestampError, TransparencyLogError};
-pub use evidence::{Evidence, Parties};
+pub use evidence::Evidence;
 pub use judge::Ready;
 pub use laws::{
     accepts_exactly, blob_and_reader_agree, log_refusals_have_causes, one_log_suffices,
@@ -37,9 +35,8 @@ pub use prepared::prepare_reader;
 pub use report::{JudgedBundle, VerificationResult};
 pub use sigstore_certificate::{DigitallySigned, SctRule};
 pub use sigstore_policy::{
-    CertificatePolicy, ClaimMatcher, IdentityMatcher, Policy, PolicyKind,
-    PublicKeyVerificationPolicy, SignatureConditions, SigningPolicy, TextMatcher,
-    VerificationPolicy,
+    CertificatePolicy, IdentityMatcher, Policy, PolicyKind, PublicKeyVerificationPolicy,
+    SigningPolicy, VerificationPolicy,
 };
 pub use taking::{finalize_all, hashers_for};
 pub use trust::Material;

@@ -1,7 +1,6 @@
 pub mod Coming
 pub mod Crypto
 pub mod Digest
-pub mod Distinct
 pub mod Error
 pub mod Good
 pub mod Hashed
@@ -10,6 +9,7 @@ pub mod Key
 pub mod KeyAlgorithm
 pub mod KeyPair
 pub mod Keyring
+pub mod LogIds
 pub mod Pairs
 pub mod Reader
 pub mod Scheme

@@ -230,10 +230,7 @@ fn tells<X: AllocGlobal + Abort>(rt: &X, cell: &str) -> String {
         sha512: None,
     };
     good(rt, subjects.push(subject));
-    let statement = Statement {
-        predicate_type: text(rt, "p"),
-        subjects,
-    };
+    let statement = Statement { subjects };
     let octets = octets(rt, digits);
     let answer = statement.tells(HashAlgorithm::Sha2256, octets.as_slice());
     drop(statement);

@@ -1,37 +1,36 @@
-// How many different parties vouch, and how many have to.
+// How many different logs signed.
 ghost use Rattle.std.specs.Prelude.{◌≡◌, [], length, max, nat_le, OnOk};
 ghost use Rattle.std.specs.Int.NonZero.{non_zero_u8_get};
 ghost use Rattle.std.specs.List.{list_any};
-ghost use Rattle.sigstore_keys.specs.Distinct.{is_among, with_id, is_enough};
+ghost use Rattle.sigstore_keys.specs.LogIds.{is_among, with_id, is_enough};
 
 use foundation::{NoMemory, Sequence};
-use sigstore_types_parts::Bytes;
+use sigstore_types_parts::{Hash, Sha256Hash};
 use std::alloc::Global;
 use std::num::NonZeroU8;
 
-/// How many different parties have to vouch, as logs or time-stamp authorities, from 1 to 255: one alone is one party to
-/// trust.
+/// How many different logs have to have signed, from 1 to 255: one log alone is one party to trust.
 #[derive(Clone, Copy, Debug, PartialEq, Eq, Drop)]
-pub struct Threshold {
+pub struct LogThreshold {
     value: u8,
 }
 
-impl Threshold {
-    /// One, as everyone asks who asks for no more.
-    pub fn one() -> Threshold
+impl LogThreshold {
+    /// One log, as everyone asks who asks for no more.
+    pub fn one() -> LogThreshold
         ensures { result.value ≡ 1 }
     {
-        Threshold { value: 1 }
+        LogThreshold { value: 1 }
     }
 
-    /// So many.
-    pub fn new(count: NonZeroU8) -> Threshold
+    /// So many logs.
+    pub fn new(count: NonZeroU8) -> LogThreshold
         ensures { result.value ≡ non_zero_u8_get count }
     {
-        Threshold { value: count.get() }
+        LogThreshold { value: count.get() }
     }
 
-    /// How many.
+    /// How many logs.
     pub fn get(self) -> NonZeroU8
         ensures { non_zero_u8_get result ≡ max 1 self.value }
     {
@@ -48,7 +47,7 @@ impl Threshold {
         self.value as u64
     }
 
-    /// Whether so many are enough.
+    /// Whether so many logs are enough.
     pub fn is_met_by(self, count: u64) -> bool
         ensures { result ≡ is_enough self count }
     {
@@ -56,43 +55,42 @@ impl Threshold {
     }
 }
 
-/// Ids of those who vouch for something, each once, in the order in which they came: an id that comes again is the same
-/// party.
+/// Ids of logs, each once, in the order in which they came; an id that comes again is the same log.
 #[derive(Drop)]
-pub struct DistinctIds {
-    ids: Sequence<Bytes>,
+pub struct LogIds {
+    ids: Sequence<Sha256Hash>,
 }
 
 // Whether an id came before.
-fn is_among(id: &[u8], ids: &[Bytes]) -> bool
+fn is_among(id: &Sha256Hash, ids: &[Sha256Hash]) -> bool
     ensures { result ≡ is_among id.now ids.now }
 {
-    ids.iter().any(|other| id == other.as_bytes())
+    ids.iter().any(|other| id == other)
 }
 
-impl DistinctIds {
+impl LogIds {
     /// No ids; takes no memory.
-    pub fn new(alloc: Global) -> DistinctIds
+    pub fn new(alloc: Global) -> LogIds
         ensures { result.ids ≡ [] }
     {
-        DistinctIds {
+        LogIds {
             ids: Sequence::new(alloc),
         }
     }
 
-    /// Adds an id, unless it came before. Each call looks through the ids that are there: they are of logs and
-    /// authorities that are trusted, so their number is nobody else's to choose.
-    pub fn add(&mut self, alloc: Global, id: &[u8]) -> Result<(), NoMemory>
+    /// Adds an id, unless it came before. Each call looks through the ids that are there: they are of logs that are
+    /// trusted, so their number is nobody else's to choose.
+    pub fn add(&mut self, id: &Sha256Hash) -> Result<(), NoMemory>
         ensures { OnOk result (self.new.ids ≡ with_id id.now self.old.ids) }
     {
         if is_among(id, self.ids.as_slice()) {
             return Ok(());
         }
-        self.ids.push(Bytes::new(alloc, id)?)?;
+        self.ids.push(Hash::new(*id.as_array()))?;
         Ok(())
     }
 
-    /// How many there are.
+    /// How many logs there are.
     pub fn count(&self) -> u64
         ensures { result ≡ length self.now.ids }
     {
