@@ -1,6 +1,7 @@
 pub mod Coming
 pub mod Crypto
 pub mod Digest
+pub mod Distinct
 pub mod Error
 pub mod Good
 pub mod Hashed
@@ -9,7 +10,6 @@ pub mod Key
 pub mod KeyAlgorithm
 pub mod KeyPair
 pub mod Keyring
-pub mod LogIds
 pub mod Pairs
 pub mod Reader
 pub mod Scheme

@@ -2,6 +2,7 @@
 #![tactic(auto)]
 
 mod digest;
+mod distinct;
 mod error;
 mod file_source;
 mod hashed;
@@ -10,7 +11,6 @@ mod key;
 mod key_algorithm;
 mod key_pair;
 mod keyring;
-mod log_ids;
 mod memory_source;
 mod pairs;
 mod provider;
@@ -22,6 +22,7 @@ mod signature;
 mod source;
 
 pub use digest::{compute_key_hint, sha256, sha384, sha512};
+pub use distinct::{DistinctIds, Threshold};
 pub use error::{CertificateFault, CheckpointFault, Error, KeyRule, VerificationFault};
 pub use file_source::FileSource;
 pub use hashed::HashedMessage;
@@ -29,7 +30,6 @@ pub use hasher::{ArtifactHasher, HashUpdate, Sha256Hasher};
 pub use key::VerificationKey;
 pub use key_pair::{KeyPair, SigningKeyPair, public_key_is_read};
 pub use keyring::{Keyring, KeysByHint};
-pub use log_ids::{LogIds, LogThreshold};
 pub use memory_source::MemorySource;
 pub use pairs::{SignatureAlgorithm, webpki_verification_algs};
 pub use provider::{CryptoProvider, answers_alike};

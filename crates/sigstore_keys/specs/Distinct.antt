@@ -1,7 +1,7 @@
--- How many different logs signed: an id that comes again is the same log.
+-- How many different parties vouch, as logs and time-stamp authorities do: an id that comes again is the same party.
 use Rattle.std.specs.Prelude.{ℕ, List, [], ◌∷◌, ◌++◌, length, Bool, nat_le, bytes_eq, if◌then◌else◌}
 use Rattle.std.specs.List.{list_any}
-use Rattle.sigstore_keys.specs.declared.log_ids.LogThreshold.{LogThreshold}
+use Rattle.sigstore_keys.specs.declared.distinct.Threshold.{Threshold}
 
 abbrev pub is_among : List ℕ → List (List ℕ) → Bool
 is_among id ids = list_any (λ other. bytes_eq id other) ids
@@ -19,6 +19,6 @@ each_once seen (id ∷ ids) = each_once (with_id id seen) ids
 abbrev pub count_distinct : List (List ℕ) → ℕ
 count_distinct ids = length (each_once [] ids)
 
--- so many logs are as many as are asked for
-abbrev pub is_enough : LogThreshold → ℕ → Bool
+-- so many are as many as are asked for
+abbrev pub is_enough : Threshold → ℕ → Bool
 is_enough asked count = nat_le asked.value count

@@ -1,36 +1,37 @@
-// How many different logs signed.
+// How many different parties vouch, and how many have to.
 ghost use Rattle.std.specs.Prelude.{◌≡◌, [], length, max, nat_le, OnOk};
 ghost use Rattle.std.specs.Int.NonZero.{non_zero_u8_get};
 ghost use Rattle.std.specs.List.{list_any};
-ghost use Rattle.sigstore_keys.specs.LogIds.{is_among, with_id, is_enough};
+ghost use Rattle.sigstore_keys.specs.Distinct.{is_among, with_id, is_enough};
 
 use foundation::{NoMemory, Sequence};
-use sigstore_types_parts::{Hash, Sha256Hash};
+use sigstore_types_parts::Bytes;
 use std::alloc::Global;
 use std::num::NonZeroU8;
 
-/// How many different logs have to have signed, from 1 to 255: one log alone is one party to trust.
+/// How many different parties have to vouch, as logs or time-stamp authorities, from 1 to 255: one alone is one party to
+/// trust.
 #[derive(Clone, Copy, Debug, PartialEq, Eq, Drop)]
-pub struct LogThreshold {
+pub struct Threshold {
     value: u8,
 }
 
-impl LogThreshold {
-    /// One log, as everyone asks who asks for no more.
-    pub fn one() -> LogThreshold
+impl Threshold {
+    /// One, as everyone asks who asks for no more.
+    pub fn one() -> Threshold
         ensures { result.value ≡ 1 }
     {
-        LogThreshold { value: 1 }
+        Threshold { value: 1 }
     }
 
-    /// So many logs.
-    pub fn new(count: NonZeroU8) -> LogThreshold
+    /// So many.
+    pub fn new(count: NonZeroU8) -> Threshold
         ensures { result.value ≡ non_zero_u8_get count }
     {
-        LogThreshold { value: count.get() }
+        Threshold { value: count.get() }
     }
 
-    /// How many logs.
+    /// How many.
     pub fn get(self) -> NonZeroU8
         ensures { non_zero_u8_get result ≡ max 1 self.value }
     {
@@ -47,7 +48,7 @@ impl LogThreshold {
         self.value as u64
     }
 
-    /// Whether so many logs are enough.
+    /// Whether so many are enough.
     pub fn is_met_by(self, count: u64) -> bool
         ensures { result ≡ is_enough self count }
     {
@@ -55,42 +56,43 @@ impl LogThreshold {
     }
 }
 
-/// Ids of logs, each once, in the order in which they came; an id that comes again is the same log.
+/// Ids of those who vouch for something, each once, in the order in which they came: an id that comes again is the same
+/// party.
 #[derive(Drop)]
-pub struct LogIds {
-    ids: Sequence<Sha256Hash>,
+pub struct DistinctIds {
+    ids: Sequence<Bytes>,
 }
 
 // Whether an id came before.
-fn is_among(id: &Sha256Hash, ids: &[Sha256Hash]) -> bool
+fn is_among(id: &[u8], ids: &[Bytes]) -> bool
     ensures { result ≡ is_among id.now ids.now }
 {
-    ids.iter().any(|other| id == other)
+    ids.iter().any(|other| id == other.as_bytes())
 }
 
-impl LogIds {
+impl DistinctIds {
     /// No ids; takes no memory.
-    pub fn new(alloc: Global) -> LogIds
+    pub fn new(alloc: Global) -> DistinctIds
         ensures { result.ids ≡ [] }
     {
-        LogIds {
+        DistinctIds {
             ids: Sequence::new(alloc),
         }
     }
 
-    /// Adds an id, unless it came before. Each call looks through the ids that are there: they are of logs that are
-    /// trusted, so their number is nobody else's to choose.
-    pub fn add(&mut self, id: &Sha256Hash) -> Result<(), NoMemory>
+    /// Adds an id, unless it came before. Each call looks through the ids that are there: they are of logs and
+    /// authorities that are trusted, so their number is nobody else's to choose.
+    pub fn add(&mut self, alloc: Global, id: &[u8]) -> Result<(), NoMemory>
         ensures { OnOk result (self.new.ids ≡ with_id id.now self.old.ids) }
     {
         if is_among(id, self.ids.as_slice()) {
             return Ok(());
         }
-        self.ids.push(Hash::new(*id.as_array()))?;
+        self.ids.push(Bytes::new(alloc, id)?)?;
         Ok(())
     }
 
-    /// How many logs there are.
+    /// How many there are.
     pub fn count(&self) -> u64
         ensures { result ≡ length self.now.ids }
     {
