@@ -1,3 +1,4 @@
+pub mod ClaimNames
 pub mod Claims
 pub mod Info
 pub mod Names
