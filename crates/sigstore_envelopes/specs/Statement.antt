@@ -1,4 +1,5 @@
--- Statements as JSON (in-toto Attestation Framework, Statement v1), as far as they tell which artifacts they are about.
+-- Statements as JSON (in-toto Attestation Framework, Statement v1), as far as they tell which artifacts they are about, and of what kind
+-- they are.
 use Rattle.std.specs.Prelude.{ℕ, List, [], ◌∷◌, ◌++◌, Bool, false, if◌then◌else◌, Option, Some, None, is_some, Result, Ok}
 use Rattle.std.specs.List.{list_any}
 use Rattle.std.specs.Str.{str_eq_ignore_ascii_case}
@@ -29,13 +30,13 @@ subject_of d = do
   digests ← required digests_of m.Digest d
   Ok (record { sha256 = digests.sha256; sha512 = digests.sha512 })
 
--- both types are texts of any content; other members, as the predicate, are passed over
+-- both types are texts of any content, and that of the statement is passed over, as other members are, the predicate among them
 unfoldable pub statement_of : Data → Result Statement TypesError
 statement_of d = do
   _ ← required text m.StatementType d
-  _ ← required text m.PredicateType d
+  predicate_type ← required text m.PredicateType d
   subjects ← required (read.sequence_of types_of subject_of) m.Subject d
-  Ok (record { subjects = subjects })
+  Ok (record { predicate_type = predicate_type; subjects = subjects })
 
 unfoldable pub statement_of_bytes : List ℕ → Result Statement TypesError
 statement_of_bytes bytes = json bytes >>= statement_of

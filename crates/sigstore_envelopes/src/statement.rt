@@ -8,9 +8,11 @@ use sigstore_entries::json;
 use sigstore_types_parts::{FromValue, Text, TypesError, TypesMember, optional, required};
 use std::alloc::Global;
 
-/// What is said of some artifacts, as far as it tells which these are (in-toto, Statement v1).
+/// What is said of some artifacts, as far as it tells which these are, and of what kind it is (in-toto, Statement v1).
 #[derive(PartialEq, Drop)]
 pub struct Statement {
+    /// The type of the predicate: what kind of thing is said, as that a build made the artifact.
+    pub predicate_type: Text,
     pub subjects: Sequence<Subject>,
 }
 
@@ -24,6 +26,7 @@ pub struct Subject {
 impl Duplicate for Statement {
     fn duplicate(&self, alloc: Global) -> Result<Statement, NoMemory> {
         Ok(Statement {
+            predicate_type: self.predicate_type.duplicate(alloc)?,
             subjects: self.subjects.duplicate(alloc)?,
         })
     }
@@ -76,8 +79,8 @@ impl FromValue<TypesError> for Statement {
     #[tactic(auto, unfolding(crate::specs::Statement::statement_of))]
     fn from_value(alloc: Global, value: &Value) -> Result<Statement, TypesError> {
         let _: Text = required(alloc, value, TypesMember::StatementType)?;
-        let _: Text = required(alloc, value, TypesMember::PredicateType)?;
         Ok(Statement {
+            predicate_type: required(alloc, value, TypesMember::PredicateType)?,
             subjects: required(alloc, value, TypesMember::Subject)?,
         })
     }
