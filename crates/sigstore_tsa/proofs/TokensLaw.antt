@@ -1,9 +1,9 @@
 -- A token's time under authorities is given exactly where one of them stamped it.
-use Rattle.std.proofs.Common.{◌≡◌, ◌⊎◌, inl, inr, ℕ, zero, suc, List, [], ◌∷◌, Bool, true, false, ◌||◌, Result, Ok, Err, refl, sym, ap, ◌∙◌, subst, arith}
+use Rattle.std.proofs.Common.{◌≡◌, ◌⊎◌, inl, inr, ℕ, zero, suc, List, [], ◌∷◌, Bool, true, false, ◌||◌, if◌then◌else◌, Option, Some, None, Result, Ok, Err, refl, sym, ap, ◌∙◌, subst, arith}
 use Rattle.std.specs.Prelude.{⊤, Contains}
 use Rattle.std.specs.List.{list_any}
 use Rattle.foundation.specs.Steps.{◌>>=◌}
-use Rattle.foundation.specs.Results.{step_ok, ok_same, err_same}
+use Rattle.foundation.specs.Results.{step_ok, ok_same, err_same, some_same}
 use Rattle.jiff_core.specs.declared.timestamp.Timestamp.{Timestamp}
 use Rattle.sigstore_types.specs.declared.authority.TsaAuthority.{TsaAuthority}
 use Rattle.sigstore_keys.specs.Good.{Judge}
@@ -14,7 +14,7 @@ use Rattle.sigstore_tsa_parts.specs.Error.{Judged}
 use Rattle.sigstore_tsa.specs.declared.authorities.TokenFault.{TokenFault}
 use Rattle.sigstore_tsa.specs.declared.authorities.TokenFault.TheVariants.{Invalid, OutsideValidity}
 use Rattle.sigstore_tsa.specs.declared.stamp.Stamp.{Stamp}
-use Rattle.sigstore_tsa.specs.Authorities.{is_accepted, is_of_window, is_outside, answered, under_any_of, any_or_invalid, token_time_of, IsStamped, IsUnstamped, TokenMeans, TokensExactly, RefusedTokens}
+use Rattle.sigstore_tsa.specs.Authorities.{is_accepted, is_of_window, is_outside, answered, under_any_of, any_or_invalid, first_accepting, first_or_none, token_time_of, token_authority_of, IsStamped, IsUnstamped, TokenMeans, TokensExactly, CountedIsStamped, RefusedTokens}
 use Rattle.sigstore_tsa_parts.specs.Content.{token_content_of}
 use Rattle.sigstore_tsa.specs.Stamp.{told_of, stamp_at, stamp_of, time_of}
 use Rattle.sigstore_tsa.specs.Stamped.{under_of, stamped_of, Stamped, IsOutside, IsOf}
@@ -153,6 +153,27 @@ module _ (accepts : Judge) (token signature : List ℕ) where
     gives authorities one time c s =
         ap (λ a. answered stamp.time a (list_any outside_by authorities)) (is_any accepted_by authorities one c (by_stamped one time s))
 
+    -- the first that accepts is one of them, and accepts
+    first_is : (authorities : List TsaAuthority) (authority : TsaAuthority) → first_accepting accepts stamp authorities ≡ Some authority
+        → Contains authorities authority × (accepted_by authority ≡ true)
+    first_is [] authority h = cc
+    first_is (first ∷ others) authority h = by (accepted_by first) refl h (first_is others authority)
+      where
+        by : (a : Bool) → accepted_by first ≡ a → (if a then Some first else first_accepting accepts stamp others) ≡ Some authority
+            → (first_accepting accepts stamp others ≡ Some authority → Contains others authority × (accepted_by authority ≡ true))
+            → Contains (first ∷ others) authority × (accepted_by authority ≡ true)
+        by true is k later = let same : first ≡ authority = some_same first authority k in
+            subst (λ a. Contains (first ∷ others) a × (accepted_by a ≡ true)) same (among_first first others, is)
+        by false is k later = let l = later k in (among_later first others authority l.0, l.1)
+
+    -- and it stamped the token at the time that is given
+    counted : (authorities : List TsaAuthority) (time : Timestamp) (authority : TsaAuthority) → under_any_of accepts stamp authorities ≡ Ok time
+        → first_accepting accepts stamp authorities ≡ Some authority → Contains authorities authority × Stamped accepts token signature authority time
+    counted authorities time authority h f =
+        let one = first_is authorities authority f in
+        let is = given authorities time h in
+        (one.0, subst (Stamped accepts token signature authority) (sym (told_time is.authority time is.stamped.is)) (stamped_by authority one.1))
+
     -- where none accepts
     says : (authorities : List TsaAuthority) (fault : TokenFault) → IsUnstamped accepts token signature authorities → under_any_of accepts stamp authorities ≡ Err fault
         → TokenMeans accepts token signature authorities fault
@@ -210,6 +231,15 @@ tokens_exactly accepts token signature authorities time = (
   one_given accepts token signature authorities (stamp_of token signature) refl time,
   one_gives accepts token signature authorities (stamp_of token signature) refl time,
 )
+
+pub tokens_counted : CountedIsStamped
+unfolding token_time_of token_authority_of
+tokens_counted accepts token signature authorities time authority h f = by (stamp_of token signature) refl h f
+  where
+    by : (r : Judged Stamp) → stamp_of token signature ≡ r → any_or_invalid accepts authorities r ≡ Ok time → first_or_none accepts authorities r ≡ Some authority
+        → Contains authorities authority × Stamped accepts token signature authority time
+    by (Ok stamp) is k g = counted accepts token signature stamp is authorities time authority k g
+    by (Err e) is k g = cc
 
 pub token_refused : RefusedTokens
 unfolding token_time_of

@@ -1,5 +1,6 @@
 -- A token under the authorities of a trust file, whatever their order.
-use Rattle.std.specs.Prelude.{◌≡◌, ◌↔◌, ℕ, List, Contains, Bool, true, false, if◌then◌else◌, Result, Ok, Err, ⊤}
+use Rattle.std.specs.Prelude.{◌≡◌, ◌↔◌, ℕ, List, [], ◌∷◌, Contains, Bool, true}
+use Rattle.std.specs.Prelude.{false, if◌then◌else◌, Option, Some, None, Result, Ok, Err, ⊤}
 use Rattle.std.specs.List.{list_any}
 use Rattle.jiff_core.specs.declared.timestamp.Timestamp.{Timestamp}
 use Rattle.sigstore_types.specs.declared.authority.TsaAuthority.{TsaAuthority}
@@ -43,6 +44,21 @@ abbrev pub any_or_invalid : Judge → List TsaAuthority → Judged Stamp → Res
 any_or_invalid accepts authorities (Ok stamp) = under_any_of accepts stamp authorities
 any_or_invalid accepts authorities (Err e) = Err Invalid
 
+-- The first authority that accepts, in the order of the trust file: the token counts as its own. Which one it is matters where tokens of
+-- different authorities are asked for.
+abbrev pub first_accepting : Judge → Stamp → List TsaAuthority → Option TsaAuthority
+first_accepting accepts stamp [] = None
+first_accepting accepts stamp (authority ∷ others) =
+    if is_accepted (under_of accepts stamp authority) then Some authority else first_accepting accepts stamp others
+
+abbrev pub first_or_none : Judge → List TsaAuthority → Judged Stamp → Option TsaAuthority
+first_or_none accepts authorities (Ok stamp) = first_accepting accepts stamp authorities
+first_or_none accepts authorities (Err e) = None
+
+-- the authority of a token of a signature
+unfoldable pub token_authority_of : Judge → List ℕ → List ℕ → List TsaAuthority → Option TsaAuthority
+token_authority_of accepts token signature authorities = first_or_none accepts authorities (stamp_of token signature)
+
 -- the time that a token tells of a signature under these authorities
 unfoldable pub token_time_of : Judge → List ℕ → List ℕ → List TsaAuthority → Result Timestamp TokenFault
 token_time_of accepts token signature authorities = any_or_invalid accepts authorities (stamp_of token signature)
@@ -83,6 +99,12 @@ TokenMeans accepts token signature authorities NoMemory = ⊥
 abbrev pub TokensExactly : Type 0
 TokensExactly = (accepts : Judge) (token signature : List ℕ) (authorities : List TsaAuthority) (time : Timestamp)
     → (token_time_of accepts token signature authorities ≡ Ok time) ↔ IsStamped accepts token signature authorities time
+
+-- the authority whose a token counts as is one of them, and stamped it
+abbrev pub CountedIsStamped : Type 0
+CountedIsStamped = (accepts : Judge) (token signature : List ℕ) (authorities : List TsaAuthority) (time : Timestamp) (authority : TsaAuthority)
+    → token_time_of accepts token signature authorities ≡ Ok time → token_authority_of accepts token signature authorities ≡ Some authority
+    → Contains authorities authority × Stamped accepts token signature authority time
 
 -- and each refusal comes only where it means so
 abbrev pub RefusedTokens : Type 0

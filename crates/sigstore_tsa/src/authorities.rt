@@ -1,6 +1,6 @@
 // A token under the authorities of a trust file.
-ghost use Rattle.std.specs.Prelude.{◌≡◌, ◌≢◌, false, Ok, Err, IfOk, IfErr};
-ghost use Rattle.sigstore_tsa.specs.Authorities.{is_of_window, answered, under_any_of, token_time_of};
+ghost use Rattle.std.specs.Prelude.{◌≡◌, ◌≢◌, false, Some, Ok, Err, IfOk, IfErr};
+ghost use Rattle.sigstore_tsa.specs.Authorities.{is_of_window, answered, under_any_of, first_accepting, token_time_of, token_authority_of};
 ghost use Rattle.sigstore_tsa.specs.declared.authorities.TokenFault.TheVariants as faults;
 
 use crate::stamp::{Stamp, read_stamp};
@@ -23,6 +23,13 @@ pub enum TokenFault {
     NoMemory,
 }
 
+/// When a token says that a signature was there, and the authority whose it is: the first that accepts it.
+#[derive(Clone, Copy)]
+pub struct StampedTime<'a> {
+    pub time: Timestamp,
+    pub authority: &'a TsaAuthority,
+}
+
 fn is_of_window(fault: &Error) -> bool
     ensures { result ≡ is_of_window fault.now }
 {
@@ -40,20 +47,26 @@ fn refused(time: Timestamp, is_outside: bool) -> TokenFault
     }
 }
 
-#[tactic(auto, using(crate::proofs::Any::one_refuses, crate::proofs::Any::one_accepts))]
-fn under_any<C: CryptoProvider>(
+#[tactic(auto, using(crate::proofs::Any::one_refuses, crate::proofs::Any::one_accepts, crate::proofs::Any::first_passed, crate::proofs::Any::first_found))]
+fn under_any<'a, C: CryptoProvider>(
     alloc: Global,
     provider: &C,
     stamp: &Stamp,
-    authorities: &[TsaAuthority],
-) -> Result<Timestamp, TokenFault>
-    ensures ok { IfOk result (λ time. under_any_of (C.accepts provider.now) stamp.now authorities.now ≡ Ok time) }
+    authorities: &'a [TsaAuthority],
+) -> Result<StampedTime<'a>, TokenFault>
+    ensures ok { IfOk result (λ stamped. under_any_of (C.accepts provider.now) stamp.now authorities.now ≡ Ok stamped.time) }
+    ensures authority { IfOk result (λ stamped. first_accepting (C.accepts provider.now) stamp.now authorities.now ≡ Some stamped.authority.now) }
     ensures err { IfErr result (λ e. e ≢ faults.NoMemory → under_any_of (C.accepts provider.now) stamp.now authorities.now ≡ Err e) }
 {
     let mut is_outside = false;
     'authorities: for authority in authorities {
         match judge_stamp(alloc, provider, stamp, authority) {
-            Ok(()) => return Ok(stamp.time),
+            Ok(()) => {
+                return Ok(StampedTime {
+                    time: stamp.time,
+                    authority,
+                });
+            }
             Err(Error::NoMemory) => return Err(TokenFault::NoMemory),
             Err(fault) => is_outside = is_outside || is_of_window(&fault),
         }
@@ -62,17 +75,20 @@ fn under_any<C: CryptoProvider>(
 }
 
 /// The time of a signature by a token, under authorities that are trusted (RFC 3161): the token is read once, and
-/// its time is given where an authority accepts it; the others are not asked then. Errors: `OutsideValidity` where none accepts it and one
-/// refuses it by its window alone, `Invalid` where none accepts it otherwise.
-#[tactic(auto, unfolding(crate::specs::Authorities::token_time_of))]
-pub fn token_time<C: CryptoProvider>(
+/// its time is given where an authority accepts it, with the first that does; the others are not asked then. Errors:
+/// `OutsideValidity` where none accepts it and one refuses it by its window alone, `Invalid` where none accepts it
+/// otherwise.
+#[tactic(auto, unfolding(crate::specs::Authorities::token_time_of, crate::specs::Authorities::token_authority_of))]
+pub fn token_time<'a, C: CryptoProvider>(
     alloc: Global,
     provider: &C,
     token: &TimestampToken,
     signature: &SignatureBytes,
-    authorities: &[TsaAuthority],
-) -> Result<Timestamp, TokenFault>
-    ensures ok { IfOk result (λ time. token_time_of (C.accepts provider.now) token.now signature.now authorities.now ≡ Ok time) }
+    authorities: &'a [TsaAuthority],
+) -> Result<StampedTime<'a>, TokenFault>
+    ensures ok { IfOk result (λ stamped. token_time_of (C.accepts provider.now) token.now signature.now authorities.now ≡ Ok stamped.time) }
+    ensures authority { IfOk result (λ stamped. token_authority_of (C.accepts provider.now) token.now signature.now authorities.now
+        ≡ Some stamped.authority.now) }
     ensures err { IfErr result (λ e. e ≢ faults.NoMemory → token_time_of (C.accepts provider.now) token.now signature.now authorities.now ≡ Err e) }
 {
     let stamp = match read_stamp(alloc, token, signature) {
@@ -80,7 +96,7 @@ pub fn token_time<C: CryptoProvider>(
         Err(Error::NoMemory) => return Err(TokenFault::NoMemory),
         Err(_) => return Err(TokenFault::Invalid),
     };
-    let time = under_any(alloc, provider, &stamp, authorities);
+    let stamped = under_any(alloc, provider, &stamp, authorities);
     drop(stamp);
-    time
+    stamped
 }

@@ -1,5 +1,5 @@
 // Laws of the definitions. A call does nothing.
-ghost use Rattle.sigstore_tsa.specs.Authorities.{TokensExactly, RefusedTokens};
+ghost use Rattle.sigstore_tsa.specs.Authorities.{TokensExactly, CountedIsStamped, RefusedTokens};
 ghost use Rattle.sigstore_tsa.specs.Cause.{RefusedStamps};
 ghost use Rattle.sigstore_tsa.specs.Stamped.{StampedExactly, OutsideExactly};
 
@@ -18,7 +18,9 @@ pub fn refusals_have_causes()
 
 /// The law of authorities: a time is given exactly where one of them stamped the token then; a window is the
 /// refusal only where none did and one's window alone hasn't the token's time, and `Invalid` only where neither is so.
+/// The authority whose a token counts as is one of them that stamped it.
 pub fn tokens_exactly()
     ensures accepted { TokensExactly }
+    ensures counted { CountedIsStamped }
     ensures refused { RefusedTokens }
 {}

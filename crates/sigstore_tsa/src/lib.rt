@@ -10,7 +10,7 @@ mod stamp;
 mod verify;
 mod vouched;
 
-pub use authorities::{TokenFault, token_time};
+pub use authorities::{StampedTime, TokenFault, token_time};
 pub use laws::{refusals_have_causes, stamped_exactly, tokens_exactly};
 pub use sigstore_tsa_parts::{
     Accuracy, AlgorithmIdentifier, Asn1MessageImprint, CertificateFault, Error, OID_SHA256,
