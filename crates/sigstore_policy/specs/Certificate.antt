@@ -1,11 +1,13 @@
 -- What a policy asks of a certificate.
-use Rattle.std.specs.Prelude.{ℕ, List, ◌++◌, Bool, true, false, bytes_eq, codes}
+use Rattle.std.specs.Prelude.{ℕ, List, [], ◌++◌, Bool, true, false, bytes_eq, codes, None}
 use Rattle.certificate_claims.specs.declared.certificate_info.SubjectAltName.{SubjectAltName}
 use Rattle.certificate_claims.specs.declared.certificate_info.SubjectAltName.TheVariants as name
 use Rattle.sigstore_policy.specs.declared.certificate.CertificatePolicy.{CertificatePolicy}
 use Rattle.sigstore_policy.specs.declared.certificate.CertificatePolicy.TheVariants.{Skip, Verify}
 use Rattle.sigstore_policy.specs.declared.certificate.IdentityMatcher.{IdentityMatcher}
 use Rattle.sigstore_policy.specs.declared.certificate.IdentityMatcher.TheVariants as asked
+use Rattle.sigstore_policy.specs.declared.certificate.VerificationPolicy.{VerificationPolicy}
+use Rattle.sigstore_policy.specs.Conditions.{no_conditions}
 use Rattle.sigstore_policy.specs.Pattern.{like}
 
 -- an identity of that text and that sort
@@ -48,3 +50,17 @@ verifies_sct (Verify verify_sct) = verify_sct
 abbrev pub without_sct : CertificatePolicy → CertificatePolicy
 without_sct Skip = Skip
 without_sct (Verify verify_sct) = Verify false
+
+-- a policy that asks for no name, and verifies all else
+abbrev pub bare : VerificationPolicy
+bare = record {
+  identity = None;
+  issuer = None;
+  claims = [];
+  anyone = false;
+  verify_tlog = true;
+  certificate = Verify true;
+  scts = record { value = 1 };
+  logs = record { value = 1 };
+  conditions = no_conditions;
+}

@@ -1,4 +1,4 @@
--- What a pattern of identities means. It is of octets, and of the whole identity, from the first octet to the last.
+-- What a pattern means. It is of octets, and of the whole text, from the first octet to the last.
 use Rattle.std.specs.Prelude.{◌≡◌, ◌↔◌, ℕ, List, [], ◌∷◌, Bool, true, false, not, ◌&&◌, ◌==◌, if◌then◌else◌, IsTrue}
 use Rattle.std.specs.List.{AllZip, concat, list_all, list_any}
 

@@ -1,6 +1,6 @@
 -- What a bundle is verified under: what is asked of its signing certificate, or a key that its holder manages.
 use Rattle.std.specs.Prelude.{Bool}
-use Rattle.sigstore_keys.specs.declared.log_ids.LogThreshold.{LogThreshold}
+use Rattle.sigstore_keys.specs.declared.distinct.Threshold.{Threshold}
 use Rattle.sigstore_policy.specs.declared.certificate.VerificationPolicy.{VerificationPolicy}
 use Rattle.sigstore_policy.specs.declared.public_key.PublicKeyVerificationPolicy.{PublicKeyVerificationPolicy}
 use Rattle.sigstore_policy.specs.declared.policy.PolicyKind.{PolicyKind}
@@ -22,7 +22,7 @@ meaning_in (signing.Certificate policy) = Certificate policy
 meaning_in (signing.PublicKey policy) = PublicKey policy
 
 -- in how many different logs the entries have to stand, where the log is verified
-abbrev pub logs_asked : Meaning → LogThreshold
+abbrev pub logs_asked : Meaning → Threshold
 logs_asked (Certificate policy) = policy.logs
 logs_asked (PublicKey policy) = policy.logs
 

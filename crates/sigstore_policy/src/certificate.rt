@@ -1,14 +1,16 @@
 // What is asked of a signing certificate.
-ghost use Rattle.std.specs.Prelude.{◌≡◌, max, true, false, None, Some, IfOk, option_copied};
+ghost use Rattle.std.specs.Prelude.{◌≡◌, [], ◌∷◌, ◌++◌, max, false, Some, IfOk, OnOk, option_copied};
 ghost use Rattle.std.specs.Int.NonZero.{non_zero_u8_get};
-ghost use Rattle.sigstore_policy.specs.declared.certificate.CertificatePolicy.TheVariants.{Skip, Verify};
+ghost use Rattle.sigstore_policy.specs.declared.certificate.CertificatePolicy.TheVariants.{Skip};
 ghost use Rattle.sigstore_policy.specs.declared.certificate.IdentityMatcher.TheVariants.{Exact};
-ghost use Rattle.sigstore_policy.specs.Certificate.{matcher_of, matches, shown, verifies_chain, verifies_sct, without_sct};
+ghost use Rattle.sigstore_policy.specs.Certificate.{matcher_of, matches, shown, verifies_chain, verifies_sct, without_sct, bare};
 
+use crate::conditions::SignatureConditions;
+use crate::matcher::ClaimMatcher;
 use crate::pattern::matches_like;
 use certificate_claims::SubjectAltName;
-use foundation::{Duplicate, NoMemory};
-use sigstore_keys::LogThreshold;
+use foundation::{Duplicate, NoMemory, Sequence};
+use sigstore_keys::Threshold;
 use sigstore_types_parts::Text;
 use std::alloc::Global;
 use std::fmt;
@@ -39,20 +41,26 @@ pub enum CertificatePolicy {
 }
 
 /// What is asked of a certificate, and whether the transparency log is verified.
-#[derive(Debug, PartialEq, Drop)]
+#[derive(PartialEq, Drop)]
 pub struct VerificationPolicy {
     /// Whom it has to name; without one it may name anyone.
     pub identity: Option<IdentityMatcher>,
     /// Who has to have vouched for the identity; without one it may be anyone.
     pub issuer: Option<Text>,
+    /// What it has to claim of the run that built; each name stands once.
+    pub claims: Sequence<ClaimMatcher>,
+    /// It is said on purpose that anyone may have signed. No check looks at it.
+    pub anyone: bool,
     /// Whether the transparency log is verified.
     pub verify_tlog: bool,
     /// What of the certificate is verified.
     pub certificate: CertificatePolicy,
     /// How many different logs of certificates have to have promised it, where that is verified.
-    pub scts: LogThreshold,
+    pub scts: Threshold,
     /// How many different transparency logs the entries have to stand in, where the log is verified.
-    pub logs: LogThreshold,
+    pub logs: Threshold,
+    /// What is asked of the signature beside who made it.
+    pub conditions: SignatureConditions,
 }
 
 impl Duplicate for IdentityMatcher {
@@ -163,185 +171,145 @@ impl Duplicate for VerificationPolicy {
         Ok(VerificationPolicy {
             identity: self.identity.duplicate(alloc)?,
             issuer: self.issuer.duplicate(alloc)?,
+            claims: self.claims.duplicate(alloc)?,
+            anyone: self.anyone,
             verify_tlog: self.verify_tlog,
             certificate: self.certificate,
             scts: self.scts,
             logs: self.logs,
+            conditions: self.conditions.duplicate(alloc)?,
         })
+    }
+}
+
+// As it would be derived, where a sequence had a Debug text.
+impl fmt::Debug for VerificationPolicy {
+    fn fmt<W: fmt::Write>(&self, f: &mut fmt::Formatter<W>) -> fmt::Result {
+        f.debug_struct("VerificationPolicy")
+            .field("identity", &self.identity)
+            .field("issuer", &self.issuer)
+            .field("claims", &self.claims.as_slice())
+            .field("anyone", &self.anyone)
+            .field("verify_tlog", &self.verify_tlog)
+            .field("certificate", &self.certificate)
+            .field("scts", &self.scts)
+            .field("logs", &self.logs)
+            .field("conditions", &self.conditions)
+            .finish()
     }
 }
 
 impl VerificationPolicy {
     /// A policy that asks for an identity and its issuer, and verifies all.
-    pub fn new(identity: IdentityMatcher, issuer: Text) -> VerificationPolicy
-        ensures identity { result.identity ≡ Some identity }
-        ensures issuer { result.issuer ≡ Some issuer }
-        ensures log { result.verify_tlog ≡ true }
-        ensures certificate { result.certificate ≡ Verify true }
-        ensures scts { result.scts.value ≡ 1 }
-        ensures logs { result.logs.value ≡ 1 }
+    pub fn new(alloc: Global, identity: IdentityMatcher, issuer: Text) -> VerificationPolicy
+        ensures { result ≡ record bare { identity = Some identity; issuer = Some issuer } }
     {
-        VerificationPolicy {
-            identity: Some(identity),
-            issuer: Some(issuer),
-            verify_tlog: true,
-            certificate: CertificatePolicy::Verify { verify_sct: true },
-            scts: LogThreshold::one(),
-            logs: LogThreshold::one(),
-        }
+        VerificationPolicy::any_identity(alloc)
+            .require_identity(identity)
+            .require_issuer(issuer)
     }
 
-    /// A policy that asks for no name, and verifies all else.
-    pub fn any_identity() -> VerificationPolicy
-        ensures identity { result.identity ≡ None }
-        ensures issuer { result.issuer ≡ None }
-        ensures log { result.verify_tlog ≡ true }
-        ensures certificate { result.certificate ≡ Verify true }
-        ensures scts { result.scts.value ≡ 1 }
-        ensures logs { result.logs.value ≡ 1 }
+    /// A policy that asks for no name, and verifies all else; takes no memory.
+    pub fn any_identity(alloc: Global) -> VerificationPolicy
+        ensures { result ≡ bare }
     {
         VerificationPolicy {
             identity: None,
             issuer: None,
+            claims: Sequence::new(alloc),
+            anyone: false,
             verify_tlog: true,
             certificate: CertificatePolicy::Verify { verify_sct: true },
-            scts: LogThreshold::one(),
-            logs: LogThreshold::one(),
+            scts: Threshold::one(),
+            logs: Threshold::one(),
+            conditions: SignatureConditions::none(),
         }
     }
 
     /// The same policy with an identity that is asked for.
     pub fn require_identity(self, identity: IdentityMatcher) -> VerificationPolicy
-        ensures identity { result.identity ≡ Some identity }
-        ensures issuer { result.issuer ≡ self.issuer }
-        ensures log { result.verify_tlog ≡ self.verify_tlog }
-        ensures certificate { result.certificate ≡ self.certificate }
-        ensures scts { result.scts ≡ self.scts }
-        ensures logs { result.logs ≡ self.logs }
+        ensures { result ≡ record self { identity = Some identity } }
     {
         VerificationPolicy {
             identity: Some(identity),
-            issuer: self.issuer,
-            verify_tlog: self.verify_tlog,
-            certificate: self.certificate,
-            scts: self.scts,
-            logs: self.logs,
+            ..self
         }
     }
 
     /// The same policy with an issuer that is asked for.
     pub fn require_issuer(self, issuer: Text) -> VerificationPolicy
-        ensures identity { result.identity ≡ self.identity }
-        ensures issuer { result.issuer ≡ Some issuer }
-        ensures log { result.verify_tlog ≡ self.verify_tlog }
-        ensures certificate { result.certificate ≡ self.certificate }
-        ensures scts { result.scts ≡ self.scts }
-        ensures logs { result.logs ≡ self.logs }
+        ensures { result ≡ record self { issuer = Some issuer } }
     {
         VerificationPolicy {
-            identity: self.identity,
             issuer: Some(issuer),
-            verify_tlog: self.verify_tlog,
-            certificate: self.certificate,
-            scts: self.scts,
-            logs: self.logs,
+            ..self
         }
+    }
+
+    /// Asks for one claim more.
+    pub fn require_claim(&mut self, claim: ClaimMatcher) -> Result<(), NoMemory>
+        ensures { OnOk result (self.new ≡ record self.old { claims = self.old.claims ++ claim ∷ [] }) }
+    {
+        self.claims.push(claim)?;
+        Ok(())
+    }
+
+    /// The same policy with what is asked of the signature beside who made it.
+    pub fn with_conditions(self, conditions: SignatureConditions) -> VerificationPolicy
+        ensures { result ≡ record self { conditions = conditions } }
+    {
+        VerificationPolicy { conditions, ..self }
     }
 
     /// The same policy without the transparency log, so that a signature may never have been logged.
     pub fn skip_tlog_unsafe(self) -> VerificationPolicy
-        ensures identity { result.identity ≡ self.identity }
-        ensures issuer { result.issuer ≡ self.issuer }
-        ensures log { result.verify_tlog ≡ false }
-        ensures certificate { result.certificate ≡ self.certificate }
-        ensures scts { result.scts ≡ self.scts }
-        ensures logs { result.logs ≡ self.logs }
+        ensures { result ≡ record self { verify_tlog = false } }
     {
         VerificationPolicy {
-            identity: self.identity,
-            issuer: self.issuer,
             verify_tlog: false,
-            certificate: self.certificate,
-            scts: self.scts,
-            logs: self.logs,
+            ..self
         }
     }
 
     /// The same policy without the certificate's path, window and timestamp; the names are still asked for.
     pub fn skip_certificate_chain(self) -> VerificationPolicy
-        ensures identity { result.identity ≡ self.identity }
-        ensures issuer { result.issuer ≡ self.issuer }
-        ensures log { result.verify_tlog ≡ self.verify_tlog }
-        ensures certificate { result.certificate ≡ Skip }
-        ensures scts { result.scts ≡ self.scts }
-        ensures logs { result.logs ≡ self.logs }
+        ensures { result ≡ record self { certificate = Skip } }
     {
         VerificationPolicy {
-            identity: self.identity,
-            issuer: self.issuer,
-            verify_tlog: self.verify_tlog,
             certificate: CertificatePolicy::Skip,
-            scts: self.scts,
-            logs: self.logs,
+            ..self
         }
     }
 
     /// The same policy without the timestamp of a log of certificates; one that verifies no path stays so.
     pub fn skip_sct(self) -> VerificationPolicy
-        ensures identity { result.identity ≡ self.identity }
-        ensures issuer { result.issuer ≡ self.issuer }
-        ensures log { result.verify_tlog ≡ self.verify_tlog }
-        ensures certificate { result.certificate ≡ without_sct self.certificate }
-        ensures scts { result.scts ≡ self.scts }
-        ensures logs { result.logs ≡ self.logs }
+        ensures { result ≡ record self { certificate = without_sct self.certificate } }
     {
         VerificationPolicy {
-            identity: self.identity,
-            issuer: self.issuer,
-            verify_tlog: self.verify_tlog,
             certificate: self.certificate.without_sct(),
-            scts: self.scts,
-            logs: self.logs,
+            ..self
         }
     }
 
     /// The same policy with a number of different logs of certificates that have to have promised the certificate; where
     /// that isn't verified, none has to.
     pub fn require_scts(self, count: NonZeroU8) -> VerificationPolicy
-        ensures identity { result.identity ≡ self.identity }
-        ensures issuer { result.issuer ≡ self.issuer }
-        ensures log { result.verify_tlog ≡ self.verify_tlog }
-        ensures certificate { result.certificate ≡ self.certificate }
-        ensures scts { result.scts.value ≡ non_zero_u8_get count }
-        ensures logs { result.logs ≡ self.logs }
+        ensures { result ≡ record self { scts = record { value = non_zero_u8_get count } } }
     {
         VerificationPolicy {
-            identity: self.identity,
-            issuer: self.issuer,
-            verify_tlog: self.verify_tlog,
-            certificate: self.certificate,
-            scts: LogThreshold::new(count),
-            logs: self.logs,
+            scts: Threshold::new(count),
+            ..self
         }
     }
 
     /// The same policy with a number of different transparency logs in which the entries have to stand; where the log
     /// isn't verified, none has to.
     pub fn require_logs(self, count: NonZeroU8) -> VerificationPolicy
-        ensures identity { result.identity ≡ self.identity }
-        ensures issuer { result.issuer ≡ self.issuer }
-        ensures log { result.verify_tlog ≡ self.verify_tlog }
-        ensures certificate { result.certificate ≡ self.certificate }
-        ensures scts { result.scts ≡ self.scts }
-        ensures logs { result.logs.value ≡ non_zero_u8_get count }
+        ensures { result ≡ record self { logs = record { value = non_zero_u8_get count } } }
     {
         VerificationPolicy {
-            identity: self.identity,
-            issuer: self.issuer,
-            verify_tlog: self.verify_tlog,
-            certificate: self.certificate,
-            scts: self.scts,
-            logs: LogThreshold::new(count),
+            logs: Threshold::new(count),
+            ..self
         }
     }
 

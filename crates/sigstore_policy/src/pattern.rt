@@ -1,4 +1,4 @@
-// Patterns of identities, and how they are read.
+// Patterns of texts that are asked for, and how they are read.
 ghost use Rattle.std.specs.Prelude.{◌≡◌, ◌≤◌, ◌∷◌, length, map, IfOk};
 ghost use Rattle.sigstore_policy.specs.Pattern.{piece_of, pieces_of, like};
 ghost use Rattle.sigstore_policy.specs.Piece.{piece_in, passes_of};

@@ -1,9 +1,11 @@
 // What is asked where the signer holds a key.
-ghost use Rattle.std.specs.Prelude.{◌≡◌, max, true, false};
+ghost use Rattle.std.specs.Prelude.{◌≡◌, max, false};
 ghost use Rattle.std.specs.Int.NonZero.{non_zero_u8_get};
+ghost use Rattle.sigstore_policy.specs.PublicKey.{keyed};
 
+use crate::conditions::SignatureConditions;
 use foundation::{Duplicate, NoMemory};
-use sigstore_keys::LogThreshold;
+use sigstore_keys::Threshold;
 use sigstore_types_parts::DerPublicKey;
 use std::alloc::Global;
 use std::num::NonZeroU8;
@@ -14,7 +16,9 @@ pub struct PublicKeyVerificationPolicy {
     pub key: DerPublicKey,
     pub verify_tlog: bool,
     /// How many different transparency logs the entries have to stand in, where the log is verified.
-    pub logs: LogThreshold,
+    pub logs: Threshold,
+    /// What is asked of the signature beside who made it.
+    pub conditions: SignatureConditions,
 }
 
 impl Duplicate for PublicKeyVerificationPolicy {
@@ -23,6 +27,7 @@ impl Duplicate for PublicKeyVerificationPolicy {
             key: self.key.duplicate(alloc)?,
             verify_tlog: self.verify_tlog,
             logs: self.logs,
+            conditions: self.conditions.duplicate(alloc)?,
         })
     }
 }
@@ -30,42 +35,42 @@ impl Duplicate for PublicKeyVerificationPolicy {
 impl PublicKeyVerificationPolicy {
     /// A policy that verifies the log.
     pub fn new(key: DerPublicKey) -> PublicKeyVerificationPolicy
-        ensures key { result.key ≡ key }
-        ensures log { result.verify_tlog ≡ true }
-        ensures logs { result.logs.value ≡ 1 }
+        ensures { result ≡ keyed key }
     {
         PublicKeyVerificationPolicy {
             key,
             verify_tlog: true,
-            logs: LogThreshold::one(),
+            logs: Threshold::one(),
+            conditions: SignatureConditions::none(),
         }
     }
 
     /// The same policy without the log, so that a signature may never have been logged.
     pub fn skip_tlog_unsafe(self) -> PublicKeyVerificationPolicy
-        ensures key { result.key ≡ self.key }
-        ensures log { result.verify_tlog ≡ false }
-        ensures logs { result.logs ≡ self.logs }
+        ensures { result ≡ record self { verify_tlog = false } }
     {
         PublicKeyVerificationPolicy {
-            key: self.key,
             verify_tlog: false,
-            logs: self.logs,
+            ..self
         }
     }
 
     /// The same policy with a number of different transparency logs in which the entries have to stand; where the log
     /// isn't verified, none has to.
     pub fn require_logs(self, count: NonZeroU8) -> PublicKeyVerificationPolicy
-        ensures key { result.key ≡ self.key }
-        ensures log { result.verify_tlog ≡ self.verify_tlog }
-        ensures logs { result.logs.value ≡ non_zero_u8_get count }
+        ensures { result ≡ record self { logs = record { value = non_zero_u8_get count } } }
     {
         PublicKeyVerificationPolicy {
-            key: self.key,
-            verify_tlog: self.verify_tlog,
-            logs: LogThreshold::new(count),
+            logs: Threshold::new(count),
+            ..self
         }
+    }
+
+    /// The same policy with what is asked of the signature beside who made it.
+    pub fn with_conditions(self, conditions: SignatureConditions) -> PublicKeyVerificationPolicy
+        ensures { result ≡ record self { conditions = conditions } }
+    {
+        PublicKeyVerificationPolicy { conditions, ..self }
     }
 
     /// The key.
