@@ -12,9 +12,10 @@ use Rattle.x509_views.specs.Certificates.{Certificate, certificate_of}
 use Rattle.x509_views.specs.Precertificates.{sct_oid, precert_of}
 use Rattle.x509_views.specs.Scts.{Parts as OneSct, sct_list_of}
 use Rattle.sigstore_types_parts.specs.TimeRange.{is_by}
-use Rattle.sigstore_keys.specs.declared.log_ids.LogThreshold.{LogThreshold}
-use Rattle.sigstore_keys.specs.LogIds.{is_enough}
+use Rattle.sigstore_keys.specs.declared.distinct.Threshold.{Threshold}
+use Rattle.sigstore_keys.specs.Distinct.{is_enough}
 use Rattle.certificate_claims.specs.declared.certificate_info.CertificateInfo.{CertificateInfo}
+use Rattle.certificate_claims.specs.ClaimNames.{claim_in}
 use Rattle.certificate_fields.specs.Fields.{value_of, extensions_of}
 use Rattle.path_core.specs.declared.error.LeafFault.TheVariants as leaf
 use Rattle.path_core.specs.declared.error.PathError.{PathError}
@@ -30,6 +31,7 @@ use Rattle.sigstore_policy.specs.declared.certificate.CertificatePolicy.{Certifi
 use Rattle.sigstore_policy.specs.declared.certificate.CertificatePolicy.TheVariants.{Skip, Verify}
 use Rattle.sigstore_policy.specs.declared.certificate.IdentityMatcher.{IdentityMatcher}
 use Rattle.sigstore_policy.specs.declared.certificate.VerificationPolicy.{VerificationPolicy}
+use Rattle.sigstore_policy.specs.declared.matcher.ClaimMatcher.{ClaimMatcher}
 use Rattle.sigstore_certificate.specs.declared.error.SctRule.{SctRule}
 use Rattle.sigstore_certificate.specs.declared.error.SctRule.TheVariants as rule
 use Rattle.sigstore_certificate.specs.declared.error.CertificateRefusal.{CertificateRefusal}
@@ -37,8 +39,9 @@ use Rattle.sigstore_certificate.specs.declared.error.CertificateRefusal.TheVaria
 use Rattle.sigstore_certificate.specs.Cause.{IsNoLeaf, LacksAuthority, LacksPath, IsEarly, IsLate, no_extension, unread, HasKnown, no_part, no_length, HasTooFew, SctCause, LacksLog, Cause, Refusals}
 use Rattle.sigstore_certificate.specs.Certified.{Trust, has_authority, authority_judged, window_judged, issued_at, some_time_judged, at_each, issued_at_each, parts_read, leaf_scts_judged, scts_asked, chain_verified, chain_judged, certified_of}
 use Rattle.sigstore_certificate.specs.Error.{refusal_of_path, by_path}
-use Rattle.sigstore_certificate.specs.Names.{is_matched, identity_judged, is_text, issuer_judged, names_judged}
+use Rattle.sigstore_certificate.specs.Names.{is_matched, identity_judged, is_text, issuer_judged, claim_judged, claims_judged, names_judged}
 use Rattle.sigstore_policy.specs.Certificate.{verifies_chain, verifies_sct}
+use Rattle.sigstore_policy.specs.Matcher.{is_matched as is_text_matched}
 use Rattle.sigstore_certificate.specs.Scts.{refused_by, scts_in, listed, scts_of, scheme_of, has_scheme, some_scheme, is_of_logs, some_log, written, signed_part_of, is_good_sct, promising_logs, enough_logs, scts_judged}
 use Rattle.sigstore_certificate.proofs.NamesLaw.{passes}
 use Rattle.sigstore_certificate.proofs.Among.{among_from_any, any_from_among}
@@ -137,7 +140,7 @@ module _ (t : Trust) (info : CertificateInfo) (leaf_der : List ℕ) (intermediat
 
   -- ---- its timestamps
 
-  module _ (threshold : LogThreshold) where
+  module _ (threshold : Threshold) where
     abbrev OfTimestamps : Certificate → List ℕ → CertificateRefusal → Type 0
     OfTimestamps c issuer e =
         ((broken : SctRule) × SctCause t threshold c issuer broken × (refusal.Sct broken ≡ e)) ⊎ (LacksLog t leaf_der × (refusal.InvalidTrustRoot ≡ e))
@@ -259,6 +262,7 @@ module _ (t : Trust) (info : CertificateInfo) (leaf_der : List ℕ) (intermediat
     wider refusal.InvalidTrustRoot a c = absurd c
     wider (refusal.IdentityMismatch matcher actual) a c = absurd c
     wider (refusal.IssuerMismatch text actual) a c = absurd c
+    wider (refusal.ClaimMismatch name matcher actual) a c = absurd c
     wider refusal.NoMemory a c = absurd c
 
     lacking : (issuer : List ℕ) (e : CertificateRefusal) → policy.certificate ≡ Verify true → issued_at_each t info leaf_der intermediates times ≡ Ok issuer
@@ -314,14 +318,37 @@ module _ (t : Trust) (info : CertificateInfo) (leaf_der : List ℕ) (intermediat
         by false p k =
             subst (Cause t policy info leaf_der intermediates times) (err_same (refusal.IssuerMismatch text info.issuer) e k) (record { asked = is; said = refl; other = p })
 
+    claim_caused : (one : ClaimMatcher) (e : CertificateRefusal) → Contains policy.claims one → claim_judged one info.ci_claims ≡ Err e
+        → Cause t policy info leaf_der intermediates times e
+    claim_caused one e among h = by (is_text_matched one.text told) refl h
+      where
+        told : Option (List ℕ)
+        told = claim_in info.ci_claims one.name
+
+        by : (b : Bool) → is_text_matched one.text told ≡ b → ◌≡◌ {A = Result ⊤ CertificateRefusal} (if b then Ok tt else Err (refusal.ClaimMismatch one.name one.text told)) (Err e)
+            → Cause t policy info leaf_der intermediates times e
+        by true p k = cc
+        by false p k =
+            subst (Cause t policy info leaf_der intermediates times) (err_same (refusal.ClaimMismatch one.name one.text told) e k) (record { among = among; said = refl; other = p })
+
+    claims_caused : (asked : List ClaimMatcher) (e : CertificateRefusal) → ((one : ClaimMatcher) → Contains asked one → Contains policy.claims one)
+        → claims_judged asked info.ci_claims ≡ Err e → Cause t policy info leaf_der intermediates times e
+    claims_caused [] e within h = cc
+    claims_caused (one ∷ others) e within h =
+        refused_at (claim_judged one info.ci_claims) (λ _. claims_judged others info.ci_claims) e h
+        (λ r. claim_caused one e (within one (first one others)) r)
+        (λ v q k. claims_caused others e (λ x among. within x (later one others x among)) k)
+
     pub caused : (e : CertificateRefusal) → certified_of t policy info leaf_der intermediates times ≡ Err e → Cause t policy info leaf_der intermediates times e
     unfolding certified_of
     caused e h =
         refused_at (chain_judged t policy.certificate policy.scts info leaf_der intermediates times) (λ count. names_judged policy info >>= λ _. Ok count) e h
         (chain_caused policy.certificate e refl) (λ count p k.
         refused_at (names_judged policy info) (λ _. Ok count) e k (λ n.
-        refused_at (identity_judged policy.identity info.identity) (λ _. issuer_judged policy.issuer info.issuer) e n (identity_caused policy.identity e refl)
-        (λ v q l. issuer_caused policy.issuer e refl l)) (λ v q l. cc))
+        refused_at (identity_judged policy.identity info.identity) (λ _. issuer_judged policy.issuer info.issuer >>= λ _. claims_judged policy.claims info.ci_claims) e n
+        (identity_caused policy.identity e refl) (λ v q l.
+        refused_at (issuer_judged policy.issuer info.issuer) (λ _. claims_judged policy.claims info.ci_claims) e l (issuer_caused policy.issuer e refl)
+        (λ w r m. claims_caused policy.claims e (λ one among. among) m))) (λ v q l. cc))
 
 pub refusals : Refusals
 refusals t policy info leaf_der intermediates times e h = caused t info leaf_der intermediates policy times e h

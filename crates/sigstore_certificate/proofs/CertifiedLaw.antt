@@ -5,7 +5,7 @@ use Rattle.foundation.specs.Steps.{◌>>=◌}
 use Rattle.foundation.specs.Results.{step_ok, ok_same}
 use Rattle.jiff_core.specs.declared.timestamp.Timestamp.{Timestamp}
 use Rattle.sigstore_types_parts.specs.TimeRange.{is_by}
-use Rattle.sigstore_keys.specs.declared.log_ids.LogThreshold.{LogThreshold}
+use Rattle.sigstore_keys.specs.declared.distinct.Threshold.{Threshold}
 use Rattle.sigstore_keys.specs.Keyring.{is_used_at}
 use Rattle.certificate_claims.specs.declared.certificate_info.CertificateInfo.{CertificateInfo}
 use Rattle.path_core.specs.declared.error.PathError.{PathError}
@@ -123,20 +123,20 @@ module _ (t : Trust) (info : CertificateInfo) (leaf : List ℕ) (intermediates :
   timed_passes [] timed = absurd (timed refl)
   timed_passes (time ∷ times) timed = refl
 
-  abbrev after_time : Bool → LogThreshold → List Timestamp → ⊤ → Result ℕ CertificateRefusal
+  abbrev after_time : Bool → Threshold → List Timestamp → ⊤ → Result ℕ CertificateRefusal
   after_time verify_sct asked times u = issued_at_each t info leaf intermediates times >>= scts_asked t verify_sct asked leaf
 
-  asked_means : (verify_sct : Bool) (asked : LogThreshold) (issuer : List ℕ) (count : ℕ) → scts_asked t verify_sct asked leaf issuer ≡ Ok count
+  asked_means : (verify_sct : Bool) (asked : Threshold) (issuer : List ℕ) (count : ℕ) → scts_asked t verify_sct asked leaf issuer ≡ Ok count
       → HasSctsIf verify_sct t asked leaf issuer count
   asked_means true asked issuer count h = scts_mean t asked leaf issuer count h
   asked_means false asked issuer count h = sym (ok_same 0 count h)
 
-  asked_passes : (verify_sct : Bool) (asked : LogThreshold) (issuer : List ℕ) (count : ℕ) → HasSctsIf verify_sct t asked leaf issuer count
+  asked_passes : (verify_sct : Bool) (asked : Threshold) (issuer : List ℕ) (count : ℕ) → HasSctsIf verify_sct t asked leaf issuer count
       → scts_asked t verify_sct asked leaf issuer ≡ Ok count
   asked_passes true asked issuer count s = scts_pass t asked leaf issuer count s
   asked_passes false asked issuer count s = ap Ok (sym s)
 
-  chain_means : (policy : CertificatePolicy) (asked : LogThreshold) (times : List Timestamp) (count : ℕ)
+  chain_means : (policy : CertificatePolicy) (asked : Threshold) (times : List Timestamp) (count : ℕ)
       → chain_judged t policy asked info leaf intermediates times ≡ Ok count → IsChainedIf t policy asked info leaf intermediates times count
   unfolding chain_verified
   chain_means Skip asked times count h = sym (ok_same 0 count h)
@@ -145,7 +145,7 @@ module _ (t : Trust) (info : CertificateInfo) (leaf : List ℕ) (intermediates :
       let s = step_ok (issued_at_each t info leaf intermediates times) (scts_asked t verify_sct asked leaf) count a.2 in
       record { timed = timed_means times a.0 a.1; issuer = s.0; valid = each_means times [] s.0 s.1; scts = asked_means verify_sct asked s.0 count s.2 }
 
-  chain_passes : (policy : CertificatePolicy) (asked : LogThreshold) (times : List Timestamp) (count : ℕ)
+  chain_passes : (policy : CertificatePolicy) (asked : Threshold) (times : List Timestamp) (count : ℕ)
       → IsChainedIf t policy asked info leaf intermediates times count → chain_judged t policy asked info leaf intermediates times ≡ Ok count
   unfolding chain_verified
   chain_passes Skip asked times count c = ap Ok (sym c)
@@ -173,7 +173,8 @@ module _ (t : Trust) (info : CertificateInfo) (leaf : List ℕ) (intermediates :
         record {
           chain = chain_means policy.certificate policy.scts times count (s.1 ∙ r.2);
           identity = n.0;
-          issuer = n.1;
+          issuer = n.1.0;
+          claims = n.1.1;
         }
 
     pub accepted_passes : (times : List Timestamp) (count : ℕ) → IsCertified t policy info leaf intermediates times count
@@ -181,7 +182,7 @@ module _ (t : Trust) (info : CertificateInfo) (leaf : List ℕ) (intermediates :
     unfolding certified_of
     accepted_passes times count c =
         ap (λ r. r >>= named) (chain_passes policy.certificate policy.scts times count c.chain)
-        ∙ ap (λ r. r >>= counted count) (names_pass policy info c.identity c.issuer)
+        ∙ ap (λ r. r >>= counted count) (names_pass policy info c.identity c.issuer c.claims)
 
 pub certified_exactly : CertifiedExactly
 certified_exactly t policy info leaf intermediates times count =

@@ -9,11 +9,11 @@ use Rattle.spki_core.specs.declared.error.X509Error.TheVariants.{SctList}
 use Rattle.x509_views.specs.Certificates.{Certificate}
 use Rattle.x509_views.specs.Precertificates.{precert_of}
 use Rattle.x509_views.specs.Scts.{Parts as Sct, signed_of, signed_bytes}
-use Rattle.sigstore_keys.specs.declared.log_ids.LogThreshold.{LogThreshold}
+use Rattle.sigstore_keys.specs.declared.distinct.Threshold.{Threshold}
 use Rattle.sigstore_keys.specs.declared.scheme.SigningScheme.{SigningScheme}
 use Rattle.sigstore_keys.specs.Good.{Judge}
 use Rattle.sigstore_keys.specs.Keyring.{Ring, has_key_of}
-use Rattle.sigstore_keys.specs.LogIds.{count_distinct}
+use Rattle.sigstore_keys.specs.Distinct.{count_distinct}
 use Rattle.sigstore_certificate.specs.declared.error.CertificateRefusal.{CertificateRefusal}
 use Rattle.sigstore_certificate.specs.declared.error.CertificateRefusal.TheVariants.{InvalidTrustRoot}
 use Rattle.sigstore_certificate.specs.declared.error.SctRule.TheVariants as rule
@@ -22,7 +22,7 @@ use Rattle.sigstore_certificate.specs.Scts.{refused_by, scts_of, scheme_of, some
 use Rattle.sigstore_certificate.specs.Scts.{key_under, log_key, good_by, good_under, is_good_sct, promising_logs, enough_logs, scts_judged}
 use Rattle.sigstore_certificate.proofs.SctLaw.{shortened}
 
-module _ (accepts : Judge) (ring : Ring) (asked : LogThreshold) (one : asked.value ≡ 1) (c : Certificate) (issuer : List ℕ) (sct : Sct) where
+module _ (accepts : Judge) (ring : Ring) (asked : Threshold) (one : asked.value ≡ 1) (c : Certificate) (issuer : List ℕ) (sct : Sct) where
   -- whether it is good, where its algorithm has this scheme
   abbrev good : SigningScheme → List ℕ → Bool
   good scheme tbs = good_under accepts ring (sha256 issuer) tbs sct (Some scheme)

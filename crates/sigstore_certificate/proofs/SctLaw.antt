@@ -11,12 +11,12 @@ use Rattle.x509_views.specs.Certificates.{Certificate, certificate_of}
 use Rattle.x509_views.specs.Precertificates.{precert_of}
 use Rattle.x509_views.specs.Scts.{Parts as Sct, signed_of}
 use Rattle.sigstore_keys.specs.declared.key.VerificationKey.{VerificationKey}
-use Rattle.sigstore_keys.specs.declared.log_ids.LogThreshold.{LogThreshold}
+use Rattle.sigstore_keys.specs.declared.distinct.Threshold.{Threshold}
 use Rattle.sigstore_keys.specs.declared.scheme.SigningScheme.{SigningScheme}
 use Rattle.sigstore_keys.specs.Good.{Judge, is_good}
 use Rattle.sigstore_keys.specs.Key.{key_with, same_sort}
 use Rattle.sigstore_keys.specs.Keyring.{has_key_of}
-use Rattle.sigstore_keys.specs.LogIds.{is_enough}
+use Rattle.sigstore_keys.specs.Distinct.{is_enough}
 use Rattle.sigstore_keys.specs.Scheme.{key_algorithm_of}
 use Rattle.sigstore_certificate.specs.declared.error.CertificateRefusal.{CertificateRefusal}
 use Rattle.sigstore_certificate.specs.declared.error.CertificateRefusal.TheVariants.{InvalidTrustRoot}
@@ -152,7 +152,7 @@ good_exactly t issuer tbs sct = (under_means t issuer tbs sct (scheme_of sct.alg
 
 -- ---- the count
 
-pub enough_means : (asked : LogThreshold) (found count : ℕ) → enough_logs asked found ≡ Ok count → (found ≡ count) × (asked.value ≤ found)
+pub enough_means : (asked : Threshold) (found count : ℕ) → enough_logs asked found ≡ Ok count → (found ≡ count) × (asked.value ≤ found)
 enough_means asked found count h = by (is_enough asked found) (leb-true asked.value found) h
   where
     by : (b : Bool) → (b ≡ true → asked.value ≤ found) → (if b then Ok found else refused_by (rule.TooFew asked.value found)) ≡ Ok count
@@ -160,13 +160,13 @@ enough_means asked found count h = by (is_enough asked found) (leb-true asked.va
     by true less k = (ok_same found count k, less refl)
     by false less k = cc
 
-enough_passes : (asked : LogThreshold) (found : ℕ) → asked.value ≤ found → enough_logs asked found ≡ Ok found
+enough_passes : (asked : Threshold) (found : ℕ) → asked.value ≤ found → enough_logs asked found ≡ Ok found
 enough_passes asked found less =
     ap (λ (b : Bool). if b then Ok found else refused_by (rule.TooFew asked.value found)) (le-leb asked.value found less)
 
 -- ---- all of it
 
-module _ (t : Trust) (asked : LogThreshold) (leaf issuer : List ℕ) where
+module _ (t : Trust) (asked : Threshold) (leaf issuer : List ℕ) where
   abbrev count_in : List Sct → List ℕ → ℕ
   count_in scts tbs = promising_logs (is_good_sct t.accepts t.ct_logs (sha256 issuer) tbs) scts
 

@@ -8,10 +8,12 @@ use Rattle.x509_views.specs.Precertificates.{sct_oid, precert_of}
 use Rattle.x509_views.specs.Scts.{Parts as OneSct, sct_list_of}
 use Rattle.der_grammar.specs.Tlv.{IsBytes}
 use Rattle.sigstore_types_parts.specs.TimeRange.{is_by}
-use Rattle.sigstore_keys.specs.declared.log_ids.LogThreshold.{LogThreshold}
+use Rattle.sigstore_keys.specs.declared.distinct.Threshold.{Threshold}
 use Rattle.sigstore_keys.specs.declared.scheme.SigningScheme.{SigningScheme}
 use Rattle.certificate_claims.specs.declared.certificate_info.CertificateInfo.{CertificateInfo}
 use Rattle.certificate_claims.specs.declared.certificate_info.SubjectAltName.{SubjectAltName}
+use Rattle.certificate_claims.specs.declared.claim_name.ClaimName.{ClaimName}
+use Rattle.certificate_claims.specs.ClaimNames.{claim_in}
 use Rattle.certificate_fields.specs.Fields.{value_of, extensions_of}
 use Rattle.path_core.specs.declared.error.LeafFault.{LeafFault}
 use Rattle.path_core.specs.declared.error.PathError.TheVariants.{Leaf}
@@ -21,6 +23,7 @@ use Rattle.path_core.specs.Paths.{setting, IsPath}
 use Rattle.path_core.specs.Traits.{leaf_of}
 use Rattle.sigstore_policy.specs.declared.certificate.IdentityMatcher.{IdentityMatcher}
 use Rattle.sigstore_policy.specs.declared.certificate.VerificationPolicy.{VerificationPolicy}
+use Rattle.sigstore_policy.specs.declared.matcher.TextMatcher.{TextMatcher}
 use Rattle.sigstore_certificate.specs.declared.error.CertificateRefusal.{CertificateRefusal}
 use Rattle.sigstore_certificate.specs.declared.error.CertificateRefusal.TheVariants as refusal
 use Rattle.sigstore_certificate.specs.declared.error.SctRule.{SctRule}
@@ -30,6 +33,7 @@ use Rattle.sigstore_certificate.specs.Error.{refusal_of_path}
 use Rattle.sigstore_certificate.specs.IsCertified.{IsKnown}
 use Rattle.sigstore_certificate.specs.Names.{is_matched, is_text}
 use Rattle.sigstore_policy.specs.Certificate.{verifies_chain, verifies_sct}
+use Rattle.sigstore_policy.specs.Matcher.{is_matched as is_text_matched}
 use Rattle.sigstore_certificate.specs.Scts.{scts_of, scheme_of, is_of_logs, is_good_sct, promising_logs, signed_data_of}
 
 -- ---- the path
@@ -100,14 +104,14 @@ pub record HasTooFew (t : Trust) (c : Certificate) (issuer : List ℕ) (asked fo
   pub few : found < asked
 
 -- the rule that a refusal names is the broken one, and those that come before it are kept
-abbrev pub SctCause : Trust → LogThreshold → Certificate → List ℕ → SctRule → Type 0
+abbrev pub SctCause : Trust → Threshold → Certificate → List ℕ → SctRule → Type 0
 SctCause t threshold c issuer rule.List = HasNoList c
 SctCause t threshold c issuer rule.Scheme = HasNoScheme c
 SctCause t threshold c issuer rule.Precertificate = IsUnwritten t c
 SctCause t threshold c issuer (rule.TooFew asked found) = (asked ≡ threshold.value) × HasTooFew t c issuer asked found
 
 -- there is a path at each verified time; and for the issuer at the last of them the certificate's timestamps break this rule
-pub record LacksScts (t : Trust) (threshold : LogThreshold) (info : CertificateInfo) (leaf : List ℕ) (intermediates : List (List ℕ))
+pub record LacksScts (t : Trust) (threshold : Threshold) (info : CertificateInfo) (leaf : List ℕ) (intermediates : List (List ℕ))
     (times : List Timestamp) (broken : SctRule) : Type 0 where
   pub issuer : List ℕ
   pub valid : issued_at_each t info leaf intermediates times ≡ Ok issuer
@@ -140,6 +144,13 @@ pub record IsByOther (policy : VerificationPolicy) (info : CertificateInfo) (tex
   pub said : info.issuer ≡ actual
   pub other : is_text text actual ≡ false
 
+-- one of the claims that are asked for isn't told so
+pub record LacksClaim (policy : VerificationPolicy) (info : CertificateInfo) (name : ClaimName) (matcher : TextMatcher)
+    (actual : Option (List ℕ)) : Type 0 where
+  pub among : Contains policy.claims (record { name = name; text = matcher })
+  pub said : claim_in info.ci_claims name ≡ actual
+  pub other : is_text_matched matcher actual ≡ false
+
 -- ---- by name
 
 abbrev pub Cause : Trust → VerificationPolicy → CertificateInfo → List ℕ → List (List ℕ) → List Timestamp → CertificateRefusal → Type 0
@@ -158,6 +169,7 @@ Cause t policy info leaf intermediates times (refusal.Sct broken) =
 Cause t policy info leaf intermediates times refusal.InvalidTrustRoot = IsTrue (verifies_sct policy.certificate) × LacksLog t leaf
 Cause t policy info leaf intermediates times (refusal.IdentityMismatch matcher actual) = IsOfOther policy info matcher actual
 Cause t policy info leaf intermediates times (refusal.IssuerMismatch text actual) = IsByOther policy info text actual
+Cause t policy info leaf intermediates times (refusal.ClaimMismatch name matcher actual) = LacksClaim policy info name matcher actual
 Cause t policy info leaf intermediates times refusal.NoMemory = ⊥
 
 -- each refusal comes only where its cause holds

@@ -7,7 +7,7 @@ use Rattle.jiff_core.specs.declared.timestamp.Timestamp.{Timestamp}
 use Rattle.spki_core.specs.Reading.{Reading}
 use Rattle.x509_views.specs.Certificates.{Certificate, certificate_of}
 use Rattle.sigstore_types_parts.specs.TimeRange.{is_by}
-use Rattle.sigstore_keys.specs.declared.log_ids.LogThreshold.{LogThreshold}
+use Rattle.sigstore_keys.specs.declared.distinct.Threshold.{Threshold}
 use Rattle.sigstore_keys.specs.Good.{Judge}
 use Rattle.sigstore_keys.specs.Keyring.{Ring, is_used_at}
 use Rattle.certificate_claims.specs.declared.certificate_info.CertificateInfo.{CertificateInfo}
@@ -77,16 +77,16 @@ parts_read (Ok c) = Ok c
 parts_read (Err e) = Err Malformed
 
 -- as many logs as are asked for promised the certificate, by that key of its issuer; so many did
-unfoldable pub leaf_scts_judged : Trust → LogThreshold → List ℕ → List ℕ → Result ℕ CertificateRefusal
+unfoldable pub leaf_scts_judged : Trust → Threshold → List ℕ → List ℕ → Result ℕ CertificateRefusal
 leaf_scts_judged t asked leaf issuer_spki =
     parts_read (certificate_of leaf) >>= λ c. scts_judged t.accepts t.ct_logs asked c issuer_spki
 
-abbrev pub scts_asked : Trust → Bool → LogThreshold → List ℕ → List ℕ → Result ℕ CertificateRefusal
+abbrev pub scts_asked : Trust → Bool → Threshold → List ℕ → List ℕ → Result ℕ CertificateRefusal
 scts_asked t false asked leaf issuer_spki = Ok 0
 scts_asked t true asked leaf issuer_spki = leaf_scts_judged t asked leaf issuer_spki
 
 unfoldable pub chain_verified :
-    Trust → Bool → LogThreshold → CertificateInfo → List ℕ → List (List ℕ) → List Timestamp → Result ℕ CertificateRefusal
+    Trust → Bool → Threshold → CertificateInfo → List ℕ → List (List ℕ) → List Timestamp → Result ℕ CertificateRefusal
 chain_verified t verify_sct asked info leaf intermediates times = do
   _ ← some_time_judged times
   issuer_spki ← issued_at_each t info leaf intermediates times
@@ -95,13 +95,14 @@ chain_verified t verify_sct asked info leaf intermediates times = do
 -- ---- all that a policy asks
 
 abbrev pub chain_judged :
-    Trust → CertificatePolicy → LogThreshold → CertificateInfo → List ℕ → List (List ℕ) → List Timestamp → Result ℕ CertificateRefusal
+    Trust → CertificatePolicy → Threshold → CertificateInfo → List ℕ → List (List ℕ) → List Timestamp → Result ℕ CertificateRefusal
 chain_judged t Skip asked info leaf intermediates times = Ok 0
 chain_judged t (Verify verify_sct) asked info leaf intermediates times = chain_verified t verify_sct asked info leaf intermediates times
 
 -- The certificate that the information was read of, the intermediates beside it, and the verified times of a signature by it; so many
 -- different logs promised the certificate, as far as that was asked.
-unfoldable pub certified_of : Trust → VerificationPolicy → CertificateInfo → List ℕ → List (List ℕ) → List Timestamp → Result ℕ CertificateRefusal
+unfoldable pub certified_of :
+    Trust → VerificationPolicy → CertificateInfo → List ℕ → List (List ℕ) → List Timestamp → Result ℕ CertificateRefusal
 certified_of t policy info leaf intermediates times = do
   promised ← chain_judged t policy.certificate policy.scts info leaf intermediates times
   _ ← names_judged policy info

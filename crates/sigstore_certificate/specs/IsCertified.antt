@@ -1,5 +1,7 @@
 -- What it means that a certificate is accepted for a signature, told without any order of checks.
-use Rattle.std.specs.Prelude.{◌≡◌, ◌≢◌, ◌↔◌, ◌≤◌, ◌<◌, ℕ, List, [], ◌∷◌, length, Contains, Bool, true, false, ⊤, Option, Some, None, Ok, IsTrue}
+use Rattle.std.specs.Prelude.{◌≡◌, ◌≢◌, ◌↔◌, ◌≤◌, ◌<◌, ℕ, List, [], ◌∷◌, length}
+use Rattle.std.specs.Prelude.{Contains, Bool, true, false, ⊤, Option, Some, None, Ok, IsTrue}
+use Rattle.std.specs.List.{AllByRecursion}
 use Rattle.sha2.specs.Sha256.{sha256}
 use Rattle.jiff_core.specs.declared.timestamp.Timestamp.{Timestamp}
 use Rattle.x509_views.specs.Certificates.{Certificate, certificate_of}
@@ -8,7 +10,7 @@ use Rattle.x509_views.specs.Scts.{Parts as Sct, signed_of}
 use Rattle.sigstore_types_parts.specs.Instant.{at_millisecond}
 use Rattle.sigstore_types_parts.specs.TimeRange.{is_by}
 use Rattle.sigstore_keys.specs.declared.key.VerificationKey.{VerificationKey}
-use Rattle.sigstore_keys.specs.declared.log_ids.LogThreshold.{LogThreshold}
+use Rattle.sigstore_keys.specs.declared.distinct.Threshold.{Threshold}
 use Rattle.sigstore_keys.specs.declared.scheme.SigningScheme.{SigningScheme}
 use Rattle.sigstore_keys.specs.Good.{is_good}
 use Rattle.sigstore_keys.specs.Key.{key_with, same_sort}
@@ -16,6 +18,8 @@ use Rattle.sigstore_keys.specs.Keyring.{is_used_at, key_at, has_key_of}
 use Rattle.sigstore_keys.specs.Scheme.{key_algorithm_of}
 use Rattle.certificate_claims.specs.declared.certificate_info.CertificateInfo.{CertificateInfo}
 use Rattle.certificate_claims.specs.declared.certificate_info.SubjectAltName.{SubjectAltName}
+use Rattle.certificate_claims.specs.declared.claims.FulcioCiClaims.{FulcioCiClaims}
+use Rattle.certificate_claims.specs.ClaimNames.{claim_in}
 use Rattle.path_core.specs.declared.purpose.Purpose.TheVariants.{CodeSigning}
 use Rattle.path_core.specs.declared.route.FoundPath.{FoundPath}
 use Rattle.path_core.specs.Anchors.{TrustAnchor}
@@ -24,8 +28,10 @@ use Rattle.sigstore_policy.specs.declared.certificate.CertificatePolicy.{Certifi
 use Rattle.sigstore_policy.specs.declared.certificate.CertificatePolicy.TheVariants.{Skip, Verify}
 use Rattle.sigstore_policy.specs.declared.certificate.IdentityMatcher.{IdentityMatcher}
 use Rattle.sigstore_policy.specs.declared.certificate.VerificationPolicy.{VerificationPolicy}
+use Rattle.sigstore_policy.specs.declared.matcher.ClaimMatcher.{ClaimMatcher}
 use Rattle.sigstore_certificate.specs.Certified.{Trust, certified_of}
 use Rattle.sigstore_policy.specs.Certificate.{matches}
+use Rattle.sigstore_policy.specs.Matcher.{text_matches}
 use Rattle.sigstore_certificate.specs.Scts.{scheme_of, scts_of, is_good_sct, promising_logs}
 
 -- ---- the path
@@ -61,7 +67,7 @@ pub record IsKnown (t : Trust) (scts : List Sct) : Type 0 where
 
 -- The certificate has a list of timestamps, one of a scheme of which some trusted log has a key; its signed part without them can be
 -- written, in less than 2^24 octets; as many different logs as are asked for have a good one for it; and so many do.
-pub record HasScts (t : Trust) (asked : LogThreshold) (leaf issuer : List ℕ) (promised : ℕ) : Type 0 where
+pub record HasScts (t : Trust) (asked : Threshold) (leaf issuer : List ℕ) (promised : ℕ) : Type 0 where
   pub parts : Certificate
   pub read : certificate_of leaf ≡ Ok parts
   pub scts : List Sct
@@ -73,12 +79,12 @@ pub record HasScts (t : Trust) (asked : LogThreshold) (leaf issuer : List ℕ) (
   pub logs : promised ≡ promising_logs (is_good_sct t.accepts t.ct_logs (sha256 issuer) tbs) scts
   pub enough : asked.value ≤ promised
 
-abbrev pub HasSctsIf : Bool → Trust → LogThreshold → List ℕ → List ℕ → ℕ → Type 0
+abbrev pub HasSctsIf : Bool → Trust → Threshold → List ℕ → List ℕ → ℕ → Type 0
 HasSctsIf false t asked leaf issuer promised = promised ≡ 0
 HasSctsIf true t asked leaf issuer promised = HasScts t asked leaf issuer promised
 
 -- there is a verified time, it was valid at each, and where that is asked for promised by logs for the issuer at the last of them
-pub record IsChained (t : Trust) (verify_sct : Bool) (asked : LogThreshold) (info : CertificateInfo) (leaf : List ℕ)
+pub record IsChained (t : Trust) (verify_sct : Bool) (asked : Threshold) (info : CertificateInfo) (leaf : List ℕ)
     (intermediates : List (List ℕ)) (times : List Timestamp) (promised : ℕ) : Type 0 where
   pub timed : times ≢ []
   pub issuer : List ℕ
@@ -86,7 +92,7 @@ pub record IsChained (t : Trust) (verify_sct : Bool) (asked : LogThreshold) (inf
   pub scts : HasSctsIf verify_sct t asked leaf issuer promised
 
 abbrev pub IsChainedIf :
-    Trust → CertificatePolicy → LogThreshold → CertificateInfo → List ℕ → List (List ℕ) → List Timestamp → ℕ → Type 0
+    Trust → CertificatePolicy → Threshold → CertificateInfo → List ℕ → List (List ℕ) → List Timestamp → ℕ → Type 0
 IsChainedIf t Skip asked info leaf intermediates times promised = promised ≡ 0
 IsChainedIf t (Verify verify_sct) asked info leaf intermediates times promised =
     IsChained t verify_sct asked info leaf intermediates times promised
@@ -120,6 +126,13 @@ abbrev pub HasIssuer : Option (List ℕ) → Option (List ℕ) → Type 0
 HasIssuer None actual = ⊤
 HasIssuer (Some text) actual = actual ≡ Some text
 
+-- a claim is told under its own name, and is what is asked for
+abbrev pub HasClaim : FulcioCiClaims → ClaimMatcher → Type 0
+HasClaim claims asked = (text : List ℕ) × (claim_in claims asked.name ≡ Some text) × IsTrue (text_matches asked.text text)
+
+abbrev pub HasClaims : List ClaimMatcher → FulcioCiClaims → Type 0
+HasClaims asked claims = AllByRecursion (HasClaim claims) asked
+
 -- ---- all of it
 
 pub record IsCertified (t : Trust) (policy : VerificationPolicy) (info : CertificateInfo) (leaf : List ℕ) (intermediates : List (List ℕ))
@@ -127,6 +140,7 @@ pub record IsCertified (t : Trust) (policy : VerificationPolicy) (info : Certifi
   pub chain : IsChainedIf t policy.certificate policy.scts info leaf intermediates times promised
   pub identity : HasIdentity policy.identity info.identity
   pub issuer : HasIssuer policy.issuer info.issuer
+  pub claims : HasClaims policy.claims info.ci_claims
 
 -- the judgement accepts exactly the certificates that are to be accepted, and tells how many different logs promised each
 abbrev pub CertifiedExactly : Type 0

@@ -4,7 +4,7 @@ use Rattle.foundation.specs.Steps.{◌>>=◌}
 use Rattle.sha2.specs.Sha256.{sha256}
 use Rattle.x509_views.specs.Certificates.{Certificate}
 use Rattle.x509_views.specs.Scts.{Parts as Sct}
-use Rattle.sigstore_keys.specs.declared.log_ids.LogThreshold.{LogThreshold}
+use Rattle.sigstore_keys.specs.declared.distinct.Threshold.{Threshold}
 use Rattle.sigstore_keys.specs.declared.scheme.SigningScheme.{SigningScheme}
 use Rattle.sigstore_keys.specs.Good.{Judge}
 use Rattle.sigstore_keys.specs.Keyring.{Ring, has_key_of}
@@ -31,5 +31,5 @@ alone_of accepts ring c issuer_spki sct = do
 
 -- a certificate with one timestamp, of which one log is asked, is judged by that timestamp alone
 abbrev pub OneAlone : Type 0
-OneAlone = (accepts : Judge) (ring : Ring) (asked : LogThreshold) (c : Certificate) (issuer_spki : List ℕ) (sct : Sct) → asked.value ≡ 1
+OneAlone = (accepts : Judge) (ring : Ring) (asked : Threshold) (c : Certificate) (issuer_spki : List ℕ) (sct : Sct) → asked.value ≡ 1
     → scts_of c ≡ Ok (sct ∷ []) → scts_judged accepts ring asked c issuer_spki ≡ alone_of accepts ring c issuer_spki sct

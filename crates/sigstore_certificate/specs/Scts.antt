@@ -10,14 +10,14 @@ use Rattle.x509_views.specs.Precertificates.{sct_oid, precert_of}
 use Rattle.x509_views.specs.Scts.{Parts as Sct, sct_list_of, signed_of}
 use Rattle.sigstore_types_parts.specs.Instant.{at_millisecond}
 use Rattle.sigstore_keys.specs.declared.key.VerificationKey.{VerificationKey}
-use Rattle.sigstore_keys.specs.declared.log_ids.LogThreshold.{LogThreshold}
+use Rattle.sigstore_keys.specs.declared.distinct.Threshold.{Threshold}
 use Rattle.sigstore_keys.specs.declared.scheme.SigningScheme.{SigningScheme}
 use Rattle.sigstore_keys.specs.declared.scheme.SigningScheme.TheVariants.{EcdsaP256Sha256, EcdsaP384Sha384}
 use Rattle.sigstore_keys.specs.declared.scheme.SigningScheme.TheVariants.{RsaPkcs1Sha256, RsaPkcs1Sha384, RsaPkcs1Sha512}
 use Rattle.sigstore_keys.specs.Good.{Judge, is_good}
 use Rattle.sigstore_keys.specs.Key.{key_with, same_sort}
 use Rattle.sigstore_keys.specs.Keyring.{Ring, key_at, has_key_of}
-use Rattle.sigstore_keys.specs.LogIds.{count_distinct, is_enough}
+use Rattle.sigstore_keys.specs.Distinct.{count_distinct, is_enough}
 use Rattle.sigstore_keys.specs.Scheme.{key_algorithm_of}
 use Rattle.certificate_fields.specs.Fields.{value_of, extensions_of}
 use Rattle.sigstore_certificate.specs.declared.error.SctRule.{SctRule}
@@ -134,14 +134,14 @@ promising_logs good scts = count_distinct (filter_map (promising good) scts)
 
 -- As many different logs as are asked for have a good one, or more: one log alone could keep the certificate to itself, or show it to
 -- nobody but whoever asked for it.
-abbrev pub enough_logs : LogThreshold → ℕ → Result ℕ CertificateRefusal
+abbrev pub enough_logs : Threshold → ℕ → Result ℕ CertificateRefusal
 enough_logs asked found = if is_enough asked found then Ok found else refused_by (rule.TooFew asked.value found)
 
 -- ---- all of it
 
 -- The certificate has a list of timestamps; some of them has a scheme, and some such scheme a trusted log's key; the signed part can be
 -- written; and enough logs have a good timestamp, for the certificate's issuer by that key. So many logs do.
-unfoldable pub scts_judged : Judge → Ring → LogThreshold → Certificate → List ℕ → Result ℕ CertificateRefusal
+unfoldable pub scts_judged : Judge → Ring → Threshold → Certificate → List ℕ → Result ℕ CertificateRefusal
 scts_judged accepts ring asked c issuer_spki = do
   scts ← scts_of c
   _ ← some_scheme scts

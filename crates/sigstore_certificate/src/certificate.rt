@@ -9,7 +9,7 @@ use crate::names::check_names;
 use crate::scts::check_scts;
 use crate::times::issuer_at_each;
 use jiff::Timestamp;
-use sigstore_keys::{CryptoProvider, LogThreshold};
+use sigstore_keys::{CryptoProvider, Threshold};
 use sigstore_policy::{CertificatePolicy, VerificationPolicy};
 use std::alloc::Global;
 use x509_views::{CertView, X509Error};
@@ -19,7 +19,7 @@ use x509_views::{CertView, X509Error};
 fn check_leaf_scts<C: CryptoProvider>(
     alloc: Global,
     given: &CertificateInputs<C>,
-    asked: LogThreshold,
+    asked: Threshold,
     issuer_spki: &[u8],
 ) -> Result<u64, CertificateRefusal>
     ensures ok { IfOk result (λ count. leaf_scts_judged (trust_of C.accepts given.now) asked given.now.leaf.now issuer_spki.now ≡ Ok count) }
@@ -46,7 +46,7 @@ fn check_promised<C: CryptoProvider>(
     alloc: Global,
     given: &CertificateInputs<C>,
     verify_sct: bool,
-    asked: LogThreshold,
+    asked: Threshold,
     issuer_spki: &[u8],
 ) -> Result<u64, CertificateRefusal>
     ensures ok { IfOk result (λ count. scts_asked (trust_of C.accepts given.now) verify_sct asked given.now.leaf.now issuer_spki.now ≡ Ok count) }
@@ -77,7 +77,7 @@ fn check_chain<C: CryptoProvider>(
     alloc: Global,
     given: &CertificateInputs<C>,
     verify_sct: bool,
-    asked: LogThreshold,
+    asked: Threshold,
     times: &[Timestamp],
 ) -> Result<u64, CertificateRefusal>
     ensures ok { IfOk result (λ count.
@@ -95,7 +95,7 @@ fn check_asked<C: CryptoProvider>(
     alloc: Global,
     given: &CertificateInputs<C>,
     policy: CertificatePolicy,
-    asked: LogThreshold,
+    asked: Threshold,
     times: &[Timestamp],
 ) -> Result<u64, CertificateRefusal>
     ensures ok { IfOk result (λ count.
@@ -115,9 +115,9 @@ fn check_asked<C: CryptoProvider>(
 /// was read of it, and the intermediates are those beside it. Then the number of different logs of certificates that
 /// promised it, 0 where that isn't verified. Errors, in order: `NoTime`; for each time `NoValidAuthority`, `Malformed`,
 /// `ChainInvalid`, `NotYetValid`, `Expired`; of the timestamps of logs of certificates, for the issuer by the path at
-/// the last time, `Sct` and `InvalidTrustRoot`, and `Sct` again; `IdentityMismatch`, `IssuerMismatch`. One search for a
-/// path is made for each time that differs from those before; each judges at most (n + 1) * (n + m) pairs of n
-/// intermediates and m anchors.
+/// the last time, `Sct` and `InvalidTrustRoot`, and `Sct` again; `IdentityMismatch`, `IssuerMismatch`, `ClaimMismatch`. One
+/// search for a path is made for each time that differs from those before; each judges at most (n + 1) * (n + m) pairs of
+/// n intermediates and m anchors.
 #[tactic(auto, unfolding(crate::specs::Certified::certified_of))]
 pub fn judge_certificate<C: CryptoProvider>(
     alloc: Global,

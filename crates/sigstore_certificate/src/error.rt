@@ -3,11 +3,11 @@ ghost use Rattle.std.specs.Prelude.{◌≡◌};
 ghost use Rattle.sigstore_certificate.specs.Error.{refusal_of_path};
 ghost use Rattle.sigstore_certificate.specs.declared.error.CertificateRefusal.TheVariants.{NoMemory};
 
-use certificate_claims::SubjectAltName;
+use certificate_claims::{ClaimName, SubjectAltName};
 use foundation::NoMemory;
 use jiff::Timestamp;
 use path_core::{LeafFault, PathError};
-use sigstore_policy::IdentityMatcher;
+use sigstore_policy::{IdentityMatcher, TextMatcher};
 use sigstore_types_parts::Text;
 use std::{error, fmt};
 
@@ -64,6 +64,12 @@ pub enum CertificateRefusal {
         expected: Text,
         actual: Option<Text>,
     },
+    /// It doesn't tell what is asked for under this name.
+    ClaimMismatch {
+        name: ClaimName,
+        expected: TextMatcher,
+        actual: Option<Text>,
+    },
     /// An allocation was refused.
     NoMemory,
 }
@@ -114,6 +120,7 @@ impl fmt::Display for CertificateRefusal {
             CertificateRefusal::InvalidTrustRoot => "InvalidTrustRoot",
             CertificateRefusal::IdentityMismatch { .. } => "IdentityMismatch",
             CertificateRefusal::IssuerMismatch { .. } => "IssuerMismatch",
+            CertificateRefusal::ClaimMismatch { .. } => "ClaimMismatch",
             CertificateRefusal::NoMemory => "NoMemory",
         })
     }

@@ -19,4 +19,6 @@ pub use given::{Presented, TrustedAuthorities};
 pub use laws::{
     certified_exactly, good_exactly, one_sct_alone, refusals_have_causes, sct_is_written,
 };
-pub use sigstore_policy::{CertificatePolicy, IdentityMatcher, VerificationPolicy};
+pub use sigstore_policy::{
+    CertificatePolicy, ClaimMatcher, IdentityMatcher, TextMatcher, VerificationPolicy,
+};

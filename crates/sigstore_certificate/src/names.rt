@@ -1,11 +1,11 @@
-// Whether a certificate names the identity and the issuer that are asked for.
-ghost use Rattle.std.specs.Prelude.{◌≡◌, ◌≢◌, Ok, Err, IfOk, IfErr};
-ghost use Rattle.sigstore_certificate.specs.Names.{is_matched, identity_judged, is_text, issuer_judged, names_judged};
+// Whether a certificate names the identity and the issuer that are asked for, and claims what is.
+ghost use Rattle.std.specs.Prelude.{◌≡◌, ◌≢◌, Ok, Err, IfOk, IfErr, option_copied};
+ghost use Rattle.sigstore_certificate.specs.Names.{is_matched, identity_judged, is_text, issuer_judged, claim_judged, claims_judged, names_judged};
 
 use crate::error::CertificateRefusal;
-use certificate_claims::{CertificateInfo, SubjectAltName};
+use certificate_claims::{CertificateInfo, FulcioCiClaims, SubjectAltName};
 use foundation::{Duplicate, NoMemory};
-use sigstore_policy::{IdentityMatcher, VerificationPolicy};
+use sigstore_policy::{ClaimMatcher, IdentityMatcher, VerificationPolicy};
 use sigstore_types_parts::Text;
 use std::alloc::Global;
 
@@ -94,7 +94,61 @@ fn check_issuer(
     Err(other_issuer(alloc, text, actual)?)
 }
 
-/// Whether a certificate names what is asked for. Errors, in order: `IdentityMismatch`, `IssuerMismatch`.
+fn copied(alloc: Global, told: Option<&str>) -> Result<Option<Text>, NoMemory>
+    ensures { IfOk result (λ copy. copy ≡ option_copied told.entry) }
+{
+    match told {
+        Some(text) => Ok(Some(Text::new(alloc, text)?)),
+        None => Ok(None),
+    }
+}
+
+fn other_claim(
+    alloc: Global,
+    asked: &ClaimMatcher,
+    told: Option<&str>,
+) -> Result<CertificateRefusal, NoMemory>
+    ensures { IfOk result (λ e. e ≡ CertificateRefusal.ClaimMismatch asked.now.name asked.now.text (option_copied told.entry)) }
+{
+    Ok(CertificateRefusal::ClaimMismatch {
+        name: asked.name,
+        expected: asked.text.duplicate(alloc)?,
+        actual: copied(alloc, told)?,
+    })
+}
+
+// Else another workflow, or another repository's run of it, could have signed under the identity.
+fn check_claim(
+    alloc: Global,
+    asked: &ClaimMatcher,
+    claims: &FulcioCiClaims,
+) -> Result<(), CertificateRefusal>
+    ensures ok { IfOk result (λ x. claim_judged asked.now claims.now ≡ Ok x) }
+    ensures err { IfErr result (λ e. e ≢ CertificateRefusal.NoMemory → claim_judged asked.now claims.now ≡ Err e) }
+{
+    let told = claims.get(asked.name);
+    if asked.text.is_matched(alloc, told)? {
+        return Ok(());
+    }
+    Err(other_claim(alloc, asked, told)?)
+}
+
+fn check_claims(
+    alloc: Global,
+    asked: &[ClaimMatcher],
+    claims: &FulcioCiClaims,
+) -> Result<(), CertificateRefusal>
+    ensures ok { IfOk result (λ x. claims_judged asked.now claims.now ≡ Ok x) }
+    ensures err { IfErr result (λ e. e ≢ CertificateRefusal.NoMemory → claims_judged asked.now claims.now ≡ Err e) }
+{
+    'claims: for claim in asked {
+        check_claim(alloc, claim, claims)?;
+    }
+    Ok(())
+}
+
+/// Whether a certificate names what is asked for. Errors, in order: `IdentityMismatch`, `IssuerMismatch`, and
+/// `ClaimMismatch` for the first claim that it doesn't tell so.
 pub(crate) fn check_names(
     alloc: Global,
     policy: &VerificationPolicy,
@@ -105,5 +159,6 @@ pub(crate) fn check_names(
 {
     check_identity(alloc, &policy.identity, &info.identity)?;
     check_issuer(alloc, &policy.issuer, &info.issuer)?;
+    check_claims(alloc, policy.claims.as_slice(), &info.ci_claims)?;
     Ok(())
 }

@@ -8,7 +8,7 @@ ghost use Rattle.x509_views.specs.Views.{certificate_parts};
 ghost use Rattle.sigstore_keys.specs.Good.{is_good};
 ghost use Rattle.sigstore_keys.specs.Key.{same_sort};
 ghost use Rattle.sigstore_keys.specs.Keyring.{has_key_of, key_at};
-ghost use Rattle.sigstore_keys.specs.LogIds.{with_id, each_once, count_distinct, is_enough};
+ghost use Rattle.sigstore_keys.specs.Distinct.{with_id, each_once, count_distinct, is_enough};
 ghost use Rattle.sigstore_certificate.specs.Scts.{scts_in, listed, scts_of, scheme_of, has_scheme, some_scheme, is_of_logs, some_log, written, signed_part_of};
 ghost use Rattle.sigstore_certificate.specs.Given.{is_good_in};
 ghost use Rattle.sigstore_certificate.specs.Scts.{key_under, log_key, good_over, good_by, good_under, is_good_sct, promising, promising_logs, enough_logs, scts_judged};
@@ -20,7 +20,7 @@ use certificate_fields::extension_value;
 use der_core::OctetString;
 use foundation::{NoMemory, Sequence};
 use sigstore_keys::{
-    CryptoProvider, Keyring, LogIds, LogThreshold, SigningScheme, VerificationKey, sha256,
+    CryptoProvider, DistinctIds, Keyring, SigningScheme, Threshold, VerificationKey, sha256,
 };
 use sigstore_types_parts::{Bytes, Sha256Hash, SignatureBytes, at_millisecond};
 use std::alloc::Global;
@@ -222,12 +222,12 @@ fn add_log<C: CryptoProvider>(
     alloc: Global,
     given: &SctInputs<C>,
     sct: &Sct,
-    logs: &mut LogIds,
+    logs: &mut DistinctIds,
 ) -> Result<(), NoMemory>
     ensures { OnOk result (logs.new.ids ≡ each_once logs.old.ids (cons_option (promising (is_good_in C.accepts given.now) sct.now) [])) }
 {
     if is_good(alloc, given, sct)? {
-        logs.add(&Sha256Hash::new(*sct.log_id()))?;
+        logs.add(alloc, sct.log_id())?;
     }
     Ok(())
 }
@@ -240,7 +240,7 @@ fn promising_logs<C: CryptoProvider>(
 ) -> Result<u64, NoMemory>
     ensures { IfOk result (λ count. count ≡ promising_logs (is_good_in C.accepts given.now) scts.now) }
 {
-    let mut logs = LogIds::new(alloc);
+    let mut logs = DistinctIds::new(alloc);
     'scts: for sct in scts {
         add_log(alloc, given, sct, &mut logs)?;
     }
@@ -248,7 +248,7 @@ fn promising_logs<C: CryptoProvider>(
 }
 
 // As many logs as are asked for: fewer could hide what was issued.
-fn check_count(asked: LogThreshold, found: u64) -> Result<u64, CertificateRefusal>
+fn check_count(asked: Threshold, found: u64) -> Result<u64, CertificateRefusal>
     ensures { result ≡ enough_logs asked found }
 {
     if asked.is_met_by(found) {
@@ -270,7 +270,7 @@ pub(crate) fn check_scts<C: CryptoProvider>(
     alloc: Global,
     provider: &C,
     ct_logs: &Keyring,
-    asked: LogThreshold,
+    asked: Threshold,
     certificate: &CertView,
     issuer_spki: &[u8],
 ) -> Result<u64, CertificateRefusal>

@@ -1,6 +1,6 @@
 use Rattle.std.proofs.Common.{◌≡◌, [], drop}
 use Rattle.std.specs.Prelude.{filter_map}
-use Rattle.sigstore_keys.specs.LogIds.{each_once}
+use Rattle.sigstore_keys.specs.Distinct.{each_once}
 use Rattle.sigstore_certificate.specs.Given.{is_good_in}
 use Rattle.sigstore_certificate.specs.Scts.{promising}
 use Rattle.sigstore_certificate.proofs.scts.promising_logs.Given as goal
