@@ -130,6 +130,11 @@ handed_on verify.TrustRoot c = refl
 handed_on verify.TrustedCertificate c = refl
 handed_on (verify.ArtifactRead fault) c = refl
 handed_on (verify.TooFewLogs asked found) c = refl
+handed_on (verify.ClaimMismatch a b c) chain = refl
+handed_on (verify.PredicateMismatch a b) chain = refl
+handed_on (verify.TooFewTimes a b) chain = refl
+handed_on (verify.TooFewTokens a b) chain = refl
+handed_on (verify.TimeOutside a) chain = refl
 handed_on verify.NoMemory c = refl
 
 -- no refusal of the chain
@@ -157,6 +162,11 @@ judges verify.TrustRoot c = tt
 judges verify.TrustedCertificate c = tt
 judges (verify.ArtifactRead fault) c = tt
 judges (verify.TooFewLogs asked found) c = tt
+judges (verify.ClaimMismatch a b c) chain = tt
+judges (verify.PredicateMismatch a b) chain = tt
+judges (verify.TooFewTimes a b) chain = tt
+judges (verify.TooFewTokens a b) chain = tt
+judges (verify.TimeOutside a) chain = tt
 judges verify.NoMemory c = tt
 
 accepted_by : (v : Result JudgedBundle Error) (chain : TrustChain) (rooted : Acceptance) → Ok rooted ≡ rooted_of chain v → Ok tt ≡ outcome_of v

@@ -1,5 +1,6 @@
 -- The command that verifies a workload: its words, and what each of its statuses means.
-use Rattle.std.specs.Prelude.{◌≡◌, ◌⊎◌, ℕ, ◌^◌, ◌==◌, nat_lt, List, [], ◌∷◌, length, codes, bytes_eq, Bool, false, if◌then◌else◌}
+use Rattle.std.specs.Prelude.{◌≡◌, ◌⊎◌, ℕ, ◌^◌, ◌==◌, nat_lt, List}
+use Rattle.std.specs.Prelude.{[], ◌∷◌, length, codes, bytes_eq, Bool, false, if◌then◌else◌}
 use Rattle.std.specs.Prelude.{None, Result, Ok, Err, ok_or}
 use Rattle.std.specs.Result.{result_ok}
 use Rattle.foundation.specs.Steps.{◌>>=◌}

@@ -10,8 +10,8 @@ use sigstore_types_parts::{DerCertificate, Text};
 use std::alloc::Global;
 
 /// What asks for the owner of a mail address on an issuer's word.
-pub fn policy_for(address: Text, issuer: Text) -> VerificationPolicy {
-    VerificationPolicy::new(IdentityMatcher::Email(address), issuer)
+pub fn policy_for(alloc: Global, address: Text, issuer: Text) -> VerificationPolicy {
+    VerificationPolicy::new(alloc, IdentityMatcher::Email(address), issuer)
 }
 
 /// Whether whom the policy asks for signed at a moment that is known, by the first of these certificates, which one of the

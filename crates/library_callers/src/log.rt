@@ -1,7 +1,7 @@
 //! A caller of `sigstore_log`.
 use jiff::Timestamp;
 use sigstore_entries::TransparencyLogEntry;
-use sigstore_keys::{CryptoProvider, Error, Keyring, LogIds, VerificationKey, sha256};
+use sigstore_keys::{CryptoProvider, DistinctIds, Error, Keyring, VerificationKey, sha256};
 use sigstore_log::{LogError, judge_entry};
 use sigstore_types_parts::DerPublicKey;
 use std::alloc::Global;
@@ -24,10 +24,10 @@ pub fn count_logs<C: CryptoProvider>(
     now: Timestamp,
     entries: &[TransparencyLogEntry],
 ) -> Result<u64, LogError> {
-    let mut signed = LogIds::new(alloc);
+    let mut signed = DistinctIds::new(alloc);
     for entry in entries {
         let shown = judge_entry(alloc, provider, logs, now, entry)?;
-        signed.add(&shown.log)?;
+        signed.add(alloc, shown.log.as_bytes())?;
     }
     Ok(signed.count())
 }

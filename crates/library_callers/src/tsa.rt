@@ -17,9 +17,9 @@ pub fn earliest_time<C: CryptoProvider>(
     let mut earliest: Option<Timestamp> = None;
     for token in tokens {
         match token_time(alloc, provider, token, signature, authorities) {
-            Ok(time) => match earliest {
-                Some(other) if other <= time => (),
-                _ => earliest = Some(time),
+            Ok(stamped) => match earliest {
+                Some(other) if other <= stamped.time => (),
+                _ => earliest = Some(stamped.time),
             },
             Err(TokenFault::NoMemory) => return Err(NoMemory),
             Err(_) => (),

@@ -28,11 +28,13 @@ use Rattle.sigstore_certificate.proofs.CertifiedLaw.{certified_exactly}
 use Rattle.sigstore_judgement.specs.declared.error.Error.{Error}
 use Rattle.sigstore_judgement.specs.declared.error.Error.TheVariants.{UnsupportedArtifact}
 use Rattle.sigstore_judgement.specs.declared.evidence.Evidence.{Evidence}
+use Rattle.sigstore_judgement.specs.declared.evidence.Parties.{Parties}
 use Rattle.sigstore_judgement.specs.declared.report.VerificationResult.{VerificationResult}
 use Rattle.sigstore_policy.specs.declared.public_key.PublicKeyVerificationPolicy.{PublicKeyVerificationPolicy}
 use Rattle.sigstore_judgement.specs.Accepts.{ManagedVouches, OwnerVouches, Vouches, Accepts, AcceptsExactly}
 use Rattle.sigstore_judgement.specs.Artifact.{Artifact, Kind, kind_of, digest_of, bytes_of}
 use Rattle.sigstore_judgement.specs.Claim.{Claim, claim_of, needed_of, is_bound, IsBound}
+use Rattle.sigstore_judgement.specs.Conditions.{conditions_judged_of}
 use Rattle.sigstore_judgement.specs.Content.{scheme_of, signs_digest, supported_of, subject_in, signature_in, is_good_of, is_signed, first_refusal, content_judged_of}
 use Rattle.sigstore_judgement.specs.Entries.{log_judged_of, log_count_of, logs_judged_of, told_if, entries_described_of}
 use Rattle.sigstore_judgement.specs.Error.{by_types, by_crypto, by_info, by_certificate}
@@ -40,10 +42,12 @@ use Rattle.sigstore_judgement.specs.Evidence.{managed_evidence, owner_evidence, 
 use Rattle.sigstore_judgement.specs.Grounds.{Grounds, trust_in, Terms}
 use Rattle.sigstore_judgement.specs.Judged.{Ready, key_with, ready_with, claimed_of, ready_of, prepared_of, managed_vouched_of, intermediates_in, owner_vouched_of, vouched_of, judged_had, judged_of}
 use Rattle.sigstore_policy.specs.Policy.{Meaning, PublicKey, Certificate}
-use Rattle.sigstore_judgement.specs.Signer.{Signer, Managed, Certified, key_in, material_in, certificate_in, keyed_of, named_of, managed_of, owner_of, signer_of, IsSigner}
+use Rattle.sigstore_judgement.specs.Parties.{parties_of}
+use Rattle.sigstore_judgement.specs.Signer.{Signer, Managed, Certified, conditions_in, key_in, material_in, certificate_in, keyed_of, named_of, managed_of, owner_of, signer_of, IsSigner}
 use Rattle.sigstore_judgement.specs.Tokens.{tokens_judged_of}
 use Rattle.sigstore_judgement.specs.Verified.{verified_of}
 use Rattle.sigstore_judgement.proofs.ClaimLaw.{bound_so, so_bound}
+use Rattle.sigstore_judgement.proofs.ConditionLaw.{conditions_mean, conditions_pass}
 use Rattle.sigstore_judgement.proofs.EntryLaw.{are_logged, log_accepted, enough_means, enough_passes, are_described, described_pass}
 use Rattle.sigstore_judgement.proofs.TokenLaw.{are_stamped, stamped_pass}
 use Rattle.sigstore_judgement.proofs.VerifiedLaw.{verified_means, verified_passes}
@@ -233,8 +237,11 @@ module _ (grounds : Grounds) (policy : PublicKeyVerificationPolicy) (bundle : Bu
   abbrev managed_logs : ℕ
   managed_logs = log_count_of grounds policy.verify_tlog (entries_in bundle)
 
+  abbrev managed_parties : Parties
+  managed_parties = parties_of grounds policy.verify_tlog bundle
+
   abbrev after_stamped : List Timestamp → List Timestamp → Result Evidence Error
-  after_stamped promised stamped = Ok (managed_evidence promised stamped managed_logs)
+  after_stamped promised stamped = Ok (managed_evidence promised stamped managed_logs managed_parties)
 
   abbrev after_counted : List Timestamp → ⊤ → Result Evidence Error
   after_counted promised u = tokens_judged_of grounds (signature_in bundle.content) (tokens_in bundle) >>= after_stamped promised
@@ -254,7 +261,9 @@ module _ (grounds : Grounds) (policy : PublicKeyVerificationPolicy) (bundle : Bu
         enough = enough_means grounds policy.logs policy.verify_tlog (entries_in bundle) c.0 c.1;
         stamped = b.0;
         are = are_stamped grounds (signature_in bundle.content) (tokens_in bundle) b.0 b.1;
-        shows = sym (ok_same (managed_evidence a.0 b.0 managed_logs) evidence b.2) ∙ ap (λ promised. managed_evidence promised b.0 managed_logs) l.1;
+        shows =
+            sym (ok_same (managed_evidence a.0 b.0 managed_logs managed_parties) evidence b.2)
+            ∙ ap (λ promised. managed_evidence promised b.0 managed_logs managed_parties) l.1;
       }
 
   managed_passes : (evidence : Evidence) → ManagedVouches grounds policy bundle evidence → managed_vouched_of grounds policy bundle ≡ Ok evidence
@@ -274,8 +283,11 @@ module _ (grounds : Grounds) (policy : VerificationPolicy) (info : CertificateIn
   abbrev owner_logs : ℕ
   owner_logs = log_count_of grounds policy.verify_tlog (entries_in bundle)
 
+  abbrev owner_parties : Parties
+  owner_parties = parties_of grounds true bundle
+
   abbrev after_enough : List Timestamp → ℕ → List Timestamp → ⊤ → Result Evidence Error
-  after_enough times scts promised u = Ok (owner_evidence times scts promised owner_logs)
+  after_enough times scts promised u = Ok (owner_evidence times scts promised owner_logs owner_parties)
 
   abbrev after_logged : List Timestamp → ℕ → List Timestamp → Result Evidence Error
   after_logged times scts promised = logs_judged_of policy.verify_tlog policy.logs owner_logs >>= after_enough times scts promised
@@ -302,7 +314,9 @@ module _ (grounds : Grounds) (policy : VerificationPolicy) (info : CertificateIn
             (ok_certificate (certified_of (trust_in grounds) policy info certificate (intermediates_in bundle) a.0) b.0 b.1);
         logged = l.0;
         enough = enough_means grounds policy.logs policy.verify_tlog (entries_in bundle) d.0 d.1;
-        shows = sym (ok_same (owner_evidence a.0 b.0 c.0 owner_logs) evidence d.2) ∙ ap (λ promised. owner_evidence a.0 b.0 promised owner_logs) l.1;
+        shows =
+            sym (ok_same (owner_evidence a.0 b.0 c.0 owner_logs owner_parties) evidence d.2)
+            ∙ ap (λ promised. owner_evidence a.0 b.0 promised owner_logs owner_parties) l.1;
       }
 
   owner_passes : (evidence : Evidence) → OwnerVouches grounds policy info certificate bundle evidence → owner_vouched_of grounds policy info certificate bundle ≡ Ok evidence
@@ -315,7 +329,7 @@ module _ (grounds : Grounds) (policy : VerificationPolicy) (info : CertificateIn
       (enough_passes grounds policy.logs policy.verify_tlog (entries_in bundle) v.enough)
       ∙ ap Ok (sym v.shows)
 
-vouches_means : (grounds : Grounds) (signer : Signer) (bundle : Bundle) (evidence : Evidence) → vouched_of grounds signer bundle ≡ Ok evidence → Vouches grounds signer bundle evidence
+pub vouches_means : (grounds : Grounds) (signer : Signer) (bundle : Bundle) (evidence : Evidence) → vouched_of grounds signer bundle ≡ Ok evidence → Vouches grounds signer bundle evidence
 vouches_means grounds (Managed policy) bundle evidence h = managed_means grounds policy bundle evidence h
 vouches_means grounds (Certified policy info certificate) bundle evidence h = owner_means grounds policy info certificate bundle evidence h
 
@@ -329,16 +343,19 @@ module _ (terms : Terms) (bundle : Bundle) (artifact : Artifact) (report : Verif
   abbrev after_ready : Ready → Result VerificationResult Error
   after_ready ready = judged_had terms.grounds ready bundle (digest_of artifact) (bytes_of artifact)
 
-  abbrev after_described : Signer → Evidence → ⊤ → Result VerificationResult Error
-  after_described signer evidence u = Ok (report_of signer evidence)
+  abbrev after_met : Signer → Evidence → ⊤ → Result VerificationResult Error
+  after_met signer evidence u = Ok (report_of signer evidence)
 
-  abbrev after_content : Signer → Evidence → ⊤ → Result VerificationResult Error
-  after_content signer evidence u =
-      entries_described_of terms.grounds signer bundle (digest_of artifact) (entries_in bundle) >>= after_described signer evidence
+  abbrev after_described : Signer → Claim → Evidence → ⊤ → Result VerificationResult Error
+  after_described signer claim evidence u = conditions_judged_of (conditions_in signer) claim evidence >>= after_met signer evidence
+
+  abbrev after_content : Signer → Claim → Evidence → ⊤ → Result VerificationResult Error
+  after_content signer claim evidence u =
+      entries_described_of terms.grounds signer bundle (digest_of artifact) (entries_in bundle) >>= after_described signer claim evidence
 
   abbrev after_vouched : Signer → VerificationKey → Claim → Evidence → Result VerificationResult Error
   after_vouched signer key claim evidence =
-      content_judged_of terms.grounds.crypto.accepts key bundle.content claim (digest_of artifact) (bytes_of artifact) >>= after_content signer evidence
+      content_judged_of terms.grounds.crypto.accepts key bundle.content claim (digest_of artifact) (bytes_of artifact) >>= after_content signer claim evidence
 
   had_means : (ready : Ready) → Prepared (kind_of artifact) terms.policy bundle ready → after_ready ready ≡ Ok report → Accepts terms bundle artifact report
   unfolding judged_had
@@ -346,8 +363,9 @@ module _ (terms : Terms) (bundle : Bundle) (artifact : Artifact) (report : Verif
       let k = subst (λ (ready : Ready). after_ready ready ≡ Ok report) p.same h in
       let under = key_with p.scheme p.key in
       let a = step_ok (vouched_of terms.grounds p.signer bundle) (after_vouched p.signer under p.claim) report k in
-      let b = step_ok (content_judged_of terms.grounds.crypto.accepts under bundle.content p.claim (digest_of artifact) (bytes_of artifact)) (after_content p.signer a.0) report a.2 in
-      let c = step_ok (entries_described_of terms.grounds p.signer bundle (digest_of artifact) (entries_in bundle)) (after_described p.signer a.0) report b.2 in
+      let b = step_ok (content_judged_of terms.grounds.crypto.accepts under bundle.content p.claim (digest_of artifact) (bytes_of artifact)) (after_content p.signer p.claim a.0) report a.2 in
+      let c = step_ok (entries_described_of terms.grounds p.signer bundle (digest_of artifact) (entries_in bundle)) (after_described p.signer p.claim a.0) report b.2 in
+      let m = step_ok (conditions_judged_of (conditions_in p.signer) p.claim a.0) (after_met p.signer a.0) report c.2 in
       let q = content_means terms.grounds.crypto.accepts under bundle.content p.claim artifact b.0 b.1 in
       record {
         signer = p.signer;
@@ -366,7 +384,8 @@ module _ (terms : Terms) (bundle : Bundle) (artifact : Artifact) (report : Verif
         signs = q.1.1;
         signed = q.1.2;
         described = are_described terms.grounds p.signer bundle artifact (entries_in bundle) c.0 c.1;
-        shows = sym (ok_same (report_of p.signer a.0) report c.2);
+        meets = conditions_mean (conditions_in p.signer) p.claim a.0 m.0 m.1;
+        shows = sym (ok_same (report_of p.signer a.0) report m.2);
       }
 
   means : judged_of terms bundle artifact ≡ Ok report → Accepts terms bundle artifact report
@@ -386,8 +405,9 @@ module _ (terms : Terms) (bundle : Bundle) (artifact : Artifact) (report : Verif
       ∙ ap (λ r. ((r >>= served kind a.scheme bundle.content) >>= after_claim a.signer a.key a.scheme) >>= after_ready) a.claims
       ∙ ap (λ r. ((r >>= λ _. Ok a.claim) >>= after_claim a.signer a.key a.scheme) >>= after_ready) a.supported
       ∙ ap (λ r. r >>= after_vouched a.signer under a.claim) (vouches_passes terms.grounds a.signer bundle a.evidence a.vouches)
-      ∙ ap (λ r. r >>= after_content a.signer a.evidence) (content_accepted terms.grounds.crypto.accepts under bundle.content a.claim artifact a.bound (a.subject, a.signs, a.signed))
-      ∙ ap (λ r. r >>= after_described a.signer a.evidence) (described_pass terms.grounds a.signer bundle artifact (entries_in bundle) a.described)
+      ∙ ap (λ r. r >>= after_content a.signer a.claim a.evidence) (content_accepted terms.grounds.crypto.accepts under bundle.content a.claim artifact a.bound (a.subject, a.signs, a.signed))
+      ∙ ap (λ r. r >>= after_described a.signer a.claim a.evidence) (described_pass terms.grounds a.signer bundle artifact (entries_in bundle) a.described)
+      ∙ ap (λ r. r >>= after_met a.signer a.evidence) (conditions_pass (conditions_in a.signer) a.claim a.evidence a.meets)
       ∙ ap Ok (sym a.shows)
 
 pub accepts_exactly : AcceptsExactly

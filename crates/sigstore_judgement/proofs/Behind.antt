@@ -4,7 +4,7 @@ use Rattle.std.specs.Prelude.{filter_map}
 use Rattle.std.specs.List.{cons_option}
 use Rattle.jiff_core.specs.declared.timestamp.Timestamp.{Timestamp}
 use Rattle.foundation.specs.Steps.{◌>>=◌}
-use Rattle.sigstore_keys.specs.LogIds.{with_id, each_once}
+use Rattle.sigstore_keys.specs.Distinct.{with_id, each_once}
 use Rattle.sigstore_judgement.specs.declared.error.Error.{Error}
 use Rattle.sigstore_judgement.specs.Entries.{with_time, behind}
 
@@ -23,6 +23,15 @@ behind_token before time (Err e) = refl
 pub one_more : {A : Type 0} (log : A → Option (List ℕ)) (seen : List (List ℕ)) (entry : A) (entries : List A) (id : List ℕ) → log entry ≡ Some id
     → each_once seen (filter_map log (entry ∷ entries)) ≡ each_once (with_id id seen) (filter_map log entries)
 one_more log seen entry entries id is = ap (λ o. each_once seen (cons_option o (filter_map log entries))) is
+
+-- and where the first may have none
+pub one_or_none : {A : Type 0} (log : A → Option (List ℕ)) (seen : List (List ℕ)) (entry : A) (entries : List A)
+    → each_once seen (filter_map log (entry ∷ entries)) ≡ each_once (each_once seen (cons_option (log entry) [])) (filter_map log entries)
+one_or_none log seen entry entries = by (log entry)
+  where
+    by : (o : Option (List ℕ)) → each_once seen (cons_option o (filter_map log entries)) ≡ each_once (each_once seen (cons_option o [])) (filter_map log entries)
+    by None = refl
+    by (Some id) = refl
 
 pub behind_all : (before : List Timestamp) → behind before (Ok []) ≡ Ok before
 behind_all before = ap Ok (append-nil before)

@@ -7,8 +7,8 @@ use Rattle.jiff_core.specs.declared.timestamp.Timestamp.{Timestamp}
 use Rattle.foundation.specs.Steps.{◌>>=◌}
 use Rattle.foundation.specs.Results.{step_ok, ok_same}
 use Rattle.sigstore_types.specs.declared.bundle.Bundle.{Bundle}
-use Rattle.sigstore_keys.specs.declared.log_ids.LogThreshold.{LogThreshold}
-use Rattle.sigstore_keys.specs.LogIds.{is_enough}
+use Rattle.sigstore_keys.specs.declared.distinct.Threshold.{Threshold}
+use Rattle.sigstore_keys.specs.Distinct.{is_enough}
 use Rattle.sigstore_entries.specs.declared.entry.TransparencyLogEntry.{TransparencyLogEntry}
 use Rattle.sigstore_log.specs.declared.error.LogError.{LogError}
 use Rattle.sigstore_log.specs.Entry.{logged_of}
@@ -80,7 +80,7 @@ module _ (grounds : Grounds) (signer : Signer) where
 -- ---- in how many logs
 
 module _ (grounds : Grounds) where
-  pub enough_means : (asked : LogThreshold) (verify : Bool) (entries : List TransparencyLogEntry) (x : ⊤)
+  pub enough_means : (asked : Threshold) (verify : Bool) (entries : List TransparencyLogEntry) (x : ⊤)
       → logs_judged_of verify asked (log_count_of grounds verify entries) ≡ Ok x → HasLogs grounds asked verify entries
   enough_means asked true entries x h = by (is_enough asked (vouching_logs grounds entries)) (leb-true asked.value (vouching_logs grounds entries)) h
     where
@@ -91,7 +91,7 @@ module _ (grounds : Grounds) where
       by false less k = cc
   enough_means asked false entries x h = tt
 
-  pub enough_passes : (asked : LogThreshold) (verify : Bool) (entries : List TransparencyLogEntry) → HasLogs grounds asked verify entries
+  pub enough_passes : (asked : Threshold) (verify : Bool) (entries : List TransparencyLogEntry) → HasLogs grounds asked verify entries
       → logs_judged_of verify asked (log_count_of grounds verify entries) ≡ Ok tt
   enough_passes asked true entries has =
       ap (λ (b : Bool). if b then Ok tt else Err (TooFewLogs asked.value (vouching_logs grounds entries)))

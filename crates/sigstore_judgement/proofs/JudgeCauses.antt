@@ -23,9 +23,9 @@ use Rattle.sigstore_keys.specs.declared.error.Error.{Error as CryptoError}
 use Rattle.sigstore_keys.specs.declared.error.Error.TheVariants as crypto
 use Rattle.sigstore_keys.specs.declared.key.VerificationKey.{VerificationKey}
 use Rattle.sigstore_keys.specs.declared.scheme.SigningScheme.{SigningScheme}
-use Rattle.sigstore_keys.specs.declared.log_ids.LogThreshold.{LogThreshold}
+use Rattle.sigstore_keys.specs.declared.distinct.Threshold.{Threshold}
 use Rattle.sigstore_keys.specs.Digest.{is_hashed}
-use Rattle.sigstore_keys.specs.LogIds.{is_enough}
+use Rattle.sigstore_keys.specs.Distinct.{is_enough}
 use Rattle.sigstore_keys.specs.Key.{spki_key_of}
 use Rattle.sigstore_entries.specs.declared.entry.TransparencyLogEntry.{TransparencyLogEntry}
 use Rattle.sigstore_log.specs.declared.error.LogError.{LogError}
@@ -52,8 +52,9 @@ use Rattle.sigstore_policy.specs.declared.public_key.PublicKeyVerificationPolicy
 use Rattle.sigstore_judgement.specs.declared.trust.Material.{Material}
 use Rattle.sigstore_judgement.specs.Artifact.{Read, read_kind, digest_of}
 use Rattle.sigstore_judgement.specs.Cause.{IsRefusedAs, IsRead, IsKept, HasSigner, HasScheme, LacksScheme, key_unread, no_scheme, no_hasher, LacksEntry, no_entry, no_proof, IsOfPromise}
-use Rattle.sigstore_judgement.specs.Cause.{unread, no_statement, no_subject, other_type, no_digest, IsUndescribed, IsUncertified, JudgeCause}
+use Rattle.sigstore_judgement.specs.Cause.{unread, no_statement, no_subject, other_type, no_digest, IsUndescribed, IsUncertified, IsUnmet, JudgeCause}
 use Rattle.sigstore_judgement.specs.Claim.{Claim, is_in_toto, typed_of, or_invalid, subjects_of, digested_of, statement_judged_of, stated_of, claim_of, needed_of, is_bound}
+use Rattle.sigstore_judgement.specs.Conditions.{conditions_judged_of, ConditionCause}
 use Rattle.sigstore_judgement.specs.Content.{scheme_of, signs_digest, supported_of, signature_in, signed_in, is_signed, first_refusal, content_judged_of}
 use Rattle.sigstore_judgement.specs.Entries.{log_judged_of, vouching_logs, log_count_of, logs_judged_of, entries_described_of}
 use Rattle.sigstore_judgement.specs.Error.{error_of_crypto, error_of_info, error_of_certificate, error_of_log, error_of_binding, lowered, by_types, by_crypto, by_info, by_certificate}
@@ -61,13 +62,14 @@ use Rattle.sigstore_judgement.specs.Grounds.{Grounds, trust_in, readings_in}
 use Rattle.sigstore_judgement.specs.Judged.{Ready, claimed_of, ready_of, prepared_of, managed_vouched_of, intermediates_in, owner_vouched_of, vouched_of, judged_had, judged_of}
 use Rattle.sigstore_policy.specs.Policy.{Meaning, PublicKey, Certificate, asks_log, logs_asked}
 use Rattle.sigstore_judgement.specs.Promise as promise
-use Rattle.sigstore_judgement.specs.Signer.{Signer, Managed, Certified, key_in, material_in, certificate_in, keyed_of, named_of, signatory_of, managed_of, owner_of, signer_of, IsSigner}
+use Rattle.sigstore_judgement.specs.Signer.{Signer, Managed, Certified, conditions_in, key_in, material_in, certificate_in, keyed_of, named_of, signatory_of, managed_of, owner_of, signer_of, IsSigner}
 use Rattle.sigstore_judgement.specs.Tokens.{tokens_judged_of}
 use Rattle.sigstore_judgement.specs.Trust.{material_of}
 use Rattle.sigstore_judgement.specs.Verified.{promises_judged_of, some_time, verified_of, AreVerified}
 use Rattle.sigstore_judgement.specs.Under.{or_fault, trust_fault, bundle_fault, Asked, terms_of, JudgesBundle, trust_refused, verifier_refused, bundle_refused, judged}
-use Rattle.sigstore_judgement.proofs.Accepts.{ok_crypto, named_means, signer_means, Prepared, prepared_means}
+use Rattle.sigstore_judgement.proofs.Accepts.{ok_crypto, named_means, signer_means, Prepared, prepared_means, vouches_means}
 use Rattle.sigstore_judgement.proofs.ClaimLaw.{of_other}
+use Rattle.sigstore_judgement.proofs.ConditionLaw.{conditions_caused}
 use Rattle.sigstore_judgement.proofs.DescribedCauses.{entries_undescribed}
 use Rattle.sigstore_judgement.proofs.EntryCauses.{among_first, among_later, Unlogged, Untimely, entries_unlogged}
 use Rattle.sigstore_judgement.proofs.ReadMaterial.{unkeyed, read_signs}
@@ -224,6 +226,11 @@ module _ (asked : Asked) (file : List ℕ) (source source' : Watched (List ℕ))
   by_usable trust verify.TrustedCertificate t h f = inl (trust, t, h)
   by_usable trust (verify.ArtifactRead a) t h f = absurd f
   by_usable trust (verify.TooFewLogs a b) t h f = absurd f
+  by_usable trust (verify.ClaimMismatch a b c) t h f = absurd f
+  by_usable trust (verify.PredicateMismatch a b) t h f = absurd f
+  by_usable trust (verify.TooFewTimes a b) t h f = absurd f
+  by_usable trust (verify.TooFewTokens a b) t h f = absurd f
+  by_usable trust (verify.TimeOutside a) t h f = absurd f
   by_usable trust verify.NoMemory t h f = wanted
 
   -- ---- the signer, their key and its scheme
@@ -425,7 +432,7 @@ module _ (asked : Asked) (file : List ℕ) (source source' : Watched (List ℕ))
     unlogged material kept signer is false asks e h = cc
 
     -- the entries stand in too few logs
-    too_few : (material : Material) → IsKept file material → (b : Bool) → asks_log asked.policy ≡ b → (threshold : LogThreshold) → logs_asked asked.policy ≡ threshold → (e : Error)
+    too_few : (material : Material) → IsKept file material → (b : Bool) → asks_log asked.policy ≡ b → (threshold : Threshold) → logs_asked asked.policy ≡ threshold → (e : Error)
         → logs_judged_of b threshold (log_count_of (terms_of asked material).grounds b (entries_in reading)) ≡ Err e → Cause e
     too_few material kept true asks threshold same e h = by (is_enough threshold found) (leb-false threshold.value found) h
       where
@@ -442,7 +449,7 @@ module _ (asked : Asked) (file : List ℕ) (source source' : Watched (List ℕ))
           bytes = bytes;
           whole = whole;
           asks = asks;
-          threshold = ap (λ (t : LogThreshold). t.value) (sym same);
+          threshold = ap (λ (t : Threshold). t.value) (sym same);
           count = refl;
           few = few refl;
         }))
@@ -569,6 +576,7 @@ module _ (asked : Asked) (file : List ℕ) (source source' : Watched (List ℕ))
           by_why refusal.InvalidTrustRoot cause = inr (as_is refusal.InvalidTrustRoot cause)
           by_why (refusal.IdentityMismatch expected actual) cause = inr (as_is (refusal.IdentityMismatch expected actual) cause)
           by_why (refusal.IssuerMismatch expected actual) cause = inr (as_is (refusal.IssuerMismatch expected actual) cause)
+          by_why (refusal.ClaimMismatch name expected actual) cause = inr (as_is (refusal.ClaimMismatch name expected actual) cause)
           by_why refusal.NoMemory cause = absurd cause
 
       unowned : IsSigner asked.policy reading (Certified policy info certificate) → (e : Error) → owner_vouched_of grounds policy info certificate reading ≡ Err e → Cause e
@@ -629,6 +637,36 @@ module _ (asked : Asked) (file : List ℕ) (source source' : Watched (List ℕ))
         by_why binding.IntegratedTime x among cause = inr (inr (inr (as_is binding.IntegratedTime x among cause)))
         by_why binding.NoMemory x among cause = wanted
 
+    -- what the policy asks beside who signed isn't met
+    unmet : (material : Material) → IsKept file material → (signer : Signer) → IsSigner asked.policy reading signer → (claim : Claim) → claim_of reading.content ≡ Ok claim
+        → (evidence : Evidence) → vouched_of (terms_of asked material).grounds signer reading ≡ Ok evidence → (e : Error)
+        → conditions_judged_of (conditions_in signer) claim evidence ≡ Err e → Cause e
+    unmet material kept signer is claim claims evidence v e h = by_why e (conditions_caused (conditions_in signer) claim evidence e h)
+      where
+        as_is : (e : Error) → ConditionCause (conditions_in signer) claim evidence e → IsUnmet asked file source source' e
+        as_is e why = record {
+          material = material;
+          kept = kept;
+          reading = reading;
+          read = read;
+          bytes = bytes;
+          whole = whole;
+          signer = signer;
+          is = is;
+          claim = claim;
+          claims = claims;
+          evidence = evidence;
+          vouches = vouches_means (terms_of asked material).grounds signer reading evidence v;
+          why = why;
+        }
+
+        by_why : (e : Error) → ConditionCause (conditions_in signer) claim evidence e → Cause e
+        by_why (verify.PredicateMismatch expected actual) why = inr (as_is (verify.PredicateMismatch expected actual) why)
+        by_why (verify.TooFewTimes wanted found) why = inr (as_is (verify.TooFewTimes wanted found) why)
+        by_why (verify.TooFewTokens wanted found) why = inr (as_is (verify.TooFewTokens wanted found) why)
+        by_why (verify.TimeOutside time) why = inr (as_is (verify.TimeOutside time) why)
+        by_why _ why = absurd why
+
     unjudged : (material : Material) → IsKept file material → (e : Error) → judged_of (terms_of asked material) reading (Read bytes) ≡ Err e → Cause e
     unfolding judged_of judged_had
     unjudged material kept e h =
@@ -641,7 +679,10 @@ module _ (asked : Asked) (file : List ℕ) (source source' : Watched (List ℕ))
         refused_at (content_judged_of asked.crypto.accepts ready.key reading.content ready.claim (digest_of (Read bytes)) None) _ e l (unaccepted ready q e) (λ u r m.
         refused_at (entries_described_of grounds ready.signer reading (digest_of (Read bytes)) (entries_in reading)) _ e m
         (λ d. undescribed material q.signer q.is e
-        (subst (λ signer. entries_described_of grounds signer reading (digest_of (Read bytes)) (entries_in reading) ≡ Err e) signer d)) (λ w s n. cc))))
+        (subst (λ signer. entries_described_of grounds signer reading (digest_of (Read bytes)) (entries_in reading) ≡ Err e) signer d)) (λ w s n.
+        refused_at (conditions_judged_of (conditions_in ready.signer) ready.claim evidence) _ e n
+        (λ c. unmet material kept q.signer q.is q.claim q.claims evidence (subst (λ signer. vouched_of grounds signer reading ≡ Ok evidence) signer v) e
+        (subst (λ (r : Ready). conditions_judged_of (conditions_in r.signer) r.claim evidence ≡ Err e) q.same c)) (λ x t o. cc)))))
 
 -- ---- the whole
 

@@ -2,6 +2,7 @@ pub mod Stages
 pub mod Accepts
 pub mod FirstChecks
 pub mod ClaimLaw
+pub mod ConditionLaw
 pub mod DescribedCauses
 pub mod EntryCauses
 mod Behind

@@ -19,9 +19,9 @@ use Rattle.sigstore_types.specs.Bundle.{entries_in, tokens_in, structure_of}
 use Rattle.sigstore_keys.specs.declared.error.Error.{Error as CryptoError}
 use Rattle.sigstore_keys.specs.declared.key.VerificationKey.{VerificationKey}
 use Rattle.sigstore_keys.specs.declared.scheme.SigningScheme.{SigningScheme}
-use Rattle.sigstore_keys.specs.declared.log_ids.LogThreshold.{LogThreshold}
+use Rattle.sigstore_keys.specs.declared.distinct.Threshold.{Threshold}
 use Rattle.sigstore_keys.specs.Key.{spki_key_of}
-use Rattle.sigstore_keys.specs.LogIds.{is_enough}
+use Rattle.sigstore_keys.specs.Distinct.{is_enough}
 use Rattle.certificate_claims.specs.Info.{info_of}
 use Rattle.sigstore_certificate.specs.declared.error.CertificateRefusal.{CertificateRefusal}
 use Rattle.sigstore_certificate.specs.declared.error.CertificateRefusal.TheVariants as refusal
@@ -34,17 +34,19 @@ use Rattle.sigstore_judgement.specs.declared.error.TransparencyLogError.TheVaria
 use Rattle.sigstore_judgement.specs.declared.evidence.Evidence.{Evidence}
 use Rattle.sigstore_judgement.specs.Artifact.{Artifact, Blob, Read, Digest, Kind, kind_of, digest_of, bytes_of}
 use Rattle.sigstore_judgement.specs.Claim.{Claim, is_in_toto, typed_of, or_invalid, subjects_of, digested_of, statement_judged_of, stated_of, claim_of, needed_of, is_bound}
+use Rattle.sigstore_judgement.specs.Conditions.{conditions_judged_of}
 use Rattle.sigstore_judgement.specs.Content.{scheme_of, signs_digest, supported_of, signature_in, is_signed, first_refusal, content_judged_of}
 use Rattle.sigstore_judgement.specs.Entries.{log_judged_of, log_count_of, logs_judged_of, entries_described_of, HasUndescribed}
 use Rattle.sigstore_judgement.specs.Error.{error_of_crypto, error_of_info, error_of_certificate, by_types, by_crypto, by_info, by_certificate}
 use Rattle.sigstore_judgement.specs.Grounds.{trust_in, Terms}
 use Rattle.sigstore_judgement.specs.Judged.{Ready, claimed_of, ready_of, prepared_of, managed_vouched_of, intermediates_in, owner_vouched_of, vouched_of, judged_had, judged_of}
 use Rattle.sigstore_policy.specs.Policy.{Meaning, PublicKey, Certificate}
-use Rattle.sigstore_judgement.specs.Signer.{Signer, Managed, Certified, key_in, material_in, certificate_in, keyed_of, named_of, managed_of, owner_of, signer_of, IsSigner}
+use Rattle.sigstore_judgement.specs.Signer.{Signer, Managed, Certified, conditions_in, key_in, material_in, certificate_in, keyed_of, named_of, managed_of, owner_of, signer_of, IsSigner}
 use Rattle.sigstore_judgement.specs.Unlogged.{HasUnlogged, HasUntimely, LogRefusals}
 use Rattle.sigstore_judgement.specs.Tokens.{tokens_judged_of}
 use Rattle.sigstore_judgement.specs.Verified.{promises_judged_of, verified_of}
 use Rattle.sigstore_judgement.proofs.Accepts.{Prepared, prepared_means}
+use Rattle.sigstore_judgement.proofs.ConditionLaw.{conditions_caused}
 use Rattle.sigstore_judgement.proofs.DescribedCauses.{entries_undescribed}
 use Rattle.sigstore_judgement.proofs.EntryCauses.{Unlogged, Untimely, entries_unlogged}
 use Rattle.sigstore_judgement.proofs.TokenLaw.{tokens_unstamped}
@@ -98,9 +100,10 @@ certificate_no_log r e h =
     by refusal.InvalidTrustRoot = tt
     by (refusal.IdentityMismatch expected actual) = tt
     by (refusal.IssuerMismatch expected actual) = tt
+    by (refusal.ClaimMismatch name expected actual) = tt
     by refusal.NoMemory = tt
 
-count_no_log : (verify_tlog : Bool) (asked : LogThreshold) (found : ℕ) (e : Error) → logs_judged_of verify_tlog asked found ≡ Err e → NoLog e
+count_no_log : (verify_tlog : Bool) (asked : Threshold) (found : ℕ) (e : Error) → logs_judged_of verify_tlog asked found ≡ Err e → NoLog e
 count_no_log true asked found e h = by (is_enough asked found) h
   where
     by : (b : Bool) → ◌≡◌ {A = Result ⊤ Error} (if b then Ok tt else Err (verify.TooFewLogs asked.value found)) (Err e) → NoLog e
@@ -263,7 +266,9 @@ module _ (terms : Terms) (bundle : Bundle) (artifact : Artifact) (fault : Transp
       refused_at (content_judged_of terms.grounds.crypto.accepts ready.key bundle.content ready.claim (digest_of artifact) (bytes_of artifact)) _ e l
       (λ r. absurd (content_no_log bundle.content (is_bound ready.claim (digest_of artifact)) (is_signed terms.grounds.crypto.accepts ready.key bundle.content (digest_of artifact) (bytes_of artifact)) e r)) (λ v r m.
       refused_at (entries_described_of terms.grounds ready.signer bundle (digest_of artifact) (entries_in bundle)) _ e m
-      (λ s. inr (inr (undescribed ready (prepared_means (kind_of artifact) terms.policy bundle ready p) s))) (λ w s n. cc))))
+      (λ s. inr (inr (undescribed ready (prepared_means (kind_of artifact) terms.policy bundle ready p) s))) (λ w s n.
+      refused_at (conditions_judged_of (conditions_in ready.signer) ready.claim evidence) _ e n
+      (λ c. absurd (conditions_caused (conditions_in ready.signer) ready.claim evidence e c)) (λ x t o. cc)))))
 
 pub log_refusals : LogRefusals
 log_refusals terms bundle artifact fault h = unlogged terms bundle artifact fault h

@@ -6,8 +6,8 @@ use Rattle.std.proofs.lemmas.Bool.{le-leb}
 use Rattle.std.proofs.lemmas.List.{length-append}
 use Rattle.jiff_core.specs.declared.timestamp.Timestamp.{Timestamp}
 use Rattle.sigstore_types.specs.Bundle.{entries_in, shown_of}
-use Rattle.sigstore_keys.specs.declared.log_ids.LogThreshold.{LogThreshold}
-use Rattle.sigstore_keys.specs.LogIds.{is_among, with_id, each_once, count_distinct}
+use Rattle.sigstore_keys.specs.declared.distinct.Threshold.{Threshold}
+use Rattle.sigstore_keys.specs.Distinct.{is_among, with_id, each_once, count_distinct}
 use Rattle.sigstore_entries.specs.declared.entry.TransparencyLogEntry.{TransparencyLogEntry}
 use Rattle.sigstore_log.specs.Entry.{log_of, log_of_proof}
 use Rattle.sigstore_log.specs.Logged.{Logged}
@@ -55,12 +55,12 @@ module _ (grounds : Grounds) where
       let id = some_is (log entry) has in
       subst (λ n. 1 ≤ n) (sym (ap (λ o. count_distinct (cons_option o (filter_map log entries))) id.1)) (no_fewer (id.0 ∷ []) (filter_map log entries))
 
-  enough : (asked : LogThreshold) (found : ℕ) → asked.value ≡ 1 → 1 ≤ found → logs_judged_of true asked found ≡ Ok tt
+  enough : (asked : Threshold) (found : ℕ) → asked.value ≡ 1 → 1 ≤ found → logs_judged_of true asked found ≡ Ok tt
   enough asked found one some =
       ap (λ (b : Bool). if b then Ok tt else Err (TooFewLogs asked.value found)) (le-leb asked.value found (subst (λ n. n ≤ found) (sym one) some))
 
   module _ (signer : Signer) where
-    suffices : (entries : List TransparencyLogEntry) (asked : LogThreshold) (times : List Timestamp) → asked.value ≡ 1 → shown_of entries ≡ Ok tt
+    suffices : (entries : List TransparencyLogEntry) (asked : Threshold) (times : List Timestamp) → asked.value ≡ 1 → shown_of entries ≡ Ok tt
         → log_judged_of grounds signer true entries ≡ Ok times → logs_judged_of true asked (vouching_logs grounds entries) ≡ Ok tt
     suffices [] asked times one there h = cc
     suffices (entry ∷ entries) asked times one there h =

@@ -11,9 +11,11 @@ use Rattle.sigstore_keys.specs.Digest.{is_hashed, digests_by}
 use Rattle.sigstore_keys.specs.declared.reader.ReadError.{ReadError}
 use Rattle.sigstore_judgement.specs.declared.error.Error.{Error}
 use Rattle.sigstore_judgement.specs.declared.error.Error.TheVariants.{ArtifactRead, UnsupportedArtifact, NoMemory}
+use Rattle.sigstore_judgement.specs.declared.evidence.Evidence.{Evidence}
 use Rattle.sigstore_judgement.specs.declared.report.VerificationResult.{VerificationResult}
 use Rattle.sigstore_judgement.specs.Artifact.{Artifact, Blob, Read, Digest, Digests, Kind, kind_of, read_kind, blob_kind, digest_of, bytes_of, digest_among, has_each}
 use Rattle.sigstore_judgement.specs.Claim.{claim_of, needed_of}
+use Rattle.sigstore_judgement.specs.Conditions.{conditions_judged_of}
 use Rattle.sigstore_judgement.specs.Content.{signed_in, content_judged_of}
 use Rattle.sigstore_judgement.specs.Entries.{each_described_of, entries_described_of}
 use Rattle.sigstore_judgement.specs.Evidence.{report_of}
@@ -21,7 +23,7 @@ use Rattle.sigstore_judgement.specs.Grounds.{Grounds, readings_in, Terms}
 use Rattle.sigstore_judgement.specs.Judged.{Ready, prepared_of, vouched_of, judged_had, given_of, judged_by, judged_of, needed_in}
 use Rattle.sigstore_policy.specs.Policy.{Meaning}
 use Rattle.sigstore_judgement.specs.Promise.{ReadCause, Cause, WantsMemory, VerifiesKept, VerifiesHanded}
-use Rattle.sigstore_judgement.specs.Signer.{signatory_of}
+use Rattle.sigstore_judgement.specs.Signer.{conditions_in, signatory_of}
 use Rattle.sigstore_judgement.specs.Taking.{Takes}
 use Rattle.sigstore_judgement.proofs.Accepts.{prepared_means, all_hashed}
 use Rattle.sigstore_judgement.proofs.FirstChecks.{prepared_passes}
@@ -57,9 +59,12 @@ pub had_alike : (grounds : Grounds) (ready : Ready) (bundle : Bundle) (d d' : Di
     → judged_had grounds ready bundle d b ≡ judged_had grounds ready bundle d' b'
 unfolding judged_had
 had_alike grounds ready bundle d d' b b' h same =
-    ap (λ c. vouched_of grounds ready.signer bundle >>= λ evidence. c >>= λ _. entries_described_of grounds ready.signer bundle d (entries_in bundle) >>= λ _. Ok (report_of ready.signer evidence)) h
-    ∙ ap (λ x. vouched_of grounds ready.signer bundle >>= λ evidence. content_judged_of grounds.crypto.accepts ready.key bundle.content ready.claim d' b' >>= λ _. x >>= λ _. Ok (report_of ready.signer evidence))
+    ap (λ c. vouched_of grounds ready.signer bundle >>= λ evidence. c >>= λ _. entries_described_of grounds ready.signer bundle d (entries_in bundle) >>= λ _. met evidence) h
+    ∙ ap (λ x. vouched_of grounds ready.signer bundle >>= λ evidence. content_judged_of grounds.crypto.accepts ready.key bundle.content ready.claim d' b' >>= λ _. x >>= λ _. met evidence)
     (ap (λ signed. each_described_of (readings_in grounds.crypto) (signatory_of ready.signer) signed (entries_in bundle)) same)
+  where
+    met : Evidence → Result VerificationResult Error
+    met evidence = conditions_judged_of (conditions_in ready.signer) ready.claim evidence >>= λ _. Ok (report_of ready.signer evidence)
 
 abbrev given_if : Bool → Result ⊤ Error
 given_if b = if b then Ok tt else Err UnsupportedArtifact

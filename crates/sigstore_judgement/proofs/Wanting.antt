@@ -23,6 +23,11 @@ is_want verify.TrustRoot = inr (λ h. cc)
 is_want verify.TrustedCertificate = inr (λ h. cc)
 is_want (verify.ArtifactRead a) = inr (λ h. cc)
 is_want (verify.TooFewLogs a b) = inr (λ h. cc)
+is_want (verify.ClaimMismatch a b c) = inr (λ h. cc)
+is_want (verify.PredicateMismatch a b) = inr (λ h. cc)
+is_want (verify.TooFewTimes a b) = inr (λ h. cc)
+is_want (verify.TooFewTokens a b) = inr (λ h. cc)
+is_want (verify.TimeOutside a) = inr (λ h. cc)
 
 -- want of memory, or what holds of every other refusal
 pub wanting : {A : Type 0} (e : Error) → (e ≢ verify.NoMemory → A) → (e ≡ verify.NoMemory) ⊎ A

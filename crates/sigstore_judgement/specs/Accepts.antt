@@ -17,12 +17,14 @@ use Rattle.sigstore_policy.specs.declared.public_key.PublicKeyVerificationPolicy
 use Rattle.sigstore_judgement.specs.declared.report.VerificationResult.{VerificationResult}
 use Rattle.sigstore_judgement.specs.Artifact.{Artifact, digest_of, bytes_of, kind_of}
 use Rattle.sigstore_judgement.specs.Claim.{Claim, claim_of, needed_of, IsBound}
+use Rattle.sigstore_judgement.specs.Conditions.{MeetsConditions}
 use Rattle.sigstore_judgement.specs.Content.{scheme_of, signs_digest, supported_of, subject_in, signature_in}
 use Rattle.sigstore_judgement.specs.Entries.{IsLogged, HasLogs, log_count_of, told_if, Describes}
 use Rattle.sigstore_judgement.specs.Evidence.{managed_evidence, owner_evidence, report_of}
 use Rattle.sigstore_judgement.specs.Grounds.{Grounds, trust_in, Terms}
 use Rattle.sigstore_judgement.specs.Judged.{intermediates_in, key_with, judged_of}
-use Rattle.sigstore_judgement.specs.Signer.{Signer, Managed, Certified, key_in, IsSigner}
+use Rattle.sigstore_judgement.specs.Parties.{parties_of}
+use Rattle.sigstore_judgement.specs.Signer.{Signer, Managed, Certified, conditions_in, key_in, IsSigner}
 use Rattle.sigstore_judgement.specs.Tokens.{AreStamped}
 use Rattle.sigstore_judgement.specs.Verified.{AreVerified}
 
@@ -32,7 +34,7 @@ AreLogged grounds signer true entries = AllByRecursion (IsLogged grounds signer)
 AreLogged grounds signer false entries = ⊤
 
 -- under a managed key: the log does, and as many logs as are asked for; each token is a trusted authority's; and what is found are the times
--- of both, and how many logs those are
+-- of both, how many logs those are, and how many parties tell the times
 pub record ManagedVouches (grounds : Grounds) (policy : PublicKeyVerificationPolicy) (bundle : Bundle) (evidence : Evidence) : Type 0 where
   pub logged : AreLogged grounds (Managed policy) policy.verify_tlog (entries_in bundle)
   pub enough : HasLogs grounds policy.logs policy.verify_tlog (entries_in bundle)
@@ -41,6 +43,7 @@ pub record ManagedVouches (grounds : Grounds) (policy : PublicKeyVerificationPol
   pub shows :
       evidence
       ≡ managed_evidence (told_if policy.verify_tlog (entries_in bundle)) stamped (log_count_of grounds policy.verify_tlog (entries_in bundle))
+      (parties_of grounds policy.verify_tlog bundle)
 
 -- Under a certificate: these are the verified times, and there is one; at each of them the certificate was valid, so many certificate logs
 -- saw it, and it names whom the policy asks for, as far as the policy asks; and the log does vouch, and as many logs as are asked for, where
@@ -56,6 +59,7 @@ pub record OwnerVouches (grounds : Grounds) (policy : VerificationPolicy) (info 
   pub shows :
       evidence
       ≡ owner_evidence times scts (told_if policy.verify_tlog (entries_in bundle)) (log_count_of grounds policy.verify_tlog (entries_in bundle))
+      (parties_of grounds true bundle)
 
 -- what vouches for the signer, and what is found of it
 abbrev pub Vouches : Grounds → Signer → Bundle → Evidence → Type 0
@@ -66,7 +70,8 @@ Vouches grounds (Certified policy info certificate) bundle evidence = OwnerVouch
 -- `IsOwner`); their key is read, and with the content it has a scheme; what the bundle says of its artifact is
 -- read, of an envelope its statement; the artifact has what is signed and each digest that is needed; the signer is vouched for; what the
 -- bundle says is of the artifact; the signature over what the scheme signs is good under the signer's key; each entry describes the bundle,
--- by who signed, what they signed and the signature; and the report is made of who signed and what was found.
+-- by who signed, what they signed and the signature; what the policy asks beside who signed is met; and the report is made of who signed and
+-- what was found.
 pub record Accepts (terms : Terms) (bundle : Bundle) (artifact : Artifact) (report : VerificationResult) : Type 0 where
   pub signer : Signer
   pub is : IsSigner terms.policy bundle signer
@@ -85,6 +90,7 @@ pub record Accepts (terms : Terms) (bundle : Bundle) (artifact : Artifact) (repo
   pub signed :
       IsTrue (is_good_over terms.grounds.crypto.accepts (key_with scheme key) subject (signature_in bundle.content))
   pub described : AllByRecursion (Describes terms.grounds signer bundle artifact) (entries_in bundle)
+  pub meets : MeetsConditions (conditions_in signer) claim evidence
   pub shows : report ≡ report_of signer evidence
 
 -- the judgement accepts exactly the bundles that are to be accepted, with their report

@@ -36,8 +36,11 @@ use Rattle.sigstore_judgement.specs.declared.error.TransparencyLogError.{Transpa
 use Rattle.sigstore_judgement.specs.declared.error.Error.TheVariants as verify
 use Rattle.sigstore_policy.specs.declared.public_key.PublicKeyVerificationPolicy.{PublicKeyVerificationPolicy}
 use Rattle.sigstore_judgement.specs.declared.trust.Material.{Material}
+use Rattle.sigstore_judgement.specs.declared.evidence.Evidence.{Evidence}
+use Rattle.sigstore_judgement.specs.Accepts.{Vouches}
 use Rattle.sigstore_judgement.specs.Artifact.{Read, digest_of}
 use Rattle.sigstore_judgement.specs.Claim.{Claim, is_in_toto, claim_of, needed_of, IsOfOther}
+use Rattle.sigstore_judgement.specs.Conditions.{ConditionCause}
 use Rattle.sigstore_judgement.specs.Content.{scheme_of, signs_digest, signature_in, is_signed}
 use Rattle.sigstore_judgement.specs.Entries.{vouching_logs, HasUndescribed}
 use Rattle.sigstore_judgement.specs.Error.{error_of_crypto, error_of_info, error_of_certificate, error_of_log}
@@ -45,7 +48,7 @@ use Rattle.sigstore_judgement.specs.Grounds.{Grounds, trust_in}
 use Rattle.sigstore_judgement.specs.Judged.{intermediates_in}
 use Rattle.sigstore_policy.specs.Policy.{PublicKey, Certificate, asks_log, logs_asked}
 use Rattle.sigstore_judgement.specs.Promise.{ReadWhole, ReadCause}
-use Rattle.sigstore_judgement.specs.Signer.{Signer, certificate_in, key_in, IsSigner}
+use Rattle.sigstore_judgement.specs.Signer.{Signer, conditions_in, certificate_in, key_in, IsSigner}
 use Rattle.sigstore_judgement.specs.Trust.{material_of}
 use Rattle.sigstore_judgement.specs.Under.{Asked, terms_of, trust_fault, bundle_fault}
 use Rattle.sigstore_judgement.specs.Unlogged.{HasUnlogged, HasUntimely}
@@ -306,6 +309,22 @@ pub record IsUntimely (asked : Asked) (source source' : Watched (List ℕ)) (fau
   pub asks : asks_log asked.policy ≡ true
   pub untimely : HasUntimely asked.policy reading fault
 
+-- the artifact was read whole, and this was found that vouches for who signed; but of what the policy asks beside who signed this isn't met
+pub record IsUnmet (asked : Asked) (file : List ℕ) (source source' : Watched (List ℕ)) (e : Error) : Type 0 where
+  pub material : Material
+  pub kept : IsKept file material
+  pub reading : Bundle
+  pub read : IsRead asked.bundle reading
+  pub bytes : List ℕ
+  pub whole : ReadWhole source source' asked.max bytes
+  pub signer : Signer
+  pub is : IsSigner asked.policy reading signer
+  pub claim : Claim
+  pub claims : claim_of reading.content ≡ Ok claim
+  pub evidence : Evidence
+  pub vouches : Vouches (terms_of asked material).grounds signer reading evidence
+  pub why : ConditionCause (conditions_in signer) claim evidence e
+
 abbrev pub SignedCause : Asked → List ℕ → Watched (List ℕ) → Watched (List ℕ) → Error → Type 0
 SignedCause asked file source source' verify.SignatureInvalid = IsUnsigned asked source source'
 SignedCause asked file source source' verify.ArtifactMismatch =
@@ -324,6 +343,13 @@ SignedCause asked file source source' (verify.TransparencyLog fault) =
 SignedCause asked file source source' (verify.Timestamp fault) =
     HasNoStamp asked file source source' fault ⊎ LacksTime asked source source' fault
 SignedCause asked file source source' (verify.TooFewLogs wanted found) = LacksLogs asked file source source' wanted found
+SignedCause asked file source source' (verify.ClaimMismatch name expected actual) =
+    IsUncertified asked file source source' (verify.ClaimMismatch name expected actual)
+SignedCause asked file source source' (verify.PredicateMismatch expected actual) =
+    IsUnmet asked file source source' (verify.PredicateMismatch expected actual)
+SignedCause asked file source source' (verify.TooFewTimes wanted found) = IsUnmet asked file source source' (verify.TooFewTimes wanted found)
+SignedCause asked file source source' (verify.TooFewTokens wanted found) = IsUnmet asked file source source' (verify.TooFewTokens wanted found)
+SignedCause asked file source source' (verify.TimeOutside time) = IsUnmet asked file source source' (verify.TimeOutside time)
 SignedCause asked file source source' verify.InvalidBundle = LacksCertificate asked
 SignedCause asked file source source' verify.UnsupportedBundle =
     MeetsCertificate asked ⊎ IsUndescribed asked source source' verify.UnsupportedBundle

@@ -1,6 +1,7 @@
 -- What a bundle says of its artifact: of a message its digest (Sigstore bundle format); of an envelope its statement (DSSE; in-toto
 -- Attestation Framework, Statement v1).
-use Rattle.std.specs.Prelude.{◌≡◌, ◌≢◌, ◌⊎◌, ℕ, List, [], ◌∷◌, bytes_eq, codes, Contains, Bool, true, false, ◌||◌, if◌then◌else◌, ⊤}
+use Rattle.std.specs.Prelude.{◌≡◌, ◌≢◌, ◌⊎◌, ℕ, List, [], ◌∷◌, bytes_eq}
+use Rattle.std.specs.Prelude.{codes, Contains, Bool, true, false, ◌||◌, if◌then◌else◌, ⊤}
 use Rattle.std.specs.Prelude.{Option, Some, None, option_copied, Result, Ok, Err}
 use Rattle.foundation.specs.Steps.{◌>>=◌}
 use Rattle.sigstore_types_parts.specs.HashAlgorithm.{with_optional}

@@ -1,6 +1,7 @@
 -- The entries of a bundle under the logs that are trusted (RFC 6962, sections 2.1.1 and 3.2; C2SP tlog-checkpoint), and what they say of
 -- the bundle.
-use Rattle.std.specs.Prelude.{◌≡◌, ◌≤◌, ℕ, Contains, List, [], ◌∷◌, ◌++◌, filter_map, Bool, true, false, if◌then◌else◌, ⊤, IsTrue}
+use Rattle.std.specs.Prelude.{◌≡◌, ◌≤◌, ℕ, Contains, List, [], ◌∷◌}
+use Rattle.std.specs.Prelude.{◌++◌, filter_map, Bool, true, false, if◌then◌else◌, ⊤, IsTrue}
 use Rattle.std.specs.Prelude.{Option, Some, None, Result, Ok, Err}
 use Rattle.std.specs.List.{cons_option}
 use Rattle.foundation.specs.Steps.{◌>>=◌}
@@ -8,9 +9,9 @@ use Rattle.jiff_core.specs.declared.timestamp.Timestamp.{Timestamp}
 use Rattle.sigstore_types_parts.specs.TimeRange.{contains}
 use Rattle.sigstore_types.specs.declared.bundle.Bundle.{Bundle}
 use Rattle.sigstore_types.specs.Bundle.{entries_in}
-use Rattle.sigstore_keys.specs.declared.log_ids.LogThreshold.{LogThreshold}
+use Rattle.sigstore_keys.specs.declared.distinct.Threshold.{Threshold}
 use Rattle.sigstore_keys.specs.Crypto.{Crypto}
-use Rattle.sigstore_keys.specs.LogIds.{count_distinct, is_enough}
+use Rattle.sigstore_keys.specs.Distinct.{count_distinct, is_enough}
 use Rattle.sigstore_entries.specs.declared.entry.TransparencyLogEntry.{TransparencyLogEntry}
 use Rattle.sigstore_log.specs.Entry.{logged_of, log_of}
 use Rattle.sigstore_log.specs.Logged.{Logged}
@@ -78,11 +79,11 @@ log_count_of grounds true entries = vouching_logs grounds entries
 log_count_of grounds false entries = 0
 
 -- As many as are asked for: else whoever runs fewer could show one tree to the owner of a key and another to everyone else.
-abbrev pub logs_judged_of : Bool → LogThreshold → ℕ → Result ⊤ Error
+abbrev pub logs_judged_of : Bool → Threshold → ℕ → Result ⊤ Error
 logs_judged_of true asked found = if is_enough asked found then Ok tt else Err (TooFewLogs asked.value found)
 logs_judged_of false asked found = Ok tt
 
-abbrev pub HasLogs : Grounds → LogThreshold → Bool → List TransparencyLogEntry → Type 0
+abbrev pub HasLogs : Grounds → Threshold → Bool → List TransparencyLogEntry → Type 0
 HasLogs grounds asked true entries = asked.value ≤ vouching_logs grounds entries
 HasLogs grounds asked false entries = ⊤
 

@@ -26,6 +26,7 @@ use Rattle.sigstore_judgement.specs.declared.error.Error.TheVariants.{Transparen
 use Rattle.sigstore_judgement.specs.declared.error.Error.TheVariants.{UnsupportedBundle, InvalidTrustRoot, Types, Crypto}
 use Rattle.sigstore_judgement.specs.declared.error.Error.TheVariants.{Bundle, TrustRoot, TrustedCertificate, ArtifactRead}
 use Rattle.sigstore_judgement.specs.declared.error.Error.TheVariants.{NoMemory, TooFewLogs}
+use Rattle.sigstore_judgement.specs.declared.error.Error.TheVariants.{ClaimMismatch, PredicateMismatch, TooFewTimes, TooFewTokens, TimeOutside}
 use Rattle.sigstore_judgement.specs.Names.{refusal_name}
 
 abbrev pub certificate_number_of : CertificateError → ℕ
@@ -70,6 +71,11 @@ number_of TrustedCertificate = 29
 number_of (ArtifactRead fault) = 30
 number_of NoMemory = 31
 number_of (TooFewLogs asked found) = 32
+number_of (ClaimMismatch name expected actual) = 33
+number_of (PredicateMismatch expected actual) = 34
+number_of (TooFewTimes asked found) = 35
+number_of (TooFewTokens asked found) = 36
+number_of (TimeOutside time) = 37
 
 -- the name as it is printed
 abbrev pub name_of : Error → List ℕ
@@ -109,6 +115,7 @@ error_of_certificate (refusal.Sct rule) = Certificate (Sct rule)
 error_of_certificate refusal.InvalidTrustRoot = InvalidTrustRoot
 error_of_certificate (refusal.IdentityMismatch expected actual) = IdentityMismatch expected actual
 error_of_certificate (refusal.IssuerMismatch expected actual) = IssuerMismatch expected actual
+error_of_certificate (refusal.ClaimMismatch name expected actual) = ClaimMismatch name expected actual
 error_of_certificate refusal.NoMemory = NoMemory
 
 -- what a refusal of a token is of its bundle

@@ -1,5 +1,5 @@
 -- When a bundle is accepted, whoever signed it, by its artifact (Sigstore bundle format; FIPS 180-4, FIPS 186-5).
-use Rattle.std.specs.Prelude.{ℕ, List, [], ⊤, Option, None, Result, Ok, Err, if◌then◌else◌}
+use Rattle.std.specs.Prelude.{ℕ, List, [], true, ⊤, Option, None, Result, Ok, Err, if◌then◌else◌}
 use Rattle.foundation.specs.Steps.{◌>>=◌}
 use Rattle.sigstore_types_parts.specs.declared.hash_algorithm.HashAlgorithm.{HashAlgorithm}
 use Rattle.sigstore_types.specs.declared.bundle.Bundle.{Bundle}
@@ -19,13 +19,15 @@ use Rattle.sigstore_policy.specs.declared.public_key.PublicKeyVerificationPolicy
 use Rattle.sigstore_judgement.specs.declared.report.VerificationResult.{VerificationResult}
 use Rattle.sigstore_judgement.specs.Artifact.{Artifact, Digests, has_each, digest_of, bytes_of, Kind, kind_of, read_kind}
 use Rattle.sigstore_judgement.specs.Claim.{Claim, claim_as, claim_of, needed_of}
+use Rattle.sigstore_judgement.specs.Conditions.{conditions_judged_of}
 use Rattle.sigstore_judgement.specs.Content.{scheme_of, signs_digest, supported_of, signature_in, content_judged_of}
 use Rattle.sigstore_judgement.specs.Entries.{log_judged_of, log_count_of, logs_judged_of, entries_described_of}
 use Rattle.sigstore_judgement.specs.Error.{by_crypto, by_certificate}
 use Rattle.sigstore_judgement.specs.Evidence.{managed_evidence, owner_evidence, report_of}
 use Rattle.sigstore_judgement.specs.Grounds.{Grounds, trust_in, Terms}
 use Rattle.sigstore_policy.specs.Policy.{Meaning}
-use Rattle.sigstore_judgement.specs.Signer.{Signer, Managed, Certified, signer_as, key_in, signer_of}
+use Rattle.sigstore_judgement.specs.Parties.{parties_of}
+use Rattle.sigstore_judgement.specs.Signer.{Signer, Managed, Certified, signer_as, conditions_in, key_in, signer_of}
 use Rattle.sigstore_judgement.specs.Tokens.{tokens_judged_of}
 use Rattle.sigstore_judgement.specs.Verified.{verified_of}
 
@@ -80,7 +82,7 @@ managed_vouched_of grounds policy bundle = do
   promised ← log_judged_of grounds (Managed policy) policy.verify_tlog (entries_in bundle)
   _ ← logs_judged_of policy.verify_tlog policy.logs (log_count_of grounds policy.verify_tlog (entries_in bundle))
   stamped ← tokens_judged_of grounds (signature_in bundle.content) (tokens_in bundle)
-  Ok (managed_evidence promised stamped (log_count_of grounds policy.verify_tlog (entries_in bundle)))
+  Ok (managed_evidence promised stamped (log_count_of grounds policy.verify_tlog (entries_in bundle)) (parties_of grounds policy.verify_tlog bundle))
 
 -- The certificates that a bundle brings beside the signing one: they may stand between it and an anchor, and are trusted in nothing.
 abbrev pub intermediates_in : Bundle → List (List ℕ)
@@ -94,7 +96,7 @@ owner_vouched_of grounds policy info certificate bundle = do
   scts ← by_certificate (certified_of (trust_in grounds) policy info certificate (intermediates_in bundle) times)
   promised ← log_judged_of grounds (Certified policy info certificate) policy.verify_tlog (entries_in bundle)
   _ ← logs_judged_of policy.verify_tlog policy.logs (log_count_of grounds policy.verify_tlog (entries_in bundle))
-  Ok (owner_evidence times scts promised (log_count_of grounds policy.verify_tlog (entries_in bundle)))
+  Ok (owner_evidence times scts promised (log_count_of grounds policy.verify_tlog (entries_in bundle)) (parties_of grounds true bundle))
 
 -- what vouches for the signer, and what it shows
 abbrev pub vouched_of : Grounds → Signer → Bundle → Result Evidence Error
@@ -102,12 +104,13 @@ vouched_of grounds (Managed policy) bundle = managed_vouched_of grounds policy b
 vouched_of grounds (Certified policy info certificate) bundle = owner_vouched_of grounds policy info certificate bundle
 
 -- The judgement of what was prepared, over digests and bytes that are had: what vouches for the signer (what wasn't logged isn't worth a
--- look at its signature), the content, and what the entries say of the bundle.
+-- look at its signature), the content, what the entries say of the bundle, and what the policy asks beside who signed.
 unfoldable pub judged_had : Grounds → Ready → Bundle → Digests → Option (List ℕ) → Result VerificationResult Error
 judged_had grounds ready bundle digest bytes = do
   evidence ← vouched_of grounds ready.signer bundle
   _ ← content_judged_of grounds.crypto.accepts ready.key bundle.content ready.claim digest bytes
   _ ← entries_described_of grounds ready.signer bundle digest (entries_in bundle)
+  _ ← conditions_judged_of (conditions_in ready.signer) ready.claim evidence
   Ok (report_of ready.signer evidence)
 
 -- ---- by digests that a caller took

@@ -3,6 +3,7 @@ pub mod Agree
 pub mod Artifact
 pub mod Cause
 pub mod Claim
+pub mod Conditions
 pub mod Content
 pub mod Entries
 pub mod Error
@@ -12,6 +13,7 @@ pub mod Judged
 pub mod Names
 pub mod OneLog
 pub mod Opened
+pub mod Parties
 pub mod Promise
 pub mod Report
 pub mod Signer

@@ -35,4 +35,9 @@ refusal_name n =
     if n == 29 then codes "TrustedCertificate" else
     if n == 30 then codes "ArtifactRead" else
     if n == 31 then codes "NoMemory" else
-    if n == 32 then codes "TooFewLogs" else []
+    if n == 32 then codes "TooFewLogs" else
+    if n == 33 then codes "ClaimMismatch" else
+    if n == 34 then codes "PredicateMismatch" else
+    if n == 35 then codes "TooFewTimes" else
+    if n == 36 then codes "TooFewTokens" else
+    if n == 37 then codes "TimeOutside" else []

@@ -9,6 +9,7 @@ use Rattle.sigstore_types.specs.Bundle.{structure_of, signing_certificate_of}
 use Rattle.certificate_claims.specs.declared.certificate_info.CertificateInfo.{CertificateInfo}
 use Rattle.certificate_claims.specs.Info.{info_of}
 use Rattle.sigstore_policy.specs.declared.certificate.VerificationPolicy.{VerificationPolicy}
+use Rattle.sigstore_policy.specs.declared.conditions.SignatureConditions.{SignatureConditions}
 use Rattle.sigstore_binding.specs.Verifier as binding
 use Rattle.sigstore_judgement.specs.declared.error.Error.{Error}
 use Rattle.sigstore_judgement.specs.declared.error.Error.TheVariants.{InvalidBundle, UnsupportedBundle}
@@ -29,6 +30,11 @@ signer_as (signing.Managed policy) = Managed policy.now
 signer_as (signing.Certified owner) = Certified owner.policy.now owner.info owner.certificate.now
 
 -- ---- what a signer brings
+
+-- what is asked of the signature beside who made it
+abbrev pub conditions_in : Signer → SignatureConditions
+conditions_in (Managed policy) = policy.conditions
+conditions_in (Certified policy info certificate) = policy.conditions
 
 -- the key in DER (SubjectPublicKeyInfo)
 abbrev pub key_in : Signer → List ℕ

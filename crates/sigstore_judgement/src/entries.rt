@@ -1,7 +1,7 @@
 // The entries of a bundle under the logs that are trusted, and what they say of the bundle.
 ghost use Rattle.std.specs.Prelude.{◌≡◌, ◌≢◌, Some, Ok, Err, IfOk, IfErr, OnOk, filter_map};
 ghost use Rattle.sigstore_types.specs.Bundle.{entries_in};
-ghost use Rattle.sigstore_keys.specs.LogIds.{with_id, each_once, is_enough};
+ghost use Rattle.sigstore_keys.specs.Distinct.{with_id, each_once, is_enough};
 ghost use Rattle.sigstore_log.specs.Entry.{logged_of, log_of};
 ghost use Rattle.sigstore_judgement.specs.Artifact.{digest_had};
 ghost use Rattle.sigstore_binding.specs.Described.{describes_of};
@@ -22,7 +22,7 @@ use foundation::{NoMemory, Sequence};
 use jiff::Timestamp;
 use sigstore_binding::{BindingError, Signed, SignedBy, describe_entry};
 use sigstore_entries::TransparencyLogEntry;
-use sigstore_keys::{CryptoProvider, LogIds, LogThreshold};
+use sigstore_keys::{CryptoProvider, DistinctIds, Threshold};
 use sigstore_log::{EntryEvidence, LogError, judge_entry};
 use sigstore_types::Bundle;
 use sigstore_types_parts::Armor;
@@ -136,7 +136,7 @@ fn check_entries<C: CryptoProvider, M: Armor>(
     signer: &Signing<'_>,
     entries: &[TransparencyLogEntry],
     times: &mut Sequence<Timestamp>,
-    logs: &mut LogIds,
+    logs: &mut DistinctIds,
 ) -> Result<(), Error>
     ensures logs { OnOk result (logs.new.ids ≡ each_once logs.old.ids
         (filter_map (log_of (C.accepts grounds.now.provider.now) grounds.now.material.now.logs grounds.now.moment) entries.now)) }
@@ -148,7 +148,7 @@ fn check_entries<C: CryptoProvider, M: Armor>(
     'entries: for entry in entries {
         let shown = check_entry(alloc, grounds, signer, entry)?;
         add_time(shown.time, times)?;
-        logs.add(&shown.log)?;
+        logs.add(alloc, shown.log.as_bytes())?;
     }
     Ok(())
 }
@@ -179,7 +179,7 @@ pub(crate) fn check_log<C: CryptoProvider, M: Armor>(
         log_judged_of (grounds_by C.CryptoProvider M.Armor grounds.now) (signer_as signer.now) verify_tlog entries.now ≡ Err e) }
 {
     let mut times = Sequence::new(alloc);
-    let mut logs = LogIds::new(alloc);
+    let mut logs = DistinctIds::new(alloc);
     if verify_tlog {
         check_entries(alloc, grounds, signer, entries, &mut times, &mut logs)?;
     }
@@ -189,11 +189,7 @@ pub(crate) fn check_log<C: CryptoProvider, M: Armor>(
 
 /// Where the log is to be verified, whether the entries stand in as many different logs as are asked for. Errors:
 /// `TooFewLogs`.
-pub(crate) fn check_log_count(
-    verify_tlog: bool,
-    asked: LogThreshold,
-    found: u64,
-) -> Result<(), Error>
+pub(crate) fn check_log_count(verify_tlog: bool, asked: Threshold, found: u64) -> Result<(), Error>
     ensures { result ≡ logs_judged_of verify_tlog asked found }
 {
     if verify_tlog && !asked.is_met_by(found) {

@@ -4,11 +4,12 @@ ghost use Rattle.sigstore_judgement.specs.Error.{number_of, name_of, certificate
 ghost use Rattle.sigstore_judgement.specs.declared.error.Error.TheVariants.{NoMemory};
 
 use crate::names::refusal_name;
-use certificate_claims::SubjectAltName;
+use certificate_claims::{ClaimName, SubjectAltName};
 use foundation::NoMemory;
 use jiff::Timestamp;
 use sigstore_certificate::{CertificateRefusal, IdentityMatcher, SctRule};
 use sigstore_keys::ReadError;
+use sigstore_policy::TextMatcher;
 use sigstore_types_parts::{Sha256Hash, Text, TypesError};
 use std::{error, fmt};
 
@@ -125,6 +126,34 @@ pub enum Error {
         asked: u64,
         found: u64,
     },
+    /// The certificate doesn't claim what the policy asks for under this name: another workflow, or a run of another
+    /// repository's, signed.
+    ClaimMismatch {
+        name: ClaimName,
+        expected: TextMatcher,
+        actual: Option<Text>,
+    },
+    /// The content is no envelope, or its statement has another type of predicate than the policy's: something else was
+    /// said of the artifact.
+    PredicateMismatch {
+        expected: TextMatcher,
+        actual: Option<Text>,
+    },
+    /// Fewer different authorities and logs tell when it was signed than the policy asks for: these few could agree on
+    /// a time that isn't so.
+    TooFewTimes {
+        asked: u64,
+        found: u64,
+    },
+    /// The tokens are of fewer different time-stamp authorities than the policy asks for.
+    TooFewTokens {
+        asked: u64,
+        found: u64,
+    },
+    /// A verified time is outside the time for which the policy trusts the signer.
+    TimeOutside {
+        time: Timestamp,
+    },
     /// An allocation was refused.
     NoMemory,
 }
@@ -197,6 +226,11 @@ impl Error {
             Error::ArtifactRead(_) => 30,
             Error::NoMemory => 31,
             Error::TooFewLogs { .. } => 32,
+            Error::ClaimMismatch { .. } => 33,
+            Error::PredicateMismatch { .. } => 34,
+            Error::TooFewTimes { .. } => 35,
+            Error::TooFewTokens { .. } => 36,
+            Error::TimeOutside { .. } => 37,
         }
     }
 
@@ -263,6 +297,15 @@ pub(crate) fn uncertified(fault: CertificateRefusal) -> Error
             Error::IdentityMismatch { expected, actual }
         }
         CertificateRefusal::IssuerMismatch { expected, actual } => Error::IssuerMismatch {
+            expected,
+            actual,
+        },
+        CertificateRefusal::ClaimMismatch {
+            name,
+            expected,
+            actual,
+        } => Error::ClaimMismatch {
+            name,
             expected,
             actual,
         },
@@ -335,6 +378,11 @@ impl fmt::Display for Error {
             Error::ArtifactRead(_) => "ArtifactRead",
             Error::NoMemory => "NoMemory",
             Error::TooFewLogs { .. } => "TooFewLogs",
+            Error::ClaimMismatch { .. } => "ClaimMismatch",
+            Error::PredicateMismatch { .. } => "PredicateMismatch",
+            Error::TooFewTimes { .. } => "TooFewTimes",
+            Error::TooFewTokens { .. } => "TooFewTokens",
+            Error::TimeOutside { .. } => "TimeOutside",
         })
     }
 }

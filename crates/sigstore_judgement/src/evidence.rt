@@ -21,6 +21,17 @@ pub struct Evidence {
     pub sct_count: u64,
     /// In how many different logs the entries stand, where the log is verified.
     pub log_count: u64,
+    /// Whose word the times are.
+    pub parties: Parties,
+}
+
+/// How many different parties tell the verified times.
+#[derive(Clone, Copy, Debug, PartialEq, Eq, Drop)]
+pub struct Parties {
+    /// The time-stamp authorities of the tokens, told apart by the certificates that their chains end in.
+    pub authorities: u64,
+    /// These and the logs whose promises tell a time.
+    pub sources: u64,
 }
 
 fn earlier(first: Option<Timestamp>, time: Timestamp) -> Timestamp
@@ -55,11 +66,11 @@ pub(crate) fn joined(
     Ok(Sequence::from_vec(times))
 }
 
-// Whether the policy names whom it asks for.
+// Whether the policy names whom it asks for, or asks what the certificate claims.
 fn asks_name(policy: &VerificationPolicy) -> bool
     ensures { result ≡ asks_name policy.now }
 {
-    policy.identity.is_some() || policy.issuer.is_some()
+    policy.identity.is_some() || policy.issuer.is_some() || !policy.claims.is_empty()
 }
 
 /// What an acceptance shows.
@@ -71,6 +82,7 @@ pub(crate) fn report(signer: Signing<'_>, evidence: Evidence) -> VerificationRes
         times,
         sct_count,
         log_count,
+        parties: _,
     } = evidence;
     match signer {
         Signing::Managed(policy) => VerificationResult {

@@ -14,14 +14,16 @@ ghost use Rattle.sigstore_judgement.specs.Signer.{Managed, Certified, signer_as,
 
 use crate::artifact::{ArtifactInput, KnownArtifact};
 use crate::claim::{Claim, needed, read_claim};
+use crate::conditions::check_conditions;
 use crate::content::{check_supported, judge_content, open_content, scheme_of, signature_in};
 use crate::entries::{check_described, check_log, check_log_count};
 use crate::error::{Error, uncertified};
 use crate::evidence::{Evidence, earliest, joined, report};
 use crate::grounds::Grounds;
+use crate::parties::count_parties;
 use crate::report::VerificationResult;
 use crate::signing::{Owner, Signing, who_signed};
-use crate::tokens::check_tokens;
+use crate::tokens::{TimeEvidence, check_tokens};
 use crate::verified::verified_times;
 use foundation::Sequence;
 use jiff::Timestamp;
@@ -178,11 +180,14 @@ fn managed_vouched<C: CryptoProvider, M: Armor>(
     let integrated_time = earliest(logged.times.as_slice());
     let tokens = bundle.verification_material.rfc3161_timestamps.as_slice();
     let stamped = check_tokens(alloc, grounds, signature_in(&bundle.content), tokens)?;
+    let times = joined(logged.times, stamped.times.as_slice())?;
+    let parties = count_parties(alloc, stamped.authorities, policy.verify_tlog, entries)?;
     Ok(Evidence {
         integrated_time,
-        times: joined(logged.times, stamped.as_slice())?,
+        times,
         sct_count: 0,
         log_count: logged.count,
+        parties,
     })
 }
 
@@ -240,17 +245,19 @@ fn owner_vouched<C: CryptoProvider, M: Armor>(
         ≡ Err e) }
 {
     let policy = owner.policy;
-    let times = verified_times(alloc, grounds, bundle)?;
+    let TimeEvidence { times, authorities } = verified_times(alloc, grounds, bundle)?;
     let sct_count = check_certificate(alloc, grounds, owner, bundle, times.as_slice())?;
     let entries = bundle.verification_material.tlog_entries.as_slice();
     let logged = check_log(alloc, grounds, signer, policy.verify_tlog, entries)?;
     check_log_count(policy.verify_tlog, policy.logs, logged.count)?;
     let integrated_time = earliest(logged.times.as_slice());
+    let parties = count_parties(alloc, authorities, true, entries)?;
     Ok(Evidence {
         integrated_time,
         times,
         sct_count,
         log_count: logged.count,
+        parties,
     })
 }
 
@@ -291,14 +298,16 @@ fn accepted<C: CryptoProvider, M: Armor>(
     let opened = open_content(alloc, &bundle.content)?;
     judge_content(grounds.provider, &ready.key, &opened, &ready.claim, had)?;
     check_described(alloc, grounds, &ready.signer, bundle, &opened, had)?;
+    check_conditions(alloc, ready.signer.conditions(), &ready.claim, &evidence)?;
     Ok(evidence)
 }
 
 /// The judgement of what was prepared over what is had of the artifact. The log comes first: what was never logged
 /// isn't worth a look at its signature. Errors, in order: where the policy verifies the log, `TransparencyLog` for the
 /// first entry that isn't logged, and `TooFewLogs`; `Timestamp` for the first token that is no trusted authority's; those
-/// of `judge_content`; those of `check_described` for the first entry that isn't of this bundle. Under a certificate those
-/// of `verified_times`, of `judge_certificate`, of `check_log` and of `check_log_count` come first.
+/// of `judge_content`; those of `check_described` for the first entry that isn't of this bundle; those of
+/// `check_conditions`. Under a certificate those of `verified_times`, of `judge_certificate`, of `check_log` and of
+/// `check_log_count` come first.
 pub(crate) fn judge<C: CryptoProvider, M: Armor>(
     alloc: Global,
     grounds: &Grounds<'_, C, M>,

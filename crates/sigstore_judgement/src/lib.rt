@@ -4,6 +4,7 @@
 mod artifact;
 mod asked;
 mod claim;
+mod conditions;
 mod content;
 mod entries;
 mod error;
@@ -12,6 +13,7 @@ mod grounds;
 mod judge;
 mod laws;
 mod names;
+mod parties;
 mod prepared;
 mod report;
 mod signing;
@@ -24,7 +26,7 @@ mod verifier;
 
 pub use asked::{Asked, Case};
 pub use error::{CertificateError, Error, TimestampError, TransparencyLogError};
-pub use evidence::Evidence;
+pub use evidence::{Evidence, Parties};
 pub use judge::Ready;
 pub use laws::{
     accepts_exactly, blob_and_reader_agree, log_refusals_have_causes, one_log_suffices,
@@ -35,8 +37,9 @@ pub use prepared::prepare_reader;
 pub use report::{JudgedBundle, VerificationResult};
 pub use sigstore_certificate::{DigitallySigned, SctRule};
 pub use sigstore_policy::{
-    CertificatePolicy, IdentityMatcher, Policy, PolicyKind, PublicKeyVerificationPolicy,
-    SigningPolicy, VerificationPolicy,
+    CertificatePolicy, ClaimMatcher, IdentityMatcher, Policy, PolicyKind,
+    PublicKeyVerificationPolicy, SignatureConditions, SigningPolicy, TextMatcher,
+    VerificationPolicy,
 };
 pub use taking::{finalize_all, hashers_for};
 pub use trust::Material;

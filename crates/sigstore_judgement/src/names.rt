@@ -39,6 +39,11 @@ pub fn refusal_name(number: u8) -> &'static str
         30 => "ArtifactRead",
         31 => "NoMemory",
         32 => "TooFewLogs",
+        33 => "ClaimMismatch",
+        34 => "PredicateMismatch",
+        35 => "TooFewTimes",
+        36 => "TooFewTokens",
+        37 => "TimeOutside",
         _ => "",
     }
 }

@@ -83,7 +83,7 @@ impl VerificationResult {
         self.tlog_verified
     }
 
-    /// Whether an identity or an issuer was asked for.
+    /// Whether an identity, an issuer or a claim was asked for.
     pub fn identity_policy_checked(&self) -> bool
         ensures { result ≡ self.now.identity_policy_checked }
     {

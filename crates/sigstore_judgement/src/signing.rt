@@ -4,12 +4,12 @@ ghost use Rattle.sigstore_types.specs.Bundle.{structure_of};
 ghost use Rattle.certificate_claims.specs.Info.{info_of};
 ghost use Rattle.sigstore_judgement.specs.Error.{by_types, by_info};
 ghost use Rattle.sigstore_policy.specs.Policy.{meaning_of, Certificate};
-ghost use Rattle.sigstore_judgement.specs.Signer.{signer_as, key_in, validity_of, material_in, certificate_in, keyed_of, named_of, managed_of, owner_of, signer_of, first_checks_of};
+ghost use Rattle.sigstore_judgement.specs.Signer.{signer_as, conditions_in, key_in, validity_of, material_in, certificate_in, keyed_of, named_of, managed_of, owner_of, signer_of, first_checks_of};
 
 use crate::error::{CertificateError, Error, lowered};
 use certificate_claims::{CertificateInfo, parse_certificate_info};
 use sigstore_certificate::VerificationPolicy;
-use sigstore_policy::{PolicyKind, PublicKeyVerificationPolicy};
+use sigstore_policy::{PolicyKind, PublicKeyVerificationPolicy, SignatureConditions};
 use sigstore_types::{Bundle, VerificationMaterialContent, validate_structure};
 use sigstore_types_parts::{DerCertificate, DerPublicKey, TimeRange};
 use std::alloc::Global;
@@ -31,6 +31,16 @@ pub(crate) struct Owner<'a> {
 }
 
 impl<'a> Signing<'a> {
+    // What is asked of the signature beside who made it.
+    pub(crate) fn conditions(&self) -> &SignatureConditions
+        ensures { result.now ≡ conditions_in (signer_as self.now) }
+    {
+        match self {
+            Signing::Managed(policy) => &policy.conditions,
+            Signing::Certified(owner) => &owner.policy.conditions,
+        }
+    }
+
     // The key in DER (SubjectPublicKeyInfo).
     pub(crate) fn key(&self) -> &DerPublicKey
         ensures { result.now ≡ key_in (signer_as self.now) }

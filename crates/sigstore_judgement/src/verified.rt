@@ -1,9 +1,12 @@
 // The times at which a signature is verified to have been there.
 ghost use Rattle.std.specs.Prelude.{◌≡◌, ◌≢◌, Ok, Err, IfOk, IfErr, OnOk};
+ghost use Rattle.sigstore_types.specs.Bundle.{tokens_in};
 ghost use Rattle.sigstore_log.specs.Promise.{promise_judged, told_time};
 ghost use Rattle.sigstore_judgement.specs.Entries.{with_time, behind};
 ghost use Rattle.sigstore_judgement.specs.Error.{by_log};
+ghost use Rattle.sigstore_judgement.specs.Content.{signature_in};
 ghost use Rattle.sigstore_judgement.specs.Grounds.{grounds_by};
+ghost use Rattle.sigstore_judgement.specs.Parties.{authorities_of};
 ghost use Rattle.sigstore_judgement.specs.Verified.{promised_of, promises_judged_of, some_time, verified_of};
 
 use crate::content::signature_in;
@@ -11,7 +14,7 @@ use crate::entries::{add_time, refused};
 use crate::error::{Error, TimestampError};
 use crate::evidence::joined;
 use crate::grounds::Grounds;
-use crate::tokens::check_tokens;
+use crate::tokens::{TimeEvidence, check_tokens};
 use foundation::Sequence;
 use jiff::Timestamp;
 use sigstore_entries::TransparencyLogEntry;
@@ -89,7 +92,7 @@ fn some_time(times: Sequence<Timestamp>) -> Result<Sequence<Timestamp>, Error>
     }
 }
 
-/// The verified times: those of the tokens, then those that logs promised. Errors, in order: those of `check_tokens`;
+/// The verified times: those of the tokens, then those that logs promised; and whose the tokens are. Errors, in order: those of `check_tokens`;
 /// `TransparencyLog` for the first promise that tells a time and isn't its log's, with `MalformedEntry`,
 /// `InclusionPromise` or `IntegratedTime`; `Timestamp` with `NoVerifiedTimestamp` where there is none.
 #[tactic(auto, unfolding(crate::specs::Verified::verified_of))]
@@ -97,13 +100,17 @@ pub(crate) fn verified_times<C: CryptoProvider, M: Armor>(
     alloc: Global,
     grounds: &Grounds<'_, C, M>,
     bundle: &Bundle,
-) -> Result<Sequence<Timestamp>, Error>
-    ensures ok { IfOk result (λ times. verified_of (grounds_by C.CryptoProvider M.Armor grounds.now) bundle.now ≡ Ok times) }
+) -> Result<TimeEvidence, Error>
+    ensures ok { IfOk result (λ shown. verified_of (grounds_by C.CryptoProvider M.Armor grounds.now) bundle.now ≡ Ok shown.times) }
+    ensures authorities { IfOk result (λ shown. shown.authorities.ids
+        ≡ authorities_of (grounds_by C.CryptoProvider M.Armor grounds.now) (signature_in bundle.now.content) (tokens_in bundle.now)) }
     ensures err { IfErr result (λ e. e ≢ Error.NoMemory → verified_of (grounds_by C.CryptoProvider M.Armor grounds.now) bundle.now ≡ Err e) }
 {
     let tokens = bundle.verification_material.rfc3161_timestamps.as_slice();
     let stamped = check_tokens(alloc, grounds, signature_in(&bundle.content), tokens)?;
     let entries = bundle.verification_material.tlog_entries.as_slice();
     let promised = check_promises(alloc, grounds, entries)?;
-    some_time(joined(stamped, promised.as_slice())?)
+    let TimeEvidence { times, authorities } = stamped;
+    let times = some_time(joined(times, promised.as_slice())?)?;
+    Ok(TimeEvidence { times, authorities })
 }

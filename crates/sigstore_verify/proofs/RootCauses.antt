@@ -104,6 +104,11 @@ module _ (given : VerifyInputs) (before after : Outside) where
   by_verify verify.TrustedCertificate chain t h = (t, h)
   by_verify (verify.ArtifactRead a) chain t h = (t, h)
   by_verify (verify.TooFewLogs a b) chain t h = (t, h)
+  by_verify (verify.ClaimMismatch a b c) chain t h = (t, h)
+  by_verify (verify.PredicateMismatch a b) chain t h = (t, h)
+  by_verify (verify.TooFewTimes a b) chain t h = (t, h)
+  by_verify (verify.TooFewTokens a b) chain t h = (t, h)
+  by_verify (verify.TimeOutside a) chain t h = (t, h)
   by_verify verify.NoMemory chain t h = tt
 
   pub runs_cause : (fault : RootFault) → Runs given before after (Err fault) → Cause fault

@@ -1,6 +1,6 @@
 use Rattle.std.proofs.Common.{◌≡◌, drop}
 use Rattle.std.specs.Prelude.{filter_map}
-use Rattle.sigstore_keys.specs.LogIds.{each_once}
+use Rattle.sigstore_keys.specs.Distinct.{each_once}
 use Rattle.sigstore_log.specs.Entry.{log_of}
 use Rattle.sigstore_judgement.specs.Entries.{behind, entries_judged_of}
 use Rattle.sigstore_judgement.specs.Grounds.{grounds_by}
