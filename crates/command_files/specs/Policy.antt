@@ -1,14 +1,24 @@
 -- The policy file: the first line says who signs, each line after it asks for something or passes something over.
-use Rattle.std.specs.Prelude.{ℕ, List, [], ◌∷◌, ◌++◌, bytes_eq, codes, Bool, true, false, nat_eq, nat_le, ◌&&◌, not, if◌then◌else◌, Option, Some, None, option_map, Result, Ok, Err, ok_or}
+use Rattle.std.specs.Prelude.{ℕ, ◌==◌, List, [], ◌∷◌, ◌++◌, length, bytes_eq, codes}
+use Rattle.std.specs.Prelude.{Bool, true, false, nat_eq, nat_le, ◌&&◌, ◌||◌, not, if◌then◌else◌, ⊤}
+use Rattle.std.specs.Prelude.{Option, Some, None, is_some, Result, Ok, Err, ok_or}
 use Rattle.std.specs.List.{list_any}
 use Rattle.foundation.specs.Steps.{◌>>=◌}
+use Rattle.jiff_core.specs.declared.timestamp.Timestamp.{Timestamp}
+use Rattle.sigstore_types_parts.specs.Instant.{instant_of}
 use Rattle.sigstore_entries.specs.Checkpoint.{shortest_of}
-use Rattle.sigstore_keys.specs.declared.log_ids.LogThreshold.{LogThreshold}
-use Rattle.sigstore_policy.specs.Certificate.{without_sct}
-use Rattle.sigstore_policy.specs.declared.certificate.CertificatePolicy.TheVariants.{Skip, Verify}
+use Rattle.sigstore_keys.specs.declared.distinct.Threshold.{Threshold}
+use Rattle.certificate_claims.specs.ClaimNames.{claim_named}
+use Rattle.sigstore_policy.specs.Certificate.{without_sct, bare}
+use Rattle.sigstore_policy.specs.PublicKey.{keyed}
+use Rattle.sigstore_policy.specs.declared.certificate.CertificatePolicy.TheVariants.{Skip}
 use Rattle.sigstore_policy.specs.declared.certificate.IdentityMatcher.{IdentityMatcher}
 use Rattle.sigstore_policy.specs.declared.certificate.IdentityMatcher.TheVariants.{Exact, Email, Uri, EmailLike, UriLike}
 use Rattle.sigstore_policy.specs.declared.certificate.VerificationPolicy.{VerificationPolicy}
+use Rattle.sigstore_policy.specs.declared.conditions.SignatureConditions.{SignatureConditions}
+use Rattle.sigstore_policy.specs.declared.matcher.ClaimMatcher.{ClaimMatcher}
+use Rattle.sigstore_policy.specs.declared.matcher.TextMatcher.{TextMatcher}
+use Rattle.sigstore_policy.specs.declared.matcher.TextMatcher.TheVariants as matcher
 use Rattle.sigstore_policy.specs.declared.policy.SigningPolicy.{SigningPolicy}
 use Rattle.sigstore_policy.specs.declared.policy.SigningPolicy.TheVariants.{Certificate, PublicKey}
 use Rattle.sigstore_policy.specs.declared.public_key.PublicKeyVerificationPolicy.{PublicKeyVerificationPolicy}
@@ -18,14 +28,32 @@ use Rattle.command_files.specs.declared.usage_fault.UsageFault.{UsageFault}
 use Rattle.command_files.specs.declared.usage_fault.UsageFault.TheVariants.{Usage}
 use Rattle.command_files.specs.declared.policy.Draft.{Draft}
 use Rattle.command_files.specs.declared.policy.PolicyLine.{PolicyLine}
-use Rattle.command_files.specs.declared.policy.PolicyLine.TheVariants.{SkipTlog, SkipChain, SkipSct, Identity, Issuer, Scts, Logs}
+use Rattle.command_files.specs.declared.policy.PolicyLine.TheVariants.{SkipTlog, SkipChain, SkipSct, Identity, Issuer, Scts, Logs, Claim, Anyone}
+use Rattle.command_files.specs.declared.policy.PolicyLine.TheVariants.{Predicate, Times, Tokens, SignedBefore, SignedAfter}
 
 -- ---- a line stands at most once
 
--- the name of a line by its first word: that word; of a waiver the whole line
+abbrev pub first_or : List ℕ → Option (List ℕ × List ℕ) → List ℕ
+first_or text None = text
+first_or text (Some parts) = parts.0
+
+abbrev pub first_word_of : List ℕ → List ℕ
+first_word_of text = first_or text (cut_of 32 text)
+
+-- The name of a line by its first word and what is behind it: that word. Of a waiver it is the whole line, of a claim the claim's name, of a
+-- moment whether it is the one before or after; and a type of predicate is one, be it a text or a pattern.
+abbrev pub named_by : List ℕ → List ℕ → List ℕ → List ℕ
+named_by line word text =
+    if bytes_eq word (codes "skip") then line
+    else if bytes_eq word (codes "claim") then first_word_of text
+    else if bytes_eq word (codes "claim-like") then first_word_of text
+    else if bytes_eq word (codes "signed") then first_word_of text
+    else if bytes_eq word (codes "predicate-like") then codes "predicate"
+    else word
+
 abbrev pub named_of : List ℕ → Option (List ℕ × List ℕ) → List ℕ
 named_of line None = line
-named_of line (Some parts) = if bytes_eq parts.0 (codes "skip") then line else parts.0
+named_of line (Some parts) = named_by line parts.0 parts.1
 
 abbrev pub name_of : List ℕ → List ℕ
 name_of line = named_of line (cut_of 32 line)
@@ -39,12 +67,12 @@ once stood name = if is_among name stood then Err Usage else Ok (stood ++ name �
 
 -- ---- what stands behind a line's words
 
--- a number of logs: the shortest decimal of a number from 1 to 255
-abbrev pub threshold_in : Option ℕ → Result LogThreshold UsageFault
+-- a number of logs, or of others who vouch: the shortest decimal of a number from 1 to 255
+abbrev pub threshold_in : Option ℕ → Result Threshold UsageFault
 threshold_in None = Err Usage
 threshold_in (Some number) = if not (nat_eq number 0) && nat_le number 255 then Ok (record { value = number }) else Err Usage
 
-abbrev pub threshold_of : List ℕ → Result LogThreshold UsageFault
+abbrev pub threshold_of : List ℕ → Result Threshold UsageFault
 threshold_of text = threshold_in (shortest_of text)
 
 -- the rest of a line, blanks and all; it is not empty
@@ -68,27 +96,111 @@ identity_of text = do
   value ← rest_of parts.1
   identity_as parts.0 value
 
+-- a moment in RFC 3339's form
+abbrev pub moment_of : List ℕ → Result Timestamp UsageFault
+moment_of text = ok_or (instant_of text) Usage
+
+-- a text that is asked for, or a pattern
+abbrev pub exact_of : List ℕ → Result TextMatcher UsageFault
+exact_of text = rest_of text >>= λ text. Ok (matcher.Exact text)
+
+abbrev pub like_of : List ℕ → Result TextMatcher UsageFault
+like_of text = rest_of text >>= λ pattern. Ok (matcher.Like pattern)
+
+-- a claim: its name, a blank, and the rest of the line, as a pattern or as it is
+abbrev pub claim_of : Bool → List ℕ → Result ClaimMatcher UsageFault
+claim_of is_pattern text = do
+  parts ← ok_or (cut_of 32 text) Usage
+  name ← ok_or (claim_named parts.0) Usage
+  value ← if is_pattern then like_of parts.1 else exact_of parts.1
+  Ok (record { name = name; text = value })
+
+abbrev pub signed_by : List ℕ → List ℕ → Result PolicyLine UsageFault
+signed_by word text =
+    if bytes_eq word (codes "before") then (moment_of text >>= λ moment. Ok (SignedBefore moment))
+    else if bytes_eq word (codes "after") then (moment_of text >>= λ moment. Ok (SignedAfter moment))
+    else Err Usage
+
+-- when it has to be signed
+abbrev pub signed_of : List ℕ → Result PolicyLine UsageFault
+signed_of text = do
+  parts ← ok_or (cut_of 32 text) Usage
+  signed_by parts.0 parts.1
+
 -- ---- the table of lines
 
--- a line by its first word and what is behind it
-abbrev pub row_of : List ℕ → List ℕ → Result PolicyLine UsageFault
-row_of word text =
-    if bytes_eq word (codes "skip") && bytes_eq text (codes "tlog") then Ok SkipTlog
-    else if bytes_eq word (codes "skip") && bytes_eq text (codes "chain") then Ok SkipChain
-    else if bytes_eq word (codes "skip") && bytes_eq text (codes "sct") then Ok SkipSct
+abbrev pub waiver_of : List ℕ → Result PolicyLine UsageFault
+waiver_of text =
+    if bytes_eq text (codes "tlog") then Ok SkipTlog
+    else if bytes_eq text (codes "chain") then Ok SkipChain
+    else if bytes_eq text (codes "sct") then Ok SkipSct
+    else Err Usage
+
+-- the words of what is asked beside who signed
+abbrev pub is_beside : List ℕ → Bool
+is_beside word =
+    if bytes_eq word (codes "predicate") then true
+    else if bytes_eq word (codes "predicate-like") then true
+    else if bytes_eq word (codes "times") then true
+    else if bytes_eq word (codes "tokens") then true
+    else bytes_eq word (codes "signed")
+
+-- what is asked beside who signed
+unfoldable pub row_beside_of : List ℕ → List ℕ → Result PolicyLine UsageFault
+row_beside_of word text =
+    if bytes_eq word (codes "predicate") then (exact_of text >>= λ text. Ok (Predicate text))
+    else if bytes_eq word (codes "predicate-like") then (like_of text >>= λ pattern. Ok (Predicate pattern))
+    else if bytes_eq word (codes "times") then (threshold_of text >>= λ count. Ok (Times count))
+    else if bytes_eq word (codes "tokens") then (threshold_of text >>= λ count. Ok (Tokens count))
+    else if bytes_eq word (codes "signed") then signed_of text
+    else Err Usage
+
+-- what is asked of whom the certificate names and of the logs, and what is waived
+unfoldable pub row_signer_of : List ℕ → List ℕ → Result PolicyLine UsageFault
+row_signer_of word text =
+    if bytes_eq word (codes "skip") then waiver_of text
     else if bytes_eq word (codes "identity") then (identity_of text >>= λ identity. Ok (Identity identity))
     else if bytes_eq word (codes "issuer") then (rest_of text >>= λ issuer. Ok (Issuer issuer))
     else if bytes_eq word (codes "scts") then (threshold_of text >>= λ count. Ok (Scts count))
     else if bytes_eq word (codes "logs") then (threshold_of text >>= λ count. Ok (Logs count))
     else Err Usage
 
--- a line behind the first one
+abbrev pub row_without_claims_of : List ℕ → List ℕ → Result PolicyLine UsageFault
+row_without_claims_of word text = if is_beside word then row_beside_of word text else row_signer_of word text
+
+-- a line by its first word and what is behind it
+abbrev pub row_of : List ℕ → List ℕ → Result PolicyLine UsageFault
+row_of word text =
+    if bytes_eq word (codes "claim") then (claim_of false text >>= λ claim. Ok (Claim claim))
+    else if bytes_eq word (codes "claim-like") then (claim_of true text >>= λ claim. Ok (Claim claim))
+    else row_without_claims_of word text
+
+-- a line behind the first one: a word, a blank and what is asked; or the one word `anyone`
+abbrev pub line_in : List ℕ → Option (List ℕ × List ℕ) → Result PolicyLine UsageFault
+line_in line None = if bytes_eq line (codes "anyone") then Ok Anyone else Err Usage
+line_in line (Some parts) = row_of parts.0 parts.1
+
 abbrev pub line_of : List ℕ → Result PolicyLine UsageFault
-line_of line = do
-  parts ← ok_or (cut_of 32 line) Usage
-  row_of parts.0 parts.1
+line_of line = line_in line (cut_of 32 line)
 
 -- ---- what a line does
+
+-- to what is asked beside who signed
+abbrev pub asked_beside : SignatureConditions → PolicyLine → SignatureConditions
+asked_beside asked (Predicate text) = record asked { predicate = Some text }
+asked_beside asked (Times count) = record asked { times = Some count }
+asked_beside asked (Tokens count) = record asked { tokens = Some count }
+asked_beside asked (SignedBefore moment) = record asked { signed_before = Some moment }
+asked_beside asked (SignedAfter moment) = record asked { signed_after = Some moment }
+asked_beside asked SkipTlog = asked
+asked_beside asked SkipChain = asked
+asked_beside asked SkipSct = asked
+asked_beside asked (Identity identity) = asked
+asked_beside asked (Issuer issuer) = asked
+asked_beside asked (Scts count) = asked
+asked_beside asked (Logs count) = asked
+asked_beside asked (Claim claim) = asked
+asked_beside asked Anyone = asked
 
 -- to a policy for certificates
 abbrev pub asked_by : VerificationPolicy → PolicyLine → VerificationPolicy
@@ -99,33 +211,54 @@ asked_by policy (Identity identity) = record policy { identity = Some identity }
 asked_by policy (Issuer issuer) = record policy { issuer = Some issuer }
 asked_by policy (Scts count) = record policy { scts = count }
 asked_by policy (Logs count) = record policy { logs = count }
+asked_by policy (Claim claim) = record policy { claims = policy.claims ++ claim ∷ [] }
+asked_by policy Anyone = record policy { anyone = true }
+asked_by policy line = record policy { conditions = asked_beside policy.conditions line }
+
+-- a line about certificates
+abbrev pub asks_certificate : PolicyLine → Bool
+asks_certificate SkipChain = true
+asks_certificate SkipSct = true
+asks_certificate (Identity identity) = true
+asks_certificate (Issuer issuer) = true
+asks_certificate (Scts count) = true
+asks_certificate (Claim claim) = true
+asks_certificate Anyone = true
+asks_certificate SkipTlog = false
+asks_certificate (Logs count) = false
+asks_certificate (Predicate text) = false
+asks_certificate (Times count) = false
+asks_certificate (Tokens count) = false
+asks_certificate (SignedBefore moment) = false
+asks_certificate (SignedAfter moment) = false
+
+abbrev pub asked_of_key : PublicKeyVerificationPolicy → PolicyLine → PublicKeyVerificationPolicy
+asked_of_key policy SkipTlog = record policy { verify_tlog = false }
+asked_of_key policy (Logs count) = record policy { logs = count }
+asked_of_key policy line = record policy { conditions = asked_beside policy.conditions line }
 
 -- to a policy of a key, which takes no line about certificates
 abbrev pub keyed_by : PublicKeyVerificationPolicy → PolicyLine → Result PublicKeyVerificationPolicy UsageFault
-keyed_by policy SkipTlog = Ok (record policy { verify_tlog = false })
-keyed_by policy (Logs count) = Ok (record policy { logs = count })
-keyed_by policy _ = Err Usage
+keyed_by policy line = if asks_certificate line then Err Usage else Ok (asked_of_key policy line)
 
 abbrev pub applied : SigningPolicy → PolicyLine → Result SigningPolicy UsageFault
 applied (Certificate policy) line = Ok (Certificate (asked_by policy line))
 applied (PublicKey policy) line = keyed_by policy line >>= λ next. Ok (PublicKey next)
 
+-- ---- the whole rule
+
+abbrev pub names_somebody : VerificationPolicy → Bool
+names_somebody policy = is_some policy.identity || not (length policy.claims == 0)
+
+-- who says that anyone may have signed doesn't name somebody too
+abbrev pub on_purpose : SigningPolicy → Result ⊤ UsageFault
+on_purpose (Certificate policy) = if policy.anyone && names_somebody policy then Err Usage else Ok tt
+on_purpose (PublicKey policy) = Ok tt
+
+abbrev pub purposeful : SigningPolicy → Result SigningPolicy UsageFault
+purposeful policy = on_purpose policy >>= λ _. Ok policy
+
 -- ---- the file
-
--- what is asked by the word `keyless` alone: all is verified, over whatever names
-abbrev pub bare : VerificationPolicy
-bare = record {
-  identity = None;
-  issuer = None;
-  verify_tlog = true;
-  certificate = Verify true;
-  scts = record { value = 1 };
-  logs = record { value = 1 };
-}
-
--- what is asked by a key alone
-abbrev pub keyed : List ℕ → PublicKeyVerificationPolicy
-keyed key = record { key = key; verify_tlog = true; logs = record { value = 1 } }
 
 -- the line of a key: the word `key`, a blank and the base64 of the key
 abbrev pub key_line_of : List ℕ → Result PublicKeyVerificationPolicy UsageFault
@@ -133,7 +266,7 @@ key_line_of line = do
   parts ← ok_or (cut_of 32 line) Usage
   if bytes_eq parts.0 (codes "key") then (spelled_of parts.1 >>= λ key. Ok (keyed key)) else Err Usage
 
--- the first line: `keyless`, or the line of a key
+-- the first line: `keyless`, by which all is verified but names, or the line of a key
 abbrev pub first_line_of : List ℕ → Result SigningPolicy UsageFault
 first_line_of line =
     if bytes_eq line (codes "keyless") then Ok (Certificate bare)
@@ -156,4 +289,7 @@ policy_line_of (Some draft) line = later_line_of draft line >>= λ next. Ok (Som
 
 -- the policy of a file
 unfoldable pub policy_of : List ℕ → Result SigningPolicy UsageFault
-policy_of bytes = file_folded_of policy_line_of None bytes >>= λ found. ok_or (option_map (λ draft. draft.policy) found) Usage
+policy_of bytes = do
+  found ← file_folded_of policy_line_of None bytes
+  draft ← ok_or found Usage
+  purposeful draft.policy
