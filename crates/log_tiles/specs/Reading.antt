@@ -1,5 +1,6 @@
 -- What a call knows of the tiles of a tree that it read.
-use Rattle.std.specs.Prelude.{◌≡◌, ◌≢◌, ℕ, ◌+◌, ◌*◌, ◌/◌, ◌%◌, ◌<◌, ◌≤◌, List, length, take, drop, map, All, Bool, Option, Result, IfOk, IfErr, ⊤}
+use Rattle.std.specs.Prelude.{◌≡◌, ◌≢◌, ℕ, ◌+◌, ◌*◌, ◌/◌, ◌%◌, ◌<◌, ◌≤◌, List}
+use Rattle.std.specs.Prelude.{length, take, drop, map, All, Bool, Option, Result, IfOk, IfErr, ⊤}
 use Rattle.foundation.specs.Watched.{Watched, IfTold, Since}
 use Rattle.log_tiles.specs.Whole.{tree_hash}
 use Rattle.log_tiles.specs.Proofs.{path_of, subproof_of}

@@ -1,5 +1,6 @@
 -- What a question adds to what was noted: a row and its line, where it isn't noted yet, can be a row and has room. And what may be noted.
-use Rattle.std.specs.Prelude.{◌≡◌, ℕ, ◌+◌, ◌*◌, List, [], ◌++◌, length, nat_le, codes, Bool, not, ◌||◌, if◌then◌else◌, is_some, Some}
+use Rattle.std.specs.Prelude.{◌≡◌, ℕ, ◌+◌, ◌*◌, List, [], ◌++◌, length}
+use Rattle.std.specs.Prelude.{nat_le, codes, Bool, not, ◌||◌, if◌then◌else◌, is_some, Some}
 use Rattle.std.specs.BTreeMap.{insert_entry}
 use Rattle.sigstore_types_parts.specs.Entries.{text_cmp, at_name}
 use Rattle.sigstore_keys.specs.declared.scheme.SigningScheme.{SigningScheme}

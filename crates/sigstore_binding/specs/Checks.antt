@@ -1,5 +1,6 @@
 -- What is compared of an entry, one after the other.
-use Rattle.std.specs.Prelude.{◌≡◌, ◌≢◌, ◌⊎◌, ℕ, List, [], ◌∷◌, bytes_eq, Bool, true, false, if◌then◌else◌, ⊤, Option, Some, None}
+use Rattle.std.specs.Prelude.{◌≡◌, ◌≢◌, ◌⊎◌, ℕ, List, [], ◌∷◌, bytes_eq}
+use Rattle.std.specs.Prelude.{Bool, true, false, if◌then◌else◌, ⊤, Option, Some, None}
 use Rattle.std.specs.Prelude.{Result, Ok, Err}
 use Rattle.std.specs.List.{AllByRecursion}
 use Rattle.foundation.specs.Steps.{◌>>=◌}

@@ -31,4 +31,5 @@ TimeFits (Some time) = mag time < 2 ^ 63
 
 -- an entry that is read, of a time that fits, is read again where it is written
 abbrev pub EntriesAreReadAgain : Type 0
-EntriesAreReadAgain = (d : Data) (entry : TransparencyLogEntry) → TimeFits entry.integrated_time → entry_of d ≡ Ok entry → entry_of (entry_data entry) ≡ Ok entry
+EntriesAreReadAgain = (d : Data) (entry : TransparencyLogEntry) → TimeFits entry.integrated_time → entry_of d ≡ Ok entry
+    → entry_of (entry_data entry) ≡ Ok entry

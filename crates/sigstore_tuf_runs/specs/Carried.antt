@@ -1,6 +1,7 @@
 -- How the floor is carried from call to call, and through a store (TUF specification, section 5.4: no timestamp below the trusted one,
 -- in a later run either).
-use Rattle.std.specs.Prelude.{◌≡◌, ◌≢◌, ◌⊎◌, ℕ, ◌<◌, ◌≤◌, List, Option, Some, None, option_map, Result, Ok, Err, IfSome, codes, ⊤}
+use Rattle.std.specs.Prelude.{◌≡◌, ◌≢◌, ◌⊎◌, ℕ, ◌<◌, ◌≤◌, List, Option}
+use Rattle.std.specs.Prelude.{Some, None, option_map, Result, Ok, Err, IfSome, codes, ⊤}
 use Rattle.foundation.specs.Watched.{Watched, IfTold}
 use Rattle.sigstore_keys.specs.Crypto.{Crypto}
 use Rattle.sigstore_tuf_text.specs.declared.error.Error.{Error}

@@ -14,4 +14,5 @@ TimesFit = AllByRecursion (λ entry. TimeFits entry.integrated_time)
 
 -- a bundle that is read is read again where it is written
 abbrev pub BundlesAreReadAgain : Type 0
-BundlesAreReadAgain = (d : Data) (bundle : Bundle) → TimesFit (entries_in bundle) → bundle_of d ≡ Ok bundle → bundle_of (bundle_data bundle) ≡ Ok bundle
+BundlesAreReadAgain = (d : Data) (bundle : Bundle) → TimesFit (entries_in bundle) → bundle_of d ≡ Ok bundle
+    → bundle_of (bundle_data bundle) ≡ Ok bundle

@@ -1,5 +1,6 @@
 -- What a lying repository answers: the next of its replies, whatever is asked.
-use Rattle.std.specs.Prelude.{ℕ, ◌+◌, ◌-◌, ◌^◌, min, nat_lt, if◌then◌else◌, List, [], ◌∷◌, length, Option, Some, None, Result, Ok, Err}
+use Rattle.std.specs.Prelude.{ℕ, ◌+◌, ◌-◌, ◌^◌, min, nat_lt, if◌then◌else◌, List}
+use Rattle.std.specs.Prelude.{[], ◌∷◌, length, Option, Some, None, Result, Ok, Err}
 use Rattle.tuf_tests.specs.declared.lying_repository.Reply.{Reply}
 use Rattle.tuf_tests.specs.declared.lying_repository.Reply.TheVariants as reply
 use Rattle.sigstore_tuf_outside.specs.declared.repository.FetchFault.{FetchFault}
