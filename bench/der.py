@@ -27,6 +27,8 @@ OIDS = {
     "old_issuer": "1.3.6.1.4.1.57264.1.1",
     "new_issuer": "1.3.6.1.4.1.57264.1.8",
 }
+# What Fulcio claims of the run that signed, by its number.
+OIDS.update({f"claim_{number}": f"1.3.6.1.4.1.57264.1.{number}" for number in (*range(2, 7), *range(9, 23))})
 
 
 def tlv(tag, *parts):

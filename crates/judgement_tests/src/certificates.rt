@@ -57,7 +57,7 @@ fn judged<X: AllocGlobal + Abort>(
     );
     let info = good(rt, parse_certificate_info(rt.alloc(), &leaf));
     let anchor = good(rt, Anchor::from_certificate(rt.alloc(), &root, None));
-    let (logs, policy) = (logs(rt), VerificationPolicy::any_identity());
+    let (logs, policy) = (logs(rt), VerificationPolicy::any_identity(rt.alloc()));
     let authorities = TrustedAuthorities {
         anchors: slice::from_ref(&anchor),
         ct_logs: &logs,

@@ -98,10 +98,22 @@ fn whole_layout<X: AllocGlobal + Abort>(rt: &X, more: &str) -> String {
     answer
 }
 
+// The Debug text of a policy, with two dots for what isn't asked for.
+fn shortened<X: AllocGlobal + Abort>(rt: &X, shown: String) -> String {
+    let claims = good(
+        rt,
+        shown.replace(rt.alloc(), "claims: [], anyone: false", ".."),
+    );
+    drop(shown);
+    let beside = good(rt, claims.replace(rt.alloc(), NOTHING_BESIDE, ".."));
+    drop(claims);
+    beside
+}
+
 fn policy<X: AllocGlobal + Abort>(rt: &X, text: String) -> String {
     let answer = read_policy(rt.alloc(), text.as_bytes());
     drop(text);
-    debug(rt, answer)
+    shortened(rt, debug(rt, answer))
 }
 
 // The policy of a text with a line's last byte behind it that isn't UTF-8.
@@ -111,7 +123,7 @@ fn policy_with_ff<X: AllocGlobal + Abort>(rt: &X, text: String) -> String {
     good(rt, bytes.push(b'\n'));
     let answer = read_policy(rt.alloc(), &bytes);
     drop(bytes);
-    debug(rt, answer)
+    shortened(rt, debug(rt, answer))
 }
 
 fn provider<X: AllocGlobal + Abort>(rt: &X, text: String) -> String {
@@ -170,13 +182,17 @@ provider | armor key ZGVyOg== AQ==; | Usage
 provider | armor other YQ== AQ==; | Usage
 provider | refuse; | Usage";
 
+// A policy that asks for nothing beside who signed, in its Debug text.
+const NOTHING_BESIDE: &str =
+    "conditions: SignatureConditions { predicate: None, times: None, tokens: None, signed_before: None, signed_after: None }";
+
 // The same of policy files.
 const POLICIES: &str =
     "# A key: each line, twice, out of its place, in another spelling, and what only a keyless policy asks.
-policy | key AQI=; | Ok(PublicKey(PublicKeyVerificationPolicy { key: [1, 2], verify_tlog: true, logs: LogThreshold { value: 1 } }))
-policy | key AQI=;skip tlog; | Ok(PublicKey(PublicKeyVerificationPolicy { key: [1, 2], verify_tlog: false, logs: LogThreshold { value: 1 } }))
-policy | ;# a key;key AQI=;# the log;;skip tlog;# the end; | Ok(PublicKey(PublicKeyVerificationPolicy { key: [1, 2], verify_tlog: false, logs: LogThreshold { value: 1 } }))
-policy | key ; | Ok(PublicKey(PublicKeyVerificationPolicy { key: [], verify_tlog: true, logs: LogThreshold { value: 1 } }))
+policy | key AQI=; | Ok(PublicKey(PublicKeyVerificationPolicy { key: [1, 2], verify_tlog: true, logs: Threshold { value: 1 }, .. }))
+policy | key AQI=;skip tlog; | Ok(PublicKey(PublicKeyVerificationPolicy { key: [1, 2], verify_tlog: false, logs: Threshold { value: 1 }, .. }))
+policy | ;# a key;key AQI=;# the log;;skip tlog;# the end; | Ok(PublicKey(PublicKeyVerificationPolicy { key: [1, 2], verify_tlog: false, logs: Threshold { value: 1 }, .. }))
+policy | key ; | Ok(PublicKey(PublicKeyVerificationPolicy { key: [], verify_tlog: true, logs: Threshold { value: 1 }, .. }))
 policy |  | Err(Usage)
 policy | # none; | Err(Usage)
 policy | ; | Err(Usage)
@@ -207,37 +223,37 @@ policy | key AQI=;identity uri a; | Err(Usage)
 policy | key AQI=;issuer a; | Err(Usage)
 policy | key AQI=;keyless; | Err(Usage)
 # Keyless: each line once, and all in two orders.
-policy | keyless; | Ok(Certificate(VerificationPolicy { identity: None, issuer: None, verify_tlog: true, certificate: Verify { verify_sct: true }, scts: LogThreshold { value: 1 }, logs: LogThreshold { value: 1 } }))
-policy | # who;;keyless; | Ok(Certificate(VerificationPolicy { identity: None, issuer: None, verify_tlog: true, certificate: Verify { verify_sct: true }, scts: LogThreshold { value: 1 }, logs: LogThreshold { value: 1 } }))
-policy | keyless;skip tlog; | Ok(Certificate(VerificationPolicy { identity: None, issuer: None, verify_tlog: false, certificate: Verify { verify_sct: true }, scts: LogThreshold { value: 1 }, logs: LogThreshold { value: 1 } }))
-policy | keyless;skip chain; | Ok(Certificate(VerificationPolicy { identity: None, issuer: None, verify_tlog: true, certificate: Skip, scts: LogThreshold { value: 1 }, logs: LogThreshold { value: 1 } }))
-policy | keyless;skip sct; | Ok(Certificate(VerificationPolicy { identity: None, issuer: None, verify_tlog: true, certificate: Verify { verify_sct: false }, scts: LogThreshold { value: 1 }, logs: LogThreshold { value: 1 } }))
-policy | keyless;identity exact a; | Ok(Certificate(VerificationPolicy { identity: Some(Exact(\"a\")), issuer: None, verify_tlog: true, certificate: Verify { verify_sct: true }, scts: LogThreshold { value: 1 }, logs: LogThreshold { value: 1 } }))
-policy | keyless;identity email a@b.example; | Ok(Certificate(VerificationPolicy { identity: Some(Email(\"a@b.example\")), issuer: None, verify_tlog: true, certificate: Verify { verify_sct: true }, scts: LogThreshold { value: 1 }, logs: LogThreshold { value: 1 } }))
-policy | keyless;identity uri https://a/b#c; | Ok(Certificate(VerificationPolicy { identity: Some(Uri(\"https://a/b#c\")), issuer: None, verify_tlog: true, certificate: Verify { verify_sct: true }, scts: LogThreshold { value: 1 }, logs: LogThreshold { value: 1 } }))
-policy | keyless;issuer https://a; | Ok(Certificate(VerificationPolicy { identity: None, issuer: Some(\"https://a\"), verify_tlog: true, certificate: Verify { verify_sct: true }, scts: LogThreshold { value: 1 }, logs: LogThreshold { value: 1 } }))
-policy | keyless;identity uri u;issuer i;skip tlog;skip chain;skip sct; | Ok(Certificate(VerificationPolicy { identity: Some(Uri(\"u\")), issuer: Some(\"i\"), verify_tlog: false, certificate: Skip, scts: LogThreshold { value: 1 }, logs: LogThreshold { value: 1 } }))
-policy | keyless;skip sct;# between;skip chain;;skip tlog;issuer i;identity email e; | Ok(Certificate(VerificationPolicy { identity: Some(Email(\"e\")), issuer: Some(\"i\"), verify_tlog: false, certificate: Skip, scts: LogThreshold { value: 1 }, logs: LogThreshold { value: 1 } }))
+policy | keyless; | Ok(Certificate(VerificationPolicy { identity: None, issuer: None, .., verify_tlog: true, certificate: Verify { verify_sct: true }, scts: Threshold { value: 1 }, logs: Threshold { value: 1 }, .. }))
+policy | # who;;keyless; | Ok(Certificate(VerificationPolicy { identity: None, issuer: None, .., verify_tlog: true, certificate: Verify { verify_sct: true }, scts: Threshold { value: 1 }, logs: Threshold { value: 1 }, .. }))
+policy | keyless;skip tlog; | Ok(Certificate(VerificationPolicy { identity: None, issuer: None, .., verify_tlog: false, certificate: Verify { verify_sct: true }, scts: Threshold { value: 1 }, logs: Threshold { value: 1 }, .. }))
+policy | keyless;skip chain; | Ok(Certificate(VerificationPolicy { identity: None, issuer: None, .., verify_tlog: true, certificate: Skip, scts: Threshold { value: 1 }, logs: Threshold { value: 1 }, .. }))
+policy | keyless;skip sct; | Ok(Certificate(VerificationPolicy { identity: None, issuer: None, .., verify_tlog: true, certificate: Verify { verify_sct: false }, scts: Threshold { value: 1 }, logs: Threshold { value: 1 }, .. }))
+policy | keyless;identity exact a; | Ok(Certificate(VerificationPolicy { identity: Some(Exact(\"a\")), issuer: None, .., verify_tlog: true, certificate: Verify { verify_sct: true }, scts: Threshold { value: 1 }, logs: Threshold { value: 1 }, .. }))
+policy | keyless;identity email a@b.example; | Ok(Certificate(VerificationPolicy { identity: Some(Email(\"a@b.example\")), issuer: None, .., verify_tlog: true, certificate: Verify { verify_sct: true }, scts: Threshold { value: 1 }, logs: Threshold { value: 1 }, .. }))
+policy | keyless;identity uri https://a/b#c; | Ok(Certificate(VerificationPolicy { identity: Some(Uri(\"https://a/b#c\")), issuer: None, .., verify_tlog: true, certificate: Verify { verify_sct: true }, scts: Threshold { value: 1 }, logs: Threshold { value: 1 }, .. }))
+policy | keyless;issuer https://a; | Ok(Certificate(VerificationPolicy { identity: None, issuer: Some(\"https://a\"), .., verify_tlog: true, certificate: Verify { verify_sct: true }, scts: Threshold { value: 1 }, logs: Threshold { value: 1 }, .. }))
+policy | keyless;identity uri u;issuer i;skip tlog;skip chain;skip sct; | Ok(Certificate(VerificationPolicy { identity: Some(Uri(\"u\")), issuer: Some(\"i\"), .., verify_tlog: false, certificate: Skip, scts: Threshold { value: 1 }, logs: Threshold { value: 1 }, .. }))
+policy | keyless;skip sct;# between;skip chain;;skip tlog;issuer i;identity email e; | Ok(Certificate(VerificationPolicy { identity: Some(Email(\"e\")), issuer: Some(\"i\"), .., verify_tlog: false, certificate: Skip, scts: Threshold { value: 1 }, logs: Threshold { value: 1 }, .. }))
 # Blanks and other bytes in a text stay as they are, and its words mean nothing.
-policy | keyless;identity exact Ann Other; | Ok(Certificate(VerificationPolicy { identity: Some(Exact(\"Ann Other\")), issuer: None, verify_tlog: true, certificate: Verify { verify_sct: true }, scts: LogThreshold { value: 1 }, logs: LogThreshold { value: 1 } }))
-policy | keyless;identity exact  a ; | Ok(Certificate(VerificationPolicy { identity: Some(Exact(\" a \")), issuer: None, verify_tlog: true, certificate: Verify { verify_sct: true }, scts: LogThreshold { value: 1 }, logs: LogThreshold { value: 1 } }))
-policy | keyless;identity exact  ; | Ok(Certificate(VerificationPolicy { identity: Some(Exact(\" \")), issuer: None, verify_tlog: true, certificate: Verify { verify_sct: true }, scts: LogThreshold { value: 1 }, logs: LogThreshold { value: 1 } }))
-policy | keyless;identity email uri exact; | Ok(Certificate(VerificationPolicy { identity: Some(Email(\"uri exact\")), issuer: None, verify_tlog: true, certificate: Verify { verify_sct: true }, scts: LogThreshold { value: 1 }, logs: LogThreshold { value: 1 } }))
-policy | keyless;identity exact #; | Ok(Certificate(VerificationPolicy { identity: Some(Exact(\"#\")), issuer: None, verify_tlog: true, certificate: Verify { verify_sct: true }, scts: LogThreshold { value: 1 }, logs: LogThreshold { value: 1 } }))
-policy | keyless;issuer a b  c; | Ok(Certificate(VerificationPolicy { identity: None, issuer: Some(\"a b  c\"), verify_tlog: true, certificate: Verify { verify_sct: true }, scts: LogThreshold { value: 1 }, logs: LogThreshold { value: 1 } }))
-policy | keyless;issuer  ; | Ok(Certificate(VerificationPolicy { identity: None, issuer: Some(\" \"), verify_tlog: true, certificate: Verify { verify_sct: true }, scts: LogThreshold { value: 1 }, logs: LogThreshold { value: 1 } }))
-policy | keyless;issuer skip tlog; | Ok(Certificate(VerificationPolicy { identity: None, issuer: Some(\"skip tlog\"), verify_tlog: true, certificate: Verify { verify_sct: true }, scts: LogThreshold { value: 1 }, logs: LogThreshold { value: 1 } }))
-policy | keyless;issuer a\r; | Ok(Certificate(VerificationPolicy { identity: None, issuer: Some(\"a\\r\"), verify_tlog: true, certificate: Verify { verify_sct: true }, scts: LogThreshold { value: 1 }, logs: LogThreshold { value: 1 } }))
-policy | keyless;issuer \u{e9}; | Ok(Certificate(VerificationPolicy { identity: None, issuer: Some(\"\u{e9}\"), verify_tlog: true, certificate: Verify { verify_sct: true }, scts: LogThreshold { value: 1 }, logs: LogThreshold { value: 1 } }))
+policy | keyless;identity exact Ann Other; | Ok(Certificate(VerificationPolicy { identity: Some(Exact(\"Ann Other\")), issuer: None, .., verify_tlog: true, certificate: Verify { verify_sct: true }, scts: Threshold { value: 1 }, logs: Threshold { value: 1 }, .. }))
+policy | keyless;identity exact  a ; | Ok(Certificate(VerificationPolicy { identity: Some(Exact(\" a \")), issuer: None, .., verify_tlog: true, certificate: Verify { verify_sct: true }, scts: Threshold { value: 1 }, logs: Threshold { value: 1 }, .. }))
+policy | keyless;identity exact  ; | Ok(Certificate(VerificationPolicy { identity: Some(Exact(\" \")), issuer: None, .., verify_tlog: true, certificate: Verify { verify_sct: true }, scts: Threshold { value: 1 }, logs: Threshold { value: 1 }, .. }))
+policy | keyless;identity email uri exact; | Ok(Certificate(VerificationPolicy { identity: Some(Email(\"uri exact\")), issuer: None, .., verify_tlog: true, certificate: Verify { verify_sct: true }, scts: Threshold { value: 1 }, logs: Threshold { value: 1 }, .. }))
+policy | keyless;identity exact #; | Ok(Certificate(VerificationPolicy { identity: Some(Exact(\"#\")), issuer: None, .., verify_tlog: true, certificate: Verify { verify_sct: true }, scts: Threshold { value: 1 }, logs: Threshold { value: 1 }, .. }))
+policy | keyless;issuer a b  c; | Ok(Certificate(VerificationPolicy { identity: None, issuer: Some(\"a b  c\"), .., verify_tlog: true, certificate: Verify { verify_sct: true }, scts: Threshold { value: 1 }, logs: Threshold { value: 1 }, .. }))
+policy | keyless;issuer  ; | Ok(Certificate(VerificationPolicy { identity: None, issuer: Some(\" \"), .., verify_tlog: true, certificate: Verify { verify_sct: true }, scts: Threshold { value: 1 }, logs: Threshold { value: 1 }, .. }))
+policy | keyless;issuer skip tlog; | Ok(Certificate(VerificationPolicy { identity: None, issuer: Some(\"skip tlog\"), .., verify_tlog: true, certificate: Verify { verify_sct: true }, scts: Threshold { value: 1 }, logs: Threshold { value: 1 }, .. }))
+policy | keyless;issuer a\r; | Ok(Certificate(VerificationPolicy { identity: None, issuer: Some(\"a\\r\"), .., verify_tlog: true, certificate: Verify { verify_sct: true }, scts: Threshold { value: 1 }, logs: Threshold { value: 1 }, .. }))
+policy | keyless;issuer \u{e9}; | Ok(Certificate(VerificationPolicy { identity: None, issuer: Some(\"\u{e9}\"), .., verify_tlog: true, certificate: Verify { verify_sct: true }, scts: Threshold { value: 1 }, logs: Threshold { value: 1 }, .. }))
 # By a pattern: every text is one, blanks and stars and all, and only these two sorts have one.
-policy | keyless;identity uri-like https://a/*@refs/tags/v*; | Ok(Certificate(VerificationPolicy { identity: Some(UriLike(\"https://a/*@refs/tags/v*\")), issuer: None, verify_tlog: true, certificate: Verify { verify_sct: true }, scts: LogThreshold { value: 1 }, logs: LogThreshold { value: 1 } }))
-policy | keyless;identity email-like *@b.example; | Ok(Certificate(VerificationPolicy { identity: Some(EmailLike(\"*@b.example\")), issuer: None, verify_tlog: true, certificate: Verify { verify_sct: true }, scts: LogThreshold { value: 1 }, logs: LogThreshold { value: 1 } }))
-policy | keyless;identity uri-like ***?[; | Ok(Certificate(VerificationPolicy { identity: Some(UriLike(\"***?[\")), issuer: None, verify_tlog: true, certificate: Verify { verify_sct: true }, scts: LogThreshold { value: 1 }, logs: LogThreshold { value: 1 } }))
-policy | keyless;identity uri-like a; | Ok(Certificate(VerificationPolicy { identity: Some(UriLike(\"a\")), issuer: None, verify_tlog: true, certificate: Verify { verify_sct: true }, scts: LogThreshold { value: 1 }, logs: LogThreshold { value: 1 } }))
-policy | keyless;identity uri-like  * ; | Ok(Certificate(VerificationPolicy { identity: Some(UriLike(\" * \")), issuer: None, verify_tlog: true, certificate: Verify { verify_sct: true }, scts: LogThreshold { value: 1 }, logs: LogThreshold { value: 1 } }))
-policy | keyless;identity uri like *; | Ok(Certificate(VerificationPolicy { identity: Some(Uri(\"like *\")), issuer: None, verify_tlog: true, certificate: Verify { verify_sct: true }, scts: LogThreshold { value: 1 }, logs: LogThreshold { value: 1 } }))
-policy | keyless;identity uri *; | Ok(Certificate(VerificationPolicy { identity: Some(Uri(\"*\")), issuer: None, verify_tlog: true, certificate: Verify { verify_sct: true }, scts: LogThreshold { value: 1 }, logs: LogThreshold { value: 1 } }))
-policy | keyless;identity exact *; | Ok(Certificate(VerificationPolicy { identity: Some(Exact(\"*\")), issuer: None, verify_tlog: true, certificate: Verify { verify_sct: true }, scts: LogThreshold { value: 1 }, logs: LogThreshold { value: 1 } }))
+policy | keyless;identity uri-like https://a/*@refs/tags/v*; | Ok(Certificate(VerificationPolicy { identity: Some(UriLike(\"https://a/*@refs/tags/v*\")), issuer: None, .., verify_tlog: true, certificate: Verify { verify_sct: true }, scts: Threshold { value: 1 }, logs: Threshold { value: 1 }, .. }))
+policy | keyless;identity email-like *@b.example; | Ok(Certificate(VerificationPolicy { identity: Some(EmailLike(\"*@b.example\")), issuer: None, .., verify_tlog: true, certificate: Verify { verify_sct: true }, scts: Threshold { value: 1 }, logs: Threshold { value: 1 }, .. }))
+policy | keyless;identity uri-like ***?[; | Ok(Certificate(VerificationPolicy { identity: Some(UriLike(\"***?[\")), issuer: None, .., verify_tlog: true, certificate: Verify { verify_sct: true }, scts: Threshold { value: 1 }, logs: Threshold { value: 1 }, .. }))
+policy | keyless;identity uri-like a; | Ok(Certificate(VerificationPolicy { identity: Some(UriLike(\"a\")), issuer: None, .., verify_tlog: true, certificate: Verify { verify_sct: true }, scts: Threshold { value: 1 }, logs: Threshold { value: 1 }, .. }))
+policy | keyless;identity uri-like  * ; | Ok(Certificate(VerificationPolicy { identity: Some(UriLike(\" * \")), issuer: None, .., verify_tlog: true, certificate: Verify { verify_sct: true }, scts: Threshold { value: 1 }, logs: Threshold { value: 1 }, .. }))
+policy | keyless;identity uri like *; | Ok(Certificate(VerificationPolicy { identity: Some(Uri(\"like *\")), issuer: None, .., verify_tlog: true, certificate: Verify { verify_sct: true }, scts: Threshold { value: 1 }, logs: Threshold { value: 1 }, .. }))
+policy | keyless;identity uri *; | Ok(Certificate(VerificationPolicy { identity: Some(Uri(\"*\")), issuer: None, .., verify_tlog: true, certificate: Verify { verify_sct: true }, scts: Threshold { value: 1 }, logs: Threshold { value: 1 }, .. }))
+policy | keyless;identity exact *; | Ok(Certificate(VerificationPolicy { identity: Some(Exact(\"*\")), issuer: None, .., verify_tlog: true, certificate: Verify { verify_sct: true }, scts: Threshold { value: 1 }, logs: Threshold { value: 1 }, .. }))
 policy | keyless;identity uri-like ; | Err(Usage)
 policy | keyless;identity uri-like; | Err(Usage)
 policy | keyless;identity email-like ; | Err(Usage)
@@ -313,20 +329,20 @@ policy | identity exact a;keyless; | Err(Usage)
 policy | identity exact a; | Err(Usage)
 policy | issuer a; | Err(Usage)
 # How many logs: each number once, the least and the greatest, in any order, and beside waivers.
-policy | key AQI=;logs 2; | Ok(PublicKey(PublicKeyVerificationPolicy { key: [1, 2], verify_tlog: true, logs: LogThreshold { value: 2 } }))
-policy | key AQI=;logs 1; | Ok(PublicKey(PublicKeyVerificationPolicy { key: [1, 2], verify_tlog: true, logs: LogThreshold { value: 1 } }))
-policy | key AQI=;logs 255; | Ok(PublicKey(PublicKeyVerificationPolicy { key: [1, 2], verify_tlog: true, logs: LogThreshold { value: 255 } }))
-policy | key AQI=;skip tlog;logs 2; | Ok(PublicKey(PublicKeyVerificationPolicy { key: [1, 2], verify_tlog: false, logs: LogThreshold { value: 2 } }))
-policy | key AQI=;# two;logs 2;;skip tlog; | Ok(PublicKey(PublicKeyVerificationPolicy { key: [1, 2], verify_tlog: false, logs: LogThreshold { value: 2 } }))
-policy | keyless;scts 2; | Ok(Certificate(VerificationPolicy { identity: None, issuer: None, verify_tlog: true, certificate: Verify { verify_sct: true }, scts: LogThreshold { value: 2 }, logs: LogThreshold { value: 1 } }))
-policy | keyless;logs 2; | Ok(Certificate(VerificationPolicy { identity: None, issuer: None, verify_tlog: true, certificate: Verify { verify_sct: true }, scts: LogThreshold { value: 1 }, logs: LogThreshold { value: 2 } }))
-policy | keyless;scts 1;logs 1; | Ok(Certificate(VerificationPolicy { identity: None, issuer: None, verify_tlog: true, certificate: Verify { verify_sct: true }, scts: LogThreshold { value: 1 }, logs: LogThreshold { value: 1 } }))
-policy | keyless;logs 255; | Ok(Certificate(VerificationPolicy { identity: None, issuer: None, verify_tlog: true, certificate: Verify { verify_sct: true }, scts: LogThreshold { value: 1 }, logs: LogThreshold { value: 255 } }))
-policy | keyless;scts 255; | Ok(Certificate(VerificationPolicy { identity: None, issuer: None, verify_tlog: true, certificate: Verify { verify_sct: true }, scts: LogThreshold { value: 255 }, logs: LogThreshold { value: 1 } }))
-policy | keyless;scts 10;logs 99; | Ok(Certificate(VerificationPolicy { identity: None, issuer: None, verify_tlog: true, certificate: Verify { verify_sct: true }, scts: LogThreshold { value: 10 }, logs: LogThreshold { value: 99 } }))
-policy | keyless;logs 3;scts 2; | Ok(Certificate(VerificationPolicy { identity: None, issuer: None, verify_tlog: true, certificate: Verify { verify_sct: true }, scts: LogThreshold { value: 2 }, logs: LogThreshold { value: 3 } }))
-policy | keyless;skip tlog;logs 3;issuer i;scts 2;identity email e; | Ok(Certificate(VerificationPolicy { identity: Some(Email(\"e\")), issuer: Some(\"i\"), verify_tlog: false, certificate: Verify { verify_sct: true }, scts: LogThreshold { value: 2 }, logs: LogThreshold { value: 3 } }))
-policy | keyless;scts 2;skip sct;skip chain; | Ok(Certificate(VerificationPolicy { identity: None, issuer: None, verify_tlog: true, certificate: Skip, scts: LogThreshold { value: 2 }, logs: LogThreshold { value: 1 } }))
+policy | key AQI=;logs 2; | Ok(PublicKey(PublicKeyVerificationPolicy { key: [1, 2], verify_tlog: true, logs: Threshold { value: 2 }, .. }))
+policy | key AQI=;logs 1; | Ok(PublicKey(PublicKeyVerificationPolicy { key: [1, 2], verify_tlog: true, logs: Threshold { value: 1 }, .. }))
+policy | key AQI=;logs 255; | Ok(PublicKey(PublicKeyVerificationPolicy { key: [1, 2], verify_tlog: true, logs: Threshold { value: 255 }, .. }))
+policy | key AQI=;skip tlog;logs 2; | Ok(PublicKey(PublicKeyVerificationPolicy { key: [1, 2], verify_tlog: false, logs: Threshold { value: 2 }, .. }))
+policy | key AQI=;# two;logs 2;;skip tlog; | Ok(PublicKey(PublicKeyVerificationPolicy { key: [1, 2], verify_tlog: false, logs: Threshold { value: 2 }, .. }))
+policy | keyless;scts 2; | Ok(Certificate(VerificationPolicy { identity: None, issuer: None, .., verify_tlog: true, certificate: Verify { verify_sct: true }, scts: Threshold { value: 2 }, logs: Threshold { value: 1 }, .. }))
+policy | keyless;logs 2; | Ok(Certificate(VerificationPolicy { identity: None, issuer: None, .., verify_tlog: true, certificate: Verify { verify_sct: true }, scts: Threshold { value: 1 }, logs: Threshold { value: 2 }, .. }))
+policy | keyless;scts 1;logs 1; | Ok(Certificate(VerificationPolicy { identity: None, issuer: None, .., verify_tlog: true, certificate: Verify { verify_sct: true }, scts: Threshold { value: 1 }, logs: Threshold { value: 1 }, .. }))
+policy | keyless;logs 255; | Ok(Certificate(VerificationPolicy { identity: None, issuer: None, .., verify_tlog: true, certificate: Verify { verify_sct: true }, scts: Threshold { value: 1 }, logs: Threshold { value: 255 }, .. }))
+policy | keyless;scts 255; | Ok(Certificate(VerificationPolicy { identity: None, issuer: None, .., verify_tlog: true, certificate: Verify { verify_sct: true }, scts: Threshold { value: 255 }, logs: Threshold { value: 1 }, .. }))
+policy | keyless;scts 10;logs 99; | Ok(Certificate(VerificationPolicy { identity: None, issuer: None, .., verify_tlog: true, certificate: Verify { verify_sct: true }, scts: Threshold { value: 10 }, logs: Threshold { value: 99 }, .. }))
+policy | keyless;logs 3;scts 2; | Ok(Certificate(VerificationPolicy { identity: None, issuer: None, .., verify_tlog: true, certificate: Verify { verify_sct: true }, scts: Threshold { value: 2 }, logs: Threshold { value: 3 }, .. }))
+policy | keyless;skip tlog;logs 3;issuer i;scts 2;identity email e; | Ok(Certificate(VerificationPolicy { identity: Some(Email(\"e\")), issuer: Some(\"i\"), .., verify_tlog: false, certificate: Verify { verify_sct: true }, scts: Threshold { value: 2 }, logs: Threshold { value: 3 }, .. }))
+policy | keyless;scts 2;skip sct;skip chain; | Ok(Certificate(VerificationPolicy { identity: None, issuer: None, .., verify_tlog: true, certificate: Skip, scts: Threshold { value: 2 }, logs: Threshold { value: 1 }, .. }))
 # Twice, none, more than 255, and in another spelling.
 policy | keyless;scts 2;scts 2; | Err(Usage)
 policy | keyless;scts 2;scts 3; | Err(Usage)
@@ -384,7 +400,41 @@ policy | logs 2; | Err(Usage)
 # A byte that isn't UTF-8.
 policy with byte ff | key AQI=;# | Err(Usage)
 policy with byte ff | keyless;issuer  | Err(Usage)
-policy with byte ff | keyless;identity exact a | Err(Usage)";
+policy with byte ff | keyless;identity exact a | Err(Usage)
+# What is asked beside who signed, under a key and without one.
+policy | key AQI=;times 2;tokens 255;signed after 2023-01-02T03:04:05Z;signed before 2024-01-01T00:00:00Z;predicate https://slsa.dev/provenance/v1; | Ok(PublicKey(PublicKeyVerificationPolicy { key: [1, 2], verify_tlog: true, logs: Threshold { value: 1 }, conditions: SignatureConditions { predicate: Some(Exact(\"https://slsa.dev/provenance/v1\")), times: Some(Threshold { value: 2 }), tokens: Some(Threshold { value: 255 }), signed_before: Some(2024-01-01T00:00:00Z), signed_after: Some(2023-01-02T03:04:05Z) } }))
+policy | keyless;predicate-like https://slsa.dev/**; | Ok(Certificate(VerificationPolicy { identity: None, issuer: None, .., verify_tlog: true, certificate: Verify { verify_sct: true }, scts: Threshold { value: 1 }, logs: Threshold { value: 1 }, conditions: SignatureConditions { predicate: Some(Like(\"https://slsa.dev/**\")), times: None, tokens: None, signed_before: None, signed_after: None } }))
+policy | key AQI=;times 0; | Err(Usage)
+policy | key AQI=;times 256; | Err(Usage)
+policy | key AQI=;times 02; | Err(Usage)
+policy | key AQI=;times; | Err(Usage)
+policy | key AQI=;times 2;times 2; | Err(Usage)
+policy | key AQI=;tokens x; | Err(Usage)
+policy | key AQI=;predicate a;predicate-like a; | Err(Usage)
+policy | key AQI=;predicate ; | Err(Usage)
+policy | key AQI=;signed before; | Err(Usage)
+policy | key AQI=;signed before tomorrow; | Err(Usage)
+policy | key AQI=;signed until 2024-01-01T00:00:00Z; | Err(Usage)
+policy | key AQI=;signed before 2024-01-01T00:00:00Z;signed before 2025-01-01T00:00:00Z; | Err(Usage)
+policy | key AQI=;Times 2; | Err(Usage)
+# What a certificate has to claim, each name once, and nobody named on purpose.
+policy | keyless;claim build-trigger push;claim-like source-repository-ref refs/tags/*; | Ok(Certificate(VerificationPolicy { identity: None, issuer: None, claims: [ClaimMatcher { name: BuildTrigger, text: Exact(\"push\") }, ClaimMatcher { name: SourceRepositoryRef, text: Like(\"refs/tags/*\") }], anyone: false, verify_tlog: true, certificate: Verify { verify_sct: true }, scts: Threshold { value: 1 }, logs: Threshold { value: 1 }, .. }))
+policy | keyless;claim github-workflow-name a b ; | Ok(Certificate(VerificationPolicy { identity: None, issuer: None, claims: [ClaimMatcher { name: GithubWorkflowName, text: Exact(\"a b \") }], anyone: false, verify_tlog: true, certificate: Verify { verify_sct: true }, scts: Threshold { value: 1 }, logs: Threshold { value: 1 }, .. }))
+policy | keyless;issuer i;anyone; | Ok(Certificate(VerificationPolicy { identity: None, issuer: Some(\"i\"), claims: [], anyone: true, verify_tlog: true, certificate: Verify { verify_sct: true }, scts: Threshold { value: 1 }, logs: Threshold { value: 1 }, .. }))
+policy | keyless;claim build-trigger push;claim build-trigger push; | Err(Usage)
+policy | keyless;claim build-trigger push;claim-like build-trigger *; | Err(Usage)
+policy | keyless;claim trigger push; | Err(Usage)
+policy | keyless;claim build-trigger; | Err(Usage)
+policy | keyless;claim build-trigger ; | Err(Usage)
+policy | keyless;claim Build-Trigger push; | Err(Usage)
+policy | keyless;claim; | Err(Usage)
+policy | keyless;anyone;identity exact a; | Err(Usage)
+policy | keyless;claim build-trigger push;anyone; | Err(Usage)
+policy | keyless;anyone;anyone; | Err(Usage)
+policy | keyless;anyone at all; | Err(Usage)
+policy | key AQI=;anyone; | Err(Usage)
+policy | key AQI=;claim build-trigger push; | Err(Usage)
+policy | key AQI=;claim-like build-trigger *; | Err(Usage)";
 
 const PROVIDER: &str =
     "accept ECDSA_P256_SHA256 BAA= LPJNul+wow4m6DsqxbninhsWHlwfp0JecwQzYpOLmCQ= AQ==

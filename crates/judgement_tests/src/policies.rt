@@ -46,8 +46,11 @@ fn stepped<X: AllocGlobal + Abort>(
 // The policy of these words: the first makes it, and the others are steps.
 fn policy<X: AllocGlobal + Abort>(rt: &X, first: &str, steps: &str) -> VerificationPolicy {
     let mut policy = match first {
-        "new" => VerificationPolicy::new(IdentityMatcher::Email(text(rt, "a")), text(rt, "b")),
-        _ => VerificationPolicy::any_identity(),
+        "new" => {
+            let identity = IdentityMatcher::Email(text(rt, "a"));
+            VerificationPolicy::new(rt.alloc(), identity, text(rt, "b"))
+        }
+        _ => VerificationPolicy::any_identity(rt.alloc()),
     };
     for step in steps.split_whitespace() {
         policy = stepped(rt, policy, step);

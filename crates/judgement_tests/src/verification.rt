@@ -5,7 +5,7 @@ ghost use Rattle.sigstore_keys.specs.Good.{subject_of};
 use crate::tables::{
     Change, change_in, debug, good, halves, hold, number, source, text, there, word,
 };
-use certificate_claims::SubjectAltName;
+use certificate_claims::{ClaimName, SubjectAltName};
 use foundation::{Duplicate, NoMemory, Sequence};
 use jiff::Timestamp;
 use sigstore_judgement::*;
@@ -147,6 +147,11 @@ fn plain(number: u8) -> Error {
         29 => Error::TrustedCertificate,
         30 => Error::ArtifactRead(ReadError::Failed),
         32 => Error::TooFewLogs { asked: 2, found: 1 },
+        35 => Error::TooFewTimes { asked: 2, found: 1 },
+        36 => Error::TooFewTokens { asked: 2, found: 1 },
+        37 => Error::TimeOutside {
+            time: Timestamp::UNIX_EPOCH,
+        },
         _ => Error::NoMemory,
     }
 }
@@ -161,6 +166,15 @@ fn sample<X: AllocGlobal + Abort>(rt: &X, given: &str) -> Error {
         },
         2 => Error::IssuerMismatch {
             expected: text(rt, "a"),
+            actual: None,
+        },
+        33 => Error::ClaimMismatch {
+            name: ClaimName::BuildTrigger,
+            expected: TextMatcher::Exact(text(rt, "a")),
+            actual: None,
+        },
+        34 => Error::PredicateMismatch {
+            expected: TextMatcher::Like(text(rt, "a")),
             actual: None,
         },
         6..=11 => Error::Certificate(certificate(number)),
@@ -225,7 +239,12 @@ const REFUSALS: &str = "1 | 1 IdentityMismatch IdentityMismatch
 29 | 29 TrustedCertificate TrustedCertificate
 30 | 30 ArtifactRead ArtifactRead
 31 | 31 NoMemory NoMemory
-32 | 32 TooFewLogs TooFewLogs";
+32 | 32 TooFewLogs TooFewLogs
+33 | 33 ClaimMismatch ClaimMismatch
+34 | 34 PredicateMismatch PredicateMismatch
+35 | 35 TooFewTimes TooFewTimes
+36 | 36 TooFewTokens TooFewTokens
+37 | 37 TimeOutside TimeOutside";
 
 // An Ed25519 key of 32 zero bytes (RFC 8410).
 const ED25519: &str = "MCowBQYDK2VwAyEAAAAAAAAAAAAAAAAAAAAAAAAAAAAAAAAAAAAAAAAAAAA=";

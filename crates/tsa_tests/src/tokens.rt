@@ -134,7 +134,7 @@ fn told<X: AllocGlobal + Abort>(
     signature: &SignatureBytes,
 ) -> String {
     match token_time(rt.alloc(), &tables.provider, token, signature, all) {
-        Ok(time) => displayed(rt, time),
+        Ok(stamped) => displayed(rt, stamped.time),
         Err(fault) => refused(rt, fault),
     }
 }

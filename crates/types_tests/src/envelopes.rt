@@ -230,7 +230,10 @@ fn tells<X: AllocGlobal + Abort>(rt: &X, cell: &str) -> String {
         sha512: None,
     };
     good(rt, subjects.push(subject));
-    let statement = Statement { subjects };
+    let statement = Statement {
+        predicate_type: text(rt, "p"),
+        subjects,
+    };
     let octets = octets(rt, digits);
     let answer = statement.tells(HashAlgorithm::Sha2256, octets.as_slice());
     drop(statement);
