@@ -1,6 +1,7 @@
 -- A workload: what is verified, and under which policy.
-use Rattle.std.specs.Prelude.{◌≡◌, ℕ, true, List, [], Some}
+use Rattle.std.specs.Prelude.{◌≡◌, ℕ, List, [], Some}
 use Rattle.sigstore_tuf_outside.specs.Memory.{told_folders}
+use Rattle.sigstore_policy.specs.PublicKey.{keyed}
 use Rattle.sigstore_policy.specs.declared.public_key.PublicKeyVerificationPolicy.{PublicKeyVerificationPolicy}
 use Rattle.command_files.specs.declared.tables.Tables.{Tables}
 use Rattle.workload.specs.Keys.{spki}
@@ -15,7 +16,7 @@ use Rattle.command_generate.specs.declared.generating.Workload.{Workload}
 
 -- the one key has signed, and the log has to show it
 abbrev pub policy_of : PublicKeyVerificationPolicy
-policy_of = record { key = spki; verify_tlog = true; logs = record { value = 1 } }
+policy_of = keyed spki
 
 -- its tables
 abbrev pub tables_in : Workload → Tables

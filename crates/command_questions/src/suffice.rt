@@ -1,6 +1,6 @@
 // Whether the rows that were noted suffice: what the run came to is judged once more by them alone. No contract sees what
 // a shared cell holds, so that this, and no count of questions, says that none is lacking.
-ghost use Rattle.std.specs.Prelude.{◌≡◌, Ok, OnOk, IfOk, option_copied};
+ghost use Rattle.std.specs.Prelude.{◌≡◌, Ok, OnOk, IfOk};
 ghost use Rattle.sigstore_judgement.specs.Grounds.{terms_by};
 ghost use Rattle.sigstore_types.specs.TrustedRoot.{trusted_root_of_bytes};
 ghost use Rattle.command_files.specs.Tables.{crypto_of};
@@ -9,7 +9,7 @@ ghost use Rattle.sigstore_tuf_rules.specs.Config.{default_config};
 ghost use Rattle.sigstore_verify.specs.Inputs.{anchor_by};
 ghost use Rattle.command_gate.specs.Run as gate;
 ghost use Rattle.command_verify.specs.Run.{given_of};
-ghost use Rattle.command_questions.specs.Suffice.{rule_at, IsTrustedAlone, IsAcceptedOver, IsAcceptedAlone, Suffice, SufficeForFolder};
+ghost use Rattle.command_questions.specs.Suffice.{IsTrustedAlone, IsAcceptedOver, IsAcceptedAlone, Suffice, SufficeForFolder};
 
 use command_files::Tables;
 use command_gate::FolderRequest;
@@ -20,11 +20,10 @@ use question_notes::{Noted, Notes};
 use release_gate::{GateFault, Gated};
 use sigstore_judgement::prepare_reader;
 use sigstore_keys::{CryptoProvider, Providers};
-use sigstore_policy::SigningPolicy;
 use sigstore_tuf::{TrustChain, UpdaterConfig};
 use sigstore_types::{Bundle, TrustedRoot};
 use sigstore_types_parts::{Armor, ArtifactDigest};
-use sigstore_verify::{RootFault, RuleAcceptance, RulesFault, TRUST_PATH, Verifier};
+use sigstore_verify::{Acceptance, RootFault, TRUST_PATH, Verifier};
 use std::alloc::Global;
 use trust_archive::{ArchiveTerms, read_archive, write_archive};
 
@@ -62,32 +61,21 @@ fn check_chain(
     }
 }
 
-// The rule of a number, counted from 1.
-fn rule_of(rules: &[SigningPolicy], number: usize) -> Option<&SigningPolicy>
-    ensures { option_copied result ≡ rule_at rules.now number }
-{
-    if number == 0 {
-        return None;
-    }
-    rules.get(number - 1)
-}
-
-// A bundle, which is accepted under a rule over these digests of its artifact.
+// A bundle, which is accepted over these digests of its artifact.
 fn check_digests<C: CryptoProvider, M: Armor>(
     alloc: Global,
     verifier: &Verifier<'_, C, M>,
-    policy: &SigningPolicy,
-    moment: Timestamp,
+    request: &VerifyRequest<'_>,
     bundle: &Bundle,
     digests: &[ArtifactDigest],
 ) -> Result<(), NoMemory>
     ensures { OnOk result (IsAcceptedOver
-        (terms_by C.CryptoProvider M.Armor verifier.now (meaning_in policy.now) moment) bundle.now digests.now) }
+        (terms_by C.CryptoProvider M.Armor verifier.now (meaning_in request.now.policy.now) request.now.moment) bundle.now digests.now) }
 {
-    let Ok(ready) = prepare_reader(alloc, bundle, policy) else {
+    let Ok(ready) = prepare_reader(alloc, bundle, request.policy) else {
         return Err(NoMemory);
     };
-    match verifier.judge_digests(alloc, ready, digests, moment) {
+    match verifier.judge_digests(alloc, ready, digests, request.moment) {
         Ok(report) => {
             drop(report);
             Ok(())
@@ -96,20 +84,17 @@ fn check_digests<C: CryptoProvider, M: Armor>(
     }
 }
 
-// An acceptance, whose bundle is accepted under its rule by these rows alone.
+// An acceptance, whose bundle is accepted by these rows alone.
 fn check_bundle(
     alloc: Global,
     tables: &Tables,
     request: &VerifyRequest<'_>,
-    ruled: &RuleAcceptance,
+    accepted: &Acceptance,
     trust: &TrustedRoot,
 ) -> Result<(), NoMemory>
-    requires { trusted_root_of_bytes ruled.now.acceptance.chain.file ≡ Ok trust.now }
-    ensures { OnOk result (IsAcceptedAlone (given_of (crypto_of tables.now) request.now) ruled.now) }
+    requires { trusted_root_of_bytes accepted.now.chain.file ≡ Ok trust.now }
+    ensures { OnOk result (IsAcceptedAlone (given_of (crypto_of tables.now) request.now) accepted.now) }
 {
-    let Some(policy) = rule_of(request.rules, ruled.rule) else {
-        return Err(NoMemory);
-    };
     let Ok(bundle) = Bundle::from_json(alloc, request.bundle) else {
         return Err(NoMemory);
     };
@@ -118,10 +103,9 @@ fn check_bundle(
             check_digests(
                 alloc,
                 &verifier,
-                policy,
-                request.moment,
+                request,
                 &bundle,
-                ruled.acceptance.digests.as_slice(),
+                accepted.digests.as_slice(),
             )
         }
         Err(_) => Err(NoMemory),
@@ -135,16 +119,15 @@ fn check_accepted(
     alloc: Global,
     tables: &Tables,
     request: &VerifyRequest<'_>,
-    ruled: &RuleAcceptance,
+    accepted: &Acceptance,
 ) -> Result<(), NoMemory>
-    ensures { OnOk result (Suffice (given_of (crypto_of tables.now) request.now) (Ok ruled.now)) }
+    ensures { OnOk result (Suffice (given_of (crypto_of tables.now) request.now) (Ok accepted.now)) }
 {
-    let chain = &ruled.acceptance.chain;
-    check_chain(alloc, tables, request.root, request.moment, chain)?;
-    let Ok(trust) = TrustedRoot::from_json(alloc, chain.file.as_bytes()) else {
+    check_chain(alloc, tables, request.root, request.moment, &accepted.chain)?;
+    let Ok(trust) = TrustedRoot::from_json(alloc, accepted.chain.file.as_bytes()) else {
         return Err(NoMemory);
     };
-    let checked = check_bundle(alloc, tables, request, ruled, &trust);
+    let checked = check_bundle(alloc, tables, request, accepted, &trust);
     drop(trust);
     checked
 }
@@ -154,20 +137,17 @@ fn check_judged(
     alloc: Global,
     tables: &Tables,
     request: &VerifyRequest<'_>,
-    judged: &Result<RuleAcceptance, RulesFault>,
+    judged: &Result<Acceptance, RootFault>,
 ) -> Result<(), NoMemory>
     ensures { OnOk result (Suffice (given_of (crypto_of tables.now) request.now) judged.now) }
 {
     match judged {
-        Ok(ruled) => check_accepted(alloc, tables, request, ruled),
-        Err(RulesFault::Root(RootFault::Verify { chain, .. })) => {
+        Ok(accepted) => check_accepted(alloc, tables, request, accepted),
+        Err(RootFault::Verify { chain, .. }) => {
             check_chain(alloc, tables, request.root, request.moment, chain)
         }
-        Err(RulesFault::Each { chain, .. }) => {
-            check_chain(alloc, tables, request.root, request.moment, chain)
-        }
-        Err(RulesFault::Root(RootFault::Tuf(_))) => Ok(()),
-        Err(RulesFault::Root(RootFault::NoMemory)) => Err(NoMemory),
+        Err(RootFault::Tuf(_)) => Ok(()),
+        Err(RootFault::NoMemory) => Err(NoMemory),
     }
 }
 
@@ -199,7 +179,7 @@ pub(crate) fn sufficient(
     alloc: Global,
     notes: Notes<'_>,
     request: &VerifyRequest<'_>,
-    judged: &Result<RuleAcceptance, RulesFault>,
+    judged: &Result<Acceptance, RootFault>,
 ) -> Result<Noted, NoMemory>
     ensures { IfOk result (λ noted. Suffice (given_of (crypto_of noted.tables) request.now) judged.now) }
 {

@@ -8,7 +8,6 @@ pub mod Order
 pub mod Pieces
 pub mod Readings
 pub mod Rested
-pub mod Ruled
 pub mod Sources
 pub mod Stepping
 pub mod Verdicts

@@ -22,9 +22,3 @@ pub mod Usable
 pub mod Wanting
 pub mod Within
 pub mod OneLogLaw
-mod Picking
-pub mod Needed
-pub mod FirstLaw
-pub mod RulesLaw
-pub mod RuleCauses
-pub mod RulesCompleting

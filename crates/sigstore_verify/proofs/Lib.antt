@@ -2,7 +2,6 @@ pub mod RootFacts
 pub mod RootCauses
 pub mod RootCompleting
 pub mod RootPromises
-pub mod ByRulesPromise
 mod OnlyTop
 mod Digests
 mod Entries

@@ -1,4 +1,3 @@
-pub mod ByRules
 pub mod Cause
 pub mod Complete
 pub mod FromRoot

@@ -77,7 +77,6 @@ trust
 delegated
 skip
 policy
-rules
 bundle of blanks
 start of root
 start of bundle
