@@ -6,6 +6,7 @@ mod Pieces
 mod Printing
 mod Readings
 pub mod RowFacts
+pub mod RuleFacts
 pub mod Starts
 mod TakenSoFar
 pub mod Wholes

@@ -4,7 +4,7 @@ use Rattle.std.proofs.lemmas.Grind.{common_steps}
 use Rattle.foundation.specs.Steps.{◌>>=◌}
 use Rattle.foundation.specs.Watched.{Rose, IfTold, Since}
 use Rattle.command_files.specs.Inputs.{Held, Supply, watched, Gives}
-use Rattle.command_files.specs.Policy.{policy_of}
+use Rattle.command_files.specs.Rules.{rules_of}
 use Rattle.command_files.specs.Tables.{tables_of}
 use Rattle.command_files.specs.Gather.{limit_of, within_limit, input_of, stop_of, by_form, IsMalformed, MalformedCause, StopCause, ReadsAs}
 use Rattle.command_files.specs.declared.inputs.InputFile.{InputFile}
@@ -89,7 +89,7 @@ malformed_earlier : {A : Type 0} (which : InputFile) (reads : List ℕ → Resul
 malformed_earlier which reads old mid e m = record { bytes = m.bytes; there = told_as (λ held. input_of which held ≡ Ok m.bytes) old.told mid.told e m.there; malformed = m.malformed }
 
 form_earlier : (which : InputFile) (old mid : Supply) → mid.told ≡ old.told → MalformedCause which mid → MalformedCause which old
-form_earlier Policy old mid e c = malformed_earlier Policy policy_of old mid e c
+form_earlier Policy old mid e c = malformed_earlier Policy rules_of old mid e c
 form_earlier Provider old mid e c = malformed_earlier Provider tables_of old mid e c
 form_earlier Root old mid e c = absurd c
 form_earlier Bundle old mid e c = absurd c

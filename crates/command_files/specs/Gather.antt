@@ -4,7 +4,7 @@ use Rattle.std.specs.Prelude.{Ok, Err, IfOk, IfErr, ⊤}
 use Rattle.foundation.specs.Steps.{◌>>=◌}
 use Rattle.foundation.specs.Watched.{Rose, IfTold, Since}
 use Rattle.command_files.specs.Inputs.{Held, Supply, watched}
-use Rattle.command_files.specs.Policy.{policy_of}
+use Rattle.command_files.specs.Rules.{rules_of}
 use Rattle.command_files.specs.Tables.{tables_of}
 use Rattle.command_files.specs.declared.usage_fault.UsageFault.{UsageFault}
 use Rattle.command_files.specs.declared.usage_fault.UsageFault.TheVariants as usage
@@ -54,8 +54,8 @@ by_form which (Ok x) = Ok x
 by_form which (Err usage.Usage) = Err (Malformed which)
 by_form which (Err usage.NoMemory) = Err Memory
 
-unfoldable pub policy_in : Held → Result SigningPolicy CommandStop
-policy_in held = input_of Policy held >>= λ bytes. by_form Policy (policy_of bytes)
+unfoldable pub rules_in : Held → Result (List SigningPolicy) CommandStop
+rules_in held = input_of Policy held >>= λ bytes. by_form Policy (rules_of bytes)
 
 unfoldable pub tables_in : Held → Result Tables CommandStop
 tables_in held = input_of Provider held >>= λ bytes. by_form Provider (tables_of bytes)
@@ -67,16 +67,16 @@ anchored_of held =
     input_of Root held >>= λ root.
     Ok (record { tables = tables; root = root })
 
--- the policy before them, or the first refusal
+-- the policy's rules before them, or the first refusal
 unfoldable pub governed_of : Held → Result Governed CommandStop
 governed_of held =
-    policy_in held >>= λ policy.
+    rules_in held >>= λ rules.
     anchored_of held >>= λ anchored.
-    Ok (record { policy = policy; anchored = anchored })
+    Ok (record { rules = rules; anchored = anchored })
 
 abbrev pub with_bundle : Governed → List ℕ → Gathered
 with_bundle governed bundle = record {
-  policy = governed.policy;
+  rules = governed.rules;
   tables = governed.anchored.tables;
   root = governed.anchored.root;
   bundle = bundle;
@@ -97,7 +97,7 @@ pub record IsMalformed {A : Type 0} (which : InputFile) (reads : List ℕ → Re
 
 -- the policy or the provider's file is outside its grammar
 abbrev pub MalformedCause : InputFile → Supply → Type 0
-MalformedCause Policy seen = IsMalformed Policy policy_of seen
+MalformedCause Policy seen = IsMalformed Policy rules_of seen
 MalformedCause Provider seen = IsMalformed Provider tables_of seen
 MalformedCause Root seen = ⊥
 MalformedCause Bundle seen = ⊥

@@ -4,6 +4,8 @@ pub mod Lines
 pub mod Fields
 pub mod ByteMap
 pub mod Policy
+pub mod Rules
+pub mod RuleLaws
 pub mod Rows
 pub mod RowLaws
 pub mod Tables

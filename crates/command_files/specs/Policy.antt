@@ -1,4 +1,4 @@
--- The policy file: the first line says who signs, each line after it asks for something or passes something over.
+-- A rule of the policy file: the first line says who signs, each line after it asks for something or passes something over.
 use Rattle.std.specs.Prelude.{ℕ, ◌==◌, List, [], ◌∷◌, ◌++◌, length, bytes_eq, codes}
 use Rattle.std.specs.Prelude.{Bool, true, false, nat_eq, nat_le, ◌&&◌, ◌||◌, not, if◌then◌else◌, ⊤}
 use Rattle.std.specs.Prelude.{Option, Some, None, is_some, Result, Ok, Err, ok_or}
@@ -22,7 +22,7 @@ use Rattle.sigstore_policy.specs.declared.matcher.TextMatcher.TheVariants as mat
 use Rattle.sigstore_policy.specs.declared.policy.SigningPolicy.{SigningPolicy}
 use Rattle.sigstore_policy.specs.declared.policy.SigningPolicy.TheVariants.{Certificate, PublicKey}
 use Rattle.sigstore_policy.specs.declared.public_key.PublicKeyVerificationPolicy.{PublicKeyVerificationPolicy}
-use Rattle.command_files.specs.Lines.{cut_of, file_folded_of}
+use Rattle.command_files.specs.Lines.{cut_of}
 use Rattle.command_files.specs.Fields.{spelled_of}
 use Rattle.command_files.specs.declared.usage_fault.UsageFault.{UsageFault}
 use Rattle.command_files.specs.declared.usage_fault.UsageFault.TheVariants.{Usage}
@@ -258,7 +258,7 @@ on_purpose (PublicKey policy) = Ok tt
 abbrev pub purposeful : SigningPolicy → Result SigningPolicy UsageFault
 purposeful policy = on_purpose policy >>= λ _. Ok policy
 
--- ---- the file
+-- ---- the lines of a rule
 
 -- the line of a key: the word `key`, a blank and the base64 of the key
 abbrev pub key_line_of : List ℕ → Result PublicKeyVerificationPolicy UsageFault
@@ -282,14 +282,3 @@ later_line_of draft line = do
   read ← line_of line
   policy ← applied draft.policy read
   Ok (record { policy = policy; stood = stood })
-
-abbrev pub policy_line_of : Option Draft → List ℕ → Result (Option Draft) UsageFault
-policy_line_of None line = begun_of line >>= λ draft. Ok (Some draft)
-policy_line_of (Some draft) line = later_line_of draft line >>= λ next. Ok (Some next)
-
--- the policy of a file
-unfoldable pub policy_of : List ℕ → Result SigningPolicy UsageFault
-policy_of bytes = do
-  found ← file_folded_of policy_line_of None bytes
-  draft ← ok_or found Usage
-  purposeful draft.policy

@@ -4,14 +4,15 @@ ghost use Rattle.command_files.specs.Inputs.{Held};
 ghost use Rattle.command_files.specs.declared.inputs.InputFile.TheVariants.{Policy, Provider};
 ghost use Rattle.command_files.specs.declared.gather.CommandStop.{CommandStop};
 ghost use Rattle.command_files.specs.declared.gather.CommandStop.TheVariants.{Memory};
-ghost use Rattle.command_files.specs.Policy.{policy_of};
+ghost use Rattle.command_files.specs.Rules.{rules_of};
 ghost use Rattle.command_files.specs.Tables.{tables_of};
-ghost use Rattle.command_files.specs.Gather.{limit_of, word_of, stop_of, by_form, input_of, policy_in, tables_in, anchored_of, governed_of, with_bundle, gathered_of, ReadsAs};
+ghost use Rattle.command_files.specs.Gather.{limit_of, word_of, stop_of, by_form, input_of, rules_in, tables_in, anchored_of, governed_of, with_bundle, gathered_of, ReadsAs};
 
 use crate::inputs::{InputFault, InputFile, Inputs};
-use crate::policy::read_policy;
+use crate::rules::read_rules;
 use crate::tables::{Tables, read_provider};
 use crate::usage_fault::UsageFault;
+use foundation::Sequence;
 use sigstore_policy::SigningPolicy;
 use sigstore_types_parts::Bytes;
 use std::alloc::Global;
@@ -41,10 +42,10 @@ pub trait Gather: Sized + Drop {
         ensures { ReadsAs gathered (I.seen inputs.old) (I.seen inputs.new) result };
 }
 
-/// The inputs of a run that judges one bundle, in their order: the policy, the provider's tables, the root, the bundle.
+/// The inputs of a run that judges one bundle, in their order: the policy's rules, the provider's tables, the root, the bundle.
 #[derive(Drop)]
 pub struct Gathered {
-    pub policy: SigningPolicy,
+    pub rules: Sequence<SigningPolicy>,
     pub tables: Tables,
     pub root: Bytes,
     pub bundle: Bytes,
@@ -57,10 +58,10 @@ pub struct Anchored {
     pub root: Bytes,
 }
 
-/// The inputs of a run that judges many artifacts, in their order: the policy, and by what it is judged.
+/// The inputs of a run that judges many artifacts, in their order: the policy's rules, and by what it is judged.
 #[derive(Drop)]
 pub struct Governed {
-    pub policy: SigningPolicy,
+    pub rules: Sequence<SigningPolicy>,
     pub anchored: Anchored,
 }
 
@@ -114,12 +115,12 @@ fn take_input<I: Inputs>(
     }
 }
 
-fn formed_policy(alloc: Global, bytes: Bytes) -> Result<SigningPolicy, CommandStop>
-    ensures ok { IfOk result (λ policy. by_form Policy (policy_of bytes) ≡ Ok policy) }
-    ensures err { IfErr result (λ e. e ≢ Memory → by_form Policy (policy_of bytes) ≡ Err e) }
+fn formed_rules(alloc: Global, bytes: Bytes) -> Result<Sequence<SigningPolicy>, CommandStop>
+    ensures ok { IfOk result (λ rules. by_form Policy (rules_of bytes) ≡ Ok rules) }
+    ensures err { IfErr result (λ e. e ≢ Memory → by_form Policy (rules_of bytes) ≡ Err e) }
 {
-    match read_policy(alloc, bytes.as_bytes()) {
-        Ok(policy) => Ok(policy),
+    match read_rules(alloc, bytes.as_bytes()) {
+        Ok(rules) => Ok(rules),
         Err(UsageFault::Usage) => Err(CommandStop::Malformed(InputFile::Policy)),
         Err(UsageFault::NoMemory) => Err(CommandStop::Memory),
     }
@@ -136,12 +137,15 @@ fn formed_tables(alloc: Global, bytes: Bytes) -> Result<Tables, CommandStop>
     }
 }
 
-fn take_policy<I: Inputs>(alloc: Global, inputs: &mut I) -> Result<SigningPolicy, CommandStop>
-    ensures { ReadsAs policy_in (I.seen inputs.old) (I.seen inputs.new) result }
+fn take_rules<I: Inputs>(
+    alloc: Global,
+    inputs: &mut I,
+) -> Result<Sequence<SigningPolicy>, CommandStop>
+    ensures { ReadsAs rules_in (I.seen inputs.old) (I.seen inputs.new) result }
 {
     match take_input(alloc, inputs, InputFile::Policy) {
-        Ok(bytes) => match formed_policy(alloc, bytes) {
-            Ok(policy) => Ok(policy),
+        Ok(bytes) => match formed_rules(alloc, bytes) {
+            Ok(rules) => Ok(rules),
             Err(e) => Err(e),
         },
         Err(e) => Err(e),
@@ -180,9 +184,9 @@ impl Gather for Governed {
     ghost gathered = { governed_of };
 
     fn gather<I: Inputs>(alloc: Global, inputs: &mut I) -> Result<Governed, CommandStop> {
-        match take_policy(alloc, inputs) {
-            Ok(policy) => match Anchored::gather(alloc, inputs) {
-                Ok(anchored) => Ok(Governed { policy, anchored }),
+        match take_rules(alloc, inputs) {
+            Ok(rules) => match Anchored::gather(alloc, inputs) {
+                Ok(anchored) => Ok(Governed { rules, anchored }),
                 Err(e) => Err(e),
             },
             Err(e) => Err(e),
@@ -194,10 +198,10 @@ impl Gather for Governed {
 fn with_bundle(governed: Governed, bundle: Bytes) -> Gathered
     ensures { result ≡ with_bundle governed bundle }
 {
-    let Governed { policy, anchored } = governed;
+    let Governed { rules, anchored } = governed;
     let Anchored { tables, root } = anchored;
     Gathered {
-        policy,
+        rules,
         tables,
         root,
         bundle,

@@ -20,6 +20,7 @@ mod policy;
 mod printed;
 mod provider;
 mod rows;
+mod rules;
 mod sink;
 mod starting;
 mod stdout_sink;
@@ -36,18 +37,18 @@ pub use ending::{Said, finish};
 pub use file_inputs::FileInputs;
 pub use gather::{Anchored, CommandStop, Gather, Gathered, Governed};
 pub use inputs::{InputFault, InputFile, Inputs};
-pub use laws::rows_are_found;
+pub use laws::{rows_are_found, rules_are_few};
 pub use layout::{Form, Layout, layout_under, or_none, read_asked_layout, read_layout};
 pub use lines::{ByLine, take_file};
 pub use memory_inputs::MemoryInputs;
 pub use memory_sink::MemorySink;
 pub use named::{moment_at, named_words, text_at};
-pub use policy::read_policy;
 pub use printed::{
     push_answer_line, push_decimal, push_hex_line, push_line, push_named_line, push_number_line,
     push_pair_line, push_printed, push_refused_line, push_text_line,
 };
 pub use rows::{AcceptRow, ArmorRow, is_der, is_subject};
+pub use rules::{MAX_RULES, RulesDraft, read_rules};
 pub use sink::{Sink, SinkFault};
 pub use starting::{Started, start};
 pub use stdout_sink::StdoutSink;

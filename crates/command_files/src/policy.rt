@@ -1,10 +1,16 @@
-// The policy file.
+// A rule of the policy file: `key BASE64`, and in any order, each at most once, `skip tlog` and `logs N`; or `keyless`,
+// and in any order, each at most once, `skip tlog`, `skip chain`, `skip sct`, `scts N`, `logs N`, `issuer TEXT`, one of
+// `identity exact TEXT`, `identity email TEXT`, `identity uri TEXT`, `identity email-like PATTERN` and
+// `identity uri-like PATTERN`, and for each name of a claim one of `claim NAME TEXT` and `claim-like NAME PATTERN`; or in
+// place of identity and claims `anyone`. Under both, each at most once, one of `predicate TEXT` and
+// `predicate-like PATTERN`, `times N`, `tokens N`, `signed before MOMENT` and `signed after MOMENT`. N is the shortest
+// decimal of a number from 1 to 255, a moment is in RFC 3339's form.
 ghost use Rattle.std.specs.Prelude.{◌≡◌, ◌≢◌, Ok, Err, IfOk, IfErr, OnOk, Some};
 ghost use Rattle.command_files.specs.Policy.{first_word_of, named_by, name_of, is_among, once, threshold_in, threshold_of, rest_of, moment_of, exact_of, like_of, identity_as, identity_of, claim_of, signed_of, waiver_of, is_beside, row_beside_of, row_signer_of, row_without_claims_of, row_of, line_of};
-ghost use Rattle.command_files.specs.Policy.{key_line_of, first_line_of, asked_beside, asks_certificate, asked_by, keyed_by, applied, names_somebody, on_purpose, purposeful, begun_of, later_line_of, policy_line_of, policy_of};
+ghost use Rattle.command_files.specs.Policy.{key_line_of, first_line_of, asked_beside, asks_certificate, asked_by, keyed_by, applied, names_somebody, on_purpose, purposeful, begun_of, later_line_of};
 
 use crate::fields::spelled;
-use crate::lines::{ByLine, cut, take_file};
+use crate::lines::cut;
 use crate::usage_fault::UsageFault;
 use certificate_claims::ClaimName;
 use foundation::Sequence;
@@ -52,7 +58,7 @@ pub enum PolicyLine {
     SignedAfter(Timestamp),
 }
 
-/// A policy as the lines so far mean it, and the names of those behind the first one.
+/// A rule as the lines so far mean it, and the names of those behind the first one.
 #[derive(Drop)]
 pub struct Draft {
     pub policy: SigningPolicy,
@@ -434,7 +440,14 @@ fn check_purpose(policy: &SigningPolicy) -> Result<(), UsageFault>
     }
 }
 
-// ---- the file
+pub(crate) fn purposeful(policy: SigningPolicy) -> Result<SigningPolicy, UsageFault>
+    ensures { result ≡ purposeful policy }
+{
+    check_purpose(&policy)?;
+    Ok(policy)
+}
+
+// ---- the lines of a rule
 
 fn key_line(alloc: Global, line: &str) -> Result<PublicKeyVerificationPolicy, UsageFault>
     ensures ok { IfOk result (λ p. key_line_of line.now ≡ Ok p) }
@@ -462,7 +475,7 @@ fn first_line(alloc: Global, line: &str) -> Result<SigningPolicy, UsageFault>
     }
 }
 
-fn begin(alloc: Global, line: &str) -> Result<Draft, UsageFault>
+pub(crate) fn begin(alloc: Global, line: &str) -> Result<Draft, UsageFault>
     ensures ok { IfOk result (λ d. begun_of line.now ≡ Ok d) }
     ensures err { IfErr result (λ e. e ≢ UsageFault.NoMemory → begun_of line.now ≡ Err e) }
 {
@@ -475,60 +488,11 @@ fn begin(alloc: Global, line: &str) -> Result<Draft, UsageFault>
     }
 }
 
-fn later_line(alloc: Global, draft: &mut Draft, line: &str) -> Result<(), UsageFault>
+pub(crate) fn later_line(alloc: Global, draft: &mut Draft, line: &str) -> Result<(), UsageFault>
     ensures ok { OnOk result (later_line_of draft.old line.now ≡ Ok draft.new) }
     ensures err { IfErr result (λ e. e ≢ UsageFault.NoMemory → later_line_of draft.old line.now ≡ Err e) }
 {
     once(alloc, &mut draft.stood, name_of(line))?;
     let line = line_read(alloc, line)?;
     apply(&mut draft.policy, line)
-}
-
-impl ByLine for Option<Draft> {
-    ghost takes = { policy_line_of };
-
-    fn take(&mut self, alloc: Global, line: &str) -> Result<(), UsageFault> {
-        match self {
-            Some(draft) => match later_line(alloc, draft, line) {
-                Ok(()) => Ok(()),
-                Err(e) => Err(e),
-            },
-            None => match begin(alloc, line) {
-                Ok(draft) => {
-                    *self = Some(draft);
-                    Ok(())
-                }
-                Err(e) => Err(e),
-            },
-        }
-    }
-}
-
-fn purposeful(policy: SigningPolicy) -> Result<SigningPolicy, UsageFault>
-    ensures { result ≡ purposeful policy }
-{
-    check_purpose(&policy)?;
-    Ok(policy)
-}
-
-/// The policy of a file: `key BASE64`, and in any order, each at most once, `skip tlog` and `logs N`; or `keyless`, and in
-/// any order, each at most once, `skip tlog`, `skip chain`, `skip sct`, `scts N`, `logs N`, `issuer TEXT`, one of
-/// `identity exact TEXT`, `identity email TEXT`, `identity uri TEXT`, `identity email-like PATTERN` and
-/// `identity uri-like PATTERN`, and for each name of a claim one of `claim NAME TEXT` and `claim-like NAME PATTERN`; or in
-/// place of identity and claims `anyone`. Under both, each at most once, one of `predicate TEXT` and
-/// `predicate-like PATTERN`, `times N`, `tokens N`, `signed before MOMENT` and `signed after MOMENT`. N is the shortest
-/// decimal of a number from 1 to 255, a moment is in RFC 3339's form. Errors: `Usage` for every other file; `NoMemory`.
-#[tactic(auto, unfolding(crate::specs::Policy::policy_of))]
-pub fn read_policy(alloc: Global, bytes: &[u8]) -> Result<SigningPolicy, UsageFault>
-    ensures ok { IfOk result (λ p. policy_of bytes.now ≡ Ok p) }
-    ensures err { IfErr result (λ e. e ≢ UsageFault.NoMemory → policy_of bytes.now ≡ Err e) }
-{
-    let mut found: Option<Draft> = None;
-    match take_file(alloc, &mut found, bytes) {
-        Ok(()) => match found {
-            Some(draft) => purposeful(draft.policy),
-            None => Err(UsageFault::Usage),
-        },
-        Err(e) => Err(e),
-    }
 }
