@@ -79,7 +79,7 @@ module _ (t : Trust) (info : CertificateInfo) (leaf_der : List ℕ) (intermediat
 
   -- ---- at one of the times
 
-  abbrev TimeCause : List Timestamp → CertificateRefusal → Type 0
+  abbrev pub TimeCause : List Timestamp → CertificateRefusal → Type 0
   TimeCause times refusal.Malformed = IsNoLeaf leaf_der
   TimeCause times refusal.ChainInvalid = LacksPath t leaf_der intermediates times
   TimeCause times (refusal.NoValidAuthority time) = LacksAuthority t times time
@@ -132,7 +132,7 @@ module _ (t : Trust) (info : CertificateInfo) (leaf_der : List ℕ) (intermediat
       let means = refused_means (at time) w.0 w.1 in subst (TimeCause (time ∷ times)) w.2 (path_caused time times w.0 means.0 means.1)) (λ found q m.
       refused_at (window_judged info time) (λ _. Ok found.issuer_spki) e m (window_caused time times e) (λ v s o. cc)))
 
-  each_caused : (times : List Timestamp) (key : List ℕ) (e : CertificateRefusal) → at_each (issued_at t info leaf_der intermediates) times key ≡ Err e → TimeCause times e
+  pub each_caused : (times : List Timestamp) (key : List ℕ) (e : CertificateRefusal) → at_each (issued_at t info leaf_der intermediates) times key ≡ Err e → TimeCause times e
   each_caused [] key e h = cc
   each_caused (time ∷ times) key e h =
       refused_at (issued_at t info leaf_der intermediates time) (at_each (issued_at t info leaf_der intermediates) times) e h (time_caused time times e)
@@ -141,7 +141,7 @@ module _ (t : Trust) (info : CertificateInfo) (leaf_der : List ℕ) (intermediat
   -- ---- its timestamps
 
   module _ (threshold : Threshold) where
-    abbrev OfTimestamps : Certificate → List ℕ → CertificateRefusal → Type 0
+    abbrev pub OfTimestamps : Certificate → List ℕ → CertificateRefusal → Type 0
     OfTimestamps c issuer e =
         ((broken : SctRule) × SctCause t threshold c issuer broken × (refusal.Sct broken ≡ e)) ⊎ (LacksLog t leaf_der × (refusal.InvalidTrustRoot ≡ e))
 
@@ -237,10 +237,10 @@ module _ (t : Trust) (info : CertificateInfo) (leaf_der : List ℕ) (intermediat
         (part_caused c issuer e scts p has (precert_of c.tbs c.signed.tail.front c.signed.tail.extensions) refl)
         (λ tbs w n. count_caused c issuer e scts p has tbs w n))))
 
-    abbrev SctRefused : List ℕ → CertificateRefusal → Type 0
+    abbrev pub SctRefused : List ℕ → CertificateRefusal → Type 0
     SctRefused issuer e = ((c : Certificate) × (certificate_of leaf_der ≡ Ok c) × OfTimestamps c issuer e) ⊎ (IsNoLeaf leaf_der × (refusal.Malformed ≡ e))
 
-    scts_caused : (issuer : List ℕ) (e : CertificateRefusal) → leaf_scts_judged t threshold leaf_der issuer ≡ Err e → SctRefused issuer e
+    pub scts_caused : (issuer : List ℕ) (e : CertificateRefusal) → leaf_scts_judged t threshold leaf_der issuer ≡ Err e → SctRefused issuer e
     unfolding leaf_scts_judged leaf_of
     scts_caused issuer e h = by (certificate_of leaf_der) refl h
       where

@@ -3,6 +3,7 @@ pub mod NamesLaw
 pub mod SctLaw
 pub mod CertifiedLaw
 pub mod CauseLaw
+pub mod NamesLast
 pub mod WrittenLaw
 pub mod TimesLaw
 pub mod OneSctLaw

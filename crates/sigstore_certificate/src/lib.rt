@@ -19,6 +19,7 @@ pub use given::{Presented, TrustedAuthorities};
 pub use laws::{
     certified_exactly, good_exactly, one_sct_alone, refusals_have_causes, sct_is_written,
 };
+pub use names::check_names;
 pub use sigstore_policy::{
     CertificatePolicy, ClaimMatcher, IdentityMatcher, TextMatcher, VerificationPolicy,
 };

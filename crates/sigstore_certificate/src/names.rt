@@ -149,7 +149,7 @@ fn check_claims(
 
 /// Whether a certificate names what is asked for. Errors, in order: `IdentityMismatch`, `IssuerMismatch`, and
 /// `ClaimMismatch` for the first claim that it doesn't tell so.
-pub(crate) fn check_names(
+pub fn check_names(
     alloc: Global,
     policy: &VerificationPolicy,
     info: &CertificateInfo,

@@ -122,13 +122,13 @@ named_means (Some c) certificate h = ap Some (ok_same c certificate h)
 abbrev after_keyed : PublicKeyVerificationPolicy → Bundle → Result Signer Error
 after_keyed policy bundle = by_types (structure_of bundle policy.verify_tlog) >>= λ _. Ok (Managed policy)
 
-abbrev after_info : VerificationPolicy → List ℕ → CertificateInfo → Result Signer Error
+abbrev pub after_info : VerificationPolicy → List ℕ → CertificateInfo → Result Signer Error
 after_info policy certificate info = Ok (Certified policy info certificate)
 
-abbrev after_named : VerificationPolicy → List ℕ → Result Signer Error
+abbrev pub after_named : VerificationPolicy → List ℕ → Result Signer Error
 after_named policy certificate = by_info (info_of certificate) >>= after_info policy certificate
 
-abbrev after_structure : VerificationPolicy → Bundle → Result Signer Error
+abbrev pub after_structure : VerificationPolicy → Bundle → Result Signer Error
 after_structure policy bundle = named_of (certificate_in bundle) >>= after_named policy
 
 pub signer_means : (policy : Meaning) (bundle : Bundle) (signer : Signer) → signer_of policy bundle ≡ Ok signer → IsSigner policy bundle signer
@@ -156,7 +156,7 @@ signer_means (Certificate policy) bundle signer h =
       is = sym (ok_same (Certified policy c.0 b.0) signer c.2);
     }
 
-signer_passes : (policy : Meaning) (bundle : Bundle) (signer : Signer) → IsSigner policy bundle signer → signer_of policy bundle ≡ Ok signer
+pub signer_passes : (policy : Meaning) (bundle : Bundle) (signer : Signer) → IsSigner policy bundle signer → signer_of policy bundle ≡ Ok signer
 unfolding managed_of owner_of
 signer_passes (PublicKey policy) bundle signer i =
     ap (λ content. keyed_of content >>= λ _. after_keyed policy bundle) i.keyed
@@ -280,22 +280,22 @@ ok_certificate (Ok y) x h = ap Ok (ok_same y x h)
 ok_certificate (Err e) x h = cc
 
 module _ (grounds : Grounds) (policy : VerificationPolicy) (info : CertificateInfo) (certificate : List ℕ) (bundle : Bundle) where
-  abbrev owner_logs : ℕ
+  abbrev pub owner_logs : ℕ
   owner_logs = log_count_of grounds policy.verify_tlog (entries_in bundle)
 
-  abbrev owner_parties : Parties
+  abbrev pub owner_parties : Parties
   owner_parties = parties_of grounds true bundle
 
-  abbrev after_enough : List Timestamp → ℕ → List Timestamp → ⊤ → Result Evidence Error
+  abbrev pub after_enough : List Timestamp → ℕ → List Timestamp → ⊤ → Result Evidence Error
   after_enough times scts promised u = Ok (owner_evidence times scts promised owner_logs owner_parties)
 
-  abbrev after_logged : List Timestamp → ℕ → List Timestamp → Result Evidence Error
+  abbrev pub after_logged : List Timestamp → ℕ → List Timestamp → Result Evidence Error
   after_logged times scts promised = logs_judged_of policy.verify_tlog policy.logs owner_logs >>= after_enough times scts promised
 
-  abbrev after_certified : List Timestamp → ℕ → Result Evidence Error
+  abbrev pub after_certified : List Timestamp → ℕ → Result Evidence Error
   after_certified times scts = log_judged_of grounds (Certified policy info certificate) policy.verify_tlog (entries_in bundle) >>= after_logged times scts
 
-  abbrev after_verified : List Timestamp → Result Evidence Error
+  abbrev pub after_verified : List Timestamp → Result Evidence Error
   after_verified times = by_certificate (certified_of (trust_in grounds) policy info certificate (intermediates_in bundle) times) >>= after_certified times
 
   owner_means : (evidence : Evidence) → owner_vouched_of grounds policy info certificate bundle ≡ Ok evidence → OwnerVouches grounds policy info certificate bundle evidence

@@ -25,7 +25,7 @@ use Rattle.sigstore_judgement.proofs.Wanting.{is_want}
 -- ---- the bytes of the artifact
 
 -- bytes that a source gave up to its end are those that it tells
-read_whole : (old new : Watched (List ℕ)) (max : ℕ) (bytes read : List ℕ) → old.told ≡ Some bytes → ReadWhole old new max read → read ≡ bytes
+pub read_whole : (old new : Watched (List ℕ)) (max : ℕ) (bytes read : List ℕ) → old.told ≡ Some bytes → ReadWhole old new max read → read ≡ bytes
 read_whole old new max bytes read told w = by_told new.told (sym told ∙ w.given) w.ended
   where
     by_told : (rest : Option (List ℕ)) → Some bytes ≡ prepend_known read rest → IsAtEnd rest → read ≡ bytes
@@ -43,16 +43,16 @@ never_too_long old new max bytes read told short given long = by_told new.told (
         let parts = length-append read xs in
         omega (arith, whole, parts, short, long)
 
-never_unread : (old new : Watched (List ℕ)) (max : ℕ) (bytes : List ℕ) (fault : ReadError) → old.told ≡ Some bytes → (Rose old.faults new.faults → ⊥) → length bytes ≤ max → ReadCause old new max fault → ⊥
+pub never_unread : (old new : Watched (List ℕ)) (max : ℕ) (bytes : List ℕ) (fault : ReadError) → old.told ≡ Some bytes → (Rose old.faults new.faults → ⊥) → length bytes ≤ max → ReadCause old new max fault → ⊥
 never_unread old new max bytes Failed told quiet short c = quiet c
 never_unread old new max bytes (TooLong limit) told quiet short (at, read, given, long) = never_too_long old new max bytes read told short given long
 
 -- ---- steps
 
-step_to : {A B E : Type 0} (r : Result A E) (f : A → Result B E) (x : A) → r ≡ Ok x → (r >>= f) ≡ f x
+pub step_to : {A B E : Type 0} (r : Result A E) (f : A → Result B E) (x : A) → r ≡ Ok x → (r >>= f) ≡ f x
 step_to r f x h = ap (λ r. r >>= f) h
 
-step_err : {A B E : Type 0} (r : Result A E) (f : A → Result B E) (e : E) → r ≡ Err e → (r >>= f) ≡ Err e
+pub step_err : {A B E : Type 0} (r : Result A E) (f : A → Result B E) (e : E) → r ≡ Err e → (r >>= f) ≡ Err e
 step_err r f e h = ap (λ r. r >>= f) h
 
 -- what follows each step of the verdict

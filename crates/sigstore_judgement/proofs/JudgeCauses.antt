@@ -361,7 +361,7 @@ module _ (asked : Asked) (file : List ℕ) (source source' : Watched (List ℕ))
       refused_at (supported_of read_kind (signs_digest scheme content) (needed_of scheme claim)) _ e n
       (unsupported is claim s (signs_digest scheme content) (list_all is_hashed (needed_of scheme claim)) refl refl e) (λ u t o. cc))) (λ claim s n. cc)))
 
-  unprepared : (reading : Bundle) → IsRead asked.bundle reading → (e : Error) → prepared_of read_kind asked.policy reading ≡ Err e → Cause e
+  pub unprepared : (reading : Bundle) → IsRead asked.bundle reading → (e : Error) → prepared_of read_kind asked.policy reading ≡ Err e → Cause e
   unfolding prepared_of
   unprepared reading read e h =
       refused_at (signer_of asked.policy reading) _ e h (nobody reading read asked.policy refl e) (λ (signer : Signer) p k.
@@ -667,7 +667,7 @@ module _ (asked : Asked) (file : List ℕ) (source source' : Watched (List ℕ))
         by_why (verify.TimeOutside time) why = inr (as_is (verify.TimeOutside time) why)
         by_why _ why = absurd why
 
-    unjudged : (material : Material) → IsKept file material → (e : Error) → judged_of (terms_of asked material) reading (Read bytes) ≡ Err e → Cause e
+    pub unjudged : (material : Material) → IsKept file material → (e : Error) → judged_of (terms_of asked material) reading (Read bytes) ≡ Err e → Cause e
     unfolding judged_of judged_had
     unjudged material kept e h =
         let grounds = (terms_of asked material).grounds in

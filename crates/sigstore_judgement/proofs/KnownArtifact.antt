@@ -53,7 +53,7 @@ same_is Sha3384 Sha2512 h = cc
 same_is Sha3384 Sha3256 h = cc
 same_is Sha3384 Sha3384 h = refl
 
-same_sym : (a b : HashAlgorithm) → same_algorithm a b ≡ same_algorithm b a
+pub same_sym : (a b : HashAlgorithm) → same_algorithm a b ≡ same_algorithm b a
 same_sym Sha2256 Sha2256 = refl
 same_sym Sha2256 Sha2384 = refl
 same_sym Sha2256 Sha2512 = refl
@@ -80,7 +80,7 @@ same_sym Sha3384 Sha2512 = refl
 same_sym Sha3384 Sha3256 = refl
 same_sym Sha3384 Sha3384 = refl
 
-same_self : (a : HashAlgorithm) → same_algorithm a a ≡ true
+pub same_self : (a : HashAlgorithm) → same_algorithm a a ≡ true
 same_self Sha2256 = refl
 same_self Sha2384 = refl
 same_self Sha2512 = refl
@@ -91,7 +91,7 @@ same_self Sha3384 = refl
 abbrev digest_if : List ℕ → HashAlgorithm → Option (List ℕ)
 digest_if bytes algorithm = if is_hashed algorithm then Some (digest_by algorithm bytes) else None
 
-or_later : (a b : Bool) → a ≡ false → (a || b) ≡ true → b ≡ true
+pub or_later : (a b : Bool) → a ≡ false → (a || b) ≡ true → b ≡ true
 or_later true b e h = cc
 or_later false b e h = h
 
@@ -141,10 +141,10 @@ both_true : (t u : Bool) → t ≡ true → u ≡ true → (t && u) ≡ true
 both_true true u h k = k
 both_true false u h k = cc
 
-first_of : (a : HashAlgorithm) (list : List HashAlgorithm) → list_any (same_algorithm a) (a ∷ list) ≡ true
+pub first_of : (a : HashAlgorithm) (list : List HashAlgorithm) → list_any (same_algorithm a) (a ∷ list) ≡ true
 first_of a list = ap (λ t. t || list_any (same_algorithm a) list) (same_self a)
 
-later_of : (a b : HashAlgorithm) (list : List HashAlgorithm) → list_any (same_algorithm a) list ≡ true → list_any (same_algorithm a) (b ∷ list) ≡ true
+pub later_of : (a b : HashAlgorithm) (list : List HashAlgorithm) → list_any (same_algorithm a) list ≡ true → list_any (same_algorithm a) (b ∷ list) ≡ true
 later_of a b list h = or_either (same_algorithm a b) (list_any (same_algorithm a) list) h
 
 all_taken : (bytes : List ℕ) (needed list : List HashAlgorithm)
@@ -174,14 +174,14 @@ any_last : (a : HashAlgorithm) (list : List HashAlgorithm) → list_any (same_al
 any_last a [] = ap (λ t. t || false) (same_self a)
 any_last a (x ∷ xs) = or_either (same_algorithm a x) (list_any (same_algorithm a) (xs ++ a ∷ [])) (any_last a xs)
 
-kept : (a b : HashAlgorithm) (list : List HashAlgorithm) → list_any (same_algorithm a) list ≡ true → list_any (same_algorithm a) (with_algorithm list b) ≡ true
+pub kept : (a b : HashAlgorithm) (list : List HashAlgorithm) → list_any (same_algorithm a) list ≡ true → list_any (same_algorithm a) (with_algorithm list b) ≡ true
 kept a b list h = by_there (list_any (same_algorithm b) list) refl
   where
     by_there : (t : Bool) → list_any (same_algorithm b) list ≡ t → list_any (same_algorithm a) (with_algorithm list b) ≡ true
     by_there true e = ap (λ t. list_any (same_algorithm a) (if t then list else list ++ b ∷ [])) e ∙ h
     by_there false e = ap (λ t. list_any (same_algorithm a) (if t then list else list ++ b ∷ [])) e ∙ any_appended a b list h
 
-added : (a : HashAlgorithm) (list : List HashAlgorithm) → list_any (same_algorithm a) (with_algorithm list a) ≡ true
+pub added : (a : HashAlgorithm) (list : List HashAlgorithm) → list_any (same_algorithm a) (with_algorithm list a) ≡ true
 added a list = by_there (list_any (same_algorithm a) list) refl
   where
     by_there : (t : Bool) → list_any (same_algorithm a) list ≡ t → list_any (same_algorithm a) (with_algorithm list a) ≡ true

@@ -22,3 +22,11 @@ pub mod Usable
 pub mod Wanting
 pub mod Within
 pub mod OneLogLaw
+mod Picking
+mod NamesLast
+mod SharedNeeds
+pub mod Needed
+pub mod FirstLaw
+pub mod RulesLaw
+pub mod RuleCauses
+pub mod RulesCompleting

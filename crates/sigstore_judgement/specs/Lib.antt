@@ -16,12 +16,15 @@ pub mod Opened
 pub mod Parties
 pub mod Promise
 pub mod Report
+pub mod Rules
+pub mod Sharing
 pub mod Signer
 pub mod Taken
 pub mod Taking
 pub mod Tokens
 pub mod Trust
 pub mod Under
+pub mod UnderRules
 pub mod Unlogged
 pub mod Usable
 pub mod Verified

@@ -129,7 +129,10 @@ fn is_among(list: &[HashAlgorithm], algorithm: HashAlgorithm) -> bool
 }
 
 // Puts an algorithm behind a list, unless it stands there already.
-fn add(list: &mut Sequence<HashAlgorithm>, algorithm: Option<HashAlgorithm>) -> Result<(), NoMemory>
+pub(crate) fn add(
+    list: &mut Sequence<HashAlgorithm>,
+    algorithm: Option<HashAlgorithm>,
+) -> Result<(), NoMemory>
     ensures { OnOk result (list.new ≡ with_optional list.old algorithm) }
 {
     match algorithm {

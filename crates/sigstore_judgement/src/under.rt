@@ -2,10 +2,12 @@
 ghost use Rattle.std.specs.Prelude.{◌≡◌, ◌≢◌, Ok, Err, IfOk, IfErr};
 ghost use Rattle.sigstore_keys.specs.Crypto.{crypto_with};
 ghost use Rattle.sigstore_judgement.specs.Under.{trust_of, bundle_of, asked_with, JudgesBundle};
+ghost use Rattle.sigstore_judgement.specs.UnderRules.{rules_asked_with, JudgesByRules};
 
-use crate::asked::{Asked, Case};
+use crate::asked::{Asked, Case, RulesAsked, RulesCase};
 use crate::error::{Error, lowered};
 use crate::report::JudgedBundle;
+use crate::rules::{JudgedByRule, RulesError};
 use crate::verifier::Verifier;
 use jiff::Timestamp;
 use sigstore_keys::{ArtifactSource, CryptoProvider, Providers};
@@ -73,4 +75,44 @@ pub fn judge_bundle<C: CryptoProvider, M: Armor, A: ArtifactSource, P: Policy>(
     );
     drop(bundle);
     kept
+}
+
+/// Judges a bundle under a trust file and rules, of which one has to accept, over an artifact that is read once. Errors:
+/// `Shared` with the first of `TrustRoot` for the file's bytes, those of `Verifier::new`, `InvalidBundle` for the bundle's
+/// bytes; those of `Verifier::verify_reader_by_rules`.
+pub fn judge_bundle_by_rules<C: CryptoProvider, M: Armor, A: ArtifactSource>(
+    alloc: Global,
+    providers: &Providers<'_, C, M>,
+    file: &[u8],
+    now: Timestamp,
+    artifact: &mut A,
+    asked: &RulesAsked<'_>,
+) -> Result<JudgedByRule, RulesError>
+    ensures { JudgesByRules (rules_asked_with (crypto_with C.CryptoProvider M.Armor providers.now) now asked.now) file.now
+        (A.seen artifact.old) (A.seen artifact.new) result }
+{
+    let trust = match read_trust(alloc, file) {
+        Ok(trust) => trust,
+        Err(e) => return Err(RulesError::Shared(e)),
+    };
+    let verifier = match Verifier::new(alloc, providers.provider, providers.armor, &trust) {
+        Ok(verifier) => verifier,
+        Err(e) => return Err(RulesError::Shared(e)),
+    };
+    let bundle = match read_bundle(alloc, asked.bundle) {
+        Ok(bundle) => bundle,
+        Err(e) => return Err(RulesError::Shared(e)),
+    };
+    let judged = verifier.verify_reader_by_rules(
+        alloc,
+        artifact,
+        asked.max_artifact,
+        &RulesCase {
+            bundle: &bundle,
+            rules: asked.rules,
+            moment: now,
+        },
+    );
+    drop(bundle);
+    judged
 }
