@@ -2,6 +2,7 @@ pub mod RootFacts
 pub mod RootCauses
 pub mod RootCompleting
 pub mod RootPromises
+pub mod ByRulesPromise
 mod OnlyTop
 mod Digests
 mod Entries

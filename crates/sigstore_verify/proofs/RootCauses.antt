@@ -64,7 +64,7 @@ module _ (given : VerifyInputs) (before after : Outside) where
   abbrev Cause : RootFault → Type 0
   Cause fault = RootCause given before after fault
 
-  by_tuf : (e : TufError) → ChainCause given.anchor (places_in before) (places_in after) e → after.source ≡ before.source → Cause (root_of_tuf e)
+  pub by_tuf : (e : TufError) → ChainCause given.anchor (places_in before) (places_in after) e → after.source ≡ before.source → Cause (root_of_tuf e)
   by_tuf tuf.Json h s = (h, s)
   by_tuf (tuf.Malformed a) h s = (h, s)
   by_tuf tuf.NonIntegerNumber h s = (h, s)
@@ -84,7 +84,7 @@ module _ (given : VerifyInputs) (before after : Outside) where
   by_tuf (tuf.Transport a) h s = (h, s)
   by_tuf tuf.NoMemory h s = tt
 
-  by_verify : (e : Error) (chain : TrustChain) → TrustsChain given.anchor chain
+  pub by_verify : (e : Error) (chain : TrustChain) → TrustsChain given.anchor chain
       → JudgeCause (asked_by given) chain.file before.source after.source e → Cause (root_of_verify e chain)
   by_verify (verify.IdentityMismatch a b) chain t h = (t, h)
   by_verify (verify.IssuerMismatch a b) chain t h = (t, h)

@@ -90,7 +90,7 @@ module _ (anchor : Anchor) (folders : Folders) (files : Files) (chain : TrustCha
 
 -- the call that gives it
 module _ (anchor : Anchor) (before after : Places) (chain : TrustChain) (o : OffersChain anchor before after chain) where
-  abbrev AfterChain : Type 0
+  abbrev pub AfterChain : Type 0
   AfterChain = StaysTold anchor.crypto o.folders anchor.root anchor.now anchor.config trust_path chain o.offers after.store
 
   pub offered_chain : (answer : Result TrustChain TufError) → GivesChain anchor before.repo after.repo before.store after.store answer → GivenChain AfterChain chain answer

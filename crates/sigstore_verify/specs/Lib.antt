@@ -1,3 +1,4 @@
+pub mod ByRules
 pub mod Cause
 pub mod Complete
 pub mod FromRoot

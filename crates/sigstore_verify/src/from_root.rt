@@ -45,7 +45,7 @@ pub enum RootFault {
     NoMemory,
 }
 
-fn tuf_fault(e: sigstore_tuf_parts::Error) -> RootFault
+pub(crate) fn tuf_fault(e: sigstore_tuf_parts::Error) -> RootFault
     ensures { result ≡ root_of_tuf e }
 {
     match e {
@@ -54,7 +54,7 @@ fn tuf_fault(e: sigstore_tuf_parts::Error) -> RootFault
     }
 }
 
-fn verify_fault(fault: Error, chain: TrustChain) -> RootFault
+pub(crate) fn verify_fault(fault: Error, chain: TrustChain) -> RootFault
     ensures { result ≡ root_of_verify fault chain }
 {
     match fault {

@@ -1,4 +1,5 @@
 // Laws of the definitions. A call does nothing.
+ghost use Rattle.sigstore_verify.specs.ByRules.{OneRuleAlone};
 ghost use Rattle.sigstore_verify.specs.OnePlace.{OnePlaceOneContent};
 
 /// The law of places in a log: two bundles that are accepted, under whatever policies that verify the log, with
@@ -7,4 +8,9 @@ ghost use Rattle.sigstore_verify.specs.OnePlace.{OnePlaceOneContent};
 /// lie in the tree.
 pub fn one_place_one_content()
     ensures { OnePlaceOneContent }
+{}
+
+/// The law of one rule: what is answered under one rule means what `verify_from_root` means under its policy alone.
+pub fn one_rule_alone()
+    ensures { OneRuleAlone }
 {}
