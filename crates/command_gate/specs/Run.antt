@@ -1,5 +1,5 @@
 -- A run of `gate`: what it says, and why.
-use Rattle.std.specs.Prelude.{◌≡◌, ◌⊎◌, ℕ, List, codes, true, false, Option, Some, None, Result, Ok, Err, IfOk, ⊤}
+use Rattle.std.specs.Prelude.{◌≡◌, ◌⊎◌, ℕ, List, map, codes, true, false, Option, Some, None, Result, Ok, Err, IfOk, ⊤}
 use Rattle.jiff_core.specs.declared.timestamp.Timestamp as jiff
 use Rattle.foundation.specs.Watched.{Watched, Rose}
 use Rattle.foundation.specs.declared.no_memory.NoMemory.{NoMemory}
@@ -34,18 +34,18 @@ use Rattle.command_gate.specs.Lines.{lines_text, all_admitted, lines_answer}
 
 -- ---- what is given
 
--- what the judgement of a folder is given: who decides signatures and reads armoured texts, the policy, the root, the program's limits, and
+-- what the judgement of a folder is given: who decides signatures and reads armoured texts, the rules, the root, the program's limits, and
 -- the moment
-abbrev pub given_with : Crypto → Meaning → List ℕ → jiff.Timestamp → GateInputs
-given_with crypto policy root now = gate_inputs_by (anchor_by crypto root default_config now) policy max_artifact
+abbrev pub given_with : Crypto → List Meaning → List ℕ → jiff.Timestamp → GateInputs
+given_with crypto rules root now = gate_inputs_by (anchor_by crypto root default_config now) rules max_artifact
 
 -- what is asked for
 abbrev pub given_of : Crypto → FolderRequest → GateInputs
-given_of crypto request = given_with crypto (meaning_in request.policy.now) request.root.now request.moment
+given_of crypto request = given_with crypto (map meaning_in request.rules.now) request.root.now request.moment
 
 -- what the inputs ask for, but for their tables
 abbrev pub given_under : Crypto → Governed → jiff.Timestamp → GateInputs
-given_under crypto governed now = given_with crypto (meaning_in governed.policy) governed.anchored.root now
+given_under crypto governed now = given_with crypto (map meaning_in governed.rules) governed.anchored.root now
 
 -- the same of the inputs, whose tables decide
 abbrev pub given_by : Governed → jiff.Timestamp → GateInputs

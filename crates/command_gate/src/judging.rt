@@ -15,10 +15,11 @@ use sigstore_types_parts::Armor;
 use sigstore_verify::Anchor;
 use std::alloc::Global;
 
-/// What is asked of a folder: the policy for each artifact, the pinned root's text, and the moment.
+/// What is asked of a folder: the rules, of which one has to accept for each artifact, the pinned root's text, and the
+/// moment.
 #[derive(Drop)]
 pub struct FolderRequest<'a> {
-    pub policy: &'a SigningPolicy,
+    pub rules: &'a [SigningPolicy],
     pub root: &'a [u8],
     pub moment: Timestamp,
 }
@@ -51,6 +52,6 @@ pub fn gate_folder<R: Repository, S: MetadataStore, D: Folder, C: CryptoProvider
         store,
         folder,
         MAX_ARTIFACT,
-        request.policy,
+        request.rules,
     )
 }

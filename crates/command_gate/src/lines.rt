@@ -1,6 +1,6 @@
 // The lines that a gate writes, and the status that they have.
 ghost use Rattle.std.specs.Prelude.{◌≡◌, ◌++◌, IfOk, OnOk, string_bytes};
-ghost use Rattle.command_gate.specs.Lines.{denial_line, verdict_line, lines_text, is_admitted, all_admitted, status_by, lines_answer};
+ghost use Rattle.command_gate.specs.Lines.{denial_line, part_text, later_text, refusals_text, verdict_line, lines_text, is_admitted, all_admitted, status_by, lines_answer};
 
 use command_files::{Answer, Status, push_decimal, push_line, push_printed, push_text_line};
 use foundation::NoMemory;
@@ -20,28 +20,76 @@ fn push_denial(text: &mut String, name: &[u8], reason: &str) -> Result<(), NoMem
     push_line(text, reason)
 }
 
-// Adds the line of an artifact that is denied by a refusal of the verification.
-#[tactic(auto, unfolding(command_files::specs::Printed::line_of, command_files::specs::Printed::pair_line))]
-fn push_refusal(text: &mut String, name: &[u8], number: u8) -> Result<(), NoMemory>
-    ensures { OnOk result (string_bytes text.new ≡ string_bytes text.old ++ verdict_line name.now (Verdict.Denied number)) }
+/// What is told of a refusal.
+#[derive(Clone, Copy, Drop)]
+pub enum RefusalPart {
+    /// Its number.
+    Number,
+    /// Its name.
+    Name,
+}
+
+// Adds that of one refusal.
+fn push_part(text: &mut String, part: RefusalPart, number: u8) -> Result<(), NoMemory>
+    ensures { OnOk result (string_bytes text.new ≡ string_bytes text.old ++ part_text part number) }
+{
+    match part {
+        RefusalPart::Number => push_decimal(text, u64::from(number)),
+        RefusalPart::Name => {
+            text.push_str(refusal_name(number))?;
+            Ok(())
+        }
+    }
+}
+
+// Adds those of the rules behind the first.
+fn push_later(text: &mut String, part: RefusalPart, numbers: &[u8]) -> Result<(), NoMemory>
+    ensures { OnOk result (string_bytes text.new ≡ string_bytes text.old ++ later_text part numbers.now) }
+{
+    'numbers: for number in numbers {
+        text.push_str(",")?;
+        push_part(text, part, *number)?;
+    }
+    Ok(())
+}
+
+// Adds those of all rules.
+fn push_each(text: &mut String, part: RefusalPart, numbers: &[u8]) -> Result<(), NoMemory>
+    ensures { OnOk result (string_bytes text.new ≡ string_bytes text.old ++ refusals_text part numbers.now) }
+{
+    match numbers.split_first() {
+        Some((first, later)) => {
+            push_part(text, part, *first)?;
+            push_later(text, part, later)
+        }
+        None => Ok(()),
+    }
+}
+
+// Adds the line of an artifact that each rule refuses.
+#[tactic(auto, unfolding(command_files::specs::Printed::pair_line))]
+fn push_refusals(text: &mut String, name: &[u8], numbers: &[u8]) -> Result<(), NoMemory>
+    ensures { OnOk result (string_bytes text.new ≡ string_bytes text.old ++ verdict_line name.now (Verdict.Denied numbers.now)) }
 {
     text.push_str("deny ")?;
     push_printed(text, name)?;
     text.push(' ')?;
-    push_decimal(text, u64::from(number))?;
+    push_each(text, RefusalPart::Number, numbers)?;
     text.push(' ')?;
-    push_line(text, refusal_name(number))
+    push_each(text, RefusalPart::Name, numbers)?;
+    text.push('\n')?;
+    Ok(())
 }
 
 // Adds the line of an artifact.
-fn push_verdict(text: &mut String, name: &[u8], verdict: Verdict) -> Result<(), NoMemory>
-    ensures { OnOk result (string_bytes text.new ≡ string_bytes text.old ++ verdict_line name.now verdict) }
+fn push_verdict(text: &mut String, name: &[u8], verdict: &Verdict) -> Result<(), NoMemory>
+    ensures { OnOk result (string_bytes text.new ≡ string_bytes text.old ++ verdict_line name.now verdict.now) }
 {
     match verdict {
         Verdict::Admitted => push_text_line(text, "admit", name),
         Verdict::Unsigned => push_denial(text, name, "unsigned"),
         Verdict::BundleTooLong { .. } => push_denial(text, name, "toolong"),
-        Verdict::Denied { number } => push_refusal(text, name, number),
+        Verdict::Denied { numbers } => push_refusals(text, name, numbers.as_slice()),
     }
 }
 
@@ -50,13 +98,13 @@ fn push_lines(text: &mut String, lines: &[GateLine]) -> Result<(), NoMemory>
     ensures { OnOk result (string_bytes text.new ≡ string_bytes text.old ++ lines_text lines.now) }
 {
     'lines: for line in lines {
-        push_verdict(text, line.name.as_str().as_bytes(), line.verdict)?;
+        push_verdict(text, line.name.as_str().as_bytes(), &line.verdict)?;
     }
     Ok(())
 }
 
-fn is_admitted(verdict: Verdict) -> bool
-    ensures { result ≡ is_admitted verdict }
+fn is_admitted(verdict: &Verdict) -> bool
+    ensures { result ≡ is_admitted verdict.now }
 {
     matches!(verdict, Verdict::Admitted)
 }
@@ -65,7 +113,7 @@ fn all_admitted(lines: &[GateLine]) -> bool
     ensures { result ≡ all_admitted lines.now }
 {
     for line in lines {
-        if !is_admitted(line.verdict) {
+        if !is_admitted(&line.verdict) {
             return false;
         }
     }

@@ -1,24 +1,23 @@
 -- On what each line that admits rests.
-use Rattle.std.proofs.Common.{◌≡◌, ℕ, List, [], ◌∷◌, ◌++◌, Some, Result, Ok, Err, refl, sym, ap, subst, ◌∙◌}
+use Rattle.std.proofs.Common.{◌≡◌, ℕ, ◌+◌, ◌<◌, List, [], ◌∷◌, ◌++◌, length, replicate, Some, Result, Ok, Err, refl, sym, ap, subst, ◌∙◌, arith}
 use Rattle.std.specs.Prelude.{IfOk}
 use Rattle.std.specs.List.{AllByRecursion}
+use Rattle.std.proofs.lemmas.List.{length-replicate}
 use Rattle.foundation.specs.Results.{ok_same}
 use Rattle.sigstore_types.specs.Bundle.{bundle_of_bytes}
-use Rattle.sigstore_judgement.specs.Grounds.{Terms}
 use Rattle.release_gate.specs.declared.gate.GateFault.{GateFault}
 use Rattle.release_gate.specs.declared.gate.Gated.{Gated}
 use Rattle.release_gate.specs.declared.line.GateLine.{GateLine}
 use Rattle.release_gate.specs.declared.line.Verdict.{Verdict}
 use Rattle.release_gate.specs.declared.line.Verdict.TheVariants.{Admitted, Unsigned, BundleTooLong}
 use Rattle.release_gate.specs.declared.walk.FolderStop.{FolderStop}
-use Rattle.sigstore_keys.specs.declared.reader.ReadError.TheVariants as read
-use Rattle.sigstore_judgement.specs.declared.error.Error.TheVariants.{ArtifactRead}
 use Rattle.release_gate.specs.Folder.{Call, bundle_asked}
 use Rattle.release_gate.specs.Gate.{GateInputs, terms_of, gated_under, HasTrust}
 use Rattle.release_gate.specs.Names.{bundle_name}
 use Rattle.release_gate.specs.Reading.{Reads, unneeded, whole, longer, unread, unheld, ReadsBy, long, given, vanished, failed, short, Reading, unsigned, signed, wanting}
 use Rattle.release_gate.specs.Rests.{WalksUnder, walk_said, Rests, uncalled, walked, AdmittedOn, IfAdmitted, AdmitsOn}
-use Rattle.release_gate.specs.Verdict.{max_bundle, denied, by_bundle}
+use Rattle.release_gate.specs.Terms.{RuleTerms}
+use Rattle.release_gate.specs.Verdict.{max_bundle, by_bundle}
 use Rattle.release_gate.specs.Walk.{Walked, begun, passed, judged, WalksNames, all, stopped, cut, WalksFolder, nameless, ordered}
 use Rattle.release_gate.proofs.Admitting.{accepts_over}
 
@@ -26,11 +25,18 @@ all_more : (P : GateLine → Type 0) (lines : List GateLine) (line : GateLine) �
 all_more P [] line rest one = (one, tt)
 all_more P (first ∷ lines) line rest one = (rest.0, all_more P lines line rest.1 one)
 
-module _ (D : Type 0) (gave : D → Call → D → Type 0) (terms : Terms) (max : ℕ) where
+-- an artifact that is longer than the limit isn't admitted
+never_longer : (terms : RuleTerms) (max : ℕ) (file bytes : List ℕ) → by_bundle terms max bytes (bundle_of_bytes file) ≡ Admitted → max < length bytes → ⊥
+never_longer terms max file bytes h beyond = let within = (accepts_over terms max file bytes h).within in omega (arith, within, beyond)
+
+module _ (D : Type 0) (gave : D → Call → D → Type 0) (terms : RuleTerms) (max : ℕ) where
   module _ (name : List ℕ) (old new : D) (verdict : Verdict) (is : verdict ≡ Admitted) where
     by_bytes : (file : List ℕ) (mid : D) → gave old (bundle_asked (bundle_name name) max_bundle (Ok (Some file))) mid
         → Reads gave (λ bytes. by_bundle terms max bytes (bundle_of_bytes file)) max name mid new (Ok verdict) → AdmittedOn gave terms max name old new
-    by_bytes file mid own (unneeded e every kept q) = let both : Admitted ≡ denied e = sym is ∙ ok_same verdict (denied e) q in cc
+    by_bytes file mid own (unneeded other every kept q) =
+        let many : List ℕ = replicate (max + 1) 0 in
+        let count : length many ≡ max + 1 = length-replicate {A = ℕ} (max + 1) 0 in
+        absurd (never_longer terms max file many (every many ∙ sym (ok_same verdict other q) ∙ is) (omega (arith, count)))
     by_bytes file mid own (whole bytes given_whole within q) = record {
       file = file;
       mid = mid;
@@ -40,7 +46,7 @@ module _ (D : Type 0) (gave : D → Call → D → Type 0) (terms : Terms) (max 
       over = accepts_over terms max file bytes (sym (ok_same verdict (by_bundle terms max bytes (bundle_of_bytes file)) q) ∙ is);
     }
     by_bytes file mid own (longer bytes had past q) =
-        let both : Admitted ≡ denied (ArtifactRead (read.TooLong max)) = sym is ∙ ok_same verdict (denied (ArtifactRead (read.TooLong max))) q in cc
+        absurd (never_longer terms max file bytes (sym (ok_same verdict (by_bundle terms max bytes (bundle_of_bytes file)) q) ∙ is) past)
     by_bytes file mid own (unread bytes fails q) = cc
     by_bytes file mid own (unheld q) = cc
 

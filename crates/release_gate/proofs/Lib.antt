@@ -8,6 +8,7 @@ pub mod Order
 pub mod Pieces
 pub mod Readings
 pub mod Rested
+pub mod Ruled
 pub mod Sources
 pub mod Stepping
 pub mod Verdicts

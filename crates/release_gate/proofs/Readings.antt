@@ -1,8 +1,6 @@
 -- On what the verdict on one artifact rests.
-use Rattle.std.proofs.Common.{◌≡◌, ◌≢◌, ◌⊎◌, inl, inr, ℕ, List, length, true, false, nat_lt, None, Result, Ok, Err, refl, sym, ap, subst, ◌∙◌}
-use Rattle.std.specs.Prelude.{IfOk, IfErr}
+use Rattle.std.proofs.Common.{◌≡◌, inl, inr, ℕ, List, true, false, Some, None, Result, Ok, Err, sym, ap, subst, ◌∙◌}
 use Rattle.std.specs.List.{list_all}
-use Rattle.std.proofs.lemmas.Bool.{le-ltb}
 use Rattle.sigstore_types_parts.specs.declared.hash_algorithm.HashAlgorithm.{HashAlgorithm}
 use Rattle.sigstore_types.specs.declared.bundle.Bundle.{Bundle}
 use Rattle.sigstore_keys.specs.Digest.{is_hashed}
@@ -10,21 +8,20 @@ use Rattle.sigstore_keys.specs.declared.reader.ReadError.{ReadError}
 use Rattle.sigstore_keys.specs.declared.reader.ReadError.TheVariants as read
 use Rattle.sigstore_judgement.specs.declared.error.Error.{Error}
 use Rattle.sigstore_judgement.specs.declared.error.Error.TheVariants as verify
-use Rattle.sigstore_judgement.specs.declared.report.VerificationResult.{VerificationResult}
-use Rattle.sigstore_judgement.specs.Artifact.{Read, read_kind, digest_among}
-use Rattle.sigstore_judgement.specs.Grounds.{Terms}
-use Rattle.sigstore_judgement.specs.Judged.{Ready, prepared_of, judged_had, judged_of}
+use Rattle.sigstore_judgement.specs.declared.rules.ReadArtifact.{ReadArtifact}
+use Rattle.sigstore_judgement.specs.declared.rules.ReadArtifact.TheVariants as had
+use Rattle.sigstore_judgement.specs.Rules.{needed_by_rules}
 use Rattle.sigstore_judgement.specs.Taking.{Unhashed}
-use Rattle.sigstore_judgement.proofs.Stages.{read_judged}
 use Rattle.release_gate.specs.declared.line.Verdict.{Verdict}
-use Rattle.release_gate.specs.declared.line.Verdict.TheVariants.{Admitted}
 use Rattle.release_gate.specs.declared.walk.FolderStop.{FolderStop}
 use Rattle.release_gate.specs.declared.walk.FolderStop.TheVariants as stop
 use Rattle.release_gate.specs.Folder.{Call}
 use Rattle.release_gate.specs.Given.{GivenTo, Digests}
-use Rattle.release_gate.specs.Judgement.{SaysUnread}
+use Rattle.release_gate.specs.Judgement.{IsSaid, verdict_had, SaysUnread}
 use Rattle.release_gate.specs.Reading.{Reads, unneeded, whole, longer, unread, unheld}
-use Rattle.release_gate.specs.Verdict.{denied, by_judgement, by_length}
+use Rattle.release_gate.specs.Terms.{RuleTerms}
+use Rattle.release_gate.specs.Verdict.{by_rules}
+use Rattle.release_gate.proofs.Ruled.{digests_say, longer_says, none_needed}
 
 -- ---- the digests
 
@@ -42,49 +39,50 @@ module _ (D : Type 0) (gave : D → Call → D → Type 0) (max : ℕ) (name : L
 
   -- verdicts that are the same by the same bytes
   pub reads_as : (by other : List ℕ → Verdict) (result : Result Verdict FolderStop) → ((bytes : List ℕ) → other bytes ≡ by bytes) → R by result → R other result
-  reads_as by other result same (unneeded e all kept r) = unneeded e (λ bytes. same bytes ∙ all bytes) kept r
+  reads_as by other result same (unneeded verdict all kept r) = unneeded verdict (λ bytes. same bytes ∙ all bytes) kept r
   reads_as by other result same (whole bytes given short r) = whole bytes given short (r ∙ ap Ok (sym (same bytes)))
-  reads_as by other result same (longer bytes given long r) = longer bytes given long r
+  reads_as by other result same (longer bytes given long r) = longer bytes given long (r ∙ ap Ok (sym (same bytes)))
   reads_as by other result same (unread bytes failed r) = unread bytes failed r
   reads_as by other result same (unheld r) = unheld r
 
-  -- a refusal that doesn't need the artifact
-  pub reads_refused : (by : List ℕ → Verdict) (e : Error) (result : Result Verdict FolderStop) → (e ≢ verify.NoMemory → (bytes : List ℕ) → by bytes ≡ denied e) → new ≡ old
-      → IfOk result (λ verdict. (e ≢ verify.NoMemory) × (verdict ≡ denied e)) → IfErr result (λ s. s ≡ stop.NoMemory) → R by result
-  reads_refused by e (Ok verdict) all kept ok err = unneeded e (all ok.0) kept (ap Ok ok.1)
-  reads_refused by e (Err s) all kept ok err = unheld (ap Err err)
+  -- a bundle that isn't read
+  pub reads_refused : (by : List ℕ → Verdict) (verdict : Verdict) (result : Result Verdict FolderStop) → ((bytes : List ℕ) → by bytes ≡ verdict) → new ≡ old
+      → IsSaid verdict result → R by result
+  reads_refused by verdict (Ok said) all kept s = unneeded verdict all kept (ap Ok s)
+  reads_refused by verdict (Err e) all kept s = unheld (ap Err s)
 
-  module _ (terms : Terms) (bundle : Bundle) (ready : Ready) (p : prepared_of read_kind terms.policy bundle ≡ Ok ready) where
+  module _ (terms : RuleTerms) (bundle : Bundle) where
     abbrev L : Result Verdict FolderStop → Type 0
-    L result = R (by_length terms max bundle) result
+    L result = R (by_rules terms max bundle) result
 
-    abbrev Had : Result (List (HashAlgorithm × List ℕ)) Error → Type 0
-    Had result = Digests gave name max ready.needed old new result
+    -- no rule needs the artifact
+    pub reads_unneeded : (artifact : ReadArtifact) (result : Result Verdict FolderStop) → needed_by_rules bundle terms.rules ≡ None → new ≡ old
+        → IsSaid (verdict_had terms bundle artifact) result → L result
+    reads_unneeded artifact (Ok said) is kept s =
+        unneeded (verdict_had terms bundle artifact) (λ bytes. none_needed terms max bundle artifact bytes is) kept (ap Ok s)
+    reads_unneeded artifact (Err e) is kept s = unheld (ap Err s)
 
-    -- what the digests say, the artifact's bytes do
-    said : (digests : List (HashAlgorithm × List ℕ)) (judged : Result VerificationResult Error) (d : Had (Ok digests)) → judged_had terms.grounds ready bundle (digest_among digests) None ≡ judged
-        → by_judgement judged ≡ by_length terms max bundle d.0
-    said digests judged d j =
-        let short : nat_lt max (length d.0) ≡ false = le-ltb max (length d.0) d.2 in
-        let same : judged_of terms bundle (Read d.0) ≡ judged = read_judged terms bundle d.0 ready digests p d.3 ∙ j in
-        rw (short, same) refl
+    module _ (needed : List HashAlgorithm) (is : needed_by_rules bundle terms.rules ≡ Some needed) where
+      abbrev Had : Result (List (HashAlgorithm × List ℕ)) Error → Type 0
+      Had result = Digests gave name max needed old new result
 
-    pub reads_admitted : (digests : List (HashAlgorithm × List ℕ)) (report : VerificationResult) → Had (Ok digests)
-        → judged_had terms.grounds ready bundle (digest_among digests) None ≡ Ok report → L (Ok Admitted)
-    reads_admitted digests report d j = whole d.0 d.1 d.2 (ap Ok (said digests (Ok report) d j))
+      -- what the digests say, the artifact's bytes do
+      pub reads_whole : (digests : List (HashAlgorithm × List ℕ)) (result : Result Verdict FolderStop) → Had (Ok digests)
+          → IsSaid (verdict_had terms bundle (had.Digests digests)) result → L result
+      reads_whole digests (Ok said) d s = whole d.0 d.1 d.2 (ap Ok (s ∙ digests_say terms max bundle needed digests d.0 is d.3 d.2))
+      reads_whole digests (Err e) d s = unheld (ap Err s)
 
-    pub reads_denied : (digests : List (HashAlgorithm × List ℕ)) (e : Error) (result : Result Verdict FolderStop) → Had (Ok digests)
-        → (e ≢ verify.NoMemory → judged_had terms.grounds ready bundle (digest_among digests) None ≡ Err e)
-        → IfOk result (λ verdict. (e ≢ verify.NoMemory) × (verdict ≡ denied e)) → IfErr result (λ s. s ≡ stop.NoMemory) → L result
-    reads_denied digests e (Ok verdict) d j ok err = whole d.0 d.1 d.2 (ap Ok (ok.1 ∙ said digests (Err e) d (j ok.0)))
-    reads_denied digests e (Err s) d j ok err = unheld (ap Err err)
+      of_longer : (limit : ℕ) (bytes : List ℕ) (result : Result Verdict FolderStop) → GivenTo gave name max old bytes new (Err (read.TooLong limit))
+          → IsSaid (verdict_had terms bundle (had.Unread (read.TooLong limit))) result → L result
+      of_longer limit bytes (Ok said) given s =
+          longer bytes given.0 given.1 (ap Ok (s ∙ longer_says terms max bundle limit bytes given.2 given.1))
+      of_longer limit bytes (Err e) given s = unheld (ap Err s)
 
-    by_fault : (fault : ReadError) (bytes : List ℕ) (result : Result Verdict FolderStop) → GivenTo gave name max old bytes new (Err fault)
-        → SaysUnread (verify.ArtifactRead fault) result → L result
-    by_fault read.Failed bytes result given says = unread bytes given says
-    by_fault (read.TooLong limit) bytes result given says =
-        longer bytes given.0 given.1 (says ∙ ap (λ l. Ok (denied (verify.ArtifactRead (read.TooLong l)))) given.2)
+      by_fault : (fault : ReadError) (bytes : List ℕ) (result : Result Verdict FolderStop) → GivenTo gave name max old bytes new (Err fault)
+          → SaysUnread terms bundle (verify.ArtifactRead fault) result → L result
+      by_fault read.Failed bytes result given says = unread bytes given says
+      by_fault (read.TooLong limit) bytes result given says = of_longer limit bytes result given says
 
-    pub reads_unread : (e : Error) (result : Result Verdict FolderStop) → Had (Err e) → SaysUnread e result → L result
-    reads_unread e result (inl want) says = let none : SaysUnread verify.NoMemory result = subst (λ x. SaysUnread x result) want says in unheld none
-    reads_unread e result (inr (fault, is, bytes, given)) says = by_fault fault bytes result given (subst (λ x. SaysUnread x result) is says)
+      pub reads_unread : (e : Error) (result : Result Verdict FolderStop) → Had (Err e) → SaysUnread terms bundle e result → L result
+      reads_unread e result (inl want) says = let none : SaysUnread terms bundle verify.NoMemory result = subst (λ x. SaysUnread terms bundle x result) want says in unheld none
+      reads_unread e result (inr (fault, is, bytes, given)) says = by_fault fault bytes result given (subst (λ x. SaysUnread terms bundle x result) is says)

@@ -1,8 +1,7 @@
 -- What is said of one artifact.
-use Rattle.std.proofs.Common.{◌≡◌, ◌≢◌, ◌⊎◌, inl, inr, ℕ, ◌<◌, ◌≤◌, List, [], length, true, false, nat_lt, Option, Some, None, Result, Ok, Err, refl, sym, ap, subst, ◌∙◌, arith}
-use Rattle.std.specs.Prelude.{Contains, IfOk, IfErr, IsSome}
+use Rattle.std.proofs.Common.{◌≡◌, ◌⊎◌, inl, inr, ℕ, List, [], length, true, false, Option, Some, None, Result, Ok, Err, refl, sym, ap, subst, ◌∙◌, arith}
+use Rattle.std.specs.Prelude.{Contains, IsSome}
 use Rattle.std.specs.List.{list_all}
-use Rattle.std.proofs.lemmas.Bool.{le-ltb, lt-ltb}
 use Rattle.foundation.specs.Watched.{Watched, Rose, IfTold, Since}
 use Rattle.sigstore_types_parts.specs.declared.hash_algorithm.HashAlgorithm.{HashAlgorithm}
 use Rattle.sigstore_types.specs.declared.bundle.Bundle.{Bundle}
@@ -11,22 +10,22 @@ use Rattle.sigstore_keys.specs.declared.reader.ReadError.{ReadError}
 use Rattle.sigstore_keys.specs.declared.reader.ReadError.TheVariants.{Failed, TooLong}
 use Rattle.sigstore_judgement.specs.declared.error.Error.{Error}
 use Rattle.sigstore_judgement.specs.declared.error.Error.TheVariants as verify
-use Rattle.sigstore_judgement.specs.declared.report.VerificationResult.{VerificationResult}
-use Rattle.sigstore_judgement.specs.Artifact.{Read, read_kind, digest_among}
-use Rattle.sigstore_judgement.specs.Grounds.{Terms}
-use Rattle.sigstore_judgement.specs.Judged.{Ready, prepared_of, judged_had, judged_of}
+use Rattle.sigstore_judgement.specs.declared.rules.ReadArtifact.{ReadArtifact}
+use Rattle.sigstore_judgement.specs.declared.rules.ReadArtifact.TheVariants as had
 use Rattle.sigstore_judgement.specs.Promise.{ReadCause}
+use Rattle.sigstore_judgement.specs.Rules.{needed_by_rules}
 use Rattle.sigstore_judgement.specs.Taking.{Unhashed, Takes}
-use Rattle.sigstore_judgement.proofs.Stages.{read_judged}
 use Rattle.release_gate.specs.declared.line.Verdict.{Verdict}
-use Rattle.release_gate.specs.declared.line.Verdict.TheVariants.{Admitted, Unsigned}
+use Rattle.release_gate.specs.declared.line.Verdict.TheVariants.{Unsigned}
 use Rattle.release_gate.specs.declared.walk.FolderStop.{FolderStop}
 use Rattle.release_gate.specs.declared.walk.FolderStop.TheVariants as stop
 use Rattle.release_gate.specs.Folder.{Contents, ListsFiles, source_of}
+use Rattle.release_gate.specs.Judgement.{IsSaid, verdict_had, SaysUnread}
 use Rattle.release_gate.specs.Names.{bundle_name, AreOrdered}
-use Rattle.release_gate.specs.Judgement.{SaysUnread}
-use Rattle.release_gate.specs.Verdict.{denied, by_judgement, by_length, by_file, verdict_by}
+use Rattle.release_gate.specs.Terms.{RuleTerms}
+use Rattle.release_gate.specs.Verdict.{by_rules, by_file, verdict_by}
 use Rattle.release_gate.specs.Walk.{JudgingBeside, StopCause, Judges}
+use Rattle.release_gate.proofs.Ruled.{digests_say, longer_says, none_needed}
 use Rattle.release_gate.proofs.Sources.{told_all, left_is, all_given, some_given, prepend_nothing}
 
 -- ---- the taking of digests
@@ -47,79 +46,76 @@ taken_nothing source max algorithms e why hashed = record {
 
 -- ---- an artifact that is read
 
-not_longer : (max count : ℕ) → count ≤ max → nat_lt max count ≡ false
-not_longer max count h = le-ltb max count h
-
-longer : (max count : ℕ) → max < count → nat_lt max count ≡ true
-longer max count h = lt-ltb max count h
-
-module _ (terms : Terms) (max : ℕ) (bundle : Bundle) (old new : Watched Contents) (name : List ℕ) (count : ℕ) (since : Since old new) where
+module _ (terms : RuleTerms) (max : ℕ) (bundle : Bundle) (old new : Watched Contents) (name : List ℕ) (since : Since old new) where
   abbrev pub judging : JudgingBeside
-  judging files name bytes = by_length terms max bundle bytes
+  judging files name bytes = by_rules terms max bundle bytes
 
-  abbrev Taken : Ready → Result (List (HashAlgorithm × List ℕ)) Error → Type 0
-  Taken ready result = Takes (source_of old name 0) (source_of new name count) max ready.needed result
+  abbrev J : Result Verdict FolderStop → Type 0
+  J result = Judges judging old new name result
 
-  -- what the digests say, the artifact's bytes do
-  said : (ready : Ready) (digests : List (HashAlgorithm × List ℕ)) (judged : Result VerificationResult Error) → prepared_of read_kind terms.policy bundle ≡ Ok ready → Taken ready (Ok digests)
-      → judged_had terms.grounds ready bundle (digest_among digests) None ≡ judged
-      → IfTold old.told (λ contents. (bytes : List ℕ) → contents.files name ≡ Some bytes → by_judgement judged ≡ by_length terms max bundle bytes)
-  said ready digests judged p t j = told_all old.told _ (λ contents e bytes f.
-      let w = t.taken in
-      let same = all_given (source_of old name 0).told (source_of new name count).told bytes w.0 (left_is old.told contents name bytes e f) w.1.given w.1.ended in
-      let short : nat_lt max (length bytes) ≡ false = not_longer max (length bytes) (subst (λ b. length b ≤ max) same w.1.short) in
-      let whole : judged_of terms bundle (Read bytes) ≡ judged =
-      ap (λ b. judged_of terms bundle (Read b)) (sym same) ∙ read_judged terms bundle w.0 ready digests p w.2 ∙ j in
-      rw (short, whole) refl)
+  -- what holds of the artifact's bytes, where the folder tells them
+  abbrev Told : (List ℕ → Type 0) → Type 0
+  Told P = IfTold old.told (λ contents. (bytes : List ℕ) → contents.files name ≡ Some bytes → P bytes)
 
-  pub is_admitted : (ready : Ready) (digests : List (HashAlgorithm × List ℕ)) (report : VerificationResult) → prepared_of read_kind terms.policy bundle ≡ Ok ready → Taken ready (Ok digests)
-      → judged_had terms.grounds ready bundle (digest_among digests) None ≡ Ok report → Judges judging old new name (Ok Admitted)
-  is_admitted ready digests report p t j = record { since = since; given = said ready digests (Ok report) p t j; refused = tt }
-
-  -- a refusal, or want of memory
-  pub is_denied : (ready : Ready) (digests : List (HashAlgorithm × List ℕ)) (e : Error) (result : Result Verdict FolderStop) → prepared_of read_kind terms.policy bundle ≡ Ok ready → Taken ready (Ok digests)
-      → (e ≢ verify.NoMemory → judged_had terms.grounds ready bundle (digest_among digests) None ≡ Err e)
-      → IfOk result (λ verdict. (e ≢ verify.NoMemory) × (verdict ≡ denied e)) → IfErr result (λ s. s ≡ stop.NoMemory) → Judges judging old new name result
-  is_denied ready digests e (Ok verdict) p t j ok err = record {
+  -- a verdict that is that over the bytes, or want of memory
+  said_so : (verdict : Verdict) → Told (λ bytes. verdict ≡ by_rules terms max bundle bytes) → (result : Result Verdict FolderStop) → IsSaid verdict result → J result
+  said_so verdict told (Ok said) is = record {
     since = since;
-    given = subst (λ v. IfTold old.told (λ contents. (bytes : List ℕ) → contents.files name ≡ Some bytes → v ≡ by_length terms max bundle bytes)) (sym ok.1)
-        (said ready digests (Err e) p t (j ok.0));
+    given = subst (λ v. Told (λ bytes. v ≡ by_rules terms max bundle bytes)) (sym is) told;
     refused = tt;
   }
-  is_denied ready digests e (Err s) p t j ok err = record { since = since; given = tt; refused = subst (StopCause old new) (sym err) tt }
+  said_so verdict told (Err e) is = record { since = since; given = tt; refused = subst (StopCause old new) (sym is) tt }
 
-  -- why digests weren't taken
-  Why : Error → Type 0
-  Why e = (e ≡ verify.NoMemory) ⊎ ((fault : ReadError) × (e ≡ verify.ArtifactRead fault) × ReadCause (source_of old name 0) (source_of new name count) max fault)
+  -- no rule needs the artifact
+  pub unneeded_said : (artifact : ReadArtifact) (result : Result Verdict FolderStop) → needed_by_rules bundle terms.rules ≡ None
+      → IsSaid (verdict_had terms bundle artifact) result → J result
+  unneeded_said artifact result is =
+      said_so (verdict_had terms bundle artifact) (told_all old.told _ (λ contents e bytes f. sym (none_needed terms max bundle artifact bytes is))) result
 
-  rose : Why (verify.ArtifactRead Failed) → Rose old.faults new.faults
-  unfolding Why
-  rose (inl h) = cc
-  rose (inr (fault, h, cause)) =
-      let same : fault ≡ Failed = cc in
-      subst (ReadCause (source_of old name 0) (source_of new name count) max) same cause
+  module _ (needed : List HashAlgorithm) (is : needed_by_rules bundle terms.rules ≡ Some needed) (count : ℕ) where
+    abbrev Taken : Result (List (HashAlgorithm × List ℕ)) Error → Type 0
+    Taken result = Takes (source_of old name 0) (source_of new name count) max needed result
 
-  passed : (limit : ℕ) → Why (verify.ArtifactRead (TooLong limit)) → ReadCause (source_of old name 0) (source_of new name count) max (TooLong limit)
-  unfolding Why
-  passed limit (inl h) = cc
-  passed limit (inr (fault, h, cause)) =
-      let same : fault ≡ TooLong limit = cc in
-      subst (ReadCause (source_of old name 0) (source_of new name count) max) same cause
+    -- what the digests say, the artifact's bytes do
+    pub taken_said : (digests : List (HashAlgorithm × List ℕ)) (result : Result Verdict FolderStop) → Taken (Ok digests)
+        → IsSaid (verdict_had terms bundle (had.Digests digests)) result → J result
+    taken_said digests result t =
+        let w = t.taken in
+        said_so (verdict_had terms bundle (had.Digests digests)) (told_all old.told _ (λ contents e bytes f.
+        let same = all_given (source_of old name 0).told (source_of new name count).told bytes w.0 (left_is old.told contents name bytes e f) w.1.given w.1.ended in
+        digests_say terms max bundle needed digests w.0 is w.2 w.1.short ∙ ap (by_rules terms max bundle) same)) result
 
-  too_long : (limit : ℕ) → ReadCause (source_of old name 0) (source_of new name count) max (TooLong limit)
-      → IfTold old.told (λ contents. (bytes : List ℕ) → contents.files name ≡ Some bytes → denied (verify.ArtifactRead (TooLong limit)) ≡ by_length terms max bundle bytes)
-  too_long limit (same, given, had, many) = told_all old.told _ (λ contents e bytes f.
-      let within = some_given (source_of old name 0).told (source_of new name count).told bytes given (left_is old.told contents name bytes e f) had in
-      let long : nat_lt max (length bytes) ≡ true = longer max (length bytes) (omega (arith, within, many)) in
-      rw long refl)
+    -- why digests weren't taken
+    Why : Error → Type 0
+    Why e = (e ≡ verify.NoMemory) ⊎ ((fault : ReadError) × (e ≡ verify.ArtifactRead fault) × ReadCause (source_of old name 0) (source_of new name count) max fault)
 
-  pub is_unread : (ready : Ready) (e : Error) (result : Result Verdict FolderStop) → Taken ready (Err e) → SaysUnread e result → Judges judging old new name result
-  unfolding Why
-  is_unread ready (verify.ArtifactRead Failed) result t is =
-      subst (Judges judging old new name) (sym is) (record { since = since; given = tt; refused = rose t.refused })
-  is_unread ready (verify.ArtifactRead (TooLong limit)) result t is =
-      subst (Judges judging old new name) (sym is) (record { since = since; given = too_long limit (passed limit t.refused); refused = tt })
-  is_unread ready e result t is = subst (Judges judging old new name) (sym is) (record { since = since; given = tt; refused = tt })
+    rose : Why (verify.ArtifactRead Failed) → Rose old.faults new.faults
+    unfolding Why
+    rose (inl h) = cc
+    rose (inr (fault, h, cause)) =
+        let same : fault ≡ Failed = cc in
+        subst (ReadCause (source_of old name 0) (source_of new name count) max) same cause
+
+    passed : (limit : ℕ) → Why (verify.ArtifactRead (TooLong limit)) → ReadCause (source_of old name 0) (source_of new name count) max (TooLong limit)
+    unfolding Why
+    passed limit (inl h) = cc
+    passed limit (inr (fault, h, cause)) =
+        let same : fault ≡ TooLong limit = cc in
+        subst (ReadCause (source_of old name 0) (source_of new name count) max) same cause
+
+    too_long : (limit : ℕ) → ReadCause (source_of old name 0) (source_of new name count) max (TooLong limit)
+        → Told (λ bytes. verdict_had terms bundle (had.Unread (TooLong limit)) ≡ by_rules terms max bundle bytes)
+    too_long limit (same, given, took, many) = told_all old.told _ (λ contents e bytes f.
+        let within = some_given (source_of old name 0).told (source_of new name count).told bytes given (left_is old.told contents name bytes e f) took in
+        longer_says terms max bundle limit bytes same (omega (arith, within, many)))
+
+    pub unread_said : (e : Error) (result : Result Verdict FolderStop) → Taken (Err e) → SaysUnread terms bundle e result → J result
+    unfolding Why
+    unread_said (verify.ArtifactRead Failed) result t is =
+        subst J (sym is) (record { since = since; given = tt; refused = rose t.refused })
+    unread_said (verify.ArtifactRead (TooLong limit)) result t is =
+        said_so (verdict_had terms bundle (had.Unread (TooLong limit))) (too_long limit (passed limit t.refused)) result is
+    unread_said e result t is = subst J (sym is) (record { since = since; given = tt; refused = tt })
 
 -- ---- the bundle of an artifact
 
@@ -139,7 +135,7 @@ none_file : (file : Option (List ℕ)) → ((bytes : List ℕ) → file ≡ Some
 none_file (Some bytes) never = absurd (never bytes refl)
 none_file None never = refl
 
-unsigned_told : (terms : Terms) (max : ℕ) (told : Option Contents) (names : List (List ℕ)) (name bundle : List ℕ) → IfTold told ListsFiles → IfTold told (λ contents. AreOrdered contents.names names)
+unsigned_told : (terms : RuleTerms) (max : ℕ) (told : Option Contents) (names : List (List ℕ)) (name bundle : List ℕ) → IfTold told ListsFiles → IfTold told (λ contents. AreOrdered contents.names names)
     → (Contains names bundle → ⊥) → bundle ≡ bundle_name name
     → IfTold told (λ contents. (bytes : List ℕ) → contents.files name ≡ Some bytes → Unsigned ≡ verdict_by terms max contents.files name bytes)
 unsigned_told terms max None names name bundle law order never is = tt
@@ -148,7 +144,7 @@ unsigned_told terms max (Some contents) names name bundle law order never is = �
     ap (by_file terms max bytes) (sym (ap contents.files (sym is) ∙ none))
 
 -- one that isn't listed isn't
-pub is_unsigned : (terms : Terms) (max : ℕ) (folder : Watched Contents) (names : List (List ℕ)) (name bundle : List ℕ) → IfTold folder.told ListsFiles → IfTold folder.told (λ contents. AreOrdered contents.names names)
+pub is_unsigned : (terms : RuleTerms) (max : ℕ) (folder : Watched Contents) (names : List (List ℕ)) (name bundle : List ℕ) → IfTold folder.told ListsFiles → IfTold folder.told (λ contents. AreOrdered contents.names names)
     → (Contains names bundle → ⊥) → bundle ≡ bundle_name name → Judges (verdict_by terms max) folder folder name (Ok Unsigned)
 is_unsigned terms max folder names name bundle law order never is = record {
   since = record { same = refl; later = omega arith };

@@ -9,7 +9,6 @@ use Rattle.sigstore_tuf_rules.specs.declared.chain.TrustChain.{TrustChain}
 use Rattle.sigstore_judgement.specs.declared.error.Error.{Error}
 use Rattle.sigstore_judgement.specs.declared.error.Error.TheVariants as verify
 use Rattle.sigstore_judgement.specs.declared.trust.Material.{Material}
-use Rattle.sigstore_judgement.specs.Grounds.{Terms, terms_with}
 use Rattle.sigstore_policy.specs.Policy.{Meaning}
 use Rattle.sigstore_judgement.specs.Trust.{material_of}
 use Rattle.sigstore_judgement.specs.Under.{trust_of}
@@ -23,19 +22,20 @@ use Rattle.release_gate.specs.declared.line.GateLine.{GateLine}
 use Rattle.release_gate.specs.declared.walk.FolderStop.{FolderStop}
 use Rattle.release_gate.specs.declared.walk.FolderStop.TheVariants as stop
 use Rattle.release_gate.specs.Folder.{Contents}
+use Rattle.release_gate.specs.Terms.{RuleTerms, rule_terms_over}
 use Rattle.release_gate.specs.Verdict.{verdict_by}
 use Rattle.release_gate.specs.Walk.{StopCause, IsJudged}
 
 -- ---- what is given
 
--- from what a chain is trusted, the policy, and the greatest length of an artifact
+-- from what a chain is trusted, the rules, of which one has to accept, and the greatest length of an artifact
 pub record GateInputs : Type 0 where
   pub anchor : Anchor
-  pub policy : Meaning
+  pub rules : List Meaning
   pub max : ℕ
 
-abbrev pub gate_inputs_by : Anchor → Meaning → ℕ → GateInputs
-gate_inputs_by anchor policy max = record { anchor = anchor; policy = policy; max = max }
+abbrev pub gate_inputs_by : Anchor → List Meaning → ℕ → GateInputs
+gate_inputs_by anchor rules max = record { anchor = anchor; rules = rules; max = max }
 
 -- the outside at one moment
 pub record Outside : Type 0 where
@@ -56,8 +56,9 @@ abbrev pub kept_of : List ℕ → Result Material Error
 kept_of file = trust_of file >>= material_of
 
 -- the terms of every artifact, with what is kept of the trust file
-abbrev pub terms_of : GateInputs → Material → Terms
-terms_of given material = terms_with given.anchor.crypto material given.anchor.now given.policy
+abbrev pub terms_of : GateInputs → Material → RuleTerms
+terms_of given material =
+    rule_terms_over (record { crypto = given.anchor.crypto; material = material; now = given.anchor.now }) given.rules
 
 -- ---- the answers
 
@@ -119,7 +120,7 @@ abbrev pub FolderCause : Watched Contents → Watched Contents → GateFault →
 FolderCause old new fault = (stop : FolderStop) × (fault ≡ fault_of_stop stop) × StopCause old new stop
 
 -- the promise of the judgement of a folder under what is kept of the trust file
-pub record JudgesUnder (terms : Terms) (max : ℕ) (old new : Watched Contents) (result : Result (List GateLine) GateFault) : Type 0 where
+pub record JudgesUnder (terms : RuleTerms) (max : ℕ) (old new : Watched Contents) (result : Result (List GateLine) GateFault) : Type 0 where
   pub since : Since old new
   pub given : IfOk result (λ lines. IfTold old.told (λ contents. IsJudged (verdict_by terms max) contents lines))
   pub refused : IfErr result (FolderCause old new)

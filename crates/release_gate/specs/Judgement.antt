@@ -1,24 +1,39 @@
--- What the code judges by, and what it says of an artifact that wasn't read to its end.
-use Rattle.std.specs.Prelude.{◌≡◌, Result, Ok, Err}
+-- What the code judges by, and what it says by what is had of an artifact.
+use Rattle.std.specs.Prelude.{◌≡◌, map, Result, Ok, Err}
+use Rattle.sigstore_types.specs.declared.bundle.Bundle.{Bundle}
 use Rattle.sigstore_types_parts.specs.declared.armor.Armor as armor
 use Rattle.sigstore_keys.specs.declared.provider.CryptoProvider as provider
 use Rattle.sigstore_keys.specs.declared.reader.ReadError.TheVariants.{Failed, TooLong}
 use Rattle.sigstore_judgement.specs.declared.error.Error.{Error}
 use Rattle.sigstore_judgement.specs.declared.error.Error.TheVariants.{ArtifactRead}
-use Rattle.sigstore_policy.specs.declared.policy.Policy as policy
-use Rattle.sigstore_judgement.specs.Grounds.{Terms, terms_by}
+use Rattle.sigstore_judgement.specs.declared.rules.ReadArtifact.{ReadArtifact}
+use Rattle.sigstore_judgement.specs.declared.rules.ReadArtifact.TheVariants.{Unread}
+use Rattle.sigstore_judgement.specs.Grounds.{grounds_at}
+use Rattle.sigstore_judgement.specs.Rules.{answers_by}
+use Rattle.sigstore_policy.specs.Policy.{meaning_in}
 use Rattle.release_gate.specs.declared.judgement.Judgement.{Judgement}
 use Rattle.release_gate.specs.declared.line.Verdict.{Verdict}
 use Rattle.release_gate.specs.declared.walk.FolderStop.{FolderStop}
 use Rattle.release_gate.specs.declared.walk.FolderStop.TheVariants as stop
-use Rattle.release_gate.specs.Verdict.{denied}
+use Rattle.release_gate.specs.Terms.{RuleTerms, rule_terms_over}
+use Rattle.release_gate.specs.Verdict.{by_answers}
 
 -- the terms under which it judges
-abbrev pub terms_in : {C M P : Type 0} → provider.Ghosts C → armor.Ghosts M → policy.Ghosts P → Judgement C M P → Terms
-terms_in c m p judgement = terms_by c m judgement.verifier.now (p.meant judgement.policy.now) judgement.moment
+abbrev pub terms_in : {C M : Type 0} → provider.Ghosts C → armor.Ghosts M → Judgement C M → RuleTerms
+terms_in c m judgement = rule_terms_over (grounds_at c m judgement.verifier.now judgement.moment) (map meaning_in judgement.rules.now)
 
--- one that is too long is denied; where a reading failed the folder isn't judged; and there is no other reason but want of memory
-abbrev pub SaysUnread : Error → Result Verdict FolderStop → Type 0
-SaysUnread (ArtifactRead (TooLong max)) result = result ≡ Ok (denied (ArtifactRead (TooLong max)))
-SaysUnread (ArtifactRead Failed) result = result ≡ Err stop.Failed
-SaysUnread e result = result ≡ Err stop.NoMemory
+-- this is said, or memory is wanting
+abbrev pub IsSaid : Verdict → Result Verdict FolderStop → Type 0
+IsSaid verdict (Ok said) = said ≡ verdict
+IsSaid verdict (Err e) = e ≡ stop.NoMemory
+
+-- by what is had of the artifact
+abbrev pub verdict_had : RuleTerms → Bundle → ReadArtifact → Verdict
+verdict_had terms bundle artifact = by_answers (answers_by terms.grounds bundle artifact terms.rules)
+
+-- Of one that is too long the rules say what they do of one that wasn't read; where a reading failed the folder isn't judged; and there is
+-- no other reason but want of memory.
+abbrev pub SaysUnread : RuleTerms → Bundle → Error → Result Verdict FolderStop → Type 0
+SaysUnread terms bundle (ArtifactRead (TooLong max)) result = IsSaid (verdict_had terms bundle (Unread (TooLong max))) result
+SaysUnread terms bundle (ArtifactRead Failed) result = result ≡ Err stop.Failed
+SaysUnread terms bundle e result = result ≡ Err stop.NoMemory

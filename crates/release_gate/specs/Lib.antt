@@ -10,5 +10,6 @@ pub mod Names
 pub mod Promises
 pub mod Reading
 pub mod Rests
+pub mod Terms
 pub mod Verdict
 pub mod Walk

@@ -3,7 +3,6 @@ use Rattle.std.specs.Prelude.{◌≡◌, ℕ, List, Some, Result, Ok, Err, ⊤}
 use Rattle.std.specs.List.{AllByRecursion}
 use Rattle.sigstore_tuf_rules.specs.declared.chain.TrustChain.{TrustChain}
 use Rattle.sigstore_judgement.specs.declared.trust.Material.{Material}
-use Rattle.sigstore_judgement.specs.Grounds.{Terms}
 use Rattle.sigstore_verify.specs.FromRoot.{TrustsChain}
 use Rattle.release_gate.specs.declared.gate.GateFault.{GateFault}
 use Rattle.release_gate.specs.declared.gate.GateFault.TheVariants as gate
@@ -16,6 +15,7 @@ use Rattle.release_gate.specs.Gate.{GateInputs, kept_of, terms_of, fault_of_stop
 use Rattle.release_gate.specs.Given.{GivesWhole}
 use Rattle.release_gate.specs.Names.{bundle_name}
 use Rattle.release_gate.specs.Reading.{Reading}
+use Rattle.release_gate.specs.Terms.{RuleTerms}
 use Rattle.release_gate.specs.Verdict.{max_bundle, AcceptsOver}
 use Rattle.release_gate.specs.Walk.{WalksFolder}
 
@@ -25,7 +25,7 @@ walk_said (Ok lines) = Ok lines
 walk_said (Err e) = Err (fault_of_stop e)
 
 -- the folder was walked under these terms, and this is said of the walk
-abbrev pub WalksUnder : {D : Type 0} → (D → Call → D → Type 0) → Terms → ℕ → D → D → Result (List GateLine) GateFault → Type 0
+abbrev pub WalksUnder : {D : Type 0} → (D → Call → D → Type 0) → RuleTerms → ℕ → D → D → Result (List GateLine) GateFault → Type 0
 WalksUnder gave terms max old new result =
     (walk : Result (List GateLine) FolderStop) × WalksFolder gave (Reading gave terms max) old new walk × (result ≡ walk_said walk)
 
@@ -52,7 +52,7 @@ pub data Rests {D : Type 0} (gave : D → Call → D → Type 0) (old new : D) (
 
 -- the folder gave this file as the bundle under the artifact's own name, and gave these bytes of the artifact up to its end; and that
 -- bundle is accepted over them
-pub record AdmittedOn {D : Type 0} (gave : D → Call → D → Type 0) (terms : Terms) (max : ℕ) (name : List ℕ) (old new : D) : Type 0 where
+pub record AdmittedOn {D : Type 0} (gave : D → Call → D → Type 0) (terms : RuleTerms) (max : ℕ) (name : List ℕ) (old new : D) : Type 0 where
   pub file : List ℕ
   pub mid : D
   pub own : gave old (bundle_asked (bundle_name name) max_bundle (Ok (Some file))) mid
@@ -60,7 +60,7 @@ pub record AdmittedOn {D : Type 0} (gave : D → Call → D → Type 0) (terms :
   pub whole : GivesWhole gave name mid bytes new
   pub over : AcceptsOver terms max file bytes
 
-abbrev pub IfAdmitted : {D : Type 0} → (D → Call → D → Type 0) → Terms → ℕ → GateLine → Type 0
+abbrev pub IfAdmitted : {D : Type 0} → (D → Call → D → Type 0) → RuleTerms → ℕ → GateLine → Type 0
 IfAdmitted {D} gave terms max line = line.verdict ≡ Admitted → (old : D) × (new : D) × AdmittedOn gave terms max line.name old new
 
 -- so is each line that admits, under what is kept of the chain's file

@@ -1,11 +1,13 @@
 // The gate: from a pinned root down to each artifact of a folder.
-ghost use Rattle.std.specs.Prelude.{◌≡◌, ◌≢◌, Ok, Err, IfOk, IfErr};
+ghost use Rattle.std.specs.Prelude.{◌≡◌, ◌≢◌, Ok, Err, map, IfOk, IfErr};
 ghost use Rattle.sigstore_types_parts.specs.Entries.{text_cmp};
-ghost use Rattle.sigstore_judgement.specs.Grounds.{terms_by};
+ghost use Rattle.sigstore_policy.specs.Policy.{meaning_in};
+ghost use Rattle.sigstore_judgement.specs.Grounds.{grounds_at};
 ghost use Rattle.sigstore_verify.specs.Inputs.{anchor_with};
 ghost use Rattle.release_gate.specs.Gate.{gate_inputs_by, outside_by, kept_of, fault_of_tuf, fault_of_trust, fault_of_stop, JudgesUnder};
 ghost use Rattle.release_gate.specs.Rests.{WalksUnder, Rests, AdmitsOn};
 ghost use Rattle.release_gate.specs.Promises.{Promises};
+ghost use Rattle.release_gate.specs.Terms.{rule_terms_over};
 
 use crate::folder::Folder;
 use crate::judgement::Judgement;
@@ -13,8 +15,9 @@ use crate::line::GateLine;
 use crate::walk::{FolderStop, judge_folder};
 use foundation::Sequence;
 use jiff::Timestamp;
-use sigstore_judgement::{Error, Policy, Verifier, read_trust};
+use sigstore_judgement::{Error, Verifier, read_trust};
 use sigstore_keys::{CryptoProvider, Providers};
+use sigstore_policy::SigningPolicy;
 use sigstore_tuf::{MetadataStore, Repository, TrustChain};
 use sigstore_types_parts::{Armor, Text};
 use sigstore_verify::{Anchor, chain_from_root};
@@ -103,20 +106,22 @@ fn verifier_over<'p, C: CryptoProvider, M: Armor>(
 }
 
 // The lines on a folder under a trust file.
-fn judge_under<C: CryptoProvider, M: Armor, D: Folder, P: Policy>(
+fn judge_under<C: CryptoProvider, M: Armor, D: Folder>(
     alloc: Global,
     verifier: &Verifier<'_, C, M>,
     folder: &mut D,
     max: u64,
-    policy: &P,
+    rules: &[SigningPolicy],
     now: Timestamp,
 ) -> Result<Sequence<GateLine>, GateFault>
-    ensures judges { JudgesUnder (terms_by C.CryptoProvider M.Armor verifier.now (P.meant policy.now) now) max (D.seen folder.old) (D.seen folder.new) result }
-    ensures walks { WalksUnder D.gave (terms_by C.CryptoProvider M.Armor verifier.now (P.meant policy.now) now) max folder.old folder.new result }
+    ensures judges { JudgesUnder (rule_terms_over (grounds_at C.CryptoProvider M.Armor verifier.now now) (map meaning_in rules.now)) max
+        (D.seen folder.old) (D.seen folder.new) result }
+    ensures walks { WalksUnder D.gave (rule_terms_over (grounds_at C.CryptoProvider M.Armor verifier.now now) (map meaning_in rules.now)) max
+        folder.old folder.new result }
 {
     let judgement = Judgement {
         verifier,
-        policy,
+        rules,
         moment: now,
         max,
     };
@@ -128,33 +133,27 @@ fn judge_under<C: CryptoProvider, M: Armor, D: Folder, P: Policy>(
 
 /// Judges a folder of artifacts and their bundles from a pinned TUF root: walks from the root to the target
 /// `trusted_root.json`, as `chain_from_root` of `sigstore_verify`, makes one verifier of it, and judges each artifact by
-/// its own bundle. A file whose name ends in `.sigstore.json` is a bundle, of the artifact whose name stands before that;
-/// every other file is an artifact, and has a line. Errors, in this order: `Tuf`; `Trust` for the first check that the
-/// trust file fails; `FolderFailed` of the listing, `TooManyNames`, `DoubledName`; then in ascending order of the
-/// artifacts' names `FolderFailed` and `Vanished`. An artifact is read in pieces and never held.
-pub fn gate_from_root<
-    R: Repository,
-    S: MetadataStore,
-    D: Folder,
-    P: Policy,
-    C: CryptoProvider,
-    M: Armor,
->(
+/// its own bundle under the rules, of which one has to accept. A file whose name ends in `.sigstore.json` is a bundle, of
+/// the artifact whose name stands before that; every other file is an artifact, and has a line. Errors, in this order:
+/// `Tuf`; `Trust` for the first check that the trust file fails; `FolderFailed` of the listing, `TooManyNames`,
+/// `DoubledName`; then in ascending order of the artifacts' names `FolderFailed` and `Vanished`. An artifact is read in
+/// pieces and never held.
+pub fn gate_from_root<R: Repository, S: MetadataStore, D: Folder, C: CryptoProvider, M: Armor>(
     alloc: Global,
     anchor: &Anchor<'_, C, M>,
     repo: &mut R,
     store: &mut S,
     folder: &mut D,
     max_artifact: u64,
-    policy: &P,
+    rules: &[SigningPolicy],
 ) -> Result<Gated, GateFault>
-    ensures promises { Promises (gate_inputs_by (anchor_with C.CryptoProvider M.Armor anchor.entry.now) (P.meant policy.now) max_artifact)
+    ensures promises { Promises (gate_inputs_by (anchor_with C.CryptoProvider M.Armor anchor.entry.now) (map meaning_in rules.now) max_artifact)
         (outside_by (R.seen repo.old) (S.seen store.old) (D.seen folder.old))
         (outside_by (R.seen repo.new) (S.seen store.new) (D.seen folder.new)) result }
     ensures rests { Rests D.gave folder.old folder.new
-        (gate_inputs_by (anchor_with C.CryptoProvider M.Armor anchor.entry.now) (P.meant policy.now) max_artifact) result }
+        (gate_inputs_by (anchor_with C.CryptoProvider M.Armor anchor.entry.now) (map meaning_in rules.now) max_artifact) result }
     ensures admitted { IfOk result (AdmitsOn D.gave
-        (gate_inputs_by (anchor_with C.CryptoProvider M.Armor anchor.entry.now) (P.meant policy.now) max_artifact)) }
+        (gate_inputs_by (anchor_with C.CryptoProvider M.Armor anchor.entry.now) (map meaning_in rules.now) max_artifact)) }
 {
     let chain = match chain_from_root(alloc, anchor, repo, store) {
         Ok(chain) => chain,
@@ -164,7 +163,7 @@ pub fn gate_from_root<
         Ok(verifier) => verifier,
         Err(fault) => return Err(fault_of_trust(fault, chain)),
     };
-    match judge_under(alloc, &verifier, folder, max_artifact, policy, anchor.now) {
+    match judge_under(alloc, &verifier, folder, max_artifact, rules, anchor.now) {
         Ok(lines) => {
             drop(verifier);
             Ok(Gated { chain, lines })

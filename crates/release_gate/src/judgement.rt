@@ -1,13 +1,14 @@
 // The judgement of one artifact of a folder by its own bundle.
-ghost use Rattle.std.specs.Prelude.{◌≡◌, ◌≢◌, Ok, true, IfOk, IfErr, IsSome};
+ghost use Rattle.std.specs.Prelude.{◌≡◌, Some, IfOk, IsSome, map, true};
 ghost use Rattle.foundation.specs.Watched.{IfTold};
 ghost use Rattle.sigstore_types.specs.Bundle.{bundle_of_bytes};
-ghost use Rattle.sigstore_judgement.specs.Artifact.{read_kind};
-ghost use Rattle.sigstore_judgement.specs.Judged.{ready_as, bundle_in, prepared_of};
-ghost use Rattle.release_gate.specs.Judgement.{terms_in, SaysUnread};
+ghost use Rattle.sigstore_policy.specs.Policy.{meaning_in};
+ghost use Rattle.sigstore_judgement.specs.Error.{number_of};
+ghost use Rattle.sigstore_judgement.specs.Rules.{needed_by_rules};
+ghost use Rattle.release_gate.specs.Judgement.{terms_in, IsSaid, verdict_had, SaysUnread};
 ghost use Rattle.release_gate.specs.Names.{is_bundle};
 ghost use Rattle.release_gate.specs.Reading.{Reads, ReadsBy, Reading};
-ghost use Rattle.release_gate.specs.Verdict.{denied, by_length, by_checks, by_bundle, by_file, verdict_by};
+ghost use Rattle.release_gate.specs.Verdict.{denied, by_rules, by_bundle, by_file, verdict_by};
 ghost use Rattle.release_gate.specs.Walk.{Judges};
 
 use crate::folder::{Folder, FolderFault};
@@ -15,103 +16,146 @@ use crate::line::Verdict;
 use crate::names::{bundle_name, is_listed};
 use crate::reading::take_digests;
 use crate::walk::{FolderStop, Judge};
+use foundation::{NoMemory, Sequence};
 use jiff::Timestamp;
-use sigstore_judgement::{Error, Policy, Ready, Verifier, prepare_reader};
+use sigstore_judgement::{Error, ReadArtifact, RulesCase, RulesError, Verifier, needed_by_rules};
 use sigstore_keys::{CryptoProvider, ReadError};
+use sigstore_policy::SigningPolicy;
 use sigstore_types::Bundle;
-use sigstore_types_parts::{Armor, Text, TypesError};
+use sigstore_types_parts::{Armor, HashAlgorithm, Text, TypesError};
 use std::alloc::Global;
 
 // The greatest length of a bundle: 16 MiB.
 const MAX_BUNDLE: u64 = 16_777_216;
 
-/// By what the artifacts of a folder are judged: a verifier, a policy, the moment, and the greatest length of an artifact.
+/// By what the artifacts of a folder are judged: a verifier, the rules, of which one has to accept, the moment, and the
+/// greatest length of an artifact.
 #[derive(Drop)]
-pub(crate) struct Judgement<'j, 'p, C: CryptoProvider, M: Armor, P: Policy> {
+pub(crate) struct Judgement<'j, 'p, C: CryptoProvider, M: Armor> {
     pub(crate) verifier: &'j Verifier<'p, C, M>,
-    pub(crate) policy: &'j P,
+    pub(crate) rules: &'j [SigningPolicy],
     pub(crate) moment: Timestamp,
     pub(crate) max: u64,
 }
 
-// What is said of a bundle that is refused; want of memory says nothing.
-fn refused(e: Error) -> Result<Verdict, FolderStop>
-    ensures ok { IfOk result (λ verdict. (e ≢ Error.NoMemory) × (verdict ≡ denied e)) }
-    ensures err { IfErr result (λ stop. stop ≡ FolderStop.NoMemory) }
+// The numbers of refusals, in their order.
+fn numbers_of(alloc: Global, refusals: &[Error]) -> Result<Sequence<u8>, NoMemory>
+    ensures { IfOk result (λ numbers. numbers ≡ map number_of refusals.now) }
 {
-    match e {
-        Error::NoMemory => Err(FolderStop::NoMemory),
-        e => Ok(Verdict::Denied { number: e.number() }),
+    let mut numbers = Sequence::new(alloc);
+    'refusals: for e in refusals {
+        numbers.push(e.number())?;
+    }
+    Ok(numbers)
+}
+
+// What is said of a bundle that every rule refuses.
+fn refused(alloc: Global, refusals: &[Error]) -> Result<Verdict, FolderStop>
+    ensures { IsSaid (denied refusals.now) result }
+{
+    match numbers_of(alloc, refusals) {
+        Ok(numbers) => Ok(Verdict::Denied { numbers }),
+        Err(NoMemory) => Err(FolderStop::NoMemory),
     }
 }
 
-// What is said of an artifact that wasn't read to its end.
-fn unread(e: Error) -> Result<Verdict, FolderStop>
-    ensures { SaysUnread e result }
-{
-    match e {
-        Error::ArtifactRead(ReadError::Failed) => Err(FolderStop::Failed),
-        Error::ArtifactRead(ReadError::TooLong { max }) => {
-            let e = Error::ArtifactRead(ReadError::TooLong { max });
-            Ok(Verdict::Denied { number: e.number() })
+impl<'j, 'p, C: CryptoProvider, M: Armor> Judgement<'j, 'p, C, M> {
+    // What the rules say by what is had of the artifact; want of memory says nothing.
+    fn by_had(
+        &self,
+        alloc: Global,
+        bundle: &Bundle,
+        artifact: &ReadArtifact,
+    ) -> Result<Verdict, FolderStop>
+        ensures { IsSaid (verdict_had (terms_in C.CryptoProvider M.Armor self.now) bundle.now artifact.now) result }
+    {
+        let case = RulesCase {
+            bundle,
+            rules: self.rules,
+            moment: self.moment,
+        };
+        match self.verifier.judge_by_rules(alloc, artifact, &case) {
+            Ok(accepted) => {
+                drop(accepted);
+                Ok(Verdict::Admitted)
+            }
+            Err(RulesError::Each(refusals)) => {
+                let verdict = refused(alloc, refusals.as_slice());
+                drop(refusals);
+                verdict
+            }
+            Err(RulesError::Shared(_)) => Err(FolderStop::NoMemory),
         }
-        _ => Err(FolderStop::NoMemory),
     }
-}
 
-impl<'j, 'p, C: CryptoProvider, M: Armor, P: Policy> Judgement<'j, 'p, C, M, P> {
+    // What is said where its digests weren't taken.
+    fn unread(&self, alloc: Global, bundle: &Bundle, e: Error) -> Result<Verdict, FolderStop>
+        ensures { SaysUnread (terms_in C.CryptoProvider M.Armor self.now) bundle.now e result }
+    {
+        match e {
+            Error::ArtifactRead(ReadError::Failed) => Err(FolderStop::Failed),
+            Error::ArtifactRead(ReadError::TooLong { max }) => {
+                let artifact = ReadArtifact::Unread(ReadError::TooLong { max });
+                let verdict = self.by_had(alloc, bundle, &artifact);
+                drop(artifact);
+                verdict
+            }
+            _ => Err(FolderStop::NoMemory),
+        }
+    }
+
     // The artifact is read, and the bundle judged by its digests.
     fn by_artifact<D: Folder>(
         &self,
         alloc: Global,
         folder: &mut D,
         name: &str,
-        ready: Ready<'_>,
+        bundle: &Bundle,
+        needed: &[HashAlgorithm],
     ) -> Result<Verdict, FolderStop>
-        requires { prepared_of read_kind (P.meant self.now.policy.now) (bundle_in ready) ≡ Ok (ready_as ready) }
-        ensures judges { Judges (λ files name bytes. by_length (terms_in C.CryptoProvider M.Armor P.Policy self.now) self.now.max (bundle_in ready.entry) bytes)
+        requires { needed_by_rules bundle.now (map meaning_in self.now.rules.now) ≡ Some needed.now }
+        ensures judges { Judges (λ files name bytes. by_rules (terms_in C.CryptoProvider M.Armor self.now) self.now.max bundle.now bytes)
             (D.seen folder.old) (D.seen folder.new) name.now result }
-        ensures rests { Reads D.gave (by_length (terms_in C.CryptoProvider M.Armor P.Policy self.now) self.now.max (bundle_in ready.entry))
+        ensures rests { Reads D.gave (by_rules (terms_in C.CryptoProvider M.Armor self.now) self.now.max bundle.now)
             self.now.max name.now folder.old folder.new result }
     {
-        match take_digests(alloc, folder, name, self.max, ready.needed()) {
+        match take_digests(alloc, folder, name, self.max, needed) {
             Ok(digests) => {
-                match self
-                    .verifier
-                    .judge_digests(alloc, ready, digests.as_slice(), self.moment)
-                {
-                    Ok(report) => {
-                        drop(report);
-                        Ok(Verdict::Admitted)
-                    }
-                    Err(e) => refused(e),
-                }
+                let artifact = ReadArtifact::Digests(digests);
+                let verdict = self.by_had(alloc, bundle, &artifact);
+                drop(artifact);
+                verdict
             }
-            Err(e) => {
-                drop(ready);
-                unread(e)
-            }
+            Err(e) => self.unread(alloc, bundle, e),
         }
     }
 
-    // What doesn't need the artifact comes first, so that a bundle that can't be accepted costs no reading.
-    fn by_checks<D: Folder>(
+    // What doesn't need the artifact comes first, so that a bundle that no rule can accept costs no reading.
+    fn by_rules<D: Folder>(
         &self,
         alloc: Global,
         folder: &mut D,
         name: &str,
         bundle: &Bundle,
     ) -> Result<Verdict, FolderStop>
-        ensures judges { Judges (λ files name bytes. by_checks (terms_in C.CryptoProvider M.Armor P.Policy self.now) self.now.max bundle.now bytes
-            (prepared_of read_kind (P.meant self.now.policy.now) bundle.now))
+        ensures judges { Judges (λ files name bytes. by_rules (terms_in C.CryptoProvider M.Armor self.now) self.now.max bundle.now bytes)
             (D.seen folder.old) (D.seen folder.new) name.now result }
-        ensures rests { Reads D.gave (λ bytes. by_checks (terms_in C.CryptoProvider M.Armor P.Policy self.now) self.now.max bundle.now bytes
-            (prepared_of read_kind (P.meant self.now.policy.now) bundle.now))
+        ensures rests { Reads D.gave (by_rules (terms_in C.CryptoProvider M.Armor self.now) self.now.max bundle.now)
             self.now.max name.now folder.old folder.new result }
     {
-        match prepare_reader(alloc, bundle, self.policy) {
-            Ok(ready) => self.by_artifact(alloc, folder, name, ready),
-            Err(e) => refused(e),
+        match needed_by_rules(alloc, bundle, self.rules) {
+            Ok(Some(needed)) => {
+                let verdict = self.by_artifact(alloc, folder, name, bundle, needed.as_slice());
+                drop(needed);
+                verdict
+            }
+            Ok(None) => {
+                let artifact = ReadArtifact::Digests(Sequence::new(alloc));
+                let verdict = self.by_had(alloc, bundle, &artifact);
+                drop(artifact);
+                verdict
+            }
+            Err(NoMemory) => Err(FolderStop::NoMemory),
         }
     }
 
@@ -123,20 +167,19 @@ impl<'j, 'p, C: CryptoProvider, M: Armor, P: Policy> Judgement<'j, 'p, C, M, P> 
         name: &str,
         file: &[u8],
     ) -> Result<Verdict, FolderStop>
-        ensures judges { Judges (λ files name bytes. by_bundle (terms_in C.CryptoProvider M.Armor P.Policy self.now) self.now.max bytes
-            (bundle_of_bytes file.now))
+        ensures judges { Judges (λ files name bytes. by_bundle (terms_in C.CryptoProvider M.Armor self.now) self.now.max bytes (bundle_of_bytes file.now))
             (D.seen folder.old) (D.seen folder.new) name.now result }
-        ensures rests { Reads D.gave (λ bytes. by_bundle (terms_in C.CryptoProvider M.Armor P.Policy self.now) self.now.max bytes (bundle_of_bytes file.now))
+        ensures rests { Reads D.gave (λ bytes. by_bundle (terms_in C.CryptoProvider M.Armor self.now) self.now.max bytes (bundle_of_bytes file.now))
             self.now.max name.now folder.old folder.new result }
     {
         match Bundle::from_json(alloc, file) {
             Ok(bundle) => {
-                let verdict = self.by_checks(alloc, folder, name, &bundle);
+                let verdict = self.by_rules(alloc, folder, name, &bundle);
                 drop(bundle);
                 verdict
             }
             Err(TypesError::NoMemory) => Err(FolderStop::NoMemory),
-            Err(_) => refused(Error::InvalidBundle),
+            Err(_) => refused(alloc, &[Error::InvalidBundle]),
         }
     }
 
@@ -150,9 +193,9 @@ impl<'j, 'p, C: CryptoProvider, M: Armor, P: Policy> Judgement<'j, 'p, C, M, P> 
     ) -> Result<Verdict, FolderStop>
         requires bundle { is_bundle bundle_name ≡ true }
         requires listed { IfTold (D.seen folder.old).told (λ contents. IsSome (contents.files bundle_name)) }
-        ensures judges { Judges (λ files name bytes. by_file (terms_in C.CryptoProvider M.Armor P.Policy self.now) self.now.max bytes (files bundle_name))
+        ensures judges { Judges (λ files name bytes. by_file (terms_in C.CryptoProvider M.Armor self.now) self.now.max bytes (files bundle_name))
             (D.seen folder.old) (D.seen folder.new) name.now result }
-        ensures rests { ReadsBy D.gave (terms_in C.CryptoProvider M.Armor P.Policy self.now) self.now.max bundle_name name.now
+        ensures rests { ReadsBy D.gave (terms_in C.CryptoProvider M.Armor self.now) self.now.max bundle_name name.now
             folder.old folder.new result }
     {
         match folder.read_bundle(alloc, bundle_name.as_str(), MAX_BUNDLE) {
@@ -170,10 +213,10 @@ impl<'j, 'p, C: CryptoProvider, M: Armor, P: Policy> Judgement<'j, 'p, C, M, P> 
     }
 }
 
-impl<'j, 'p, C: CryptoProvider, M: Armor, P: Policy> Judge for Judgement<'j, 'p, C, M, P> {
-    ghost judging = { λ j. verdict_by (terms_in C.CryptoProvider M.Armor P.Policy j) j.max };
+impl<'j, 'p, C: CryptoProvider, M: Armor> Judge for Judgement<'j, 'p, C, M> {
+    ghost judging = { λ j. verdict_by (terms_in C.CryptoProvider M.Armor j) j.max };
 
-    ghost rests = { λ j _ gave. Reading gave (terms_in C.CryptoProvider M.Armor P.Policy j) j.max };
+    ghost rests = { λ j _ gave. Reading gave (terms_in C.CryptoProvider M.Armor j) j.max };
 
     fn verdict<D: Folder>(
         &self,

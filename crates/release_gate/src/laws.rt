@@ -9,7 +9,7 @@ pub fn lines_are_one()
 
 /// The law of admission, told without any order of checks: an artifact is admitted exactly where the bundle under its own
 /// name is there, has at most 16 MiB and is read, the artifact is within the limit, and that bundle is accepted over its
-/// bytes. No other file of the folder makes a difference.
+/// bytes under the policy of some rule. No other file of the folder makes a difference.
 pub fn admits_exactly()
     ensures { AdmitsExactly }
 {}

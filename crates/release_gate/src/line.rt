@@ -1,35 +1,49 @@
 // What a gate says of an artifact.
 
-use foundation::{Duplicate, NoMemory};
+use foundation::{Duplicate, NoMemory, Sequence};
 use sigstore_types_parts::Text;
 use std::alloc::Global;
 use std::fmt;
 
 /// What a gate says of one artifact.
-#[derive(Clone, Copy, Debug, PartialEq, Eq, Drop)]
+#[derive(PartialEq, Drop)]
 pub enum Verdict {
-    /// Its own bundle is accepted over its bytes, under the policy.
+    /// Its own bundle is accepted over its bytes, under the policy of some rule.
     Admitted,
     /// The folder has no bundle of it.
     Unsigned,
     /// Its bundle has more than 16 MiB: so many bytes were seen.
     BundleTooLong { seen: u64 },
-    /// Its bundle isn't accepted: the number of the verification's refusal.
-    Denied { number: u8 },
+    /// Its bundle isn't accepted: the number of each rule's refusal, in the rules' order. A bundle that isn't read is
+    /// refused once, whatever the rules.
+    Denied { numbers: Sequence<u8> },
 }
 
 /// An artifact's name, and what is said of it.
-#[derive(Debug, PartialEq, Drop)]
+#[derive(PartialEq, Drop)]
 pub struct GateLine {
     pub name: Text,
     pub verdict: Verdict,
+}
+
+impl Duplicate for Verdict {
+    fn duplicate(&self, alloc: Global) -> Result<Verdict, NoMemory> {
+        match self {
+            Verdict::Admitted => Ok(Verdict::Admitted),
+            Verdict::Unsigned => Ok(Verdict::Unsigned),
+            Verdict::BundleTooLong { seen } => Ok(Verdict::BundleTooLong { seen: *seen }),
+            Verdict::Denied { numbers } => Ok(Verdict::Denied {
+                numbers: numbers.copied(alloc)?,
+            }),
+        }
+    }
 }
 
 impl Duplicate for GateLine {
     fn duplicate(&self, alloc: Global) -> Result<GateLine, NoMemory> {
         Ok(GateLine {
             name: self.name.duplicate(alloc)?,
-            verdict: self.verdict,
+            verdict: self.verdict.duplicate(alloc)?,
         })
     }
 }

@@ -7,13 +7,13 @@ use Rattle.release_gate.proofs.judgement.Judgement.by_bundle.Goals as goal
 
 pub returns-in-Ok-clause-rests : goal.returns-in-Ok-clause-rests
 returns-in-Ok-clause-rests g c =
-    let terms = terms_in g.C.CryptoProvider g.M.Armor g.P.Policy c.args.self.now in
-    reads_as _ _ _ _ _ _ _ _ _ (λ bytes. ap (by_bundle terms c.args.self.now.max bytes) c.in-Ok.ensures.ok) c.by_checks-verdict.ensures.rests
+    let terms = terms_in g.C.CryptoProvider g.M.Armor c.args.self.now in
+    reads_as _ _ _ _ _ _ _ _ _ (λ bytes. ap (by_bundle terms c.args.self.now.max bytes) c.in-Ok.ensures.ok) c.by_rules-verdict.ensures.rests
 
 pub returns-in-Err-NoMemory-clause-rests : goal.returns-in-Err-NoMemory-clause-rests
 returns-in-Err-NoMemory-clause-rests g c = unheld refl
 
 pub returns-in-Err-clause-rests : goal.returns-in-Err-clause-rests
 returns-in-Err-clause-rests g c =
-    let terms = terms_in g.C.CryptoProvider g.M.Armor g.P.Policy c.args.self.now in
-    reads_refused _ _ _ _ _ _ _ _ c.refused.result (λ wanted bytes. ap (by_bundle terms c.args.self.now.max bytes) (c.in-Err.ensures.err (search rules))) refl c.refused.ensures.ok c.refused.ensures.err
+    let terms = terms_in g.C.CryptoProvider g.M.Armor c.args.self.now in
+    reads_refused _ _ _ _ _ _ _ _ c.refused.result (λ bytes. ap (by_bundle terms c.args.self.now.max bytes) (c.in-Err.ensures.err (search rules))) refl c.refused.ensures

@@ -11,7 +11,7 @@ by_file-requires-clause-listed g c =
 
 pub returns-else-is_listed-clause-judges : goal.returns-else-is_listed-clause-judges
 returns-else-is_listed-clause-judges g c =
-    is_unsigned (terms_in g.C.CryptoProvider g.M.Armor g.P.Policy c.args.self.now) c.args.self.now.max (g.D.Folder.seen c.args.folder.now) c.args.names.now c.args.name.now _
+    is_unsigned (terms_in g.C.CryptoProvider g.M.Armor c.args.self.now) c.args.self.now.max (g.D.Folder.seen c.args.folder.now) c.args.names.now c.args.name.now _
     (g.met.D.Folder.lists c.args.folder.now) c.requires.listed (c.is_listed.ensures.no c.if-is_listed.false) c.in_ok-bundle_name.ensures
 
 pub returns-then-is_listed-clause-rests : goal.returns-then-is_listed-clause-rests
