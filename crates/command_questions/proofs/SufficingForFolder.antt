@@ -1,8 +1,9 @@
 -- What is asked of the judgement of a folder, and suffices.
-use Rattle.std.proofs.Common.{◌≡◌, ℕ, List, Ok, Err, IfOk, Result, subst}
+use Rattle.std.proofs.Common.{◌≡◌, ℕ, List, map, Ok, Err, IfOk, Result, subst}
 use Rattle.jiff_core.specs.declared.timestamp.Timestamp as jiff
 use Rattle.foundation.specs.declared.no_memory.NoMemory.{NoMemory}
 use Rattle.sigstore_policy.specs.Policy.{meaning_in}
+use Rattle.sigstore_policy.specs.declared.policy.SigningPolicy.{SigningPolicy}
 use Rattle.release_gate.specs.Gate.{Outside}
 use Rattle.release_gate.specs.Promises.{Promises}
 use Rattle.release_gate.specs.declared.gate.Gated.{Gated}
@@ -24,20 +25,24 @@ pub gated_noting : (request : FolderRequest) (before after : Outside) (result : 
 gated_noting request before after result held given same promises =
     subst (λ (t : TableProvider). Promises (given_of (believing t.rows) request) before after result) same promises
 
+-- what holds of rules and a root that the inputs hold
+of_inputs : (P : List SigningPolicy → List ℕ → Type 0) (rules held : List SigningPolicy) (root given : List ℕ) → rules ≡ held → root ≡ given
+    → P rules root → P held given
+of_inputs P rules held root given l r p = subst (P held) r (subst (λ x. P x root) l p)
+
 -- what was noted is asked by the inputs, and suffices
-pub asks : (governed : Governed) (now : jiff.Timestamp) (root : List ℕ) (before after : Outside) (judged : Result Gated GateFault)
-    (held : TableProvider) (noted : Result Noted NoMemory) → root ≡ governed.anchored.root → held ≡ governed.anchored.tables.provider
-    → Promises (given_with (believing held.rows) (meaning_in governed.policy) root now) before after judged
-    → IfOk noted (λ n. SufficeForFolder (given_with (crypto_of n.tables) (meaning_in governed.policy) root now).anchor judged)
+pub asks : (governed : Governed) (now : jiff.Timestamp) (rules : List SigningPolicy) (root : List ℕ) (before after : Outside) (judged : Result Gated GateFault)
+    (held : TableProvider) (noted : Result Noted NoMemory) → rules ≡ governed.rules → root ≡ governed.anchored.root → held ≡ governed.anchored.tables.provider
+    → Promises (given_with (believing held.rows) (map meaning_in rules) root now) before after judged
+    → IfOk noted (λ n. SufficeForFolder (given_with (crypto_of n.tables) (map meaning_in rules) root now).anchor judged)
     → IfOk noted (λ n. Asks governed now n.tables before after)
-asks governed now root before after judged held (Err e) r same promises suffice = tt
-asks governed now root before after judged held (Ok n) r same promises suffice =
-    let with_root : Promises (given_with (believing held.rows) (meaning_in governed.policy) governed.anchored.root now) before after judged =
-    subst (λ (x : List ℕ). Promises (given_with (believing held.rows) (meaning_in governed.policy) x now) before after judged) r promises in
+asks governed now rules root before after judged held (Err e) l r same promises suffice = tt
+asks governed now rules root before after judged held (Ok n) l r same promises suffice =
+    let given = of_inputs (λ x y. Promises (given_with (believing held.rows) (map meaning_in x) y now) before after judged) rules governed.rules root governed.anchored.root l r promises in
     record {
       judged = judged;
-      promises = subst (λ (t : TableProvider). Promises (given_with (believing t.rows) (meaning_in governed.policy) governed.anchored.root now) before after judged) same with_root;
-      suffice = subst (λ (x : List ℕ). SufficeForFolder (given_with (crypto_of n.tables) (meaning_in governed.policy) x now).anchor judged) r suffice;
+      promises = subst (λ (t : TableProvider). Promises (given_with (believing t.rows) (map meaning_in governed.rules) governed.anchored.root now) before after judged) same given;
+      suffice = subst (λ (x : List ℕ). SufficeForFolder (given_with (crypto_of n.tables) (map meaning_in governed.rules) x now).anchor judged) r suffice;
     }
 
 -- at the same moment

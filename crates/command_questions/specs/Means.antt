@@ -18,10 +18,10 @@ use Rattle.command_files.specs.declared.gather.Gathered.{Gathered}
 use Rattle.command_files.specs.declared.layout.Layout.{Layout}
 use Rattle.command_files.specs.declared.tables.Tables.{Tables}
 use Rattle.command_files.specs.declared.usage_fault.UsageFault.{UsageFault}
-use Rattle.sigstore_verify.specs.declared.from_root.Acceptance.{Acceptance}
-use Rattle.sigstore_verify.specs.declared.from_root.RootFault.{RootFault}
+use Rattle.sigstore_verify.specs.declared.by_rules.RuleAcceptance.{RuleAcceptance}
+use Rattle.sigstore_verify.specs.declared.by_rules.RulesFault.{RulesFault}
+use Rattle.sigstore_verify.specs.ByRules.{RunsByRules}
 use Rattle.sigstore_verify.specs.Inputs.{Outside}
-use Rattle.sigstore_verify.specs.FromRoot.{Runs}
 use Rattle.question_notes.specs.Believing.{believing}
 use Rattle.question_notes.specs.Notes.{Asked}
 use Rattle.question_notes.specs.Holds.{TextsHold, HasRowsAlone}
@@ -69,8 +69,8 @@ pub record WritesOf {L A O : Type 0} (words : Result L UsageFault) (of : Held â†
 -- What was run is the verification of these inputs at the moment, in which the signatures of the file `refused` aren't good and
 -- all others are. What it came to is told to nobody, but the rows suffice for it.
 pub record Asks (gathered : Gathered) (now : jiff.Timestamp) (rows : Tables) (before after : Outside) : Type 0 where
-  pub judged : Result Acceptance RootFault
-  pub runs : Runs (given_under (believing gathered.tables.provider.rows) gathered now) before after judged
+  pub judged : Result RuleAcceptance RulesFault
+  pub runs : RunsByRules (given_under (believing gathered.tables.provider.rows) gathered now) before after judged
   pub suffice : Suffice (given_under (crypto_of rows) gathered now) judged
 
 -- by what the words and the inputs ask for

@@ -1,25 +1,29 @@
 -- The rows that are written suffice: what the run came to under them, and under answers that nobody gave yet, stands by the rows alone.
-use Rattle.std.specs.Prelude.{◌≡◌, ⊤, ℕ, List, None, Result, Ok, Err}
+use Rattle.std.specs.Prelude.{◌≡◌, ⊤, ℕ, ◌-◌, ◌==◌, List, slice_get, if◌then◌else◌, Option, Some, None, Result, Ok, Err}
 use Rattle.sigstore_types.specs.declared.bundle.Bundle.{Bundle}
 use Rattle.sigstore_types.specs.declared.trusted_root.TrustedRoot.{TrustedRoot}
 use Rattle.sigstore_types.specs.Bundle.{bundle_of_bytes}
 use Rattle.sigstore_types.specs.TrustedRoot.{trusted_root_of_bytes}
 use Rattle.sigstore_types_parts.specs.declared.hash_algorithm.ArtifactDigest.{ArtifactDigest}
+use Rattle.sigstore_keys.specs.Crypto.{Crypto}
+use Rattle.jiff_core.specs.declared.timestamp.Timestamp as jiff
 use Rattle.sigstore_judgement.specs.declared.report.VerificationResult.{VerificationResult}
 use Rattle.sigstore_judgement.specs.declared.trust.Material.{Material}
 use Rattle.sigstore_judgement.specs.Artifact.{read_kind, digest_among}
-use Rattle.sigstore_judgement.specs.Grounds.{Terms}
+use Rattle.sigstore_judgement.specs.Grounds.{Terms, terms_with}
 use Rattle.sigstore_judgement.specs.Judged.{Ready, prepared_of, judged_by}
 use Rattle.sigstore_judgement.specs.Trust.{material_of}
-use Rattle.sigstore_judgement.specs.Under.{terms_of}
 use Rattle.sigstore_tuf_rules.specs.declared.chain.TrustChain.{TrustChain}
 use Rattle.trust_archive.specs.Archive.{IsArchive}
 use Rattle.trust_archive.specs.Spelling.{spelling_of}
-use Rattle.sigstore_verify.specs.declared.from_root.Acceptance.{Acceptance}
-use Rattle.sigstore_verify.specs.declared.from_root.RootFault.{RootFault}
+use Rattle.sigstore_policy.specs.Policy.{Meaning}
+use Rattle.sigstore_verify.specs.declared.by_rules.RuleAcceptance.{RuleAcceptance}
+use Rattle.sigstore_verify.specs.declared.by_rules.RulesFault.{RulesFault}
+use Rattle.sigstore_verify.specs.declared.by_rules.RulesFault.TheVariants.{Root, Each}
+use Rattle.sigstore_verify.specs.ByRules.{RulesInputs}
 use Rattle.sigstore_verify.specs.declared.from_root.RootFault.TheVariants as root
 use Rattle.sigstore_verify.specs.FromRoot.{trust_path}
-use Rattle.sigstore_verify.specs.Inputs.{Anchor, VerifyInputs, asked_by}
+use Rattle.sigstore_verify.specs.Inputs.{Anchor}
 use Rattle.release_gate.specs.declared.gate.Gated.{Gated}
 use Rattle.release_gate.specs.declared.gate.GateFault.{GateFault}
 use Rattle.release_gate.specs.declared.gate.GateFault.TheVariants as gate
@@ -40,25 +44,37 @@ pub record IsAcceptedOver (terms : Terms) (reading : Bundle) (digests : List Art
   pub report : VerificationResult
   pub judged : judged_by terms.grounds ready reading (digest_among digests) ≡ Ok report
 
--- the bundle is accepted under the trust file of the chain, over the digests that were taken
-pub record IsAcceptedAlone (given : VerifyInputs) (rooted : Acceptance) : Type 0 where
-  pub trust : TrustedRoot
-  pub trust_read : trusted_root_of_bytes rooted.chain.file ≡ Ok trust
+-- a trusted root can be used, and under it and this policy the bundle is accepted so
+pub record IsAcceptedUnder (crypto : Crypto) (trust : TrustedRoot) (policy : Meaning) (now : jiff.Timestamp) (reading : Bundle)
+    (digests : List ArtifactDigest) : Type 0 where
   pub material : Material
   pub usable : material_of trust ≡ Ok material
+  pub over : IsAcceptedOver (terms_with crypto material now policy) reading digests
+
+-- the rule of a number, counted from 1
+abbrev pub rule_at : {A : Type 0} → List A → ℕ → Option A
+rule_at rules number = if number == 0 then None else slice_get rules (number - 1)
+
+-- the bundle is accepted under its rule and the trust file of the chain, over the digests that were taken
+pub record IsAcceptedAlone (given : RulesInputs) (ruled : RuleAcceptance) : Type 0 where
+  pub policy : Meaning
+  pub at : rule_at given.rules ruled.rule ≡ Some policy
+  pub trust : TrustedRoot
+  pub trust_read : trusted_root_of_bytes ruled.acceptance.chain.file ≡ Ok trust
   pub reading : Bundle
   pub read : bundle_of_bytes given.bundle ≡ Ok reading
-  pub over : IsAcceptedOver (terms_of (asked_by given) material) reading rooted.digests
+  pub under : IsAcceptedUnder given.anchor.crypto trust policy given.anchor.now reading ruled.acceptance.digests
 
 -- ---- what suffices
 
 -- Of a verification: where it came to a chain of documents, that is trusted by the rows alone; where it accepted the bundle, that is
 -- accepted by them alone. Where it wanted memory, no rows suffice.
-abbrev pub Suffice : VerifyInputs → Result Acceptance RootFault → Type 0
-Suffice given (Ok rooted) = IsTrustedAlone given.anchor rooted.chain × IsAcceptedAlone given rooted
-Suffice given (Err (root.Verify fault chain)) = IsTrustedAlone given.anchor chain
-Suffice given (Err (root.Tuf e)) = ⊤
-Suffice given (Err root.NoMemory) = ⊥
+abbrev pub Suffice : RulesInputs → Result RuleAcceptance RulesFault → Type 0
+Suffice given (Ok ruled) = IsTrustedAlone given.anchor ruled.acceptance.chain × IsAcceptedAlone given ruled
+Suffice given (Err (Each faults chain)) = IsTrustedAlone given.anchor chain
+Suffice given (Err (Root (root.Verify fault chain))) = IsTrustedAlone given.anchor chain
+Suffice given (Err (Root (root.Tuf e))) = ⊤
+Suffice given (Err (Root root.NoMemory)) = ⊥
 
 -- The same of the judgement of a folder, but for its artifacts.
 abbrev pub SufficeForFolder : Anchor → Result Gated GateFault → Type 0

@@ -11,7 +11,7 @@ use sigstore_keys::{ArtifactSource, Providers};
 use sigstore_tuf::{MetadataStore, Repository};
 use sigstore_types::{Bundle, TrustedRoot};
 use sigstore_types_parts::Text;
-use sigstore_verify::{Acceptance, Error, RootFault};
+use sigstore_verify::{Error, RootFault, RuleAcceptance, RulesFault};
 use std::alloc::Global;
 
 // The member of a bundle or of a trust file by which it isn't read, in a line of its own.
@@ -44,19 +44,29 @@ fn of_documents(
     Ok(format!(in alloc; "{refusal:?}\nthe last file that was asked for: {last}\n")?)
 }
 
+// The refusals of the rules, a line each, in their order.
+fn of_rules(alloc: Global, faults: &[Error]) -> Result<String, NoMemory> {
+    let mut text = String::new(alloc);
+    'faults: for fault in faults {
+        write!(&mut text, "{fault:?}\n")?;
+    }
+    Ok(text)
+}
+
 fn details(
     alloc: Global,
-    judged: &Result<Acceptance, RootFault>,
+    judged: &Result<RuleAcceptance, RulesFault>,
     bundle: &[u8],
     last: &str,
 ) -> Result<String, NoMemory> {
     match judged {
         Ok(_) => Ok(String::new(alloc)),
-        Err(RootFault::Tuf(refusal)) => of_documents(alloc, refusal, last),
-        Err(RootFault::Verify { fault, chain }) => {
+        Err(RulesFault::Root(RootFault::Tuf(refusal))) => of_documents(alloc, refusal, last),
+        Err(RulesFault::Root(RootFault::Verify { fault, chain })) => {
             of_bundle(alloc, fault, chain.file.as_bytes(), bundle)
         }
-        Err(RootFault::NoMemory) => Err(NoMemory),
+        Err(RulesFault::Root(RootFault::NoMemory)) => Err(NoMemory),
+        Err(RulesFault::Each { faults, .. }) => of_rules(alloc, faults.as_slice()),
     }
 }
 
@@ -70,7 +80,7 @@ fn judged_details<R: Repository, S: MetadataStore, A: ArtifactSource>(
     artifact: &mut A,
 ) -> Result<String, NoMemory> {
     let request = VerifyRequest {
-        policy: &gathered.policy,
+        rules: gathered.rules.as_slice(),
         root: gathered.root.as_bytes(),
         bundle: gathered.bundle.as_bytes(),
         moment: now,

@@ -58,7 +58,7 @@ fn asked<R: Repository, S: MetadataStore, D: Folder>(
         (outside_by (R.seen repo.new) (S.seen store.new) (D.seen folder.new))) }
 {
     let request = FolderRequest {
-        policy: &governed.policy,
+        rules: governed.rules.as_slice(),
         root: governed.anchored.root.as_bytes(),
         moment: now,
     };

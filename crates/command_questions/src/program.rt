@@ -1,7 +1,7 @@
 // A run that notes what a verification asks.
 ghost use Rattle.std.specs.Prelude.{◌≡◌, IfOk, string_bytes};
 ghost use Rattle.sigstore_verify.specs.Inputs.{outside_by};
-ghost use Rattle.sigstore_verify.specs.FromRoot.{Runs};
+ghost use Rattle.sigstore_verify.specs.ByRules.{RunsByRules};
 ghost use Rattle.question_notes.specs.Believing.{believing};
 ghost use Rattle.command_files.specs.Starting.{command_of};
 ghost use Rattle.command_files.specs.declared.answer.Status.TheVariants.{Accepted};
@@ -20,7 +20,7 @@ use question_notes::{Noted, Notes, NotingArmor, NotingProvider};
 use sigstore_keys::{ArtifactSource, Providers};
 use sigstore_tuf::{MetadataStore, Repository};
 use sigstore_types_parts::Text;
-use sigstore_verify::{Acceptance, RootFault};
+use sigstore_verify::{RuleAcceptance, RulesFault};
 use std::alloc::Global;
 
 // Runs the verification, refuses what the tables of the notes hold, and notes what else it asks.
@@ -31,8 +31,8 @@ fn verify_noting<R: Repository, S: MetadataStore, A: ArtifactSource>(
     repo: &mut R,
     store: &mut S,
     artifact: &mut A,
-) -> Result<Acceptance, RootFault>
-    ensures { Runs (given_of (believing notes.now.refused.now.rows) request.now)
+) -> Result<RuleAcceptance, RulesFault>
+    ensures { RunsByRules (given_of (believing notes.now.refused.now.rows) request.now)
         (outside_by (R.seen repo.old) (S.seen store.old) (A.seen artifact.old))
         (outside_by (R.seen repo.new) (S.seen store.new) (A.seen artifact.new)) result }
 {
@@ -59,7 +59,7 @@ fn asked<R: Repository, S: MetadataStore, A: ArtifactSource>(
         (outside_by (R.seen repo.new) (S.seen store.new) (A.seen artifact.new))) }
 {
     let request = VerifyRequest {
-        policy: &gathered.policy,
+        rules: gathered.rules.as_slice(),
         root: gathered.root.as_bytes(),
         bundle: gathered.bundle.as_bytes(),
         moment: now,

@@ -1,6 +1,6 @@
 // Whether the rows that were noted suffice: what the run came to is judged once more by them alone. No contract sees what
 // a shared cell holds, so that this, and no count of questions, says that none is lacking.
-ghost use Rattle.std.specs.Prelude.{◌≡◌, Ok, OnOk, IfOk};
+ghost use Rattle.std.specs.Prelude.{◌≡◌, Ok, OnOk, IfOk, option_copied};
 ghost use Rattle.sigstore_judgement.specs.Grounds.{terms_by};
 ghost use Rattle.sigstore_types.specs.TrustedRoot.{trusted_root_of_bytes};
 ghost use Rattle.command_files.specs.Tables.{crypto_of};
@@ -9,7 +9,7 @@ ghost use Rattle.sigstore_tuf_rules.specs.Config.{default_config};
 ghost use Rattle.sigstore_verify.specs.Inputs.{anchor_by};
 ghost use Rattle.command_gate.specs.Run as gate;
 ghost use Rattle.command_verify.specs.Run.{given_of};
-ghost use Rattle.command_questions.specs.Suffice.{IsTrustedAlone, IsAcceptedOver, IsAcceptedAlone, Suffice, SufficeForFolder};
+ghost use Rattle.command_questions.specs.Suffice.{rule_at, IsTrustedAlone, IsAcceptedOver, IsAcceptedUnder, IsAcceptedAlone, Suffice, SufficeForFolder};
 
 use command_files::Tables;
 use command_gate::FolderRequest;
@@ -18,12 +18,13 @@ use foundation::NoMemory;
 use jiff::Timestamp;
 use question_notes::{Noted, Notes};
 use release_gate::{GateFault, Gated};
-use sigstore_judgement::prepare_reader;
+use sigstore_judgement::{Case, prepare_reader};
 use sigstore_keys::{CryptoProvider, Providers};
+use sigstore_policy::SigningPolicy;
 use sigstore_tuf::{TrustChain, UpdaterConfig};
 use sigstore_types::{Bundle, TrustedRoot};
 use sigstore_types_parts::{Armor, ArtifactDigest};
-use sigstore_verify::{Acceptance, RootFault, TRUST_PATH, Verifier};
+use sigstore_verify::{RootFault, RuleAcceptance, RulesFault, TRUST_PATH, Verifier};
 use std::alloc::Global;
 use trust_archive::{ArchiveTerms, read_archive, write_archive};
 
@@ -61,21 +62,32 @@ fn check_chain(
     }
 }
 
-// A bundle, which is accepted over these digests of its artifact.
+// The rule of a number, counted from 1.
+fn rule_of(rules: &[SigningPolicy], number: usize) -> Option<&SigningPolicy>
+    ensures { option_copied result ≡ rule_at rules.now number }
+{
+    if number == 0 {
+        return None;
+    }
+    rules.get(number - 1)
+}
+
+// A bundle, which is accepted under a rule over these digests of its artifact.
 fn check_digests<C: CryptoProvider, M: Armor>(
     alloc: Global,
     verifier: &Verifier<'_, C, M>,
-    request: &VerifyRequest<'_>,
+    policy: &SigningPolicy,
+    moment: Timestamp,
     bundle: &Bundle,
     digests: &[ArtifactDigest],
 ) -> Result<(), NoMemory>
     ensures { OnOk result (IsAcceptedOver
-        (terms_by C.CryptoProvider M.Armor verifier.now (meaning_in request.now.policy.now) request.now.moment) bundle.now digests.now) }
+        (terms_by C.CryptoProvider M.Armor verifier.now (meaning_in policy.now) moment) bundle.now digests.now) }
 {
-    let Ok(ready) = prepare_reader(alloc, bundle, request.policy) else {
+    let Ok(ready) = prepare_reader(alloc, bundle, policy) else {
         return Err(NoMemory);
     };
-    match verifier.judge_digests(alloc, ready, digests, request.moment) {
+    match verifier.judge_digests(alloc, ready, digests, moment) {
         Ok(report) => {
             drop(report);
             Ok(())
@@ -84,32 +96,58 @@ fn check_digests<C: CryptoProvider, M: Armor>(
     }
 }
 
-// An acceptance, whose bundle is accepted by these rows alone.
+// A bundle, which is accepted under a rule and a trusted root over these digests.
+fn check_case(
+    alloc: Global,
+    tables: &Tables,
+    trust: &TrustedRoot,
+    case: &Case<'_, SigningPolicy>,
+    digests: &[ArtifactDigest],
+) -> Result<(), NoMemory>
+    ensures { OnOk result (IsAcceptedUnder (crypto_of tables.now) trust.now (meaning_in case.now.policy.now) case.now.moment case.now.bundle.now digests.now) }
+{
+    match Verifier::new(alloc, &tables.provider, &tables.armor, trust) {
+        Ok(verifier) => check_digests(
+            alloc,
+            &verifier,
+            case.policy,
+            case.moment,
+            case.bundle,
+            digests,
+        ),
+        Err(_) => Err(NoMemory),
+    }
+}
+
+// An acceptance, whose bundle is accepted under its rule by these rows alone.
 fn check_bundle(
     alloc: Global,
     tables: &Tables,
     request: &VerifyRequest<'_>,
-    accepted: &Acceptance,
+    ruled: &RuleAcceptance,
     trust: &TrustedRoot,
 ) -> Result<(), NoMemory>
-    requires { trusted_root_of_bytes accepted.now.chain.file ≡ Ok trust.now }
-    ensures { OnOk result (IsAcceptedAlone (given_of (crypto_of tables.now) request.now) accepted.now) }
+    requires { trusted_root_of_bytes ruled.now.acceptance.chain.file ≡ Ok trust.now }
+    ensures { OnOk result (IsAcceptedAlone (given_of (crypto_of tables.now) request.now) ruled.now) }
 {
+    let Some(policy) = rule_of(request.rules, ruled.rule) else {
+        return Err(NoMemory);
+    };
     let Ok(bundle) = Bundle::from_json(alloc, request.bundle) else {
         return Err(NoMemory);
     };
-    let checked = match Verifier::new(alloc, &tables.provider, &tables.armor, trust) {
-        Ok(verifier) => {
-            check_digests(
-                alloc,
-                &verifier,
-                request,
-                &bundle,
-                accepted.digests.as_slice(),
-            )
-        }
-        Err(_) => Err(NoMemory),
+    let case = Case {
+        bundle: &bundle,
+        policy,
+        moment: request.moment,
     };
+    let checked = check_case(
+        alloc,
+        tables,
+        trust,
+        &case,
+        ruled.acceptance.digests.as_slice(),
+    );
     drop(bundle);
     checked
 }
@@ -119,15 +157,16 @@ fn check_accepted(
     alloc: Global,
     tables: &Tables,
     request: &VerifyRequest<'_>,
-    accepted: &Acceptance,
+    ruled: &RuleAcceptance,
 ) -> Result<(), NoMemory>
-    ensures { OnOk result (Suffice (given_of (crypto_of tables.now) request.now) (Ok accepted.now)) }
+    ensures { OnOk result (Suffice (given_of (crypto_of tables.now) request.now) (Ok ruled.now)) }
 {
-    check_chain(alloc, tables, request.root, request.moment, &accepted.chain)?;
-    let Ok(trust) = TrustedRoot::from_json(alloc, accepted.chain.file.as_bytes()) else {
+    let chain = &ruled.acceptance.chain;
+    check_chain(alloc, tables, request.root, request.moment, chain)?;
+    let Ok(trust) = TrustedRoot::from_json(alloc, chain.file.as_bytes()) else {
         return Err(NoMemory);
     };
-    let checked = check_bundle(alloc, tables, request, accepted, &trust);
+    let checked = check_bundle(alloc, tables, request, ruled, &trust);
     drop(trust);
     checked
 }
@@ -137,17 +176,20 @@ fn check_judged(
     alloc: Global,
     tables: &Tables,
     request: &VerifyRequest<'_>,
-    judged: &Result<Acceptance, RootFault>,
+    judged: &Result<RuleAcceptance, RulesFault>,
 ) -> Result<(), NoMemory>
     ensures { OnOk result (Suffice (given_of (crypto_of tables.now) request.now) judged.now) }
 {
     match judged {
-        Ok(accepted) => check_accepted(alloc, tables, request, accepted),
-        Err(RootFault::Verify { chain, .. }) => {
+        Ok(ruled) => check_accepted(alloc, tables, request, ruled),
+        Err(RulesFault::Root(RootFault::Verify { chain, .. })) => {
             check_chain(alloc, tables, request.root, request.moment, chain)
         }
-        Err(RootFault::Tuf(_)) => Ok(()),
-        Err(RootFault::NoMemory) => Err(NoMemory),
+        Err(RulesFault::Each { chain, .. }) => {
+            check_chain(alloc, tables, request.root, request.moment, chain)
+        }
+        Err(RulesFault::Root(RootFault::Tuf(_))) => Ok(()),
+        Err(RulesFault::Root(RootFault::NoMemory)) => Err(NoMemory),
     }
 }
 
@@ -179,7 +221,7 @@ pub(crate) fn sufficient(
     alloc: Global,
     notes: Notes<'_>,
     request: &VerifyRequest<'_>,
-    judged: &Result<Acceptance, RootFault>,
+    judged: &Result<RuleAcceptance, RulesFault>,
 ) -> Result<Noted, NoMemory>
     ensures { IfOk result (λ noted. Suffice (given_of (crypto_of noted.tables) request.now) judged.now) }
 {

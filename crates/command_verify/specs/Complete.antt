@@ -1,11 +1,12 @@
 -- When a run of the program has to accept, and what it says where it hasn't to: over an offered chain, where nothing outside fails.
-use Rattle.std.specs.Prelude.{◌≡◌, ℕ, List, Some, Result, Ok, Err}
+use Rattle.std.specs.Prelude.{◌≡◌, ℕ, List, Bool, Some, Result, Ok, Err}
 use Rattle.foundation.specs.Watched.{Watched}
 use Rattle.sigstore_tuf_rules.specs.declared.chain.TrustChain.{TrustChain}
-use Rattle.sigstore_verify.specs.declared.from_root.Acceptance.{Acceptance}
-use Rattle.sigstore_verify.specs.declared.from_root.RootFault.{RootFault}
-use Rattle.sigstore_verify.specs.Inputs.{VerifyInputs}
-use Rattle.sigstore_verify.specs.Complete.{verdict_of, rooted_of, TellsQuietly, Favours, StaysWarm}
+use Rattle.sigstore_judgement.specs.UnderRules.{rules_verdict_by}
+use Rattle.sigstore_verify.specs.declared.by_rules.RuleAcceptance.{RuleAcceptance}
+use Rattle.sigstore_verify.specs.declared.by_rules.RulesFault.{RulesFault}
+use Rattle.sigstore_verify.specs.ByRules.{RulesInputs, rules_asked_by, ruled_of, FavoursRules}
+use Rattle.sigstore_verify.specs.Complete.{TellsQuietly, StaysWarm}
 use Rattle.command_files.specs.Inputs.{Held, watched}
 use Rattle.command_files.specs.Layout.{layout_of}
 use Rattle.command_files.specs.Gather.{gathered_of}
@@ -15,7 +16,7 @@ use Rattle.command_files.specs.declared.answer.Status.{Status}
 use Rattle.command_files.specs.declared.answer.Answer.{Answer}
 use Rattle.command_files.specs.Ending.{TakesAll, OrFails}
 use Rattle.command_files.specs.Starting.{Command, now_of}
-use Rattle.command_verify.specs.Run.{Environment, given_by, refusal_answer, SaysReport}
+use Rattle.command_verify.specs.Run.{Environment, given_by, refusal_answer, are_several, SaysReport}
 
 -- The words meet their grammar, told inputs are read without a fault and are these, and nothing fails of what the verification
 -- goes to.
@@ -26,22 +27,22 @@ pub record Favoured (command : Command) (before after : Environment) (chain : Tr
   pub inputs : TellsQuietly (watched before.inputs) (watched after.inputs) held
   pub gathered : Gathered
   pub gathered_is : gathered_of held ≡ Ok gathered
-  pub outside : Favours (given_by gathered (now_of layout command.clock)) before.outside after.outside chain bytes
+  pub outside : FavoursRules (given_by gathered (now_of layout command.clock)) before.outside after.outside chain bytes
 
 -- what is said of an answer of the top call: the report of an acceptance, the line of a refusal
-abbrev pub SaysOf : Result Acceptance RootFault → Answer → Type 0
-SaysOf (Ok rooted) said = SaysReport rooted said
-SaysOf (Err fault) said = refusal_answer fault ≡ Some said
+abbrev pub SaysOf : Bool → Result RuleAcceptance RulesFault → Answer → Type 0
+SaysOf several (Ok accepted) said = SaysReport several accepted said
+SaysOf several (Err fault) said = refusal_answer fault ≡ Some said
 
 abbrev pub favoured_in : {command : Command} {before after : Environment} {chain : TrustChain} {bytes : List ℕ}
-    → Favoured command before after chain bytes → VerifyInputs
+    → Favoured command before after chain bytes → RulesInputs
 favoured_in {command} f = given_by f.gathered (now_of f.layout command.clock)
 
 -- what the verdict makes the program say was written whole, and its status is the run's
-pub record SaysVerdict (given : VerifyInputs) (chain : TrustChain) (bytes : List ℕ) (out out' : Watched (List ℕ))
+pub record SaysVerdict (several : Bool) (given : RulesInputs) (chain : TrustChain) (bytes : List ℕ) (out out' : Watched (List ℕ))
     (ended : Status) : Type 0 where
   pub said : Answer
-  pub says : SaysOf (rooted_of chain (verdict_of given chain.file bytes)) said
+  pub says : SaysOf several (ruled_of chain (rules_verdict_by (rules_asked_by given) chain.file bytes)) said
   pub written : TakesAll out out' said.text
   pub ended_is : ended ≡ said.status
 
@@ -50,4 +51,5 @@ pub record SaysVerdict (given : VerifyInputs) (chain : TrustChain) (bytes : List
 abbrev pub Completes : Command → Environment → Environment → Watched (List ℕ) → Watched (List ℕ) → Status → Type 0
 Completes command before after out out' ended =
     (chain : TrustChain) (bytes : List ℕ) (f : Favoured command before after chain bytes)
-    → OrFails out out' ended (SaysVerdict (favoured_in f) chain bytes out out' ended × StaysWarm after.outside.store f.outside.offer)
+    → OrFails out out' ended
+    (SaysVerdict (are_several f.gathered) (favoured_in f) chain bytes out out' ended × StaysWarm after.outside.store f.outside.offer)

@@ -1,5 +1,5 @@
 -- The report of an accepted bundle.
-use Rattle.std.specs.Prelude.{ℕ, ◌-◌, pos, int_div, List, [], ◌∷◌, ◌++◌, length, slice_get, codes, Option, Some, None, Result, Ok, ok_or}
+use Rattle.std.specs.Prelude.{ℕ, ◌-◌, pos, int_div, List, [], ◌∷◌, ◌++◌, length, slice_get, codes, Bool, if◌then◌else◌, Option, Some, None, Result, Ok, ok_or}
 use Rattle.std.specs.Fmt.{signed_decimal}
 use Rattle.serde_json.specs.Data.{Data}
 use Rattle.jiff_core.specs.declared.timestamp.Timestamp as jiff
@@ -23,6 +23,7 @@ use Rattle.sigstore_tuf_parts.specs.Targets.{targets_of}
 use Rattle.sigstore_tuf_rules.specs.declared.chain.TrustChain.{TrustChain}
 use Rattle.sigstore_tuf_rules.specs.declared.chain.RoleDoc.{RoleDoc}
 use Rattle.sigstore_judgement.specs.declared.report.VerificationResult.{VerificationResult}
+use Rattle.sigstore_verify.specs.declared.by_rules.RuleAcceptance.{RuleAcceptance}
 use Rattle.command_files.specs.Printed.{line_of, pair_line, number_line, text_line, named_line, hex_line, answer_line}
 use Rattle.command_verify.specs.declared.report.Versions.{Versions}
 
@@ -128,3 +129,13 @@ unfoldable pub report_of : TrustChain → List (HashAlgorithm × List ℕ) → V
 report_of chain digests result = do
   text ← chain_text (codes "accepted") chain
   Ok (result_added (digests_added text digests) result)
+
+-- which rule accepts, where there are several
+abbrev pub rule_added : Bool → ℕ → List ℕ → List ℕ
+rule_added several rule text = if several then text ++ number_line (codes "rule") rule else text
+
+-- the report of an acceptance under rules
+unfoldable pub rule_report_of : Bool → RuleAcceptance → Result (List ℕ) Error
+rule_report_of several accepted = do
+  text ← report_of accepted.acceptance.chain accepted.acceptance.digests accepted.acceptance.result
+  Ok (rule_added several accepted.rule text)

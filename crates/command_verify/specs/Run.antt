@@ -1,5 +1,6 @@
 -- A run of the program: what it reads, what it says, and what it writes.
-use Rattle.std.specs.Prelude.{◌≡◌, ◌⊎◌, ℕ, ◌^◌, List, codes, Option, Some, None, Result, Ok, Err}
+use Rattle.std.specs.Prelude.{◌≡◌, ◌⊎◌, ℕ, ◌^◌, nat_lt, List, [], ◌∷◌, ◌++◌, length, map, codes, Bool, Option, Some, None, Result, Ok, Err}
+use Rattle.std.specs.Fmt.{decimal}
 use Rattle.jiff_core.specs.declared.timestamp.Timestamp as jiff
 use Rattle.foundation.specs.Watched.{Watched, Rose}
 use Rattle.foundation.specs.declared.no_memory.NoMemory.{NoMemory}
@@ -10,19 +11,20 @@ use Rattle.sigstore_tuf_text.specs.Error as tuf
 use Rattle.sigstore_tuf_rules.specs.Config.{default_config}
 use Rattle.sigstore_judgement.specs.declared.error.Error.{Error as VerifyError}
 use Rattle.sigstore_judgement.specs.Error as verify
-use Rattle.sigstore_verify.specs.declared.from_root.Acceptance.{Acceptance}
+use Rattle.sigstore_verify.specs.declared.by_rules.RuleAcceptance.{RuleAcceptance}
+use Rattle.sigstore_verify.specs.declared.by_rules.RulesFault.{RulesFault}
+use Rattle.sigstore_verify.specs.declared.by_rules.RulesFault.TheVariants.{Root, Each}
 use Rattle.sigstore_verify.specs.declared.from_root.RootFault.{RootFault}
 use Rattle.sigstore_verify.specs.declared.from_root.RootFault.TheVariants as root
 use Rattle.sigstore_tuf_outside.specs.Repository.{Files, Folders}
-use Rattle.sigstore_verify.specs.Inputs.{Anchor, anchor_by, VerifyInputs, inputs_by, Outside, outside_by}
-use Rattle.sigstore_verify.specs.FromRoot.{Runs, IsAccepted}
-use Rattle.sigstore_verify.specs.Cause.{RootCause}
+use Rattle.sigstore_verify.specs.ByRules.{RulesInputs, rules_inputs_by, RunsByRules, IsAcceptedByRule, RulesFaultCause}
+use Rattle.sigstore_verify.specs.Inputs.{Anchor, anchor_by, Outside, outside_by}
 use Rattle.command_files.specs.Answer.{answer}
 use Rattle.command_files.specs.Ending.{TakesAll, SaysAndEnds}
 use Rattle.command_files.specs.Gather.{gathered_of}
 use Rattle.command_files.specs.Inputs.{Supply}
 use Rattle.command_files.specs.Layout.{layout_of}
-use Rattle.command_files.specs.Printed.{refused_line}
+use Rattle.command_files.specs.Printed.{pair_line, refused_line}
 use Rattle.command_files.specs.Starting as start
 use Rattle.command_files.specs.Starting.{Command, now_of, Begins, Decides, Misuses, LacksInput}
 use Rattle.command_files.specs.Tables.{crypto_of}
@@ -33,7 +35,7 @@ use Rattle.command_files.specs.declared.gather.Anchored.{Anchored}
 use Rattle.command_files.specs.declared.gather.Gathered.{Gathered}
 use Rattle.command_files.specs.declared.layout.Layout.{Layout}
 use Rattle.command_verify.specs.declared.request.VerifyRequest.{VerifyRequest}
-use Rattle.command_verify.specs.Report.{report_of}
+use Rattle.command_verify.specs.Report.{rule_report_of}
 
 unfoldable pub tuf_answer : TufError → Answer
 tuf_answer e = answer status.Refused (refused_line (codes "tuf") (tuf.number_of e) (tuf.name_of e))
@@ -41,11 +43,32 @@ tuf_answer e = answer status.Refused (refused_line (codes "tuf") (tuf.number_of 
 unfoldable pub verify_answer : VerifyError → Answer
 verify_answer e = answer status.Refused (refused_line (codes "verify") (verify.number_of e) (verify.name_of e))
 
--- what is said of a refusal; nothing where memory is wanting
-unfoldable pub refusal_answer : RootFault → Option Answer
-refusal_answer (root.Tuf e) = Some (tuf_answer e)
-refusal_answer (root.Verify fault chain) = Some (verify_answer fault)
-refusal_answer root.NoMemory = None
+-- `or N Name`, the refusal of a later rule
+abbrev pub other_line : VerifyError → List ℕ
+other_line e = pair_line (codes "or") (decimal (verify.number_of e) ++ 32 ∷ verify.name_of e)
+
+abbrev pub others_text : List VerifyError → List ℕ
+others_text [] = []
+others_text (e ∷ faults) = other_line e ++ others_text faults
+
+-- the first rule's refusal, and a line for each later rule
+abbrev pub each_text : List VerifyError → List ℕ
+each_text [] = []
+each_text (e ∷ faults) = refused_line (codes "verify") (verify.number_of e) (verify.name_of e) ++ others_text faults
+
+unfoldable pub each_answer : List VerifyError → Answer
+each_answer faults = answer status.Refused (each_text faults)
+
+-- what is said of a refusal that all rules share; nothing where memory is wanting
+abbrev pub shared_answer : RootFault → Option Answer
+shared_answer (root.Tuf e) = Some (tuf_answer e)
+shared_answer (root.Verify fault chain) = Some (verify_answer fault)
+shared_answer root.NoMemory = None
+
+-- what is said of a refusal
+unfoldable pub refusal_answer : RulesFault → Option Answer
+refusal_answer (Root fault) = shared_answer fault
+refusal_answer (Each faults chain) = Some (each_answer faults)
 
 abbrev pub max_artifact : ℕ
 max_artifact = 2 ^ 40
@@ -54,21 +77,21 @@ max_artifact = 2 ^ 40
 abbrev pub anchor_of : Anchored → jiff.Timestamp → Anchor
 anchor_of anchored now = anchor_by (crypto_of anchored.tables) anchored.root default_config now
 
--- what the top call is given: who decides signatures and reads armoured texts, the policy, the root, the bundle, the program's limits,
+-- what the top call is given: who decides signatures and reads armoured texts, the rules, the root, the bundle, the program's limits,
 -- and the moment
-abbrev pub given_with : Crypto → Meaning → List ℕ → List ℕ → jiff.Timestamp → VerifyInputs
-given_with crypto policy root bundle now = inputs_by (anchor_by crypto root default_config now) policy bundle max_artifact
+abbrev pub given_with : Crypto → List Meaning → List ℕ → List ℕ → jiff.Timestamp → RulesInputs
+given_with crypto rules root bundle now = rules_inputs_by (anchor_by crypto root default_config now) rules bundle max_artifact
 
 -- what is asked for
-abbrev pub given_of : Crypto → VerifyRequest → VerifyInputs
-given_of crypto request = given_with crypto (meaning_in request.policy.now) request.root.now request.bundle.now request.moment
+abbrev pub given_of : Crypto → VerifyRequest → RulesInputs
+given_of crypto request = given_with crypto (map meaning_in request.rules.now) request.root.now request.bundle.now request.moment
 
 -- what the inputs ask for, but for their tables
-abbrev pub given_under : Crypto → Gathered → jiff.Timestamp → VerifyInputs
-given_under crypto gathered now = given_with crypto (meaning_in gathered.policy) gathered.root gathered.bundle now
+abbrev pub given_under : Crypto → Gathered → jiff.Timestamp → RulesInputs
+given_under crypto gathered now = given_with crypto (map meaning_in gathered.rules) gathered.root gathered.bundle now
 
 -- the same of the inputs, whose tables decide
-abbrev pub given_by : Gathered → jiff.Timestamp → VerifyInputs
+abbrev pub given_by : Gathered → jiff.Timestamp → RulesInputs
 given_by gathered now = given_under (crypto_of gathered.tables) gathered now
 
 -- what a run finds and leaves, but for its output
@@ -83,30 +106,34 @@ abbrev pub said_of : Result (List ℕ) TufError → Option Answer
 said_of (Ok text) = Some (answer status.Accepted text)
 said_of (Err e) = Some (tuf_answer e)
 
-abbrev pub Reports : Acceptance → Answer → Type 0
-Reports rooted said = said_of (report_of rooted.chain rooted.digests rooted.result) ≡ Some said
+abbrev pub Reports : Bool → RuleAcceptance → Answer → Type 0
+Reports several accepted said = said_of (rule_report_of several accepted) ≡ Some said
 
--- what is said of the verification's answer
-abbrev pub Answers : Result Acceptance RootFault → Answer → Type 0
-Answers (Ok rooted) said = Reports rooted said
-Answers (Err fault) said = refusal_answer fault ≡ Some said
+-- what is said of the verification's answer, under several rules or one
+abbrev pub Answers : Bool → Result RuleAcceptance RulesFault → Answer → Type 0
+Answers several (Ok accepted) said = Reports several accepted said
+Answers several (Err fault) said = refusal_answer fault ≡ Some said
+
+-- the inputs ask for several rules
+abbrev pub are_several : Gathered → Bool
+are_several gathered = nat_lt 1 (length gathered.rules)
 
 -- the report is said
-pub record SaysReport (rooted : Acceptance) (said : Answer) : Type 0 where
+pub record SaysReport (several : Bool) (accepted : RuleAcceptance) (said : Answer) : Type 0 where
   pub text : List ℕ
-  pub reported : report_of rooted.chain rooted.digests rooted.result ≡ Ok text
+  pub reported : rule_report_of several accepted ≡ Ok text
   pub said_is : said ≡ answer status.Accepted text
 
 -- What the verification makes the program say: the report of what was accepted, or the refusal.
 pub data Judges (gathered : Gathered) (now : jiff.Timestamp) (before after : Outside) (result : Result Answer NoMemory) : Type 0 where
-  want_judging : (judged : Result Acceptance RootFault) (e : NoMemory) → Runs (given_by gathered now) before after judged
+  want_judging : (judged : Result RuleAcceptance RulesFault) (e : NoMemory) → RunsByRules (given_by gathered now) before after judged
       → result ≡ Err e → Judges gathered now before after result
-  refused : (fault : RootFault) (said : Answer) → Runs (given_by gathered now) before after (Err fault)
-      → refusal_answer fault ≡ Some said → result ≡ Ok said
+  refused : (fault : RulesFault) (said : Answer) → RunsByRules (given_by gathered now) before after (Err fault)
+      → RulesFaultCause (given_by gathered now) before after fault → refusal_answer fault ≡ Some said → result ≡ Ok said
       → Judges gathered now before after result
-  reported : (rooted : Acceptance) (said : Answer) → Runs (given_by gathered now) before after (Ok rooted)
-      → IsAccepted (given_by gathered now) before after rooted
-      → SaysReport rooted said → result ≡ Ok said → Judges gathered now before after result
+  reported : (accepted : RuleAcceptance) (said : Answer) → RunsByRules (given_by gathered now) before after (Ok accepted)
+      → IsAcceptedByRule (given_by gathered now) before after accepted
+      → SaysReport (are_several gathered) accepted said → result ≡ Ok said → Judges gathered now before after result
 
 -- What the program says: its words first, then its inputs, then the verification; the first that refuses answers.
 abbrev pub Says : Command → Environment → Environment → Result Answer NoMemory → Type 0
@@ -124,27 +151,27 @@ pub record Asked (command : Command) (before after : Environment) : Type 0 where
   pub gathered : Gathered
   pub read : Begins (layout_of command.words) gathered_of before.inputs after.inputs layout gathered
 
-abbrev pub given_in : {command : Command} {before after : Environment} → Asked command before after → VerifyInputs
+abbrev pub given_in : {command : Command} {before after : Environment} → Asked command before after → RulesInputs
 given_in {command} asked = given_by asked.gathered (now_of asked.layout command.clock)
 
--- What status 0 means: the words give a layout, the inputs were read, the verification from the root accepted, and the sink took
--- exactly the report's text.
+-- What status 0 means: the words give a layout, the inputs were read, the verification from the root accepted by a rule, and the sink
+-- took exactly the report's text.
 pub record Accepts (command : Command) (before after : Environment) (out out' : Watched (List ℕ)) : Type 0 where
   pub asked : Asked command before after
-  pub rooted : Acceptance
-  pub verified : Runs (given_in asked) before.outside after.outside (Ok rooted)
-  pub accepted : IsAccepted (given_in asked) before.outside after.outside rooted
+  pub ruled : RuleAcceptance
+  pub verified : RunsByRules (given_in asked) before.outside after.outside (Ok ruled)
+  pub accepted : IsAcceptedByRule (given_in asked) before.outside after.outside ruled
   pub text : List ℕ
-  pub reported : report_of rooted.chain rooted.digests rooted.result ≡ Ok text
+  pub reported : rule_report_of (are_several asked.gathered) ruled ≡ Ok text
   pub written : TakesAll out out' text
 
 -- What status 1 means: the words give a layout, the inputs were read, the verification from the root refused, for its cause, and
--- the sink took exactly the refusal's line.
+-- the sink took exactly the refusal's lines.
 pub record Refuses (command : Command) (before after : Environment) (out out' : Watched (List ℕ)) : Type 0 where
   pub asked : Asked command before after
-  pub fault : RootFault
-  pub verified : Runs (given_in asked) before.outside after.outside (Err fault)
-  pub cause : RootCause (given_in asked) before.outside after.outside fault
+  pub fault : RulesFault
+  pub verified : RunsByRules (given_in asked) before.outside after.outside (Err fault)
+  pub cause : RulesFaultCause (given_in asked) before.outside after.outside fault
   pub said : Answer
   pub line : refusal_answer fault ≡ Some said
   pub written : TakesAll out out' said.text

@@ -6,7 +6,7 @@ ghost use Rattle.command_verify.specs.Complete.{Completes};
 ghost use Rattle.command_verify.specs.Run.{environment_by, Reports, Answers, Judges, Says, RunsTo, Means};
 
 use crate::refusals::{refused, refused_tuf};
-use crate::report::report;
+use crate::report::report_by_rule;
 use crate::request::{VerifyRequest, verify_request};
 use command_files::{
     Answer, CommandLine, Gathered, Inputs, Sink, Started, Status, finish, read_layout, start,
@@ -16,19 +16,14 @@ use jiff::Timestamp;
 use sigstore_keys::{ArtifactSource, Providers};
 use sigstore_tuf::{MetadataStore, Repository};
 use sigstore_types_parts::Text;
-use sigstore_verify::{Acceptance, RootFault};
+use sigstore_verify::{RuleAcceptance, RulesFault};
 use std::alloc::Global;
 
 // The report of an acceptance, or the refusal of a document of its chain that isn't read.
-fn reported(alloc: Global, rooted: &Acceptance) -> Result<Answer, NoMemory>
-    ensures { IfOk result (λ said. Reports rooted.now said) }
+fn reported(alloc: Global, several: bool, accepted: &RuleAcceptance) -> Result<Answer, NoMemory>
+    ensures { IfOk result (λ said. Reports several accepted.now said) }
 {
-    match report(
-        alloc,
-        &rooted.chain,
-        rooted.digests.as_slice(),
-        &rooted.result,
-    ) {
+    match report_by_rule(alloc, several, accepted) {
         Ok(text) => Ok(Answer {
             status: Status::Accepted,
             text: Text::from_string(text),
@@ -43,11 +38,15 @@ fn reported(alloc: Global, rooted: &Acceptance) -> Result<Answer, NoMemory>
 }
 
 // What is said of an acceptance or a refusal.
-fn answered(alloc: Global, judged: &Result<Acceptance, RootFault>) -> Result<Answer, NoMemory>
-    ensures { IfOk result (λ said. Answers judged.now said) }
+fn answered(
+    alloc: Global,
+    several: bool,
+    judged: &Result<RuleAcceptance, RulesFault>,
+) -> Result<Answer, NoMemory>
+    ensures { IfOk result (λ said. Answers several judged.now said) }
 {
     match judged {
-        Ok(rooted) => reported(alloc, rooted),
+        Ok(accepted) => reported(alloc, several, accepted),
         Err(fault) => refused(alloc, fault),
     }
 }
@@ -66,7 +65,7 @@ fn judge<R: Repository, S: MetadataStore, A: ArtifactSource>(
         (outside_by (R.seen repo.new) (S.seen store.new) (A.seen artifact.new)) result }
 {
     let request = VerifyRequest {
-        policy: &gathered.policy,
+        rules: gathered.rules.as_slice(),
         root: gathered.root.as_bytes(),
         bundle: gathered.bundle.as_bytes(),
         moment: now,
@@ -76,7 +75,7 @@ fn judge<R: Repository, S: MetadataStore, A: ArtifactSource>(
         armor: &gathered.tables.armor,
     };
     let judged = verify_request(alloc, &request, providers, repo, store, artifact);
-    let said = answered(alloc, &judged);
+    let said = answered(alloc, gathered.rules.len() > 1, &judged);
     drop(judged);
     said
 }
@@ -105,7 +104,7 @@ fn decide<I: Inputs, R: Repository, S: MetadataStore, A: ArtifactSource>(
 }
 
 /// Runs the command `verify` over its words, its clock and the objects of the outside: reads the words, then the inputs
-/// policy, provider, root and bundle, verifies from the root, and writes one text. Status 4 where a write failed, 5 where
+/// policy, provider, root and bundle, verifies from the root under the policy's rules, and writes one text. Status 4 where a write failed, 5 where
 /// memory was wanting; then nothing was written.
 pub fn run<I: Inputs, R: Repository, S: MetadataStore, A: ArtifactSource, K: Sink>(
     alloc: Global,

@@ -1,7 +1,7 @@
 // The report of an accepted bundle.
 ghost use Rattle.std.specs.Prelude.{◌≡◌, ◌≢◌, ◌++◌, [], length, codes, Ok, Err, IfOk, IfErr, OnOk, string_bytes, option_copied};
 ghost use Rattle.command_files.specs.Printed.{line_of, pair_line, number_line};
-ghost use Rattle.command_verify.specs.Report.{version_of, root_version, timestamp_version, snapshot_version, targets_version, versions_of, versions_text, role_added, roles_added, digests_added, seconds_of, times_added, issuer_text, integrated_text, identity_text, names_text, answers_text, times_text, chain_text, result_added, report_of};
+ghost use Rattle.command_verify.specs.Report.{version_of, root_version, timestamp_version, snapshot_version, targets_version, versions_of, versions_text, role_added, roles_added, digests_added, seconds_of, times_added, issuer_text, integrated_text, identity_text, names_text, answers_text, times_text, chain_text, result_added, report_of, rule_report_of};
 
 use certificate_claims::SubjectAltName;
 use command_files::{
@@ -13,7 +13,7 @@ use jiff::Timestamp;
 use sigstore_tuf::{RoleDoc, TrustChain};
 use sigstore_tuf_parts::{Error, Metadata, Role, Root, Snapshot, Targets};
 use sigstore_types_parts::ArtifactDigest;
-use sigstore_verify::VerificationResult;
+use sigstore_verify::{RuleAcceptance, VerificationResult};
 use std::alloc::Global;
 
 /// The versions of the documents in force.
@@ -261,5 +261,29 @@ pub fn report(
     let mut text = report_chain(alloc, "accepted", chain)?;
     push_digests(alloc, &mut text, digests)?;
     push_result(&mut text, shown)?;
+    Ok(text)
+}
+
+/// The report of an acceptance under rules. Where there are several, its last line tells which accepts. Errors as
+/// `report`.
+#[tactic(auto, unfolding(crate::specs::Report::rule_report_of))]
+pub fn report_by_rule(
+    alloc: Global,
+    several: bool,
+    accepted: &RuleAcceptance,
+) -> Result<String, Error>
+    ensures ok { IfOk result (λ text. rule_report_of several accepted.now ≡ Ok (string_bytes text)) }
+    ensures err { IfErr result (λ e. e ≢ Error.NoMemory → rule_report_of several accepted.now ≡ Err e) }
+{
+    let rooted = &accepted.acceptance;
+    let mut text = report(
+        alloc,
+        &rooted.chain,
+        rooted.digests.as_slice(),
+        &rooted.result,
+    )?;
+    if several {
+        push_number_line(&mut text, "rule", accepted.rule as u64)?;
+    }
     Ok(text)
 }

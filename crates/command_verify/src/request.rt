@@ -1,7 +1,7 @@
 // What is verified, and within which limits.
 ghost use Rattle.sigstore_keys.specs.Crypto.{crypto_with};
 ghost use Rattle.sigstore_verify.specs.Inputs.{outside_by};
-ghost use Rattle.sigstore_verify.specs.Promises.{Promises};
+ghost use Rattle.sigstore_verify.specs.ByRules.{PromisesByRules};
 ghost use Rattle.command_verify.specs.Run.{given_of};
 
 use jiff::Timestamp;
@@ -9,23 +9,24 @@ use sigstore_keys::{ArtifactSource, CryptoProvider, Providers};
 use sigstore_policy::SigningPolicy;
 use sigstore_tuf::{MetadataStore, Repository, UpdaterConfig};
 use sigstore_types_parts::Armor;
-use sigstore_verify::{Acceptance, Anchor, Asked, RootFault, verify_from_root};
+use sigstore_verify::{Anchor, RuleAcceptance, RulesAsked, RulesFault, verify_from_root_by_rules};
 use std::alloc::Global;
 
 /// The greatest length of an artifact in bytes: 1 TiB.
 pub const MAX_ARTIFACT: u64 = 1_099_511_627_776;
 
-/// What is asked of a verification: the policy, the pinned root's text, the bundle's text, and the moment.
+/// What is asked of a verification: the rules, of which one has to accept, the pinned root's text, the bundle's text, and
+/// the moment.
 #[derive(Drop)]
 pub struct VerifyRequest<'a> {
-    pub policy: &'a SigningPolicy,
+    pub rules: &'a [SigningPolicy],
     pub root: &'a [u8],
     pub bundle: &'a [u8],
     pub moment: Timestamp,
 }
 
 /// Verifies what is asked for, within the program's limits: the one place where these stand. Errors are those of
-/// `verify_from_root` of `sigstore_verify`.
+/// `verify_from_root_by_rules` of `sigstore_verify`.
 pub fn verify_request<
     R: Repository,
     S: MetadataStore,
@@ -39,8 +40,8 @@ pub fn verify_request<
     repo: &mut R,
     store: &mut S,
     artifact: &mut A,
-) -> Result<Acceptance, RootFault>
-    ensures { Promises (given_of (crypto_with C.CryptoProvider M.Armor providers.entry) request.now)
+) -> Result<RuleAcceptance, RulesFault>
+    ensures { PromisesByRules (given_of (crypto_with C.CryptoProvider M.Armor providers.entry) request.now)
         (outside_by (R.seen repo.old) (S.seen store.old) (A.seen artifact.old))
         (outside_by (R.seen repo.new) (S.seen store.new) (A.seen artifact.new)) result }
 {
@@ -50,10 +51,10 @@ pub fn verify_request<
         config: UpdaterConfig::default(),
         now: request.moment,
     };
-    let asked = Asked {
+    let asked = RulesAsked {
         bundle: request.bundle,
         max_artifact: MAX_ARTIFACT,
-        policy: request.policy,
+        rules: request.rules,
     };
-    verify_from_root(alloc, &anchor, repo, store, artifact, &asked)
+    verify_from_root_by_rules(alloc, &anchor, repo, store, artifact, &asked)
 }

@@ -3,7 +3,7 @@ use release_gate::{Folder, GateFault, Gated, Verdict, gate_from_root};
 use sigstore_keys::CryptoProvider;
 use sigstore_tuf::{MetadataStore, Repository};
 use sigstore_types_parts::{Armor, DerPublicKey};
-use sigstore_verify::{Anchor, PublicKeyVerificationPolicy};
+use sigstore_verify::{Anchor, PublicKeyVerificationPolicy, SigningPolicy};
 use std::alloc::Global;
 
 /// Whether a release may go out: the holder of this key signed each artifact in its folder.
@@ -16,9 +16,14 @@ pub fn may_go_out<R: Repository, S: MetadataStore, D: Folder, C: CryptoProvider,
     key: DerPublicKey,
 ) -> Result<bool, GateFault> {
     let policy = PublicKeyVerificationPolicy::new(key).skip_tlog_unsafe();
+    let rules = [SigningPolicy::PublicKey(policy)];
     let longest = 1_000_000_000;
-    let gated = gate_from_root(alloc, anchor, repo, store, folder, longest, &policy)?;
+    let gated = gate_from_root(alloc, anchor, repo, store, folder, longest, &rules)?;
     let Gated { lines, .. } = gated;
     let lines = lines.as_slice();
-    Ok(lines.iter().all(|line| line.verdict == Verdict::Admitted))
+    Ok(
+        lines
+            .iter()
+            .all(|line| matches!(line.verdict, Verdict::Admitted)),
+    )
 }

@@ -8,8 +8,8 @@ use Rattle.command_questions.proofs.suffice.check_digests.Goals as goal
 
 pub returns-in-Ok-judge_digests : goal.returns-in-Ok-judge_digests
 returns-in-Ok-judge_digests g c =
-    let policy = meaning_in c.args.request.now.policy.now in
-    let terms = terms_by g.C.CryptoProvider g.M.Armor c.args.verifier.now policy c.args.request.now.moment in
+    let policy = meaning_in c.args.policy.now in
+    let terms = terms_by g.C.CryptoProvider g.M.Armor c.args.verifier.now policy c.args.moment in
     record {
       ready = ready_as c.in-Ok.ready;
       prepared = c.in-Ok.ensures.ok;
