@@ -5,8 +5,9 @@ use crate::tables::{
 };
 use crate::verification;
 use command_files::*;
-use foundation::NoMemory;
+use foundation::{NoMemory, Sequence};
 use sigstore_keys::{CryptoProvider, SigningScheme, sha256};
+use sigstore_policy::SigningPolicy;
 use sigstore_types_parts::{Armor, Bytes};
 use std::alloc::Global;
 use std::fs;
@@ -110,10 +111,47 @@ fn shortened<X: AllocGlobal + Abort>(rt: &X, shown: String) -> String {
     beside
 }
 
+// What was read of a policy file, its rules as a list that has a Debug text.
+fn listed(
+    answer: Result<Sequence<SigningPolicy>, UsageFault>,
+) -> Result<Vec<SigningPolicy>, UsageFault> {
+    match answer {
+        Ok(rules) => Ok(rules.into_vec()),
+        Err(fault) => Err(fault),
+    }
+}
+
 fn policy<X: AllocGlobal + Abort>(rt: &X, text: String) -> String {
-    let answer = read_policy(rt.alloc(), text.as_bytes());
+    let answer = listed(read_rules(rt.alloc(), text.as_bytes()));
     drop(text);
     shortened(rt, debug(rt, answer))
+}
+
+// How many rules are read of a file with one behind so many others.
+fn rules_behind<X: AllocGlobal + Abort>(rt: &X, others: &str) -> String {
+    let mut text = string(rt, "");
+    for _ in 0..number(rt, others) {
+        good(rt, text.push_str("keyless\nor\n"));
+    }
+    good(rt, text.push_str("keyless\n"));
+    let answer = listed(read_rules(rt.alloc(), text.as_bytes()));
+    drop(text);
+    counted(rt, answer)
+}
+
+// The number of rules, or why there are none.
+fn counted<X: AllocGlobal + Abort>(
+    rt: &X,
+    answer: Result<Vec<SigningPolicy>, UsageFault>,
+) -> String {
+    match answer {
+        Ok(rules) => {
+            let count = rules.len();
+            drop(rules);
+            debug(rt, count)
+        }
+        Err(fault) => debug(rt, fault),
+    }
 }
 
 // The policy of a text with a line's last byte behind it that isn't UTF-8.
@@ -121,7 +159,7 @@ fn policy_with_ff<X: AllocGlobal + Abort>(rt: &X, text: String) -> String {
     let mut bytes = text.into_bytes();
     good(rt, bytes.push(0xff));
     good(rt, bytes.push(b'\n'));
-    let answer = read_policy(rt.alloc(), &bytes);
+    let answer = listed(read_rules(rt.alloc(), &bytes));
     drop(bytes);
     shortened(rt, debug(rt, answer))
 }
@@ -132,8 +170,8 @@ fn provider<X: AllocGlobal + Abort>(rt: &X, text: String) -> String {
     word(rt, "tables", answer)
 }
 
-// What is read of words, of words after a whole layout, of words of the questions, of a policy file and of
-// a provider file.
+// What is read of words, of words after a whole layout, of words of the questions, of a policy file, of one
+// with many rules, and of a provider file.
 fn read<X: AllocGlobal + Abort>(rt: &X, row: &str) -> String {
     let (call, text) = halves(rt, row, " | ");
     match call {
@@ -142,6 +180,7 @@ fn read<X: AllocGlobal + Abort>(rt: &X, row: &str) -> String {
         "more words" => whole_layout(rt, text),
         "policy" => policy(rt, lines_of(rt, text)),
         "policy with byte ff" => policy_with_ff(rt, lines_of(rt, text)),
+        "rules behind others" => rules_behind(rt, text),
         _ => provider(rt, lines_of(rt, text)),
     }
 }
@@ -189,10 +228,10 @@ const NOTHING_BESIDE: &str =
 // The same of policy files.
 const POLICIES: &str =
     "# A key: each line, twice, out of its place, in another spelling, and what only a keyless policy asks.
-policy | key AQI=; | Ok(PublicKey(PublicKeyVerificationPolicy { key: [1, 2], verify_tlog: true, logs: Threshold { value: 1 }, .. }))
-policy | key AQI=;skip tlog; | Ok(PublicKey(PublicKeyVerificationPolicy { key: [1, 2], verify_tlog: false, logs: Threshold { value: 1 }, .. }))
-policy | ;# a key;key AQI=;# the log;;skip tlog;# the end; | Ok(PublicKey(PublicKeyVerificationPolicy { key: [1, 2], verify_tlog: false, logs: Threshold { value: 1 }, .. }))
-policy | key ; | Ok(PublicKey(PublicKeyVerificationPolicy { key: [], verify_tlog: true, logs: Threshold { value: 1 }, .. }))
+policy | key AQI=; | Ok([PublicKey(PublicKeyVerificationPolicy { key: [1, 2], verify_tlog: true, logs: Threshold { value: 1 }, .. })])
+policy | key AQI=;skip tlog; | Ok([PublicKey(PublicKeyVerificationPolicy { key: [1, 2], verify_tlog: false, logs: Threshold { value: 1 }, .. })])
+policy | ;# a key;key AQI=;# the log;;skip tlog;# the end; | Ok([PublicKey(PublicKeyVerificationPolicy { key: [1, 2], verify_tlog: false, logs: Threshold { value: 1 }, .. })])
+policy | key ; | Ok([PublicKey(PublicKeyVerificationPolicy { key: [], verify_tlog: true, logs: Threshold { value: 1 }, .. })])
 policy |  | Err(Usage)
 policy | # none; | Err(Usage)
 policy | ; | Err(Usage)
@@ -223,37 +262,37 @@ policy | key AQI=;identity uri a; | Err(Usage)
 policy | key AQI=;issuer a; | Err(Usage)
 policy | key AQI=;keyless; | Err(Usage)
 # Keyless: each line once, and all in two orders.
-policy | keyless; | Ok(Certificate(VerificationPolicy { identity: None, issuer: None, .., verify_tlog: true, certificate: Verify { verify_sct: true }, scts: Threshold { value: 1 }, logs: Threshold { value: 1 }, .. }))
-policy | # who;;keyless; | Ok(Certificate(VerificationPolicy { identity: None, issuer: None, .., verify_tlog: true, certificate: Verify { verify_sct: true }, scts: Threshold { value: 1 }, logs: Threshold { value: 1 }, .. }))
-policy | keyless;skip tlog; | Ok(Certificate(VerificationPolicy { identity: None, issuer: None, .., verify_tlog: false, certificate: Verify { verify_sct: true }, scts: Threshold { value: 1 }, logs: Threshold { value: 1 }, .. }))
-policy | keyless;skip chain; | Ok(Certificate(VerificationPolicy { identity: None, issuer: None, .., verify_tlog: true, certificate: Skip, scts: Threshold { value: 1 }, logs: Threshold { value: 1 }, .. }))
-policy | keyless;skip sct; | Ok(Certificate(VerificationPolicy { identity: None, issuer: None, .., verify_tlog: true, certificate: Verify { verify_sct: false }, scts: Threshold { value: 1 }, logs: Threshold { value: 1 }, .. }))
-policy | keyless;identity exact a; | Ok(Certificate(VerificationPolicy { identity: Some(Exact(\"a\")), issuer: None, .., verify_tlog: true, certificate: Verify { verify_sct: true }, scts: Threshold { value: 1 }, logs: Threshold { value: 1 }, .. }))
-policy | keyless;identity email a@b.example; | Ok(Certificate(VerificationPolicy { identity: Some(Email(\"a@b.example\")), issuer: None, .., verify_tlog: true, certificate: Verify { verify_sct: true }, scts: Threshold { value: 1 }, logs: Threshold { value: 1 }, .. }))
-policy | keyless;identity uri https://a/b#c; | Ok(Certificate(VerificationPolicy { identity: Some(Uri(\"https://a/b#c\")), issuer: None, .., verify_tlog: true, certificate: Verify { verify_sct: true }, scts: Threshold { value: 1 }, logs: Threshold { value: 1 }, .. }))
-policy | keyless;issuer https://a; | Ok(Certificate(VerificationPolicy { identity: None, issuer: Some(\"https://a\"), .., verify_tlog: true, certificate: Verify { verify_sct: true }, scts: Threshold { value: 1 }, logs: Threshold { value: 1 }, .. }))
-policy | keyless;identity uri u;issuer i;skip tlog;skip chain;skip sct; | Ok(Certificate(VerificationPolicy { identity: Some(Uri(\"u\")), issuer: Some(\"i\"), .., verify_tlog: false, certificate: Skip, scts: Threshold { value: 1 }, logs: Threshold { value: 1 }, .. }))
-policy | keyless;skip sct;# between;skip chain;;skip tlog;issuer i;identity email e; | Ok(Certificate(VerificationPolicy { identity: Some(Email(\"e\")), issuer: Some(\"i\"), .., verify_tlog: false, certificate: Skip, scts: Threshold { value: 1 }, logs: Threshold { value: 1 }, .. }))
+policy | keyless; | Ok([Certificate(VerificationPolicy { identity: None, issuer: None, .., verify_tlog: true, certificate: Verify { verify_sct: true }, scts: Threshold { value: 1 }, logs: Threshold { value: 1 }, .. })])
+policy | # who;;keyless; | Ok([Certificate(VerificationPolicy { identity: None, issuer: None, .., verify_tlog: true, certificate: Verify { verify_sct: true }, scts: Threshold { value: 1 }, logs: Threshold { value: 1 }, .. })])
+policy | keyless;skip tlog; | Ok([Certificate(VerificationPolicy { identity: None, issuer: None, .., verify_tlog: false, certificate: Verify { verify_sct: true }, scts: Threshold { value: 1 }, logs: Threshold { value: 1 }, .. })])
+policy | keyless;skip chain; | Ok([Certificate(VerificationPolicy { identity: None, issuer: None, .., verify_tlog: true, certificate: Skip, scts: Threshold { value: 1 }, logs: Threshold { value: 1 }, .. })])
+policy | keyless;skip sct; | Ok([Certificate(VerificationPolicy { identity: None, issuer: None, .., verify_tlog: true, certificate: Verify { verify_sct: false }, scts: Threshold { value: 1 }, logs: Threshold { value: 1 }, .. })])
+policy | keyless;identity exact a; | Ok([Certificate(VerificationPolicy { identity: Some(Exact(\"a\")), issuer: None, .., verify_tlog: true, certificate: Verify { verify_sct: true }, scts: Threshold { value: 1 }, logs: Threshold { value: 1 }, .. })])
+policy | keyless;identity email a@b.example; | Ok([Certificate(VerificationPolicy { identity: Some(Email(\"a@b.example\")), issuer: None, .., verify_tlog: true, certificate: Verify { verify_sct: true }, scts: Threshold { value: 1 }, logs: Threshold { value: 1 }, .. })])
+policy | keyless;identity uri https://a/b#c; | Ok([Certificate(VerificationPolicy { identity: Some(Uri(\"https://a/b#c\")), issuer: None, .., verify_tlog: true, certificate: Verify { verify_sct: true }, scts: Threshold { value: 1 }, logs: Threshold { value: 1 }, .. })])
+policy | keyless;issuer https://a; | Ok([Certificate(VerificationPolicy { identity: None, issuer: Some(\"https://a\"), .., verify_tlog: true, certificate: Verify { verify_sct: true }, scts: Threshold { value: 1 }, logs: Threshold { value: 1 }, .. })])
+policy | keyless;identity uri u;issuer i;skip tlog;skip chain;skip sct; | Ok([Certificate(VerificationPolicy { identity: Some(Uri(\"u\")), issuer: Some(\"i\"), .., verify_tlog: false, certificate: Skip, scts: Threshold { value: 1 }, logs: Threshold { value: 1 }, .. })])
+policy | keyless;skip sct;# between;skip chain;;skip tlog;issuer i;identity email e; | Ok([Certificate(VerificationPolicy { identity: Some(Email(\"e\")), issuer: Some(\"i\"), .., verify_tlog: false, certificate: Skip, scts: Threshold { value: 1 }, logs: Threshold { value: 1 }, .. })])
 # Blanks and other bytes in a text stay as they are, and its words mean nothing.
-policy | keyless;identity exact Ann Other; | Ok(Certificate(VerificationPolicy { identity: Some(Exact(\"Ann Other\")), issuer: None, .., verify_tlog: true, certificate: Verify { verify_sct: true }, scts: Threshold { value: 1 }, logs: Threshold { value: 1 }, .. }))
-policy | keyless;identity exact  a ; | Ok(Certificate(VerificationPolicy { identity: Some(Exact(\" a \")), issuer: None, .., verify_tlog: true, certificate: Verify { verify_sct: true }, scts: Threshold { value: 1 }, logs: Threshold { value: 1 }, .. }))
-policy | keyless;identity exact  ; | Ok(Certificate(VerificationPolicy { identity: Some(Exact(\" \")), issuer: None, .., verify_tlog: true, certificate: Verify { verify_sct: true }, scts: Threshold { value: 1 }, logs: Threshold { value: 1 }, .. }))
-policy | keyless;identity email uri exact; | Ok(Certificate(VerificationPolicy { identity: Some(Email(\"uri exact\")), issuer: None, .., verify_tlog: true, certificate: Verify { verify_sct: true }, scts: Threshold { value: 1 }, logs: Threshold { value: 1 }, .. }))
-policy | keyless;identity exact #; | Ok(Certificate(VerificationPolicy { identity: Some(Exact(\"#\")), issuer: None, .., verify_tlog: true, certificate: Verify { verify_sct: true }, scts: Threshold { value: 1 }, logs: Threshold { value: 1 }, .. }))
-policy | keyless;issuer a b  c; | Ok(Certificate(VerificationPolicy { identity: None, issuer: Some(\"a b  c\"), .., verify_tlog: true, certificate: Verify { verify_sct: true }, scts: Threshold { value: 1 }, logs: Threshold { value: 1 }, .. }))
-policy | keyless;issuer  ; | Ok(Certificate(VerificationPolicy { identity: None, issuer: Some(\" \"), .., verify_tlog: true, certificate: Verify { verify_sct: true }, scts: Threshold { value: 1 }, logs: Threshold { value: 1 }, .. }))
-policy | keyless;issuer skip tlog; | Ok(Certificate(VerificationPolicy { identity: None, issuer: Some(\"skip tlog\"), .., verify_tlog: true, certificate: Verify { verify_sct: true }, scts: Threshold { value: 1 }, logs: Threshold { value: 1 }, .. }))
-policy | keyless;issuer a\r; | Ok(Certificate(VerificationPolicy { identity: None, issuer: Some(\"a\\r\"), .., verify_tlog: true, certificate: Verify { verify_sct: true }, scts: Threshold { value: 1 }, logs: Threshold { value: 1 }, .. }))
-policy | keyless;issuer \u{e9}; | Ok(Certificate(VerificationPolicy { identity: None, issuer: Some(\"\u{e9}\"), .., verify_tlog: true, certificate: Verify { verify_sct: true }, scts: Threshold { value: 1 }, logs: Threshold { value: 1 }, .. }))
+policy | keyless;identity exact Ann Other; | Ok([Certificate(VerificationPolicy { identity: Some(Exact(\"Ann Other\")), issuer: None, .., verify_tlog: true, certificate: Verify { verify_sct: true }, scts: Threshold { value: 1 }, logs: Threshold { value: 1 }, .. })])
+policy | keyless;identity exact  a ; | Ok([Certificate(VerificationPolicy { identity: Some(Exact(\" a \")), issuer: None, .., verify_tlog: true, certificate: Verify { verify_sct: true }, scts: Threshold { value: 1 }, logs: Threshold { value: 1 }, .. })])
+policy | keyless;identity exact  ; | Ok([Certificate(VerificationPolicy { identity: Some(Exact(\" \")), issuer: None, .., verify_tlog: true, certificate: Verify { verify_sct: true }, scts: Threshold { value: 1 }, logs: Threshold { value: 1 }, .. })])
+policy | keyless;identity email uri exact; | Ok([Certificate(VerificationPolicy { identity: Some(Email(\"uri exact\")), issuer: None, .., verify_tlog: true, certificate: Verify { verify_sct: true }, scts: Threshold { value: 1 }, logs: Threshold { value: 1 }, .. })])
+policy | keyless;identity exact #; | Ok([Certificate(VerificationPolicy { identity: Some(Exact(\"#\")), issuer: None, .., verify_tlog: true, certificate: Verify { verify_sct: true }, scts: Threshold { value: 1 }, logs: Threshold { value: 1 }, .. })])
+policy | keyless;issuer a b  c; | Ok([Certificate(VerificationPolicy { identity: None, issuer: Some(\"a b  c\"), .., verify_tlog: true, certificate: Verify { verify_sct: true }, scts: Threshold { value: 1 }, logs: Threshold { value: 1 }, .. })])
+policy | keyless;issuer  ; | Ok([Certificate(VerificationPolicy { identity: None, issuer: Some(\" \"), .., verify_tlog: true, certificate: Verify { verify_sct: true }, scts: Threshold { value: 1 }, logs: Threshold { value: 1 }, .. })])
+policy | keyless;issuer skip tlog; | Ok([Certificate(VerificationPolicy { identity: None, issuer: Some(\"skip tlog\"), .., verify_tlog: true, certificate: Verify { verify_sct: true }, scts: Threshold { value: 1 }, logs: Threshold { value: 1 }, .. })])
+policy | keyless;issuer a\r; | Ok([Certificate(VerificationPolicy { identity: None, issuer: Some(\"a\\r\"), .., verify_tlog: true, certificate: Verify { verify_sct: true }, scts: Threshold { value: 1 }, logs: Threshold { value: 1 }, .. })])
+policy | keyless;issuer \u{e9}; | Ok([Certificate(VerificationPolicy { identity: None, issuer: Some(\"\u{e9}\"), .., verify_tlog: true, certificate: Verify { verify_sct: true }, scts: Threshold { value: 1 }, logs: Threshold { value: 1 }, .. })])
 # By a pattern: every text is one, blanks and stars and all, and only these two sorts have one.
-policy | keyless;identity uri-like https://a/*@refs/tags/v*; | Ok(Certificate(VerificationPolicy { identity: Some(UriLike(\"https://a/*@refs/tags/v*\")), issuer: None, .., verify_tlog: true, certificate: Verify { verify_sct: true }, scts: Threshold { value: 1 }, logs: Threshold { value: 1 }, .. }))
-policy | keyless;identity email-like *@b.example; | Ok(Certificate(VerificationPolicy { identity: Some(EmailLike(\"*@b.example\")), issuer: None, .., verify_tlog: true, certificate: Verify { verify_sct: true }, scts: Threshold { value: 1 }, logs: Threshold { value: 1 }, .. }))
-policy | keyless;identity uri-like ***?[; | Ok(Certificate(VerificationPolicy { identity: Some(UriLike(\"***?[\")), issuer: None, .., verify_tlog: true, certificate: Verify { verify_sct: true }, scts: Threshold { value: 1 }, logs: Threshold { value: 1 }, .. }))
-policy | keyless;identity uri-like a; | Ok(Certificate(VerificationPolicy { identity: Some(UriLike(\"a\")), issuer: None, .., verify_tlog: true, certificate: Verify { verify_sct: true }, scts: Threshold { value: 1 }, logs: Threshold { value: 1 }, .. }))
-policy | keyless;identity uri-like  * ; | Ok(Certificate(VerificationPolicy { identity: Some(UriLike(\" * \")), issuer: None, .., verify_tlog: true, certificate: Verify { verify_sct: true }, scts: Threshold { value: 1 }, logs: Threshold { value: 1 }, .. }))
-policy | keyless;identity uri like *; | Ok(Certificate(VerificationPolicy { identity: Some(Uri(\"like *\")), issuer: None, .., verify_tlog: true, certificate: Verify { verify_sct: true }, scts: Threshold { value: 1 }, logs: Threshold { value: 1 }, .. }))
-policy | keyless;identity uri *; | Ok(Certificate(VerificationPolicy { identity: Some(Uri(\"*\")), issuer: None, .., verify_tlog: true, certificate: Verify { verify_sct: true }, scts: Threshold { value: 1 }, logs: Threshold { value: 1 }, .. }))
-policy | keyless;identity exact *; | Ok(Certificate(VerificationPolicy { identity: Some(Exact(\"*\")), issuer: None, .., verify_tlog: true, certificate: Verify { verify_sct: true }, scts: Threshold { value: 1 }, logs: Threshold { value: 1 }, .. }))
+policy | keyless;identity uri-like https://a/*@refs/tags/v*; | Ok([Certificate(VerificationPolicy { identity: Some(UriLike(\"https://a/*@refs/tags/v*\")), issuer: None, .., verify_tlog: true, certificate: Verify { verify_sct: true }, scts: Threshold { value: 1 }, logs: Threshold { value: 1 }, .. })])
+policy | keyless;identity email-like *@b.example; | Ok([Certificate(VerificationPolicy { identity: Some(EmailLike(\"*@b.example\")), issuer: None, .., verify_tlog: true, certificate: Verify { verify_sct: true }, scts: Threshold { value: 1 }, logs: Threshold { value: 1 }, .. })])
+policy | keyless;identity uri-like ***?[; | Ok([Certificate(VerificationPolicy { identity: Some(UriLike(\"***?[\")), issuer: None, .., verify_tlog: true, certificate: Verify { verify_sct: true }, scts: Threshold { value: 1 }, logs: Threshold { value: 1 }, .. })])
+policy | keyless;identity uri-like a; | Ok([Certificate(VerificationPolicy { identity: Some(UriLike(\"a\")), issuer: None, .., verify_tlog: true, certificate: Verify { verify_sct: true }, scts: Threshold { value: 1 }, logs: Threshold { value: 1 }, .. })])
+policy | keyless;identity uri-like  * ; | Ok([Certificate(VerificationPolicy { identity: Some(UriLike(\" * \")), issuer: None, .., verify_tlog: true, certificate: Verify { verify_sct: true }, scts: Threshold { value: 1 }, logs: Threshold { value: 1 }, .. })])
+policy | keyless;identity uri like *; | Ok([Certificate(VerificationPolicy { identity: Some(Uri(\"like *\")), issuer: None, .., verify_tlog: true, certificate: Verify { verify_sct: true }, scts: Threshold { value: 1 }, logs: Threshold { value: 1 }, .. })])
+policy | keyless;identity uri *; | Ok([Certificate(VerificationPolicy { identity: Some(Uri(\"*\")), issuer: None, .., verify_tlog: true, certificate: Verify { verify_sct: true }, scts: Threshold { value: 1 }, logs: Threshold { value: 1 }, .. })])
+policy | keyless;identity exact *; | Ok([Certificate(VerificationPolicy { identity: Some(Exact(\"*\")), issuer: None, .., verify_tlog: true, certificate: Verify { verify_sct: true }, scts: Threshold { value: 1 }, logs: Threshold { value: 1 }, .. })])
 policy | keyless;identity uri-like ; | Err(Usage)
 policy | keyless;identity uri-like; | Err(Usage)
 policy | keyless;identity email-like ; | Err(Usage)
@@ -329,20 +368,20 @@ policy | identity exact a;keyless; | Err(Usage)
 policy | identity exact a; | Err(Usage)
 policy | issuer a; | Err(Usage)
 # How many logs: each number once, the least and the greatest, in any order, and beside waivers.
-policy | key AQI=;logs 2; | Ok(PublicKey(PublicKeyVerificationPolicy { key: [1, 2], verify_tlog: true, logs: Threshold { value: 2 }, .. }))
-policy | key AQI=;logs 1; | Ok(PublicKey(PublicKeyVerificationPolicy { key: [1, 2], verify_tlog: true, logs: Threshold { value: 1 }, .. }))
-policy | key AQI=;logs 255; | Ok(PublicKey(PublicKeyVerificationPolicy { key: [1, 2], verify_tlog: true, logs: Threshold { value: 255 }, .. }))
-policy | key AQI=;skip tlog;logs 2; | Ok(PublicKey(PublicKeyVerificationPolicy { key: [1, 2], verify_tlog: false, logs: Threshold { value: 2 }, .. }))
-policy | key AQI=;# two;logs 2;;skip tlog; | Ok(PublicKey(PublicKeyVerificationPolicy { key: [1, 2], verify_tlog: false, logs: Threshold { value: 2 }, .. }))
-policy | keyless;scts 2; | Ok(Certificate(VerificationPolicy { identity: None, issuer: None, .., verify_tlog: true, certificate: Verify { verify_sct: true }, scts: Threshold { value: 2 }, logs: Threshold { value: 1 }, .. }))
-policy | keyless;logs 2; | Ok(Certificate(VerificationPolicy { identity: None, issuer: None, .., verify_tlog: true, certificate: Verify { verify_sct: true }, scts: Threshold { value: 1 }, logs: Threshold { value: 2 }, .. }))
-policy | keyless;scts 1;logs 1; | Ok(Certificate(VerificationPolicy { identity: None, issuer: None, .., verify_tlog: true, certificate: Verify { verify_sct: true }, scts: Threshold { value: 1 }, logs: Threshold { value: 1 }, .. }))
-policy | keyless;logs 255; | Ok(Certificate(VerificationPolicy { identity: None, issuer: None, .., verify_tlog: true, certificate: Verify { verify_sct: true }, scts: Threshold { value: 1 }, logs: Threshold { value: 255 }, .. }))
-policy | keyless;scts 255; | Ok(Certificate(VerificationPolicy { identity: None, issuer: None, .., verify_tlog: true, certificate: Verify { verify_sct: true }, scts: Threshold { value: 255 }, logs: Threshold { value: 1 }, .. }))
-policy | keyless;scts 10;logs 99; | Ok(Certificate(VerificationPolicy { identity: None, issuer: None, .., verify_tlog: true, certificate: Verify { verify_sct: true }, scts: Threshold { value: 10 }, logs: Threshold { value: 99 }, .. }))
-policy | keyless;logs 3;scts 2; | Ok(Certificate(VerificationPolicy { identity: None, issuer: None, .., verify_tlog: true, certificate: Verify { verify_sct: true }, scts: Threshold { value: 2 }, logs: Threshold { value: 3 }, .. }))
-policy | keyless;skip tlog;logs 3;issuer i;scts 2;identity email e; | Ok(Certificate(VerificationPolicy { identity: Some(Email(\"e\")), issuer: Some(\"i\"), .., verify_tlog: false, certificate: Verify { verify_sct: true }, scts: Threshold { value: 2 }, logs: Threshold { value: 3 }, .. }))
-policy | keyless;scts 2;skip sct;skip chain; | Ok(Certificate(VerificationPolicy { identity: None, issuer: None, .., verify_tlog: true, certificate: Skip, scts: Threshold { value: 2 }, logs: Threshold { value: 1 }, .. }))
+policy | key AQI=;logs 2; | Ok([PublicKey(PublicKeyVerificationPolicy { key: [1, 2], verify_tlog: true, logs: Threshold { value: 2 }, .. })])
+policy | key AQI=;logs 1; | Ok([PublicKey(PublicKeyVerificationPolicy { key: [1, 2], verify_tlog: true, logs: Threshold { value: 1 }, .. })])
+policy | key AQI=;logs 255; | Ok([PublicKey(PublicKeyVerificationPolicy { key: [1, 2], verify_tlog: true, logs: Threshold { value: 255 }, .. })])
+policy | key AQI=;skip tlog;logs 2; | Ok([PublicKey(PublicKeyVerificationPolicy { key: [1, 2], verify_tlog: false, logs: Threshold { value: 2 }, .. })])
+policy | key AQI=;# two;logs 2;;skip tlog; | Ok([PublicKey(PublicKeyVerificationPolicy { key: [1, 2], verify_tlog: false, logs: Threshold { value: 2 }, .. })])
+policy | keyless;scts 2; | Ok([Certificate(VerificationPolicy { identity: None, issuer: None, .., verify_tlog: true, certificate: Verify { verify_sct: true }, scts: Threshold { value: 2 }, logs: Threshold { value: 1 }, .. })])
+policy | keyless;logs 2; | Ok([Certificate(VerificationPolicy { identity: None, issuer: None, .., verify_tlog: true, certificate: Verify { verify_sct: true }, scts: Threshold { value: 1 }, logs: Threshold { value: 2 }, .. })])
+policy | keyless;scts 1;logs 1; | Ok([Certificate(VerificationPolicy { identity: None, issuer: None, .., verify_tlog: true, certificate: Verify { verify_sct: true }, scts: Threshold { value: 1 }, logs: Threshold { value: 1 }, .. })])
+policy | keyless;logs 255; | Ok([Certificate(VerificationPolicy { identity: None, issuer: None, .., verify_tlog: true, certificate: Verify { verify_sct: true }, scts: Threshold { value: 1 }, logs: Threshold { value: 255 }, .. })])
+policy | keyless;scts 255; | Ok([Certificate(VerificationPolicy { identity: None, issuer: None, .., verify_tlog: true, certificate: Verify { verify_sct: true }, scts: Threshold { value: 255 }, logs: Threshold { value: 1 }, .. })])
+policy | keyless;scts 10;logs 99; | Ok([Certificate(VerificationPolicy { identity: None, issuer: None, .., verify_tlog: true, certificate: Verify { verify_sct: true }, scts: Threshold { value: 10 }, logs: Threshold { value: 99 }, .. })])
+policy | keyless;logs 3;scts 2; | Ok([Certificate(VerificationPolicy { identity: None, issuer: None, .., verify_tlog: true, certificate: Verify { verify_sct: true }, scts: Threshold { value: 2 }, logs: Threshold { value: 3 }, .. })])
+policy | keyless;skip tlog;logs 3;issuer i;scts 2;identity email e; | Ok([Certificate(VerificationPolicy { identity: Some(Email(\"e\")), issuer: Some(\"i\"), .., verify_tlog: false, certificate: Verify { verify_sct: true }, scts: Threshold { value: 2 }, logs: Threshold { value: 3 }, .. })])
+policy | keyless;scts 2;skip sct;skip chain; | Ok([Certificate(VerificationPolicy { identity: None, issuer: None, .., verify_tlog: true, certificate: Skip, scts: Threshold { value: 2 }, logs: Threshold { value: 1 }, .. })])
 # Twice, none, more than 255, and in another spelling.
 policy | keyless;scts 2;scts 2; | Err(Usage)
 policy | keyless;scts 2;scts 3; | Err(Usage)
@@ -402,8 +441,8 @@ policy with byte ff | key AQI=;# | Err(Usage)
 policy with byte ff | keyless;issuer  | Err(Usage)
 policy with byte ff | keyless;identity exact a | Err(Usage)
 # What is asked beside who signed, under a key and without one.
-policy | key AQI=;times 2;tokens 255;signed after 2023-01-02T03:04:05Z;signed before 2024-01-01T00:00:00Z;predicate https://slsa.dev/provenance/v1; | Ok(PublicKey(PublicKeyVerificationPolicy { key: [1, 2], verify_tlog: true, logs: Threshold { value: 1 }, conditions: SignatureConditions { predicate: Some(Exact(\"https://slsa.dev/provenance/v1\")), times: Some(Threshold { value: 2 }), tokens: Some(Threshold { value: 255 }), signed_before: Some(2024-01-01T00:00:00Z), signed_after: Some(2023-01-02T03:04:05Z) } }))
-policy | keyless;predicate-like https://slsa.dev/**; | Ok(Certificate(VerificationPolicy { identity: None, issuer: None, .., verify_tlog: true, certificate: Verify { verify_sct: true }, scts: Threshold { value: 1 }, logs: Threshold { value: 1 }, conditions: SignatureConditions { predicate: Some(Like(\"https://slsa.dev/**\")), times: None, tokens: None, signed_before: None, signed_after: None } }))
+policy | key AQI=;times 2;tokens 255;signed after 2023-01-02T03:04:05Z;signed before 2024-01-01T00:00:00Z;predicate https://slsa.dev/provenance/v1; | Ok([PublicKey(PublicKeyVerificationPolicy { key: [1, 2], verify_tlog: true, logs: Threshold { value: 1 }, conditions: SignatureConditions { predicate: Some(Exact(\"https://slsa.dev/provenance/v1\")), times: Some(Threshold { value: 2 }), tokens: Some(Threshold { value: 255 }), signed_before: Some(2024-01-01T00:00:00Z), signed_after: Some(2023-01-02T03:04:05Z) } })])
+policy | keyless;predicate-like https://slsa.dev/**; | Ok([Certificate(VerificationPolicy { identity: None, issuer: None, .., verify_tlog: true, certificate: Verify { verify_sct: true }, scts: Threshold { value: 1 }, logs: Threshold { value: 1 }, conditions: SignatureConditions { predicate: Some(Like(\"https://slsa.dev/**\")), times: None, tokens: None, signed_before: None, signed_after: None } })])
 policy | key AQI=;times 0; | Err(Usage)
 policy | key AQI=;times 256; | Err(Usage)
 policy | key AQI=;times 02; | Err(Usage)
@@ -418,9 +457,9 @@ policy | key AQI=;signed until 2024-01-01T00:00:00Z; | Err(Usage)
 policy | key AQI=;signed before 2024-01-01T00:00:00Z;signed before 2025-01-01T00:00:00Z; | Err(Usage)
 policy | key AQI=;Times 2; | Err(Usage)
 # What a certificate has to claim, each name once, and nobody named on purpose.
-policy | keyless;claim build-trigger push;claim-like source-repository-ref refs/tags/*; | Ok(Certificate(VerificationPolicy { identity: None, issuer: None, claims: [ClaimMatcher { name: BuildTrigger, text: Exact(\"push\") }, ClaimMatcher { name: SourceRepositoryRef, text: Like(\"refs/tags/*\") }], anyone: false, verify_tlog: true, certificate: Verify { verify_sct: true }, scts: Threshold { value: 1 }, logs: Threshold { value: 1 }, .. }))
-policy | keyless;claim github-workflow-name a b ; | Ok(Certificate(VerificationPolicy { identity: None, issuer: None, claims: [ClaimMatcher { name: GithubWorkflowName, text: Exact(\"a b \") }], anyone: false, verify_tlog: true, certificate: Verify { verify_sct: true }, scts: Threshold { value: 1 }, logs: Threshold { value: 1 }, .. }))
-policy | keyless;issuer i;anyone; | Ok(Certificate(VerificationPolicy { identity: None, issuer: Some(\"i\"), claims: [], anyone: true, verify_tlog: true, certificate: Verify { verify_sct: true }, scts: Threshold { value: 1 }, logs: Threshold { value: 1 }, .. }))
+policy | keyless;claim build-trigger push;claim-like source-repository-ref refs/tags/*; | Ok([Certificate(VerificationPolicy { identity: None, issuer: None, claims: [ClaimMatcher { name: BuildTrigger, text: Exact(\"push\") }, ClaimMatcher { name: SourceRepositoryRef, text: Like(\"refs/tags/*\") }], anyone: false, verify_tlog: true, certificate: Verify { verify_sct: true }, scts: Threshold { value: 1 }, logs: Threshold { value: 1 }, .. })])
+policy | keyless;claim github-workflow-name a b ; | Ok([Certificate(VerificationPolicy { identity: None, issuer: None, claims: [ClaimMatcher { name: GithubWorkflowName, text: Exact(\"a b \") }], anyone: false, verify_tlog: true, certificate: Verify { verify_sct: true }, scts: Threshold { value: 1 }, logs: Threshold { value: 1 }, .. })])
+policy | keyless;issuer i;anyone; | Ok([Certificate(VerificationPolicy { identity: None, issuer: Some(\"i\"), claims: [], anyone: true, verify_tlog: true, certificate: Verify { verify_sct: true }, scts: Threshold { value: 1 }, logs: Threshold { value: 1 }, .. })])
 policy | keyless;claim build-trigger push;claim build-trigger push; | Err(Usage)
 policy | keyless;claim build-trigger push;claim-like build-trigger *; | Err(Usage)
 policy | keyless;claim trigger push; | Err(Usage)
@@ -435,6 +474,49 @@ policy | keyless;anyone at all; | Err(Usage)
 policy | key AQI=;anyone; | Err(Usage)
 policy | key AQI=;claim build-trigger push; | Err(Usage)
 policy | key AQI=;claim-like build-trigger *; | Err(Usage)";
+
+// The same of files with several rules.
+const RULES: &str = "# Two rules and three, each with its own lines.
+policy | key AQI=;or;keyless;identity uri u;issuer i; | Ok([PublicKey(PublicKeyVerificationPolicy { key: [1, 2], verify_tlog: true, logs: Threshold { value: 1 }, .. }), Certificate(VerificationPolicy { identity: Some(Uri(\"u\")), issuer: Some(\"i\"), .., verify_tlog: true, certificate: Verify { verify_sct: true }, scts: Threshold { value: 1 }, logs: Threshold { value: 1 }, .. })])
+policy | ;# one;keyless;identity email e;# the end of it;or;;# another;key AQI=;# the end; | Ok([Certificate(VerificationPolicy { identity: Some(Email(\"e\")), issuer: None, .., verify_tlog: true, certificate: Verify { verify_sct: true }, scts: Threshold { value: 1 }, logs: Threshold { value: 1 }, .. }), PublicKey(PublicKeyVerificationPolicy { key: [1, 2], verify_tlog: true, logs: Threshold { value: 1 }, .. })])
+policy | key AQI=;or;key AQI=; | Ok([PublicKey(PublicKeyVerificationPolicy { key: [1, 2], verify_tlog: true, logs: Threshold { value: 1 }, .. }), PublicKey(PublicKeyVerificationPolicy { key: [1, 2], verify_tlog: true, logs: Threshold { value: 1 }, .. })])
+policy | key AQI=;skip tlog;or;key Aw==;or;keyless;skip sct; | Ok([PublicKey(PublicKeyVerificationPolicy { key: [1, 2], verify_tlog: false, logs: Threshold { value: 1 }, .. }), PublicKey(PublicKeyVerificationPolicy { key: [3], verify_tlog: true, logs: Threshold { value: 1 }, .. }), Certificate(VerificationPolicy { identity: None, issuer: None, .., verify_tlog: true, certificate: Verify { verify_sct: false }, scts: Threshold { value: 1 }, logs: Threshold { value: 1 }, .. })])
+# A line stands once in each rule.
+policy | key AQI=;skip tlog;or;key Aw==;skip tlog; | Ok([PublicKey(PublicKeyVerificationPolicy { key: [1, 2], verify_tlog: false, logs: Threshold { value: 1 }, .. }), PublicKey(PublicKeyVerificationPolicy { key: [3], verify_tlog: false, logs: Threshold { value: 1 }, .. })])
+policy | keyless;identity exact a;issuer i;or;keyless;identity exact b;issuer i; | Ok([Certificate(VerificationPolicy { identity: Some(Exact(\"a\")), issuer: Some(\"i\"), .., verify_tlog: true, certificate: Verify { verify_sct: true }, scts: Threshold { value: 1 }, logs: Threshold { value: 1 }, .. }), Certificate(VerificationPolicy { identity: Some(Exact(\"b\")), issuer: Some(\"i\"), .., verify_tlog: true, certificate: Verify { verify_sct: true }, scts: Threshold { value: 1 }, logs: Threshold { value: 1 }, .. })])
+policy | keyless;anyone;or;keyless;identity exact a; | Ok([Certificate(VerificationPolicy { identity: None, issuer: None, claims: [], anyone: true, verify_tlog: true, certificate: Verify { verify_sct: true }, scts: Threshold { value: 1 }, logs: Threshold { value: 1 }, .. }), Certificate(VerificationPolicy { identity: Some(Exact(\"a\")), issuer: None, .., verify_tlog: true, certificate: Verify { verify_sct: true }, scts: Threshold { value: 1 }, logs: Threshold { value: 1 }, .. })])
+policy | keyless;identity exact a;or;keyless;anyone; | Ok([Certificate(VerificationPolicy { identity: Some(Exact(\"a\")), issuer: None, .., verify_tlog: true, certificate: Verify { verify_sct: true }, scts: Threshold { value: 1 }, logs: Threshold { value: 1 }, .. }), Certificate(VerificationPolicy { identity: None, issuer: None, claims: [], anyone: true, verify_tlog: true, certificate: Verify { verify_sct: true }, scts: Threshold { value: 1 }, logs: Threshold { value: 1 }, .. })])
+policy | key AQI=;or;key Aw==;skip tlog;skip tlog; | Err(Usage)
+policy | key AQI=;skip tlog;skip tlog;or;key Aw==; | Err(Usage)
+policy | keyless;anyone;identity exact a;or;key AQI=; | Err(Usage)
+policy | key AQI=;or;keyless;anyone;identity exact a; | Err(Usage)
+policy | key AQI=;issuer i;or;keyless; | Err(Usage)
+policy | keyless;or;key AQI=;issuer i; | Err(Usage)
+# The line `or` stands between two rules, alone, and each rule has its first line.
+policy | or; | Err(Usage)
+policy | or;key AQI=; | Err(Usage)
+policy | # none;or;key AQI=; | Err(Usage)
+policy | key AQI=;or; | Err(Usage)
+policy | key AQI=;or;# none;; | Err(Usage)
+policy | key AQI=;or;or;keyless; | Err(Usage)
+policy | key AQI=;or;# none;or;keyless; | Err(Usage)
+policy | key AQI=;or ;keyless; | Err(Usage)
+policy | key AQI=; or;keyless; | Err(Usage)
+policy | key AQI=;or x;keyless; | Err(Usage)
+policy | key AQI=;or key AQI=; | Err(Usage)
+policy | key AQI=;OR;keyless; | Err(Usage)
+policy | key AQI=;or\r;keyless; | Err(Usage)
+policy | key AQI=;or;skip tlog; | Err(Usage)
+policy | key AQI=;or;skip tlog;key Aw==; | Err(Usage)
+policy | key AQI=;or;keyless | Err(Usage)
+policy | key AQI=;or | Err(Usage)
+policy with byte ff | key AQI=;or;key Aw==;# | Err(Usage)
+# At most 64 rules.
+rules behind others | 0 | 1
+rules behind others | 1 | 2
+rules behind others | 63 | 64
+rules behind others | 64 | Usage
+rules behind others | 65 | Usage";
 
 const PROVIDER: &str =
     "accept ECDSA_P256_SHA256 BAA= LPJNul+wow4m6DsqxbninhsWHlwfp0JecwQzYpOLmCQ= AQ==
@@ -612,6 +694,8 @@ fn gather_all<X: AllocGlobal + Abort>(rt: &X, inputs: &mut MemoryInputs, rows: &
 // A row: an input that is put, its text with `;` for the end of a line, and why the inputs aren't gathered.
 const GATHERED: &str = "Bundle | {} | Some(Input(Policy))
 Policy | key AQI= | Some(Malformed(Policy))
+Policy | key AQI=;or; | Some(Malformed(Policy))
+Policy | key AQI=;or;keyless; | Some(Input(Provider))
 Policy | key AQI=; | Some(Input(Provider))
 Provider | refuse; | Some(Malformed(Provider))
 Provider |  | Some(Input(Root))
@@ -660,6 +744,7 @@ fn parts_of_the_program(rt: HostRuntime) {
     hold(&rt, "fault", NAMES);
     hold(&rt, "reading", READINGS);
     hold(&rt, "reading", POLICIES);
+    hold(&rt, "reading", RULES);
     hold(&rt, "table", TABLES);
     hold(&rt, "sink", TAKEN);
     hold(&rt, "line", LINES);

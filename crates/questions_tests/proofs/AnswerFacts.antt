@@ -4,10 +4,10 @@ use Rattle.std.proofs.Math.Path.{fun_ext}
 use Rattle.sigstore_keys.specs.Good.{Judge}
 use Rattle.command_files.specs.Rows.{AcceptRows, accepts_of}
 use Rattle.sigstore_keys.specs.Crypto.{Crypto}
-use Rattle.sigstore_verify.specs.declared.from_root.Acceptance.{Acceptance}
-use Rattle.sigstore_verify.specs.declared.from_root.RootFault.{RootFault}
+use Rattle.sigstore_verify.specs.declared.by_rules.RuleAcceptance.{RuleAcceptance}
+use Rattle.sigstore_verify.specs.declared.by_rules.RulesFault.{RulesFault}
+use Rattle.sigstore_verify.specs.ByRules.{PromisesByRules}
 use Rattle.sigstore_verify.specs.Inputs.{Outside}
-use Rattle.sigstore_verify.specs.Promises.{Promises}
 use Rattle.command_verify.specs.Run.{given_of}
 use Rattle.command_verify.specs.declared.request.VerifyRequest.{VerifyRequest}
 use Rattle.questions_tests.specs.Answered.{AreAnswers, by_answers}
@@ -30,8 +30,8 @@ module _ (armored : List ℕ → Bool) (key_in certificate_in : List ℕ → Opt
 
   -- what is promised by answers alone is promised under each judge who agrees with them
   pub promised : (judge : Judge) (good refused : AcceptRows) (request : VerifyRequest) (before after : Outside)
-      (result : Result Acceptance RootFault)
-      → Promises (given_of (crypto_with (by_answers good refused judge)) request) before after result
-      → AreAnswers judge good refused → Promises (given_of (crypto_with judge) request) before after result
+      (result : Result RuleAcceptance RulesFault)
+      → PromisesByRules (given_of (crypto_with (by_answers good refused judge)) request) before after result
+      → AreAnswers judge good refused → PromisesByRules (given_of (crypto_with judge) request) before after result
   promised judge good refused request before after result promises are =
-      subst (λ j. Promises (given_of (crypto_with j) request) before after result) (answers_decide judge good refused are) promises
+      subst (λ j. PromisesByRules (given_of (crypto_with j) request) before after result) (answers_decide judge good refused are) promises

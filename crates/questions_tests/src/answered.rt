@@ -4,7 +4,7 @@ ghost use Rattle.std.specs.Prelude.{◌≡◌, List, ℕ, Bool};
 ghost use Rattle.sigstore_keys.specs.declared.scheme.SigningScheme.{SigningScheme};
 ghost use Rattle.sigstore_keys.specs.Crypto.{Crypto};
 ghost use Rattle.sigstore_verify.specs.Inputs.{outside_by};
-ghost use Rattle.sigstore_verify.specs.Promises.{Promises};
+ghost use Rattle.sigstore_verify.specs.ByRules.{PromisesByRules};
 ghost use Rattle.command_verify.specs.Run.{given_of};
 ghost use Rattle.questions_tests.specs.Answered.{AreAnswers, by_answers};
 
@@ -13,7 +13,7 @@ use command_verify::{VerifyRequest, verify_request};
 use sigstore_keys::{ArtifactSource, CryptoProvider, Providers, SigningScheme};
 use sigstore_tuf::{MetadataStore, Repository};
 use sigstore_types_parts::Armor;
-use sigstore_verify::{Acceptance, RootFault};
+use sigstore_verify::{RuleAcceptance, RulesFault};
 use std::alloc::Global;
 use std::marker::PhantomData;
 use std::process::Abort;
@@ -88,7 +88,7 @@ pub(crate) fn verify_by_answers<
     repo: &mut R,
     store: &mut S,
     artifact: &mut A,
-) -> Result<Acceptance, RootFault>
+) -> Result<RuleAcceptance, RulesFault>
     ensures { let armor = answers.entry.armor.now in
         let crypto : Crypto = record {
           accepts = J.judges;
@@ -96,7 +96,7 @@ pub(crate) fn verify_by_answers<
           key_in = M.key_in armor;
           certificate_in = M.certificate_in armor;
         } in
-        AreAnswers J.judges answers.entry.provider.now.good.now.rows answers.entry.provider.now.refused.now.rows → Promises (given_of crypto request.now)
+        AreAnswers J.judges answers.entry.provider.now.good.now.rows answers.entry.provider.now.refused.now.rows → PromisesByRules (given_of crypto request.now)
         (outside_by (R.seen repo.old) (S.seen store.old) (A.seen artifact.old))
         (outside_by (R.seen repo.new) (S.seen store.new) (A.seen artifact.new)) result }
 {

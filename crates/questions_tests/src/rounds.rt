@@ -239,7 +239,7 @@ fn accepts<X: AllocGlobal + Abort>(rt: &X, gathered: &Gathered, refused: &TableP
         judge: PhantomData::<Somebody>,
     };
     let request = VerifyRequest {
-        policy: &gathered.policy,
+        rules: gathered.rules.as_slice(),
         root: gathered.root.as_bytes(),
         bundle: gathered.bundle.as_bytes(),
         moment: good(rt, MOMENT.parse::<Timestamp>()),

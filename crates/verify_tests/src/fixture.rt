@@ -77,6 +77,7 @@ trust
 delegated
 skip
 policy
+rules
 bundle of blanks
 start of root
 start of bundle

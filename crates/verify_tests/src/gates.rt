@@ -11,31 +11,37 @@ use crate::tables::{
 };
 use command_files::{Tables, read_provider};
 use release_gate::{
-    FileFolder, Folder, FolderFault, GateFault, GateLine, Gated, MemoryFolder, gate_from_root,
+    FileFolder, Folder, FolderFault, GateFault, GateLine, Gated, MemoryFolder, Verdict,
+    gate_from_root,
 };
 use sigstore_tuf::{MemoryRepository, MemoryStore};
 use sigstore_types_parts::{Bytes, DerPublicKey, Text};
-use sigstore_verify::PublicKeyVerificationPolicy;
+use sigstore_verify::{PublicKeyVerificationPolicy, SigningPolicy, VerificationPolicy};
 use std::alloc::Global;
 use std::fs;
 use std::process::Abort;
 
-// A row: the part, the text in its place, the folder's files, and what is said. A file is `NAME=TEXT`, where `@` is the
-// fixture's bundle and `#` are 16 MiB and one octet; an artifact may have five octets. Of the folder the call of the
-// number fails: the listing, the reading of the bundle, that of the artifact, and the one that finds its end.
+// A row: the part, the text in its place, the folder's files, and what is said. The text of `rules` has a word for each:
+// `key` is the fixture's key, `log` the same where the log has to show the signature, and `keyless` any owner of a
+// certificate; else there is the first alone. A file is `NAME=TEXT`, where `@` is the fixture's bundle and `#` are 16 MiB
+// and one octet; an artifact may have five octets. Of the folder the call of the number fails: the listing, the reading of
+// the bundle, that of the artifact, and the one that finds its end.
 const GATED: &str =
     r#"nothing |  | hello.txt=hello hello.txt.sigstore.json=@ other.txt=x | hello.txt Admitted; other.txt Unsigned
 nothing |  |  | none
-nothing |  | b.txt=jello b.txt.sigstore.json=@ | b.txt Denied { number: 4 }
+nothing |  | b.txt=jello b.txt.sigstore.json=@ | b.txt Denied 4
 nothing |  | a=hello b=hello b.sigstore.json=@ | a Unsigned; b Admitted
 nothing |  | b=hello B=x a.sigstore.json=@ a=hello -=x | - Unsigned; B Unsigned; a Admitted; b Unsigned
-nothing |  | a=hello a.sigstore.json={ | a Denied { number: 22 }
-nothing |  | a=hello! a.sigstore.json=@ | a Denied { number: 30 }
-nothing |  | a=hello a.sigstore.json=# b=hello b.sigstore.json=@ | a BundleTooLong { seen: 16777217 }; b Admitted
+nothing |  | a=hello a.sigstore.json={ | a Denied 22
+nothing |  | a=hello! a.sigstore.json=@ | a Denied 30
+nothing |  | a=hello a.sigstore.json=# b=hello b.sigstore.json=@ | a BundleTooLong 16777217; b Admitted
 nothing |  | a.sigstore.json=@ a.sigstore.json.sigstore.json=@ | none
 skip |  | a=hello a.sigstore.json=@ | a Admitted
-material | "x509CertificateChain":{"certificates":[]} | a=hello a.sigstore.json=@ | a Denied { number: 22 }
-content | "messageSignature":{"signature":"AQ=="} | a=hello b=jello a.sigstore.json=@ b.sigstore.json=@ | a Admitted; b Denied { number: 3 }
+material | "x509CertificateChain":{"certificates":[]} | a=hello a.sigstore.json=@ | a Denied 22
+content | "messageSignature":{"signature":"AQ=="} | a=hello b=jello a.sigstore.json=@ b.sigstore.json=@ | a Admitted; b Denied 3
+rules | keyless key | a=hello b=jello c=hello! a.sigstore.json=@ b.sigstore.json=@ c.sigstore.json=@ | a Admitted; b Denied 22 4; c Denied 22 30
+rules | key keyless | a=hello b=jello c=x d=x a.sigstore.json=@ b.sigstore.json=@ c.sigstore.json={ | a Admitted; b Denied 4 22; c Denied 22; d Unsigned
+rules | log keyless | a=hello! a.sigstore.json=@ | a Denied 27 22
 repository fails | 1 | a=hello a.sigstore.json=@ | Tuf 18
 trust | { | a=hello a.sigstore.json=@ | Trust 28
 artifact fails | 1 | a=hello a.sigstore.json=@ | FolderFailed
@@ -234,6 +240,28 @@ pub(crate) fn folder<X: AllocGlobal + Abort>(rt: &X, change: Change, files: &str
     folder
 }
 
+// The rule of a word.
+fn rule<X: AllocGlobal + Abort>(rt: &X, word: &str) -> SigningPolicy {
+    let key = good(rt, DerPublicKey::from_base64(rt.alloc(), SPKI));
+    match word {
+        "log" => SigningPolicy::PublicKey(PublicKeyVerificationPolicy::new(key)),
+        "keyless" => {
+            drop(key);
+            let policy = VerificationPolicy::any_identity(rt.alloc());
+            SigningPolicy::Certificate(policy.skip_tlog_unsafe())
+        }
+        _ => SigningPolicy::PublicKey(PublicKeyVerificationPolicy::new(key).skip_tlog_unsafe()),
+    }
+}
+
+fn rules<X: AllocGlobal + Abort>(rt: &X, change: Change) -> Vec<SigningPolicy> {
+    let mut rules = Vec::new(rt.alloc());
+    for word in change.of("rules", "key").split_whitespace() {
+        there(rt, rules.push(rule(rt, word)).ok());
+    }
+    rules
+}
+
 // What the gate says of a folder, over the changed fixture.
 fn judged<X: AllocGlobal + Abort, D: Folder>(
     rt: &X,
@@ -241,13 +269,11 @@ fn judged<X: AllocGlobal + Abort, D: Folder>(
     root: &Bytes,
     repo: &mut MemoryRepository,
     folder: &mut D,
+    rules: &[SigningPolicy],
 ) -> Result<Gated, GateFault> {
     let mut store = MemoryStore::new(rt.alloc());
-    let key = good(rt, DerPublicKey::from_base64(rt.alloc(), SPKI));
-    let policy = PublicKeyVerificationPolicy::new(key).skip_tlog_unsafe();
     let anchor = anchor(rt, tables, root);
-    let judged = gate_from_root(rt.alloc(), &anchor, repo, &mut store, folder, 5, &policy);
-    drop(policy);
+    let judged = gate_from_root(rt.alloc(), &anchor, repo, &mut store, folder, 5, rules);
     drop(store);
     judged
 }
@@ -258,7 +284,9 @@ fn said_of<X: AllocGlobal + Abort, D: Folder>(rt: &X, change: Change, folder: &m
     let rows = provider(rt, change, root.as_str(), targets.as_str());
     let tables = good(rt, read_provider(rt.alloc(), rows.as_bytes()));
     let document = given_root(rt, change, root.as_str());
-    let judged = judged(rt, &tables, &document, &mut repo, folder);
+    let rules = rules(rt, change);
+    let judged = judged(rt, &tables, &document, &mut repo, folder, &rules);
+    drop(rules);
     drop(document);
     drop(tables);
     drop(rows);
@@ -294,6 +322,21 @@ pub(crate) fn listed<X: AllocGlobal + Abort>(rt: &X, row: &str) -> String {
     said
 }
 
+// A verdict by its name, with the numbers that it keeps.
+fn verdict_told<X: AllocGlobal + Abort>(rt: &X, verdict: &Verdict) -> String {
+    let mut told = good(rt, format!(in rt.alloc(); "{verdict}"));
+    match verdict {
+        Verdict::Denied { numbers } => {
+            for number in numbers.as_slice() {
+                good(rt, write!(told, " {number}"));
+            }
+        }
+        Verdict::BundleTooLong { seen } => good(rt, write!(told, " {seen}")),
+        _ => {}
+    }
+    told
+}
+
 // Lines, with a mark between them.
 fn lines_told<X: AllocGlobal + Abort>(rt: &X, lines: &[GateLine]) -> String {
     if lines.is_empty() {
@@ -302,8 +345,9 @@ fn lines_told<X: AllocGlobal + Abort>(rt: &X, lines: &[GateLine]) -> String {
     let mut told = string(rt, "");
     for line in lines {
         let mark = if told.is_empty() { "" } else { "; " };
-        let (name, verdict) = (line.name.as_str(), line.verdict);
-        good(rt, write!(told, "{mark}{name} {verdict:?}"));
+        let verdict = verdict_told(rt, &line.verdict);
+        good(rt, write!(told, "{mark}{} {verdict}", line.name));
+        drop(verdict);
     }
     told
 }

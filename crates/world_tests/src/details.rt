@@ -7,7 +7,7 @@ use command_verify::{VerifyRequest, verify_request};
 use jiff::Timestamp;
 use sigstore_keys::Providers;
 use sigstore_pem::PemArmor;
-use sigstore_verify::{Acceptance, Error, RootFault, VerificationResult};
+use sigstore_verify::{Error, RootFault, RuleAcceptance, RulesFault, VerificationResult};
 use std::alloc::Global;
 
 // The window of the certificate and its key, in a line; none where a key signed.
@@ -63,16 +63,25 @@ fn push_refused(text: &mut String, refusal: &sigstore_tuf::Error) -> Result<(), 
     Ok(())
 }
 
+// Adds what each rule's refusal holds.
+fn push_refusals(text: &mut String, faults: &[Error]) -> Result<(), Fault> {
+    'faults: for fault in faults {
+        push_refusal(text, fault)?;
+    }
+    Ok(())
+}
+
 fn push_judged(
     alloc: Global,
     text: &mut String,
-    judged: &Result<Acceptance, RootFault>,
+    judged: &Result<RuleAcceptance, RulesFault>,
 ) -> Result<(), Fault> {
     match judged {
-        Ok(accepted) => push_result(alloc, text, &accepted.result),
-        Err(RootFault::Verify { fault, .. }) => push_refusal(text, fault),
-        Err(RootFault::Tuf(refusal)) => push_refused(text, refusal),
-        Err(RootFault::NoMemory) => Err(Fault::NoMemory),
+        Ok(ruled) => push_result(alloc, text, &ruled.acceptance.result),
+        Err(RulesFault::Root(RootFault::Verify { fault, .. })) => push_refusal(text, fault),
+        Err(RulesFault::Root(RootFault::Tuf(refusal))) => push_refused(text, refusal),
+        Err(RulesFault::Root(RootFault::NoMemory)) => Err(Fault::NoMemory),
+        Err(RulesFault::Each { faults, .. }) => push_refusals(text, faults.as_slice()),
     }
 }
 
@@ -88,7 +97,7 @@ pub fn push_found(
         return Ok(());
     };
     let request = VerifyRequest {
-        policy: &gathered.policy,
+        rules: gathered.rules.as_slice(),
         root: gathered.root.as_bytes(),
         bundle: gathered.bundle.as_bytes(),
         moment: now,

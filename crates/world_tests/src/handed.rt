@@ -3,7 +3,7 @@ use crate::details::{push_refusal, push_result};
 use crate::fault::Fault;
 use crate::objects::artifact;
 use crate::world::World;
-use command_files::{Tables, read_policy, read_provider};
+use command_files::{Tables, read_provider, read_rules};
 use jiff::Timestamp;
 use sigstore_judgement::{Asked, Case, judge_bundle, verify};
 use sigstore_keys::{Providers, sha256};
@@ -115,11 +115,14 @@ pub fn push_alone(
     let Ok(tables) = read_provider(alloc, octets(world, "provider")) else {
         return Err(Fault::World);
     };
-    let Ok(policy) = read_policy(alloc, octets(world, "policy")) else {
+    let Ok(rules) = read_rules(alloc, octets(world, "policy")) else {
+        return Err(Fault::World);
+    };
+    let [policy] = rules.as_slice() else {
         return Err(Fault::World);
     };
     match world.text("handed") {
-        Some(_) => push_handed(alloc, world, &tables, &policy, now, text),
-        None => push_read(alloc, world, &tables, &policy, now, text),
+        Some(_) => push_handed(alloc, world, &tables, policy, now, text),
+        None => push_read(alloc, world, &tables, policy, now, text),
     }
 }
