@@ -3,6 +3,7 @@ pub mod RootCauses
 pub mod RootCompleting
 pub mod RootPromises
 pub mod ByRulesPromise
+mod Told
 mod OnlyTop
 mod Digests
 mod Entries

@@ -1,3 +1,4 @@
+pub mod ByDigests
 pub mod ByRules
 pub mod Cause
 pub mod Complete

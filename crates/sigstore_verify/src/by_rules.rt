@@ -35,7 +35,7 @@ pub enum RulesFault {
 }
 
 // What is answered of the judgement under a chain's trusted root.
-fn ruled(
+pub(crate) fn ruled(
     judged: Result<JudgedByRule, RulesError>,
     chain: TrustChain,
 ) -> Result<RuleAcceptance, RulesFault>

@@ -3,12 +3,14 @@
 #![tactic(auto)]
 
 mod anchor;
+mod by_digests;
 mod by_rules;
 mod chain;
 mod from_root;
 mod laws;
 
 pub use anchor::Anchor;
+pub use by_digests::{DigestsAsked, verify_digests_from_root};
 pub use by_rules::{RuleAcceptance, RulesFault, verify_from_root_by_rules};
 pub use chain::{TRUST_PATH, chain_from_root};
 pub use from_root::{Acceptance, RootFault, verify_from_root};
