@@ -1,19 +1,20 @@
 //! Verifies a bundle over an artifact from a pinned TUF root: `verify` and eight options. `gate` judges each artifact
 //! of a folder by its own bundle. `archive` writes the chain of documents to one file, and `check` judges such a file;
-//! `audit` judges whether a log grew; `generate` verifies a workload and counts. The report, the lines or the refusal
-//! go to standard output; the exit status says which.
+//! `download` puts the files of targets in their places; `audit` judges whether a log grew; `generate` verifies a
+//! workload and counts. The report, the lines or the refusal go to standard output; the exit status says which.
 #![tactic(auto)]
 
 use command_archive::{ArchiveLayout, archive_layout, run_archive};
 use command_audit::{AuditLayout, audit_layout, run_audit};
+use command_download::{DownloadLayout, download_layout, run_download};
 use command_files::{CommandLine, Layout, Status, StdoutSink, exit_code, or_none, read_layout};
 use command_gate::{gate_layout, run_gate};
 use command_generate::{is_generate, run_generate};
 use command_verify::run;
 use foundation::NoMemory;
 use program_objects::{
-    AuditObjects, GateObjects, Objects, audit_objects_at, clock_of, gate_objects_at, objects_at,
-    words_of,
+    AuditObjects, DownloadObjects, GateObjects, Objects, audit_objects_at, clock_of,
+    download_objects_at, gate_objects_at, objects_at, words_of,
 };
 use sigstore_types_parts::Text;
 use std::process::ExitCode;
@@ -57,6 +58,32 @@ fn audited<X: Runtime + AllocGlobal>(rt: &X, words: &[Text], layout: AuditLayout
         &mut inputs,
         &mut checkpoints,
         &mut tiles,
+        &mut out,
+    )
+}
+
+// Runs `download` over the real objects that its words name.
+fn downloaded<X: Runtime + AllocGlobal>(
+    rt: &X,
+    line: &CommandLine<'_>,
+    layout: DownloadLayout,
+) -> Status {
+    let DownloadLayout { places, downloads } = layout;
+    drop(downloads);
+    let DownloadObjects {
+        mut inputs,
+        mut repository,
+        mut store,
+        mut shelf,
+        mut out,
+    } = download_objects_at(rt, places);
+    run_download(
+        rt.alloc(),
+        line,
+        &mut inputs,
+        &mut repository,
+        &mut store,
+        &mut shelf,
         &mut out,
     )
 }
@@ -125,6 +152,9 @@ fn status_of<X: Runtime + AllocGlobal>(rt: &X) -> Result<Status, NoMemory> {
     };
     if let Some(layout) = or_none(archive_layout(rt.alloc(), &words))? {
         return Ok(archived(rt, &line, layout));
+    }
+    if let Some(layout) = or_none(download_layout(rt.alloc(), &words))? {
+        return Ok(downloaded(rt, &line, layout));
     }
     if let Some(layout) = or_none(gate_layout(rt.alloc(), &words))? {
         return Ok(gated(rt, &line, layout));

@@ -1,0 +1,12 @@
+mod Cuts
+mod Layouts
+mod Delivering
+mod Delivered
+mod Current
+mod Following
+mod Ending
+mod RunEnding
+mod Saying
+mod Storing
+mod Offered
+mod Completing

@@ -1,0 +1,6 @@
+pub mod Layout
+pub mod Shelf
+pub mod Client
+pub mod Report
+pub mod Run
+pub mod Promises
