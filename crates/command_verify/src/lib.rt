@@ -7,7 +7,7 @@ mod refusals;
 mod report;
 mod request;
 
-pub use program::run;
+pub use program::{answered, run};
 pub use refusals::{refused_tuf, refused_verify};
 pub use report::report_chain;
 pub use request::{MAX_ARTIFACT, VerifyRequest, verify_request};

@@ -37,8 +37,8 @@ fn reported(alloc: Global, several: bool, accepted: &RuleAcceptance) -> Result<A
     }
 }
 
-// What is said of an acceptance or a refusal.
-fn answered(
+/// What is said of an acceptance or a refusal, under several rules or one.
+pub fn answered(
     alloc: Global,
     several: bool,
     judged: &Result<RuleAcceptance, RulesFault>,

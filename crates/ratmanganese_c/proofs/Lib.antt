@@ -1,0 +1,4 @@
+mod Judging
+mod Kept
+mod Open
+mod Saying

@@ -1,0 +1,14 @@
+use Rattle.std.proofs.Common.{string_bytes, nat_eq, length, sym, ap, ◌∙◌, subst, List, ℕ}
+use Rattle.ratmanganese_c.specs.Means.{Means}
+use Rattle.ratmanganese_c.proofs.Saying.{refused_means, asks_means, same_text}
+use Rattle.ratmanganese_c.proofs.said.refuse.Goals as goal
+
+pub returns-then-not-is_empty : goal.returns-then-not-is_empty
+returns-then-not-is_empty c =
+    asks_means c.args.asked.now (string_bytes c.in_ok-verdict.field-0.questions) (string_bytes c.new.result) c.in_ok-verdict.ensures.questions
+    (ap (λ (xs : List ℕ). nat_eq (length xs) 0) (sym c.as_bytes.ensures.value) ∙ sym c.is_empty.ensures ∙ c.if-not-is_empty.true) c.new.ensures.bytes
+
+pub returns : goal.returns
+returns c =
+    subst (λ (t : List ℕ). Means c.args.asked.now.request.now 1 t (string_bytes c.args.known.kept)) (sym c.into_string.ensures)
+    (refused_means c.args.asked.now c.args.known.verdict c.in_ok-verdict.field-0.verdict (string_bytes c.args.known.kept) c.requires.known c.requires.refused c.in_ok-verdict.ensures.verdict c.if-verdict.false (sym c.as_str.ensures ∙ same_text _ _ (sym c.ne.ensures ∙ c.if-ne.false) ∙ c.as_str-else-verdict.ensures))

@@ -1,0 +1,85 @@
+/* The verification of a Sigstore bundle over an artifact from a pinned TUF root, as a library that opens, reads and
+   writes nothing and decides no signature: all that is judged is handed in as bytes, and what is missing comes out as
+   questions.
+
+   What the call promises is proved, of what it is handed. What a host does is not, and these are what a host owes:
+
+   - Each pointer isn't null and is aligned for what it points to, also where its length is 0 (RATMANGANESE_NOTHING serves there), and can
+     be read over the whole
+     length, which is below 2^63. Nothing that the request leads to changes during the call: an artifact in a memory map
+     that somebody writes to meanwhile is judged by octets that were never a file.
+   - `out`, `kept` and `lengths` lie apart from each other and from all that the request leads to.
+   - `root` is the root that you pin, and `policy` says whom you trust: nothing else does.
+   - A row that the call asks for goes into `good` only where the signature is good by the scheme's own rules under that key, and
+     into `bad` where it isn't. A row in `good` that you didn't verify is a signature that you forged.
+   - A file that the call asks for is handed in under the very name that was asked, or the name is handed in as absent. Who hands
+     in another's file is found out, as a repository that lies is; who hands in an old one is found out where it expired.
+   - The moment is now, unless you know better. A clock that stands keeps what is expired.
+   - Only RATMANGANESE_ACCEPTED is acceptance. Treat each other status, and one that isn't named here, as a refusal.
+   - With RATMANGANESE_ACCEPTED and RATMANGANESE_REFUSED the files of `kept` are written into the store, each in place of the one of
+     its name, all before the next call over that store; a store that forgets lets older documents in again.
+   - The stack has 256 KiB left, and the call isn't made from a signal handler. malloc, realloc and free are the process's own.
+     Calls in several threads are apart from each other: nothing is kept between calls. */
+#ifndef RATMANGANESE_H
+#define RATMANGANESE_H
+#include <stdbool.h>
+#include <stddef.h>
+#include <stdint.h>
+
+#ifdef __cplusplus
+extern "C" {
+#endif
+
+struct ratmanganese_bytes { const uint8_t *at; size_t length; };
+struct ratmanganese_file { struct ratmanganese_bytes name, bytes; };
+struct ratmanganese_files { const struct ratmanganese_file *at; size_t length; };
+struct ratmanganese_names { const struct ratmanganese_bytes *at; size_t length; };
+
+/* A pointer that isn't null and is aligned, for a length of 0. */
+static const uint64_t ratmanganese_nothing[1] = {0};
+#define RATMANGANESE_NOTHING ((const void *)ratmanganese_nothing)
+
+struct ratmanganese_request {
+    struct ratmanganese_bytes root;         /* the pinned TUF root, at most 512,000 bytes */
+    struct ratmanganese_bytes bundle;       /* the bundle, JSON, at most 16 MiB */
+    struct ratmanganese_bytes artifact;     /* at most 1 TiB */
+    struct ratmanganese_bytes policy;       /* the policy's text, at most 64 KiB */
+    struct ratmanganese_files repository;   /* files of the repository, targets below targets/ */
+    struct ratmanganese_names absent;       /* names that it doesn't have */
+    struct ratmanganese_files store;        /* all files of the store */
+    struct ratmanganese_bytes good;         /* rows of the signatures that are good, at most 16 MiB */
+    struct ratmanganese_bytes bad;          /* rows of those that aren't */
+    int64_t seconds;                        /* the moment: since the start of 1970, */
+    uint32_t nanoseconds;                   /* and behind them */
+    bool whole;                             /* the repository has no files but those: 0 or 1 */
+};
+
+/* How many bytes of `out` and `kept` are text. */
+struct ratmanganese_lengths { size_t out, kept; };
+
+enum {
+    RATMANGANESE_ACCEPTED = 0, /* `out` is the report, `kept` what the store is to keep */
+    RATMANGANESE_REFUSED = 1,  /* `out` says why, in a line or more, and no question is open; `kept` likewise */
+    RATMANGANESE_USAGE = 2,    /* the policy, `good` (named provider), `bad` or the moment is outside its grammar; `out` has a line */
+    RATMANGANESE_INPUT = 3,    /* an input is too long; `out` has a line */
+    RATMANGANESE_SHORT = 4,    /* `out` or `kept` is shorter than its text; the lengths are those of the texts, which mean nothing yet */
+    RATMANGANESE_MEMORY = 5,   /* memory was wanting; both texts are empty */
+    RATMANGANESE_ASKS = 6      /* `out` has questions, a line each; `kept` is empty. Answer each, and call again with all that was
+                                  handed in before, and the answers:
+                                    accept SCHEME KEY SUBJECT SIGNATURE   put the line, with its end, into `good` or into `bad`
+                                    file NAME MAX                         hand in that file of the repository, of which no more than
+                                                                          MAX bytes are of use (MAX + 1 tell that it is too long), or
+                                                                          hand in the name as absent
+                                  No question is asked that is answered, so that each call answers something new, and the calls end. */
+};
+
+/* A line of `kept` is `keep NAME BYTES`. NAME, BYTES, KEY, SUBJECT and SIGNATURE are base64 (RFC 4648, section 4), or a dash for no
+   bytes. SUBJECT is the message's digest by the scheme's hash, and for Ed25519 the message. KEY is a point in its long form, an
+   RSAPublicKey in DER, or the 32 bytes of Ed25519. */
+uint32_t ratmanganese_verify(const struct ratmanganese_request *request, uint8_t *out, size_t out_length, uint8_t *kept,
+                             size_t kept_length, struct ratmanganese_lengths *lengths);
+
+#ifdef __cplusplus
+}
+#endif
+#endif

@@ -1,0 +1,365 @@
+/* A host: hands files and answers to ratmanganese_verify until it has no more questions. Nothing here is proved: what a host owes
+   stands in ratmanganese.h.
+
+     verify --root=FILE --repository=DIR --store=DIR --bundle=FILE --artifact=FILE --policy=FILE [--provider=FILE]
+         [--now=YYYY-MM-DDTHH:MM:SSZ] [--all] [--tell] [--repeat=N] [--fail-each]
+
+   --provider  rows that hold, to begin with
+   --all       hands in the whole repository at once; else only the files that are asked for are read
+   --tell      says on standard error what each round asks
+   --repeat    does all of it N times, and says the median times; without --all the files are read each time
+   --fail-each refuses each of the library's requests for memory in turn (in verify-wrapped) */
+#define _GNU_SOURCE
+#include "answer.h"
+#include "ratmanganese.h"
+#include <dirent.h>
+#include <errno.h>
+#include <fcntl.h>
+#include <stdio.h>
+#include <stdlib.h>
+#include <string.h>
+#include <sys/mman.h>
+#include <sys/resource.h>
+#include <sys/stat.h>
+#include <time.h>
+#include <unistd.h>
+
+/* ---- memory that is refused */
+
+static bool counting;
+static long requests, fail_at = -1;
+static size_t most; /* that the library held, where malloc is wrapped */
+#ifdef WRAPPED
+#include <malloc.h>
+static size_t held;
+void *__real_malloc(size_t);
+void *__real_realloc(void *, size_t);
+void *__real_calloc(size_t, size_t);
+void __real_free(void *);
+static bool refused(void) { return counting && requests++ == fail_at; }
+static void *counted(void *p) {
+    if (counting && p) { held += malloc_usable_size(p); if (held > most) most = held; }
+    return p;
+}
+void *__wrap_malloc(size_t n) { return refused() ? NULL : counted(__real_malloc(n)); }
+void *__wrap_calloc(size_t n, size_t m) { return refused() ? NULL : counted(__real_calloc(n, m)); }
+void *__wrap_realloc(void *p, size_t n) {
+    if (refused()) return NULL;
+    if (counting && p) held -= malloc_usable_size(p);
+    return counted(__real_realloc(p, n));
+}
+void __wrap_free(void *p) {
+    if (counting && p) held -= malloc_usable_size(p);
+    __real_free(p);
+}
+#endif
+
+/* ---- files */
+
+static void *grown(void *at, size_t size) {
+    void *p = realloc(at, size ? size : 1);
+    if (!p) { fprintf(stderr, "verify: out of memory\n"); exit(RATMANGANESE_MEMORY); }
+    return p;
+}
+
+static struct ratmanganese_bytes copy_of(const void *at, size_t length) {
+    uint8_t *p = grown(NULL, length);
+    memcpy(p, at, length);
+    return (struct ratmanganese_bytes){p, length};
+}
+
+/* At most `max` bytes of a file and one more. False, with errno, where it can't be read. */
+static bool read_file(const char *path, uint64_t max, struct ratmanganese_bytes *out) {
+    int fd = open(path, O_RDONLY | O_CLOEXEC);
+    if (fd < 0) return false;
+    size_t length = 0, room = 0;
+    uint8_t *at = NULL;
+    for (;;) {
+        if (length == room) at = grown(at, room = room ? 2 * room : 65536);
+        size_t want = room - length;
+        if (length + want > max + 1) want = max + 1 - length;
+        ssize_t n = want ? read(fd, at + length, want) : 0;
+        if (n < 0) { int e = errno; free(at); close(fd); errno = e; return false; }
+        if (!n) break;
+        length += n;
+    }
+    close(fd);
+    *out = (struct ratmanganese_bytes){at, length};
+    return true;
+}
+
+/* A memory map of a file. False where it can't be read. (Nobody may write to the file meanwhile.) */
+static bool map_file(const char *path, struct ratmanganese_bytes *out) {
+    int fd = open(path, O_RDONLY | O_CLOEXEC);
+    struct stat st;
+    if (fd < 0) return false;
+    bool done = !fstat(fd, &st) && S_ISREG(st.st_mode);
+    *out = (struct ratmanganese_bytes){RATMANGANESE_NOTHING, 0};
+    if (done && st.st_size) {
+        void *at = mmap(NULL, st.st_size, PROT_READ, MAP_PRIVATE, fd, 0);
+        if (at == MAP_FAILED) done = false;
+        else *out = (struct ratmanganese_bytes){at, st.st_size};
+    }
+    close(fd);
+    return done;
+}
+
+struct list { struct ratmanganese_file *at; size_t length; };
+
+static void add(struct list *files, struct ratmanganese_bytes name, struct ratmanganese_bytes bytes) {
+    files->at = grown(files->at, (files->length + 1) * sizeof *files->at);
+    files->at[files->length++] = (struct ratmanganese_file){name, bytes};
+}
+
+/* All files of a folder, by their names below it. */
+static void add_folder(struct list *files, const char *top, const char *below) {
+    char *path, *name;
+    if (asprintf(&path, "%s/%s", top, below) < 0) exit(RATMANGANESE_MEMORY);
+    DIR *dir = opendir(path);
+    free(path);
+    for (struct dirent *entry; dir && (entry = readdir(dir));) {
+        if (!strcmp(entry->d_name, ".") || !strcmp(entry->d_name, "..")) continue;
+        if (asprintf(&name, "%s%s%s", below, *below ? "/" : "", entry->d_name) < 0 || asprintf(&path, "%s/%s", top, name) < 0) exit(RATMANGANESE_MEMORY);
+        struct stat st;
+        struct ratmanganese_bytes bytes;
+        if (!stat(path, &st) && S_ISDIR(st.st_mode)) add_folder(files, top, name);
+        else if (read_file(path, 67108864, &bytes)) add(files, copy_of(name, strlen(name)), bytes);
+        free(name);
+        free(path);
+    }
+    if (dir) closedir(dir);
+}
+
+/* Writes a file of the store, beside and renamed, as the program does. */
+static bool write_kept(const char *top, const struct ratmanganese_bytes *name, const struct ratmanganese_bytes *bytes) {
+    char *path, *beside;
+    if (memchr(name->at, 0, name->length) || asprintf(&path, "%s/%.*s", top, (int)name->length, name->at) < 0) return false;
+    for (char *slash = strchr(path + 1, '/'); slash; slash = strchr(slash + 1, '/')) { *slash = 0; mkdir(path, 0777); *slash = '/'; }
+    if (asprintf(&beside, "%s.new~%ld", path, (long)getpid()) < 0) return false;
+    FILE *file = fopen(beside, "wb");
+    bool done = file && fwrite(bytes->at, 1, bytes->length, file) == bytes->length;
+    done = file && !fclose(file) && done && !rename(beside, path);
+    free(path);
+    free(beside);
+    return done;
+}
+
+/* ---- the loop */
+
+struct text { char *at; size_t length, room; };
+
+static void append(struct text *text, const char *at, size_t length) {
+    if (text->length + length > text->room) text->at = grown(text->at, text->room = 2 * text->room + length + 4096);
+    memcpy(text->at + text->length, at, length);
+    text->length += length;
+}
+
+struct world {
+    const char *repository;
+    struct ratmanganese_request request;
+    struct list files, store;
+    struct ratmanganese_bytes *absent;
+    size_t absents;
+    struct text good, bad;
+    uint8_t *out, *kept;
+    size_t out_room, kept_room;
+    struct ratmanganese_lengths lengths;
+    bool tell;
+    int rounds, rows;
+    double library, openssl, round[1001];
+};
+
+static double now_us(void) {
+    struct timespec t;
+    clock_gettime(CLOCK_MONOTONIC, &t);
+    return t.tv_sec * 1e6 + t.tv_nsec / 1e3;
+}
+
+/* A file of the repository, or that it isn't there. False where it can't be read. */
+static bool fetch(struct world *w, const char *encoded, size_t length, uint64_t max) {
+    size_t n;
+    uint8_t *name = field_of(encoded, length, &n);
+    char *path;
+    struct ratmanganese_bytes bytes;
+    if (!name || asprintf(&path, "%s/%.*s", w->repository, (int)n, name) < 0) exit(RATMANGANESE_MEMORY);
+    bool is_there = !memchr(name, 0, n) && read_file(path, max, &bytes), failed = !is_there && errno != ENOENT && errno != ENOTDIR;
+    if (is_there) add(&w->files, (struct ratmanganese_bytes){name, n}, bytes);
+    else {
+        w->absent = grown(w->absent, (w->absents + 1) * sizeof *w->absent);
+        w->absent[w->absents++] = (struct ratmanganese_bytes){name, n};
+    }
+    if (failed) fprintf(stderr, "verify: %s: %s\n", path, strerror(errno));
+    free(path);
+    return !failed;
+}
+
+static uint32_t call(struct world *w) {
+    struct ratmanganese_request *r = &w->request;
+    for (;;) {
+        r->repository = (struct ratmanganese_files){w->files.length ? w->files.at : RATMANGANESE_NOTHING, w->files.length};
+        r->absent = (struct ratmanganese_names){w->absents ? w->absent : RATMANGANESE_NOTHING, w->absents};
+        r->store = (struct ratmanganese_files){w->store.length ? w->store.at : RATMANGANESE_NOTHING, w->store.length};
+        r->good = (struct ratmanganese_bytes){w->good.length ? (const void *)w->good.at : RATMANGANESE_NOTHING, w->good.length};
+        r->bad = (struct ratmanganese_bytes){w->bad.length ? (const void *)w->bad.at : RATMANGANESE_NOTHING, w->bad.length};
+        double t = now_us();
+        counting = true;
+        uint32_t status = ratmanganese_verify(r, w->out, w->out_room, w->kept, w->kept_room, &w->lengths);
+        counting = false;
+        w->library += w->round[w->rounds] = now_us() - t;
+        if (status != RATMANGANESE_SHORT) return status;
+        while (w->lengths.out > w->out_room) w->out = grown(w->out, w->out_room *= 2);
+        while (w->lengths.kept > w->kept_room) w->kept = grown(w->kept, w->kept_room *= 2);
+    }
+}
+
+static uint32_t verify(struct world *w) {
+    w->rounds = w->rows = 0;
+    w->library = w->openssl = 0;
+    for (;;) {
+        uint32_t status = call(w);
+        w->rounds++;
+        if (status != RATMANGANESE_ASKS) return status;
+        if (w->rounds == 1000) return RATMANGANESE_REFUSED;
+        for (const char *at = (char *)w->out, *end = at + w->lengths.out, *next; at < end; at = next + 1) {
+            next = memchr(at, '\n', end - at);
+            if (w->tell) fprintf(stderr, "round %d: %.*s\n", w->rounds, (int)(next - at > 120 ? 120 : next - at), at);
+            if (!memcmp(at, "file ", 5)) {
+                const char *blank = memchr(at + 5, ' ', next - at - 5);
+                if (!fetch(w, at + 5, blank - at - 5, strtoull(blank, NULL, 10))) return RATMANGANESE_INPUT;
+                continue;
+            }
+            double t = now_us();
+            bool holds = is_good(at, next - at);
+            w->openssl += now_us() - t;
+            w->rows++;
+            append(holds ? &w->good : &w->bad, at, next + 1 - at);
+        }
+    }
+}
+
+static bool keep(struct world *w, const char *store) {
+    bool done = true;
+    for (const char *at = (char *)w->kept, *end = at + w->lengths.kept, *next; at < end; at = next + 1) {
+        next = memchr(at, '\n', end - at);
+        const char *blank = memchr(at + 5, ' ', next - at - 5);
+        struct ratmanganese_bytes name, bytes;
+        name.at = field_of(at + 5, blank - at - 5, &name.length);
+        bytes.at = field_of(blank + 1, next - blank - 1, &bytes.length);
+        done = name.at && bytes.at && write_kept(store, &name, &bytes) && done;
+        free((void *)name.at);
+        free((void *)bytes.at);
+    }
+    return done;
+}
+
+/* What was answered; the files that were asked for too. */
+static void forget(struct world *w, size_t provided) {
+    w->good.length = provided;
+    w->bad.length = 0;
+    if (w->request.whole) return;
+    for (size_t i = 0; i < w->files.length; i++) free((void *)w->files.at[i].name.at), free((void *)w->files.at[i].bytes.at);
+    for (size_t i = 0; i < w->absents; i++) free((void *)w->absent[i].at);
+    w->files.length = w->absents = 0;
+}
+
+static int by_value(const void *a, const void *b) { return (*(double *)a > *(double *)b) - (*(double *)a < *(double *)b); }
+static double median(double *at, size_t n) { qsort(at, n, sizeof *at, by_value); return at[n / 2]; }
+
+static const char *value(int argc, char **argv, const char *name) {
+    size_t n = strlen(name);
+    for (int i = 1; i < argc; i++)
+        if (!strncmp(argv[i], "--", 2) && !strncmp(argv[i] + 2, name, n)) {
+            if (argv[i][2 + n] == '=') return argv[i] + 3 + n;
+            if (!argv[i][2 + n]) return "";
+        }
+    return NULL;
+}
+
+static struct ratmanganese_bytes input(int argc, char **argv, const char *name, uint64_t max) {
+    const char *path = value(argc, argv, name);
+    struct ratmanganese_bytes bytes;
+    if (!path) { printf("usage\n"); exit(RATMANGANESE_USAGE); }
+    if (!read_file(path, max, &bytes)) { printf("input %s\n", name); exit(RATMANGANESE_INPUT); }
+    return bytes;
+}
+
+int main(int argc, char **argv) {
+    struct world w = {.repository = value(argc, argv, "repository"), .tell = value(argc, argv, "tell"), .out_room = 65536, .kept_room = 1 << 20};
+    const char *store = value(argc, argv, "store"), *now = value(argc, argv, "now"), *provider = value(argc, argv, "provider"), *count = value(argc, argv, "repeat");
+    if (!w.repository || !store) { printf("usage\n"); return RATMANGANESE_USAGE; }
+    w.request.policy = input(argc, argv, "policy", 65536);
+    if (provider) {
+        struct ratmanganese_bytes rows = input(argc, argv, "provider", 16777216);
+        append(&w.good, (const char *)rows.at, rows.length);
+        free((void *)rows.at);
+    }
+    size_t provided = w.good.length;
+    w.request.root = input(argc, argv, "root", 512000);
+    w.request.bundle = input(argc, argv, "bundle", 16777216);
+    const char *artifact = value(argc, argv, "artifact");
+    if (!artifact) { printf("usage\n"); return RATMANGANESE_USAGE; }
+    if (!map_file(artifact, &w.request.artifact)) { fprintf(stderr, "verify: %s can't be mapped\n", artifact); return 70; }
+    struct tm tm = {0};
+    w.request.seconds = time(NULL);
+    if (now) {
+        const char *rest = strptime(now, "%Y-%m-%dT%H:%M:%SZ", &tm);
+        if (!rest || *rest) { printf("usage\n"); return RATMANGANESE_USAGE; }
+        w.request.seconds = timegm(&tm);
+    }
+    add_folder(&w.store, store, "");
+    w.request.whole = value(argc, argv, "all");
+    if (w.request.whole) add_folder(&w.files, w.repository, "");
+    w.out = grown(NULL, w.out_room);
+    w.kept = grown(NULL, w.kept_room);
+
+    if (value(argc, argv, "fail-each")) {
+        for (long n = 0;; n++) {
+            forget(&w, provided);
+            requests = 0;
+            fail_at = n;
+            uint32_t status = verify(&w);
+            fail_at = -1;
+            if (requests <= n) {
+                printf("%ld requests refused in turn, each with status 5 and no text; then status %u, %zu bytes\n", n, status, w.lengths.out);
+                break;
+            }
+            if (status != RATMANGANESE_MEMORY || w.lengths.out || w.lengths.kept) { printf("request %ld refused, and status %u, lengths %zu and %zu\n", n, status, w.lengths.out, w.lengths.kept); return 99; }
+        }
+        return 0;
+    }
+    uint32_t status = verify(&w);
+    if (count) {
+        size_t n = strtoul(count, NULL, 10);
+        double *whole = grown(NULL, n * sizeof(double)), *library = grown(NULL, n * sizeof(double)), *openssl = grown(NULL, n * sizeof(double));
+        double (*round)[16] = grown(NULL, n * sizeof *round), *one = grown(NULL, n * sizeof(double));
+        for (size_t i = 0; i < n; i++) {
+            forget(&w, provided);
+            double t = now_us();
+            if (verify(&w) != status) return 99;
+            whole[i] = now_us() - t;
+            library[i] = w.library;
+            openssl[i] = w.openssl;
+            for (int j = 0; j < w.rounds && j < 16; j++) round[i][j] = w.round[j];
+        }
+        fprintf(stderr, "%zu times: median %.0f us, of it library %.0f us, OpenSSL %.0f us (%d rows); %d rounds:", n, median(whole, n), median(library, n), median(openssl, n), w.rows, w.rounds);
+        for (int j = 0; j < w.rounds && j < 16; j++) {
+            for (size_t i = 0; i < n; i++) one[i] = round[i][j];
+            fprintf(stderr, " %.0f", median(one, n));
+        }
+        struct rusage use;
+        getrusage(RUSAGE_SELF, &use);
+        fprintf(stderr, " us; resident at most %ld KB; library held at most %zu bytes in %ld requests\n", use.ru_maxrss, most, requests);
+        free(whole), free(library), free(openssl), free(round), free(one);
+    }
+    if (w.tell) fprintf(stderr, "%d rounds, %d rows answered, %zu files handed in, %zu absent, status %u\n", w.rounds, w.rows, w.files.length, w.absents, status);
+    if (status == RATMANGANESE_ACCEPTED || status == RATMANGANESE_REFUSED)
+        if (!keep(&w, store)) fprintf(stderr, "verify: the store can't be written\n");
+    if (fwrite(w.out, 1, w.lengths.out, stdout) != w.lengths.out || fflush(stdout)) return 4;
+    for (size_t i = 0; i < w.files.length; i++) free((void *)w.files.at[i].name.at), free((void *)w.files.at[i].bytes.at);
+    for (size_t i = 0; i < w.store.length; i++) free((void *)w.store.at[i].name.at), free((void *)w.store.at[i].bytes.at);
+    for (size_t i = 0; i < w.absents; i++) free((void *)w.absent[i].at);
+    free(w.files.at), free(w.store.at), free(w.absent), free(w.good.at), free(w.bad.at), free(w.out), free(w.kept);
+    free((void *)w.request.root.at), free((void *)w.request.bundle.at), free((void *)w.request.policy.at);
+    if (w.request.artifact.length) munmap((void *)w.request.artifact.at, w.request.artifact.length);
+    return status;
+}
