@@ -3,7 +3,8 @@ use crate::tables::{
     Change, bytes, change_in, display, failures, first, good, source, string, text_of, there, words,
 };
 use crate::{
-    archives, audits, delegated, gate_runs, gates, hostile, keyless, keyless_data, logged,
+    archives, audits, delegated, downloads, gate_runs, gates, hostile, keyless, keyless_data,
+    logged, told,
 };
 use command_files::{
     CommandLine, InputFile, MemoryInputs, MemorySink, Status, TableArmor, TableProvider, Tables,
@@ -24,12 +25,14 @@ pub(crate) fn answer<X: AllocGlobal + Abort>(rt: &X, call: &str, given: &str) ->
         "kept" => kept(rt, given),
         "archive" => archives::written(rt, given),
         "check" => archives::judged(rt, given),
+        "download" => downloads::said(rt, given),
         "audit" => audits::said(rt, given),
         "gate" => gates::said(rt, given),
         "listed" => gates::listed(rt, given),
         "gate run" => gate_runs::said(rt, given),
         "each" => hostile::each(rt, given),
         "bounded" => hostile::bounded(rt, given),
+        "told" => told::said(rt, given),
         "fault" => match given {
             "RootFault::Tuf" => display(rt, RootFault::Tuf(sigstore_tuf::Error::Json)),
             _ => display(rt, RootFault::NoMemory),

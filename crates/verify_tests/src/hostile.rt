@@ -39,7 +39,7 @@ fn nothing_outside_does_more_than_be_refused(rt: HostRuntime) {
 }
 
 // The fixture as it is.
-fn unchanged(keyless: bool) -> Change<'static> {
+pub(crate) fn unchanged(keyless: bool) -> Change<'static> {
     Change {
         keyless,
         part: "nothing",

@@ -8,6 +8,8 @@ mod audits;
 #[cfg(test)]
 mod delegated;
 #[cfg(test)]
+mod downloads;
+#[cfg(test)]
 mod fixture;
 #[cfg(test)]
 mod gate_runs;
@@ -25,3 +27,5 @@ mod logged;
 mod runs;
 #[cfg(test)]
 mod tables;
+#[cfg(test)]
+mod told;
