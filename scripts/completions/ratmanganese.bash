@@ -10,17 +10,18 @@ _ratmanganese() {
     fi
     case $name in
     --repository | --store | --folder | --tiles) paths=-d ;;
-    --root | --bundle | --artifact | --archive | --first | --second | --policy | --provider | --refused) paths=-f ;;
+    --root | --bundle | --artifact | --archive | --out | --first | --second | --policy | --provider | --refused) paths=-f ;;
     --*) return ;;
     *)
         case $host:$COMP_CWORD:${COMP_WORDS[1]} in
-        ratmanganese:1:*) names="verify questions gate gate-questions archive check audit generate explain build install version help" ;;
+        ratmanganese:1:*) names="verify questions gate gate-questions archive check download audit generate explain build install version help" ;;
         ratmanganese:*:verify) names="--root= --repository= --store= --bundle= --artifact= --policy= --provider= --now=" ;;
         ratmanganese:*:questions) names="--root= --repository= --store= --bundle= --artifact= --policy= --refused= --now=" ;;
         ratmanganese:*:gate) names="--root= --repository= --store= --folder= --policy= --provider= --now=" ;;
         ratmanganese:*:gate-questions) names="--root= --repository= --store= --folder= --policy= --refused= --now=" ;;
         ratmanganese:*:archive) names="--root= --repository= --store= --provider= --now=" ;;
         ratmanganese:*:check) names="--root= --archive= --provider= --now=" ;;
+        ratmanganese:*:download) names="--root= --repository= --store= --provider= --target= --out= --now=" ;;
         ratmanganese:*:audit) names="--key= --provider= --first= --second= --tiles=" ;;
         ratmanganese:*:generate) names="--number= --count=" ;;
         ratmanganese:2:explain) names="tuf verify archive audit gate status" ;;
