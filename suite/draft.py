@@ -1,7 +1,7 @@
 """A world while it is being made. (No script: suite/make and conformance/cases make their worlds by it.)
 
 A draft begins as a world in order, of some shape: who signs, what, and what the bundle has beside the signature. A case
-(suite/cases.py) then changes one thing of it, and `files` makes what is left. What is changed is signed anew wherever a
+(suite/case.py) then changes one thing of it, and `files` makes what is left. What is changed is signed anew wherever a
 signature stands over it, so that the world is to be refused for that one thing.
 """
 import functools
