@@ -1,5 +1,6 @@
 -- The report of an accepted bundle.
-use Rattle.std.specs.Prelude.{ℕ, ◌-◌, pos, int_div, List, [], ◌∷◌, ◌++◌, length, slice_get, codes, Bool, if◌then◌else◌, Option, Some, None, Result, Ok, ok_or}
+use Rattle.std.specs.Prelude.{ℕ, ◌-◌, pos, int_div, List, [], ◌∷◌, ◌++◌, length, slice_get, codes, Bool, if◌then◌else◌}
+use Rattle.std.specs.Prelude.{Option, Some, None, Result, Ok, ok_or}
 use Rattle.std.specs.Fmt.{signed_decimal}
 use Rattle.serde_json.specs.Data.{Data}
 use Rattle.jiff_core.specs.declared.timestamp.Timestamp as jiff
