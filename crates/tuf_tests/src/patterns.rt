@@ -173,9 +173,8 @@ fn joined<X: AllocGlobal + Abort>(rt: &X, texts: &Sequence<Text>) -> String {
 
 const ROLE_KEYS: &str = r#","terminating":true => k l 2"#;
 
-#[test]
-fn patterns(rt: HostRuntime) {
-    hold(&rt, "pattern", PATTERNS);
-    hold(&rt, "delegation", DELEGATIONS);
-    hold(&rt, "role keys", ROLE_KEYS);
+pub fn patterns<X: AllocGlobal + Abort>(rt: &X) {
+    hold(rt, "pattern", PATTERNS);
+    hold(rt, "delegation", DELEGATIONS);
+    hold(rt, "role keys", ROLE_KEYS);
 }
