@@ -213,10 +213,11 @@ copy delegating => true"#;
 const DELEGATING: &str =
     r#"{"signatures":[{"keyid":"k","sig":""}],"signed":{"_type":"targets","spec_version":"1.0","version":1,"expires":"2030-01-01T00:00:00Z","x":[null,true,-1,{"y":"z"}],"targets":{"a":{"length":2,"hashes":{"sha256":"00"},"custom":{}}},"delegations":{"keys":{"k":{"keytype":"t","scheme":"s","keyval":{"public":"p","q":1}}},"roles":[{"name":"d","keyids":["k"],"threshold":1,"terminating":true,"paths":["a/*"],"path_hash_prefixes":["0"]}]}}}"#;
 
-pub fn documents<X: AllocGlobal + Abort>(rt: &X) {
-    hold(rt, "timestamp", FRAMES);
-    hold_filled(rt, "timestamp", HEADER, HEADERS);
-    hold_filled(rt, "timestamp", SIGNED, SIGNATURES);
-    hold_filled(rt, "targets", LISTING, LISTINGS);
-    hold(rt, "documents", TOLD);
+#[test]
+fn documents(rt: HostRuntime) {
+    hold(&rt, "timestamp", FRAMES);
+    hold_filled(&rt, "timestamp", HEADER, HEADERS);
+    hold_filled(&rt, "timestamp", SIGNED, SIGNATURES);
+    hold_filled(&rt, "targets", LISTING, LISTINGS);
+    hold(&rt, "documents", TOLD);
 }

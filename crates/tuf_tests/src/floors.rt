@@ -157,22 +157,24 @@ const LATER: &str = "-, timestamp k | 1 | 3";
 const LATER_REFUSED: &str =
     r#"Rollback { role: "timestamp", trusted: 2, new: 1 } | (1, Some(2), Some(3), Some(3), Some(1))"#;
 
-pub fn nothing_goes_below_what_was_trusted<X: AllocGlobal + Abort>(rt: &X) {
-    alone(rt, FALLS, FALLEN);
-    alone(rt, REPEATS, REPEATED);
-    alone(rt, DROPS, DROPPED);
-    alone(rt, TURNS, TURNED);
+#[test]
+fn nothing_goes_below_what_was_trusted(rt: HostRuntime) {
+    alone(&rt, FALLS, FALLEN);
+    alone(&rt, REPEATS, REPEATED);
+    alone(&rt, DROPS, DROPPED);
+    alone(&rt, TURNS, TURNED);
 }
 
-pub fn a_store_carries_the_floor<X: AllocGlobal + Abort>(rt: &X) {
+#[test]
+fn a_store_carries_the_floor(rt: HostRuntime) {
     let mut store = MemoryStore::new(rt.alloc());
-    over(rt, &mut store, TURNS, TURNED_OVER_A_STORE);
+    over(&rt, &mut store, TURNS, TURNED_OVER_A_STORE);
     drop(store);
     let mut store = MemoryStore::new(rt.alloc());
-    over(rt, &mut store, TAKES_BACK, TURNED);
+    over(&rt, &mut store, TAKES_BACK, TURNED);
     drop(store);
     let mut store = MemoryStore::new(rt.alloc());
-    over(rt, &mut store, FIRST, FIRST_DONE);
-    over(rt, &mut store, LATER, LATER_REFUSED);
+    over(&rt, &mut store, FIRST, FIRST_DONE);
+    over(&rt, &mut store, LATER, LATER_REFUSED);
     drop(store);
 }

@@ -173,8 +173,9 @@ fn joined<X: AllocGlobal + Abort>(rt: &X, texts: &Sequence<Text>) -> String {
 
 const ROLE_KEYS: &str = r#","terminating":true => k l 2"#;
 
-pub fn patterns<X: AllocGlobal + Abort>(rt: &X) {
-    hold(rt, "pattern", PATTERNS);
-    hold(rt, "delegation", DELEGATIONS);
-    hold(rt, "role keys", ROLE_KEYS);
+#[test]
+fn patterns(rt: HostRuntime) {
+    hold(&rt, "pattern", PATTERNS);
+    hold(&rt, "delegation", DELEGATIONS);
+    hold(&rt, "role keys", ROLE_KEYS);
 }

@@ -8,7 +8,6 @@ use sigstore_types_parts::{Bytes, FailList};
 use std::fmt::Debug;
 use std::fs;
 use std::process::Abort;
-use std::rt::Runtime;
 
 /// The display text of a fault; for any other name the answer of a call of the client.
 pub fn answer<X: AllocGlobal + Abort>(rt: &X, call: &str, given: &str) -> String {
@@ -153,26 +152,28 @@ metadata 9 /root.json => none";
 const CARRIED_IN: &str = "store root.json ab => Ok(())
 store targets/a/b file => Ok(())";
 
-pub fn a_repository_over_a_store<X: AllocGlobal + Abort>(rt: &X) {
+#[test]
+fn a_repository_over_a_store(rt: HostRuntime) {
     let mut store = MemoryStore::new(rt.alloc());
-    store_all(rt, &mut store, CARRIED_IN);
+    store_all(&rt, &mut store, CARRIED_IN);
     let mut repo = StoreRepository::new(store);
-    fetch_all(rt, &mut repo, OVER_A_STORE);
+    fetch_all(&rt, &mut repo, OVER_A_STORE);
     drop(repo);
 }
 
-pub fn objects_in_memory<X: AllocGlobal + Abort>(rt: &X) {
-    hold(rt, "FetchFault", FETCH_FAULTS);
-    hold(rt, "StoreFault", STORE_FAULTS);
-    store_all(rt, &mut NoStore, NOTHING);
-    let mut repo = repository(rt);
-    fetch_all(rt, &mut repo, IN_MEMORY);
+#[test]
+fn objects_in_memory(rt: HostRuntime) {
+    hold(&rt, "FetchFault", FETCH_FAULTS);
+    hold(&rt, "StoreFault", STORE_FAULTS);
+    store_all(&rt, &mut NoStore, NOTHING);
+    let mut repo = repository(&rt);
+    fetch_all(&rt, &mut repo, IN_MEMORY);
     drop(repo);
-    let mut store = MemoryStore::with_failures(rt.alloc(), second_fails(rt));
-    store_all(rt, &mut store, STORED);
+    let mut store = MemoryStore::with_failures(rt.alloc(), second_fails(&rt));
+    store_all(&rt, &mut store, STORED);
     drop(store);
     let mut other = MemoryStore::new(rt.alloc());
-    store_all(rt, &mut other, STORED_ELSEWHERE);
+    store_all(&rt, &mut other, STORED_ELSEWHERE);
     drop(other);
 }
 
@@ -191,27 +192,29 @@ load root_history/1.root.json => ab
 store root_history ab => Err(Failed)
 load a/../b => BadName";
 
-pub fn a_repository_in_a_folder<X: Runtime + AllocGlobal + Abort>(rt: &X) {
-    let long = good(rt, vec![in rt.alloc(); b'7'; 70_000]);
-    good(rt, fs::create_dir_all(rt, "repo/targets/a"));
-    good(rt, fs::write(rt, "repo/1.root.json", "ab"));
-    good(rt, fs::write(rt, "repo/targets/a/b", long.as_slice()));
-    let mut repo = FileRepository::new(rt, text(rt, "repo"));
+#[test]
+fn a_repository_in_a_folder(rt: HostRuntime) {
+    let long = good(&rt, vec![in rt.alloc(); b'7'; 70_000]);
+    good(&rt, fs::create_dir_all(&rt, "repo/targets/a"));
+    good(&rt, fs::write(&rt, "repo/1.root.json", "ab"));
+    good(&rt, fs::write(&rt, "repo/targets/a/b", long.as_slice()));
+    let mut repo = FileRepository::new(&rt, text(&rt, "repo"));
     drop(long);
-    fetch_all(rt, &mut repo, IN_A_FOLDER);
+    fetch_all(&rt, &mut repo, IN_A_FOLDER);
     drop(repo);
 }
 
-pub fn a_store_in_a_folder<X: Runtime + AllocGlobal + Abort>(rt: &X) {
-    let mut store = FileStore::new(rt, text(rt, "store"));
-    store_all(rt, &mut store, STORED_IN_A_FOLDER);
+#[test]
+fn a_store_in_a_folder(rt: HostRuntime) {
+    let mut store = FileStore::new(&rt, text(&rt, "store"));
+    store_all(&rt, &mut store, STORED_IN_A_FOLDER);
     drop(store);
     let name = "store/root_history/1.root.json";
-    let written = good(rt, fs::read_to_string(rt, name));
-    let is_there = good(rt, fs::exists(rt, "store/root_history/1.root.json.new~0"));
-    let is_left = good(rt, fs::exists(rt, "store/root_history.new~0"));
-    let found = printed(rt, (written, is_there, is_left));
-    check(rt, name, r#"("ab", false, false)"#, found);
+    let written = good(&rt, fs::read_to_string(&rt, name));
+    let is_there = good(&rt, fs::exists(&rt, "store/root_history/1.root.json.new~0"));
+    let is_left = good(&rt, fs::exists(&rt, "store/root_history.new~0"));
+    let found = printed(&rt, (written, is_there, is_left));
+    check(&rt, name, r#"("ab", false, false)"#, found);
 }
 
 // Another process has begun to write the first name beside.
@@ -221,10 +224,11 @@ load timestamp.json => ab
 load timestamp.json.new~0 => half
 load timestamp.json.new~1 => none";
 
-pub fn a_store_that_another_process_writes<X: Runtime + AllocGlobal + Abort>(rt: &X) {
-    good(rt, fs::create_dir_all(rt, "shared"));
-    good(rt, fs::write(rt, "shared/timestamp.json.new~0", "half"));
-    let mut store = FileStore::new(rt, text(rt, "shared"));
-    store_all(rt, &mut store, STORED_BESIDE);
+#[test]
+fn a_store_that_another_process_writes(rt: HostRuntime) {
+    good(&rt, fs::create_dir_all(&rt, "shared"));
+    good(&rt, fs::write(&rt, "shared/timestamp.json.new~0", "half"));
+    let mut store = FileStore::new(&rt, text(&rt, "shared"));
+    store_all(&rt, &mut store, STORED_BESIDE);
     drop(store);
 }

@@ -180,9 +180,10 @@ fn kept<X: AllocGlobal + Abort>(rt: &X, call: &str) -> String {
 const KEPT: &str = "others => (false, true)
 copy => (false, true)";
 
-pub fn refusals<X: AllocGlobal + Abort>(rt: &X) {
-    hold(rt, "refusal of tuf", REFUSALS);
-    hold(rt, "canonical text", CANONICAL);
-    hold(rt, "file name", FILES);
-    hold(rt, "other members", KEPT);
+#[test]
+fn refusals(rt: HostRuntime) {
+    hold(&rt, "refusal of tuf", REFUSALS);
+    hold(&rt, "canonical text", CANONICAL);
+    hold(&rt, "file name", FILES);
+    hold(&rt, "other members", KEPT);
 }

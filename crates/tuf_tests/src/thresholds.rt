@@ -338,11 +338,12 @@ ml-dsa-44/1 | m 68656c6c6f => Crypto
 rsa | p 01 => UnsupportedScheme { keytype: "t", scheme: "rsa" }
 ed25519 | r 01 => UnusableKey { key_id: "574c114b26a52025ee771177d10ed2b1860a1167fe44ff921883a810b25208bf" }"#;
 
-pub fn thresholds<X: AllocGlobal + Abort>(rt: &X) {
-    hold(rt, "signatures", SIGNATURES);
-    hold(rt, "role", ROLES);
-    hold(rt, "declared key", KEYS);
-    hold(rt, "armoured key", ARMORED);
-    hold(rt, "key's id", IDS);
-    hold(rt, "signature under a key", SIGNED);
+#[test]
+fn thresholds(rt: HostRuntime) {
+    hold(&rt, "signatures", SIGNATURES);
+    hold(&rt, "role", ROLES);
+    hold(&rt, "declared key", KEYS);
+    hold(&rt, "armoured key", ARMORED);
+    hold(&rt, "key's id", IDS);
+    hold(&rt, "signature under a key", SIGNED);
 }

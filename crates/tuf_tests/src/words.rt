@@ -57,14 +57,6 @@ pub fn halves<'a, X: Abort>(rt: &X, text: &'a str, mark: &str) -> (&'a str, &'a 
     there(rt, text.split_once(mark))
 }
 
-/// What stands before and behind a mark, or the whole text and another.
-pub fn split_or<'a>(text: &'a str, mark: &str, other: &'a str) -> (&'a str, &'a str) {
-    match text.split_once(mark) {
-        Some(parts) => parts,
-        None => (text, other),
-    }
-}
-
 pub fn number<X: Abort>(rt: &X, text: &str) -> u64 {
     good(rt, text.parse::<u64>())
 }
