@@ -93,10 +93,15 @@ module _ (grounds : Grounds) (bundle : Bundle) where
     same_answers (policy ∷ rules) covered =
         ap (λ answer. answer ∷ map By rules) (same_answer policy covered.0) ∙ ap (λ answers. Of policy ∷ answers) (same_answers rules covered.1)
 
-    -- the answers by the digests that some rule needs are those over the bytes
+    -- the answers by digests among which are those that each rule needs are those over the bytes
+    pub digests_cover : (rules : List Meaning) → AreCovered bundle needed rules
+        → answers_by grounds bundle (read.Digests (digests_by needed bytes)) rules ≡ answers_of grounds bundle (Whole bytes) rules
+    digests_cover rules covered = ap (first_from 1) (same_answers rules covered)
+
+    -- so are those by the digests that some rule needs
     pub digests_suffice : (rules : List Meaning) → needed_by_rules bundle rules ≡ Some needed
         → answers_by grounds bundle (read.Digests (digests_by needed bytes)) rules ≡ answers_of grounds bundle (Whole bytes) rules
-    digests_suffice rules is = ap (first_from 1) (same_answers rules (needed_covers bundle rules needed is))
+    digests_suffice rules is = digests_cover rules (needed_covers bundle rules needed is)
 
   -- ---- of an artifact that wasn't read to its end
 

@@ -4,6 +4,7 @@ pub mod RootCompleting
 pub mod RootPromises
 pub mod ByRulesPromise
 mod Told
+pub mod ToldLaw
 mod OnlyTop
 mod Digests
 mod Entries

@@ -1,9 +1,14 @@
 -- The top call over an artifact that is told by its digests: nothing of it is read.
-use Rattle.std.specs.Prelude.{◌≡◌, ◌≢◌, ℕ, List, map, Result, Ok, Err}
+use Rattle.std.specs.Prelude.{◌≡◌, ◌≢◌, ℕ, List, map, true, Result, Ok, Err}
+use Rattle.std.specs.List.{AllByRecursion, list_any}
 use Rattle.foundation.specs.Steps.{◌>>=◌}
 use Rattle.jiff_core.specs.declared.timestamp.Timestamp as jiff
+use Rattle.sigstore_types_parts.specs.HashAlgorithm.{same_algorithm}
 use Rattle.sigstore_types_parts.specs.declared.hash_algorithm.ArtifactDigest.{ArtifactDigest}
+use Rattle.sigstore_types_parts.specs.declared.hash_algorithm.HashAlgorithm.{HashAlgorithm}
+use Rattle.sigstore_types.specs.declared.bundle.Bundle.{Bundle}
 use Rattle.sigstore_keys.specs.Crypto.{Crypto}
+use Rattle.sigstore_keys.specs.Digest.{digests_by}
 use Rattle.sigstore_policy.specs.Policy.{Meaning, meaning_in}
 use Rattle.sigstore_tuf_text.specs.declared.error.Error.{Error as TufError}
 use Rattle.sigstore_tuf_rules.specs.declared.chain.TrustChain.{TrustChain}
@@ -13,10 +18,11 @@ use Rattle.sigstore_judgement.specs.declared.rules.ReadArtifact.{ReadArtifact}
 use Rattle.sigstore_judgement.specs.declared.rules.ReadArtifact.TheVariants.{Digests}
 use Rattle.sigstore_judgement.specs.declared.rules.RulesError.{RulesError}
 use Rattle.sigstore_judgement.specs.declared.rules.RulesError.TheVariants.{Shared, Each}
+use Rattle.sigstore_judgement.specs.Judged.{needed_by}
 use Rattle.sigstore_judgement.specs.Rules.{answers_by, NoneWants}
 use Rattle.sigstore_judgement.specs.Trust.{material_of}
 use Rattle.sigstore_judgement.specs.Under.{trust_of, bundle_of}
-use Rattle.sigstore_judgement.specs.UnderRules.{or_shared, or_each}
+use Rattle.sigstore_judgement.specs.UnderRules.{RulesAsked, or_shared, or_each, rules_verdict_by}
 use Rattle.sigstore_verify.specs.declared.by_digests.DigestsAsked as declared
 use Rattle.sigstore_verify.specs.declared.by_rules.RuleAcceptance.{RuleAcceptance}
 use Rattle.sigstore_verify.specs.declared.by_rules.RulesFault.{RulesFault}
@@ -60,3 +66,20 @@ pub data PromisesByDigests (anchor : Anchor) (asked : ToldAsked) (told : List Ar
   judged : (chain : TrustChain) (answer : Result JudgedByRule RulesError) → PromisesChain anchor before after (Ok chain)
       → TellsVerdict (told_verdict_by asked chain.file (Digests told)) answer → result ≡ ruled_of chain answer
       → PromisesByDigests anchor asked told before after result
+
+-- ---- digests and bytes
+
+-- each digest that the rule needs of the bundle is told
+abbrev pub TellsNeeded : List HashAlgorithm → Bundle → Meaning → Type 0
+TellsNeeded told bundle policy =
+    (a : HashAlgorithm) → list_any (same_algorithm a) (needed_by policy bundle) ≡ true → list_any (same_algorithm a) told ≡ true
+
+-- the same is asked over told digests
+abbrev pub told_asked_of : RulesAsked → ToldAsked
+told_asked_of asked = record { crypto = asked.crypto; rules = asked.rules; now = asked.now; bundle = asked.bundle }
+
+-- Over digests of bytes the verdict is the one over the bytes, where each digest that a rule needs is told.
+abbrev pub DigestsStandForBytes : Type 0
+DigestsStandForBytes = (asked : RulesAsked) (file bytes : List ℕ) (told : List HashAlgorithm)
+    → ((bundle : Bundle) → bundle_of asked.bundle ≡ Ok bundle → AllByRecursion (TellsNeeded told bundle) asked.rules)
+    → told_verdict_by (told_asked_of asked) file (Digests (digests_by told bytes)) ≡ rules_verdict_by asked file bytes

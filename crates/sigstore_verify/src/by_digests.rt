@@ -2,6 +2,7 @@
 ghost use Rattle.std.specs.Prelude.{◌≡◌, ◌≢◌, Ok, Err, IfOk, IfErr};
 ghost use Rattle.sigstore_keys.specs.Crypto.{crypto_with, crypto_by};
 ghost use Rattle.sigstore_judgement.specs.Under.{bundle_of};
+ghost use Rattle.sigstore_judgement.specs.declared.rules.ReadArtifact.TheVariants.{Digests};
 ghost use Rattle.sigstore_verify.specs.Inputs.{anchor_with, places_by};
 ghost use Rattle.sigstore_verify.specs.ByDigests.{told_asked_with, told_verdict_by, TellsVerdict, PromisesByDigests};
 
@@ -39,17 +40,20 @@ fn read_bundle(alloc: Global, bytes: &[u8]) -> Result<Bundle, Error>
     }
 }
 
-// What is made of a trust file and of told digests.
-fn judge_told<C: CryptoProvider, M: Armor>(
+/// Judges a bundle under a trusted root and rules, of which one has to accept, over an artifact that is told by its digests.
+/// Errors: `Shared` with the first of `TrustRoot` for the file's bytes, those of `Verifier::new`, `InvalidBundle` for the
+/// bundle's bytes; else `Each`, where a rule that needs a digest that isn't told has `UnsupportedArtifact`.
+pub fn judge_digests<C: CryptoProvider, M: Armor>(
     alloc: Global,
     providers: &Providers<'_, C, M>,
     file: &[u8],
     now: Timestamp,
-    artifact: &ReadArtifact,
+    digests: Sequence<ArtifactDigest>,
     asked: &DigestsAsked<'_>,
 ) -> Result<JudgedByRule, RulesError>
-    ensures { TellsVerdict (told_verdict_by (told_asked_with (crypto_with C.CryptoProvider M.Armor providers.now) now asked.now) file.now artifact.now) result }
+    ensures { TellsVerdict (told_verdict_by (told_asked_with (crypto_with C.CryptoProvider M.Armor providers.now) now asked.now) file.now (Digests digests)) result }
 {
+    let artifact = ReadArtifact::Digests(digests);
     let trust = match read_trust(alloc, file) {
         Ok(trust) => trust,
         Err(e) => return Err(RulesError::Shared(e)),
@@ -64,7 +68,7 @@ fn judge_told<C: CryptoProvider, M: Armor>(
     };
     let judged = verifier.judge_by_rules(
         alloc,
-        artifact,
+        &artifact,
         &RulesCase {
             bundle: &bundle,
             rules: asked.rules,
@@ -95,13 +99,12 @@ pub fn verify_digests_from_root<R: Repository, S: MetadataStore, C: CryptoProvid
         Ok(chain) => chain,
         Err(e) => return Err(RulesFault::Root(tuf_fault(e))),
     };
-    let artifact = ReadArtifact::Digests(digests);
-    let judged = judge_told(
+    let judged = judge_digests(
         alloc,
         &anchor.providers,
         chain.file.as_bytes(),
         anchor.now,
-        &artifact,
+        digests,
         asked,
     );
     ruled(judged, chain)

@@ -10,11 +10,11 @@ mod from_root;
 mod laws;
 
 pub use anchor::Anchor;
-pub use by_digests::{DigestsAsked, verify_digests_from_root};
+pub use by_digests::{DigestsAsked, judge_digests, verify_digests_from_root};
 pub use by_rules::{RuleAcceptance, RulesFault, verify_from_root_by_rules};
 pub use chain::{TRUST_PATH, chain_from_root};
 pub use from_root::{Acceptance, RootFault, verify_from_root};
-pub use laws::{one_place_one_content, one_rule_alone};
+pub use laws::{digests_stand_for_bytes, one_place_one_content, one_rule_alone};
 pub use sigstore_judgement::{
     Asked, Case, CertificateError, CertificatePolicy, DigitallySigned, Error, Evidence,
     IdentityMatcher, JudgedBundle, Material, Policy, PolicyKind, PublicKeyVerificationPolicy,

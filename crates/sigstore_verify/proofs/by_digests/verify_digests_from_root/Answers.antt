@@ -7,4 +7,4 @@ pub returns-in-Err : goal.returns-in-Err
 returns-in-Err g c = chain_refused c.in-Err.e c.in-Err.ensures (ap (λ f. Err (Root f)) c.tuf_fault.ensures)
 
 pub returns : goal.returns
-returns g c = judged c.in-Ok.chain c.judge_told-judged.result c.in-Ok.ensures (rw c.as_bytes.ensures at c.judge_told-judged.ensures) c.ruled.ensures
+returns g c = judged c.in-Ok.chain c.judge_digests-judged.result c.in-Ok.ensures (rw c.as_bytes.ensures at c.judge_digests-judged.ensures) c.ruled.ensures
