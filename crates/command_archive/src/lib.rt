@@ -8,4 +8,4 @@ mod program;
 
 pub use layout::{ArchiveLayout, archive_layout};
 pub use output::Output;
-pub use program::run_archive;
+pub use program::{MAX_ARCHIVE, chain_in_archive, refused_archive, run_archive, unread_archive};

@@ -23,11 +23,11 @@ use sigstore_verify::{Anchor, TRUST_PATH, chain_from_root};
 use std::alloc::Global;
 use trust_archive::{ArchiveError, ArchiveTerms, read_archive, write_archive};
 
-// The greatest length of an archive in bytes: 256 MiB.
-const MAX_ARCHIVE: u64 = 268_435_456;
+/// The greatest length of an archive in bytes: 256 MiB.
+pub const MAX_ARCHIVE: u64 = 268_435_456;
 
-// What is said of a refusal of an archive.
-fn refused_archive(alloc: Global, e: &ArchiveError) -> Result<Answer, NoMemory>
+/// What is said of a refusal of an archive.
+pub fn refused_archive(alloc: Global, e: &ArchiveError) -> Result<Answer, NoMemory>
     ensures { IfOk result (λ said. said ≡ archive_answer e.now) }
 {
     Ok(refusal(alloc, "archive", e.number(), e.name())?)
@@ -51,8 +51,8 @@ fn trusted(alloc: Global, chain: &TrustChain) -> Result<Answer, NoMemory>
     }
 }
 
-// The chain that an archive's bytes hold.
-fn held<C: CryptoProvider, M: Armor>(
+/// The chain for the trusted root that an archive's bytes hold. Errors as `read_archive`.
+pub fn chain_in_archive<C: CryptoProvider, M: Armor>(
     alloc: Global,
     anchor: &Anchor<'_, C, M>,
     bytes: &[u8],
@@ -81,7 +81,7 @@ fn judged<C: CryptoProvider, M: Armor>(
 ) -> Result<Answer, NoMemory>
     ensures { IfOk result (Judges (anchor_with C.CryptoProvider M.Armor anchor.entry.now) bytes.now) }
 {
-    match held(alloc, anchor, bytes) {
+    match chain_in_archive(alloc, anchor, bytes) {
         Ok(chain) => {
             let said = trusted(alloc, &chain);
             drop(chain);
@@ -96,8 +96,8 @@ fn judged<C: CryptoProvider, M: Armor>(
     }
 }
 
-// What is said of an archive that can't be read, or is too long.
-fn unread(alloc: Global) -> Result<Answer, NoMemory>
+/// What is said of an archive that can't be read, or is too long.
+pub fn unread_archive(alloc: Global) -> Result<Answer, NoMemory>
     ensures { IfOk result (λ said. said ≡ unread_answer) }
 {
     pair(alloc, Status::Input, "input", "archive")
@@ -118,8 +118,8 @@ fn checked<C: CryptoProvider, M: Armor, A: ArtifactSource>(
             said
         }
         Err(WholeFault::NoMemory) => Err(NoMemory),
-        Err(WholeFault::Failed) => unread(alloc),
-        Err(WholeFault::TooLong) => unread(alloc),
+        Err(WholeFault::Failed) => unread_archive(alloc),
+        Err(WholeFault::TooLong) => unread_archive(alloc),
     }
 }
 

@@ -8,6 +8,6 @@ mod report;
 mod request;
 
 pub use program::{answered, run};
-pub use refusals::{refused_tuf, refused_verify};
-pub use report::report_chain;
+pub use refusals::{refused_each, refused_tuf, refused_verify};
+pub use report::{push_digests, push_result, report_chain};
 pub use request::{MAX_ARTIFACT, VerifyRequest, verify_request};

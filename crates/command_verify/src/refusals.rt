@@ -55,9 +55,9 @@ fn push_others(text: &mut String, faults: &[Error]) -> Result<(), NoMemory>
     Ok(())
 }
 
-// What is said where each rule refuses: the first one's refusal, and a line for each later rule.
+/// What is said where each rule refuses: the first one's refusal, and a line for each later rule.
 #[tactic(auto, unfolding(crate::specs::Run::each_answer))]
-fn refused_each(alloc: Global, faults: &[Error]) -> Result<Answer, NoMemory>
+pub fn refused_each(alloc: Global, faults: &[Error]) -> Result<Answer, NoMemory>
     ensures { IfOk result (λ said. said ≡ each_answer faults.now) }
 {
     let mut text = String::new(alloc);

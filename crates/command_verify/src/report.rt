@@ -131,7 +131,8 @@ fn push_roles(alloc: Global, text: &mut String, roles: &[RoleDoc]) -> Result<(),
     Ok(())
 }
 
-fn push_digests(
+/// Adds a line for each digest of the artifact.
+pub fn push_digests(
     alloc: Global,
     text: &mut String,
     digests: &[ArtifactDigest],
@@ -222,7 +223,8 @@ fn push_all_times(text: &mut String, shown: &VerificationResult) -> Result<(), N
     push_times(text, shown.verified_timestamps.as_slice())
 }
 
-fn push_result(text: &mut String, shown: &VerificationResult) -> Result<(), NoMemory>
+/// Adds the lines of a result: whom the certificate names, what was verified, and the times.
+pub fn push_result(text: &mut String, shown: &VerificationResult) -> Result<(), NoMemory>
     ensures { OnOk result (string_bytes text.new ≡ result_added (string_bytes text.old) shown.now) }
 {
     push_names(text, shown)?;

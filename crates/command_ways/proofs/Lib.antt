@@ -1,0 +1,5 @@
+mod Words
+mod Trusting
+mod Saying
+mod Meaning
+mod Completing
