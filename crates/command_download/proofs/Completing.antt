@@ -1,5 +1,5 @@
 -- Where nothing outside fails, each target that is offered is put in its place.
-use Rattle.std.proofs.Common.{◌≡◌, ◌⊎◌, inl, inr, ℕ, List, [], ◌∷◌, length, Bool, true, false, if◌then◌else◌, bytes_eq, Option, Some, None, Result, Ok, Err, refl, sym, ap, ◌∙◌, subst}
+use Rattle.std.proofs.Common.{◌≡◌, ◌⊎◌, inl, inr, ℕ, List, [], ◌∷◌, length, codes, Bool, true, false, if◌then◌else◌, bytes_eq, Option, Some, None, Result, Ok, Err, refl, sym, ap, ◌∙◌, subst}
 use Rattle.std.specs.List.{AllByRecursion}
 use Rattle.std.proofs.lemmas.Slice.Eq.{bytes_eq-Decides}
 use Rattle.foundation.specs.Watched.{Watched, Rose}
@@ -31,7 +31,7 @@ use Rattle.command_download.specs.declared.layout.Sorted.{Sorted}
 use Rattle.command_download.specs.declared.shelf.ShelfFault.{ShelfFault}
 use Rattle.command_download.specs.declared.shelf.ShelfFault.TheVariants as shelf
 use Rattle.command_download.specs.Client.{Anchor, Outside, state_in, top_of, fault_of, fault_of_shelf, Refreshes, Delivers, unbegun, unfound, unplaced, delivered, DeliversEach, all_done, wanting, failed, goes_on}
-use Rattle.command_download.specs.Layout.{download_form, words_sorted, nothing_sorted, is_few, whole_of, all_sorted, download_layout_of}
+use Rattle.command_download.specs.Layout.{download_form, words_sorted, nothing_sorted, is_few, whole_of, all_sorted, sorted_of, download_layout_of}
 use Rattle.command_download.specs.Run.{Environment, anchor_of, stop_answer, answer_of, Runs, unrefreshed, told, Says}
 use Rattle.command_download.specs.Promises.{HasTaken, AreCurrent, IsOffered, Favoured, chains_of}
 use Rattle.command_download.proofs.Current.{After, is_after}
@@ -58,10 +58,10 @@ sorted_some s t h = by_waiting s.waiting h
 some_asked : (words : List (List ℕ)) (layout : DownloadLayout) → download_layout_of words ≡ Ok layout → (d : Download) × (rest : List Download) × (layout.downloads ≡ d ∷ rest)
 unfolding download_layout_of
 some_asked words layout h =
-    let a = step_ok (words_sorted nothing_sorted words) _ layout h in
-    let b = step_ok (all_sorted a.0) _ layout a.2 in
-    let c = step_ok (layout_under download_form b.0.plain) _ layout b.2 in
-    let some = sorted_some a.0 b.0 b.1 in
+    let a = step_ok (sorted_of words) _ layout h in
+    let b = step_ok (words_sorted nothing_sorted words) all_sorted a.0 a.1 in
+    let c = step_ok (layout_under (download_form (codes "download") (codes "--provider")) a.0.plain) _ layout a.2 in
+    let some = sorted_some b.0 a.0 b.2 in
     (some.0, some.1, ap (λ (l : DownloadLayout). l.downloads) (sym (ok_same _ layout c.2)) ∙ some.2)
 
 -- ---- the targets

@@ -9,7 +9,7 @@ use Rattle.command_download.specs.declared.layout.Download.{Download}
 use Rattle.command_download.specs.Client.{Outside, Delivers, DeliversEach, all_done, wanting, failed, goes_on}
 use Rattle.command_download.specs.Report.{target_line, targets_lines}
 
-first_of : (ds : List Download) (i : ℕ) (d : Download) → i < length ds → drop i ds ≡ get_or ds i d ∷ drop (i + 1) ds
+pub first_of : (ds : List Download) (i : ℕ) (d : Download) → i < length ds → drop i ds ≡ get_or ds i d ∷ drop (i + 1) ds
 first_of ds i d h = rw (add-one, drop-cons ds i d)
 
 -- the line that was pushed is that of the target

@@ -2,19 +2,17 @@
 use Rattle.std.proofs.Common.{◌≡◌, ℕ, List, Result, Ok, Err, ap, ◌∙◌}
 use Rattle.foundation.specs.Steps.{◌>>=◌}
 use Rattle.sigstore_tuf_causes.proofs.RolesMet.{step_to}
-use Rattle.command_files.specs.Layout.{layout_under}
+use Rattle.command_files.specs.Layout.{Form, layout_under}
 use Rattle.command_files.specs.declared.layout.Layout.{Layout}
 use Rattle.command_files.specs.declared.usage_fault.UsageFault.{UsageFault}
 use Rattle.command_download.specs.declared.layout.Sorted.{Sorted}
-use Rattle.command_download.specs.Layout.{download_form, words_sorted, nothing_sorted, all_sorted, download_layout_of}
+use Rattle.command_download.specs.Layout.{sorted_of, laid_of}
 
-module _ (words : List (List ℕ)) (s : Sorted) (read : words_sorted nothing_sorted words ≡ Ok s) (whole : all_sorted s ≡ Ok s) where
-  pub laid_out : (places : Layout) → layout_under download_form s.plain ≡ Ok places → download_layout_of words ≡ Ok (record { places = places; downloads = s.downloads })
-  unfolding download_layout_of
-  laid_out places h = step_to (words_sorted nothing_sorted words) _ s read ∙ step_to (all_sorted s) _ s whole ∙ step_to (layout_under download_form s.plain) _ places h
+module _ (form : Form) (words : List (List ℕ)) (s : Sorted) (sorted : sorted_of words ≡ Ok s) where
+  pub laid_so : (places : Layout) → layout_under form s.plain ≡ Ok places → laid_of form words ≡ Ok (record { places = places; downloads = s.downloads })
+  laid_so places h = step_to (sorted_of words) _ s sorted ∙ step_to (layout_under form s.plain) _ places h
 
-  pub not_laid_out : (e : UsageFault) → layout_under download_form s.plain ≡ Err e → download_layout_of words ≡ Err e
-  unfolding download_layout_of
-  not_laid_out e h =
-      step_to (words_sorted nothing_sorted words) _ s read ∙ step_to (all_sorted s) _ s whole
+  pub not_laid_so : (e : UsageFault) → layout_under form s.plain ≡ Err e → laid_of form words ≡ Err e
+  not_laid_so e h =
+      step_to (sorted_of words) _ s sorted
       ∙ ap (λ (r : Result Layout UsageFault). r >>= λ places. Ok (record { places = places; downloads = s.downloads })) h

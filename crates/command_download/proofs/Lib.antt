@@ -1,6 +1,7 @@
 mod Cuts
 mod Layouts
 mod Delivering
+mod Chaining
 mod Delivered
 mod Current
 mod Following

@@ -12,12 +12,12 @@ use Rattle.command_download.specs.declared.layout.Sorted.{Sorted}
 use Rattle.command_download.specs.declared.layout.DownloadLayout.{DownloadLayout}
 
 -- the words beside the targets and their files; nothing that is judged lies anywhere
-abbrev pub download_form : Form
-download_form = record {
-  command = codes "download";
-  wanted = codes "--root" ∷ codes "--repository" ∷ codes "--store" ∷ codes "--provider" ∷ [];
+abbrev pub download_form : List ℕ → List ℕ → Form
+download_form command rows = record {
+  command = command;
+  wanted = codes "--root" ∷ codes "--repository" ∷ codes "--store" ∷ rows ∷ [];
   judged = [];
-  rows = codes "--provider";
+  rows = rows;
 }
 
 -- the greatest number of targets in one run
@@ -82,10 +82,22 @@ whole_of s (Some target) = Err Usage
 abbrev pub all_sorted : Sorted → Result Sorted UsageFault
 all_sorted s = whole_of s s.waiting
 
--- The layout of the words: `download`, the options of its form, and from 1 to 64 times `--target=NAME` with `--out=FILE` right behind it.
-unfoldable pub download_layout_of : List (List ℕ) → Result DownloadLayout UsageFault
-download_layout_of words = do
-  read ← words_sorted nothing_sorted words
-  sorted ← all_sorted read
-  places ← layout_under download_form sorted.plain
+-- the words sorted, of which no target waits for its file
+abbrev pub sorted_of : List (List ℕ) → Result Sorted UsageFault
+sorted_of words = words_sorted nothing_sorted words >>= all_sorted
+
+-- The layout of the words under a form: its first word and its options, and from 1 to 64 times `--target=NAME` with `--out=FILE` right
+-- behind it.
+abbrev pub laid_of : Form → List (List ℕ) → Result DownloadLayout UsageFault
+laid_of form words = do
+  sorted ← sorted_of words
+  places ← layout_under form sorted.plain
   Ok (record { places = places; downloads = sorted.downloads })
+
+-- the layout of the words, of which the first is `download`: the rows are those of a provider file
+unfoldable pub download_layout_of : List (List ℕ) → Result DownloadLayout UsageFault
+download_layout_of words = laid_of (download_form (codes "download") (codes "--provider")) words
+
+-- the layout of the words, of which the first is `download-questions`: the rows are of signatures that aren't good
+unfoldable pub asked_download_layout_of : List (List ℕ) → Result DownloadLayout UsageFault
+asked_download_layout_of words = laid_of (download_form (codes "download-questions") (codes "--refused")) words

@@ -30,7 +30,7 @@ pub(crate) struct Client<'c, 's, C: CryptoProvider, M: Armor> {
 }
 
 // Searches a target from the top-level documents, has its file, and puts it in its place.
-fn deliver<C: CryptoProvider, M: Armor, R: Repository, S: MetadataStore, F: Shelf>(
+pub(crate) fn deliver<C: CryptoProvider, M: Armor, R: Repository, S: MetadataStore, F: Shelf>(
     alloc: Global,
     client: &Client<'_, '_, C, M>,
     download: &Download,

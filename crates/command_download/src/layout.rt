@@ -1,7 +1,8 @@
 // The words of the command `download`.
 ghost use Rattle.std.specs.Prelude.{◌≡◌, ◌≢◌, Some, None, Ok, Err, IfOk, IfErr, OnOk, MatchOption, option_map};
 ghost use Rattle.command_files.specs.Lines.{cut_of};
-ghost use Rattle.command_download.specs.Layout.{value_of, given_of, is_taken, is_few, word_sorted, words_sorted, nothing_sorted, all_sorted, download_layout_of};
+ghost use Rattle.command_files.specs.Layout.{form_by};
+ghost use Rattle.command_download.specs.Layout.{value_of, given_of, is_taken, is_few, word_sorted, words_sorted, sorted_of, laid_of, download_layout_of, asked_download_layout_of};
 
 use command_files::{Form, Layout, UsageFault, layout_under};
 use foundation::{NoMemory, Sequence};
@@ -115,10 +116,9 @@ fn is_few(count: usize) -> bool
 }
 
 // The words, of which no target waits for its file, and as many downloads as may be.
-#[tactic(auto, unfolding(crate::specs::Layout::download_layout_of))]
 fn sort(alloc: Global, words: &[Text]) -> Result<Sorted, UsageFault>
-    ensures ok { IfOk result (λ s. (words_sorted nothing_sorted words.now ≡ Ok s) × (all_sorted s ≡ Ok s)) }
-    ensures err { IfErr result (λ e. e ≢ UsageFault.NoMemory → download_layout_of words.now ≡ Err e) }
+    ensures ok { IfOk result (λ s. sorted_of words.now ≡ Ok s) }
+    ensures err { IfErr result (λ e. e ≢ UsageFault.NoMemory → sorted_of words.now ≡ Err e) }
 {
     let mut sorted = Sorted {
         plain: Sequence::new(alloc),
@@ -140,6 +140,30 @@ fn sort(alloc: Global, words: &[Text]) -> Result<Sorted, UsageFault>
     }
 }
 
+// The layout that the words give under a form.
+fn laid_out(alloc: Global, form: &Form<'_>, words: &[Text]) -> Result<DownloadLayout, UsageFault>
+    ensures ok { IfOk result (λ l. laid_of (form_by form.now) words.now ≡ Ok l) }
+    ensures err { IfErr result (λ e. e ≢ UsageFault.NoMemory → laid_of (form_by form.now) words.now ≡ Err e) }
+{
+    match sort(alloc, words) {
+        Ok(sorted) => {
+            let Sorted {
+                plain,
+                downloads,
+                ..
+            } = sorted;
+            match layout_under(alloc, form, plain.as_slice()) {
+                Ok(places) => Ok(DownloadLayout { places, downloads }),
+                Err(e) => {
+                    drop(downloads);
+                    Err(e)
+                }
+            }
+        }
+        Err(e) => Err(e),
+    }
+}
+
 /// The layout that the words give: `download`, `--root=`, `--repository=`, `--store=`, `--provider=`, each once,
 /// `--now=` at most once, and from 1 to 64 times `--target=` with `--out=` right behind it, in any order. Each file is
 /// named once. Errors: `Usage` for other words; `NoMemory`.
@@ -154,21 +178,22 @@ pub fn download_layout(alloc: Global, words: &[Text]) -> Result<DownloadLayout, 
         judged: "",
         rows: "--provider",
     };
-    match sort(alloc, words) {
-        Ok(sorted) => {
-            let Sorted {
-                plain,
-                downloads,
-                ..
-            } = sorted;
-            match layout_under(alloc, &form, plain.as_slice()) {
-                Ok(places) => Ok(DownloadLayout { places, downloads }),
-                Err(e) => {
-                    drop(downloads);
-                    Err(e)
-                }
-            }
-        }
-        Err(e) => Err(e),
-    }
+    laid_out(alloc, &form, words)
+}
+
+/// The layout that the words of a run that notes a download's questions give: `download-questions`, then those of
+/// `download_layout` with `refused` in the place of `provider`. The rows of that file are signatures that are known not to
+/// be good. Errors: `Usage` for other words; `NoMemory`.
+#[tactic(auto, unfolding(crate::specs::Layout::asked_download_layout_of))]
+pub fn asked_download_layout(alloc: Global, words: &[Text]) -> Result<DownloadLayout, UsageFault>
+    ensures ok { IfOk result (λ l. asked_download_layout_of words.now ≡ Ok l) }
+    ensures err { IfErr result (λ e. e ≢ UsageFault.NoMemory → asked_download_layout_of words.now ≡ Err e) }
+{
+    let form = Form {
+        command: "download-questions",
+        wanted: &["--root", "--repository", "--store", "--refused"],
+        judged: "",
+        rows: "--refused",
+    };
+    laid_out(alloc, &form, words)
 }

@@ -2,6 +2,7 @@
 //! where its chain of documents is trusted from the pinned root.
 #![tactic(auto)]
 
+mod chains;
 mod client;
 mod delivery;
 mod documents;
@@ -9,13 +10,16 @@ mod fault;
 mod file_shelf;
 mod layout;
 mod memory_shelf;
+mod no_shelf;
 mod program;
 mod report;
 mod shelf;
 
+pub use chains::{Chains, DownloadRequest, chains_of};
 pub use fault::DownloadFault;
 pub use file_shelf::FileShelf;
-pub use layout::{Download, DownloadLayout, download_layout};
+pub use layout::{Download, DownloadLayout, asked_download_layout, download_layout};
 pub use memory_shelf::MemoryShelf;
+pub use no_shelf::NoShelf;
 pub use program::run_download;
 pub use shelf::{Placed, Shelf, ShelfFault};

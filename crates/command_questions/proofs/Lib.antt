@@ -1,3 +1,5 @@
 mod Meaning
 mod Sufficing
 mod SufficingForFolder
+mod WaySufficing
+mod SufficingForTargets

@@ -18,7 +18,6 @@ use Rattle.trust_archive.specs.Spelling.{spelling_of}
 use Rattle.sigstore_verify.specs.declared.by_rules.RuleAcceptance.{RuleAcceptance}
 use Rattle.sigstore_verify.specs.declared.by_rules.RulesFault.{RulesFault}
 use Rattle.sigstore_verify.specs.ByRules.{RulesInputs, RunsByRules, PromisesByRules}
-use Rattle.sigstore_verify.specs.FromRoot.{trust_path}
 use Rattle.sigstore_verify.specs.Inputs.{Anchor, Outside}
 use Rattle.command_files.specs.declared.gather.Gathered.{Gathered}
 use Rattle.command_files.specs.declared.tables.TableProvider.{TableProvider}
@@ -29,20 +28,20 @@ use Rattle.command_verify.specs.declared.request.VerifyRequest.{VerifyRequest}
 use Rattle.question_notes.specs.Believing.{believing}
 use Rattle.question_notes.specs.declared.noted.Noted.{Noted}
 use Rattle.command_questions.specs.Means.{Asks}
-use Rattle.command_questions.specs.Suffice.{rule_at, IsTrustedAlone, IsAcceptedUnder, IsAcceptedAlone, Suffice}
+use Rattle.command_questions.specs.Suffice.{rule_at, IsTrustedFor, IsAcceptedUnder, IsAcceptedAlone, Suffice}
 
 -- the archive that was written is read again
-pub trusted_alone : (anchor : Anchor) (chain again : TrustChain) (bytes read : List ℕ) (config : UpdaterConfig) → spelling_of chain ≡ Ok bytes
+pub trusted_alone : (anchor : Anchor) (name : List ℕ) (chain again : TrustChain) (bytes read : List ℕ) (config : UpdaterConfig) → spelling_of chain ≡ Ok bytes
     → read ≡ bytes → config ≡ anchor.config
-    → IsArchive anchor.crypto anchor.root anchor.now config.max_delegations trust_path read again → IsTrustedAlone anchor chain
-trusted_alone anchor chain again bytes read config spelled same limits held =
-    let limited : IsArchive anchor.crypto anchor.root anchor.now anchor.config.max_delegations trust_path read again =
-    subst (λ (c : UpdaterConfig). IsArchive anchor.crypto anchor.root anchor.now c.max_delegations trust_path read again) limits held in
+    → IsArchive anchor.crypto anchor.root anchor.now config.max_delegations name read again → IsTrustedFor anchor name chain
+trusted_alone anchor name chain again bytes read config spelled same limits held =
+    let limited : IsArchive anchor.crypto anchor.root anchor.now anchor.config.max_delegations name read again =
+    subst (λ (c : UpdaterConfig). IsArchive anchor.crypto anchor.root anchor.now c.max_delegations name read again) limits held in
     record {
       bytes = bytes;
       spelled = spelled;
       again = again;
-      archive = subst (λ (b : List ℕ). IsArchive anchor.crypto anchor.root anchor.now anchor.config.max_delegations trust_path b again) same limited;
+      archive = subst (λ (b : List ℕ). IsArchive anchor.crypto anchor.root anchor.now anchor.config.max_delegations name b again) same limited;
     }
 
 -- ---- a verification
@@ -55,7 +54,7 @@ ran_noting request before after result held given same promises =
 
 module _ (gathered : Gathered) (now : jiff.Timestamp) (rules : List SigningPolicy) (root bundle : List ℕ) (ruled : rules ≡ gathered.rules) (rooted : root ≡ gathered.root)
     (bundled : bundle ≡ gathered.bundle) where
-  same_inputs : (crypto : Crypto) → given_with crypto (map meaning_in rules) root bundle now ≡ given_under crypto gathered now
+  pub same_inputs : (crypto : Crypto) → given_with crypto (map meaning_in rules) root bundle now ≡ given_under crypto gathered now
   same_inputs crypto =
       ap (λ (p : List SigningPolicy). given_with crypto (map meaning_in p) root bundle now) ruled
       ∙ ap (λ (r : List ℕ). given_with crypto (map meaning_in gathered.rules) r bundle now) rooted

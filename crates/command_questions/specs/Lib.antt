@@ -1,3 +1,6 @@
+pub mod DownloadMeans
 pub mod GateMeans
 pub mod Means
 pub mod Suffice
+pub mod WaySuffice
+pub mod WayMeans

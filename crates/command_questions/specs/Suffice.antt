@@ -1,5 +1,6 @@
 -- The rows that are written suffice: what the run came to under them, and under answers that nobody gave yet, stands by the rows alone.
-use Rattle.std.specs.Prelude.{◌≡◌, ⊤, ℕ, ◌-◌, ◌==◌, List, slice_get, if◌then◌else◌, Option, Some, None, Result, Ok, Err}
+use Rattle.std.specs.Prelude.{◌≡◌, ⊤, ℕ, ◌-◌, ◌==◌, List, [], ◌∷◌, slice_get, if◌then◌else◌, Option, Some, None, Result, Ok, Err}
+use Rattle.foundation.specs.declared.no_memory.NoMemory.{NoMemory}
 use Rattle.sigstore_types.specs.declared.bundle.Bundle.{Bundle}
 use Rattle.sigstore_types.specs.declared.trusted_root.TrustedRoot.{TrustedRoot}
 use Rattle.sigstore_types.specs.Bundle.{bundle_of_bytes}
@@ -27,15 +28,23 @@ use Rattle.sigstore_verify.specs.Inputs.{Anchor}
 use Rattle.release_gate.specs.declared.gate.Gated.{Gated}
 use Rattle.release_gate.specs.declared.gate.GateFault.{GateFault}
 use Rattle.release_gate.specs.declared.gate.GateFault.TheVariants as gate
+use Rattle.command_download.specs.declared.chains.Chains.{Chains}
+use Rattle.command_download.specs.declared.fault.DownloadFault.{DownloadFault}
+use Rattle.command_download.specs.declared.fault.DownloadFault.TheVariants as fault
+use Rattle.command_download.specs.declared.layout.Download.{Download}
 
 -- ---- what stands by rows alone
 
--- the archive of the chain of documents is that of a chain which is trusted for the trust file
-pub record IsTrustedAlone (anchor : Anchor) (chain : TrustChain) : Type 0 where
+-- the archive of the chain of documents is that of a chain which is trusted for a target of this name
+pub record IsTrustedFor (anchor : Anchor) (name : List ℕ) (chain : TrustChain) : Type 0 where
   pub bytes : List ℕ
   pub spelled : spelling_of chain ≡ Ok bytes
   pub again : TrustChain
-  pub archive : IsArchive anchor.crypto anchor.root anchor.now anchor.config.max_delegations trust_path bytes again
+  pub archive : IsArchive anchor.crypto anchor.root anchor.now anchor.config.max_delegations name bytes again
+
+-- the same for the trust file
+abbrev pub IsTrustedAlone : Anchor → TrustChain → Type 0
+IsTrustedAlone anchor chain = IsTrustedFor anchor trust_path chain
 
 -- a bundle is accepted over these digests of its artifact
 pub record IsAcceptedOver (terms : Terms) (reading : Bundle) (digests : List ArtifactDigest) : Type 0 where
@@ -82,3 +91,22 @@ SufficeForFolder anchor (Ok gated) = IsTrustedAlone anchor gated.chain
 SufficeForFolder anchor (Err (gate.Trust fault chain)) = IsTrustedAlone anchor chain
 SufficeForFolder anchor (Err gate.NoMemory) = ⊥
 SufficeForFolder anchor (Err e) = ⊤
+
+-- these are chains of the first so many downloads, each of which is trusted by the rows alone
+abbrev pub AreTrustedAlone : Anchor → List Download → List TrustChain → Type 0
+AreTrustedAlone anchor downloads [] = ⊤
+AreTrustedAlone anchor [] (chain ∷ chains) = ⊥
+AreTrustedAlone anchor (download ∷ downloads) (chain ∷ chains) =
+    IsTrustedFor anchor download.target chain × AreTrustedAlone anchor downloads chains
+
+-- where a download came to its end for want of memory, no rows suffice
+abbrev pub HadMemory : Option DownloadFault → Type 0
+HadMemory None = ⊤
+HadMemory (Some (fault.Tuf e)) = ⊤
+HadMemory (Some fault.Unplaced) = ⊤
+HadMemory (Some fault.NoMemory) = ⊥
+
+-- The same of a download: the chain of each target that it had is trusted by the rows alone.
+abbrev pub SufficeForTargets : Anchor → List Download → Result Chains NoMemory → Type 0
+SufficeForTargets anchor downloads (Ok had) = HadMemory had.stop × AreTrustedAlone anchor downloads had.chains
+SufficeForTargets anchor downloads (Err e) = ⊥

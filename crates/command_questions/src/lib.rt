@@ -4,14 +4,19 @@
 #![tactic(auto)]
 
 mod details;
+mod download;
 mod gate;
 mod last_asked;
 mod program;
 mod reading_store;
 mod suffice;
+mod way_suffice;
+mod ways;
 
 pub use details::run_details;
+pub use download::run_download_questions;
 pub use gate::run_gate_questions;
 pub use last_asked::LastAsked;
 pub use program::{questions_text, run_questions};
 pub use reading_store::ReadingStore;
+pub use ways::run_way_questions;

@@ -9,8 +9,9 @@ ghost use Rattle.sigstore_tuf_rules.specs.Config.{default_config};
 ghost use Rattle.sigstore_verify.specs.Inputs.{anchor_by};
 ghost use Rattle.command_gate.specs.Run as gate;
 ghost use Rattle.command_verify.specs.Run.{given_of};
-ghost use Rattle.command_questions.specs.Suffice.{rule_at, IsTrustedAlone, IsAcceptedOver, IsAcceptedUnder, IsAcceptedAlone, Suffice, SufficeForFolder};
+ghost use Rattle.command_questions.specs.Suffice.{rule_at, IsTrustedFor, IsTrustedAlone, IsAcceptedOver, IsAcceptedUnder, IsAcceptedAlone, AreTrustedAlone, HadMemory, Suffice, SufficeForFolder, SufficeForTargets};
 
+use command_download::{Chains, DownloadFault, DownloadRequest};
 use command_files::Tables;
 use command_gate::FolderRequest;
 use command_verify::VerifyRequest;
@@ -28,16 +29,17 @@ use sigstore_verify::{RootFault, RuleAcceptance, RulesFault, TRUST_PATH, Verifie
 use std::alloc::Global;
 use trust_archive::{ArchiveTerms, read_archive, write_archive};
 
-// A chain of documents, which is trusted by these rows alone; else a row is lacking, for which there was no memory or no
-// room.
-fn check_chain(
+// A chain of documents, which is trusted for a target of this name by these rows alone; else a row is lacking, for which
+// there was no memory or no room.
+fn check_named(
     alloc: Global,
     tables: &Tables,
     root: &[u8],
     now: Timestamp,
+    path: &str,
     chain: &TrustChain,
 ) -> Result<(), NoMemory>
-    ensures { OnOk result (IsTrustedAlone (anchor_by (crypto_of tables.now) root.now default_config now) chain.now) }
+    ensures { OnOk result (IsTrustedFor (anchor_by (crypto_of tables.now) root.now default_config now) path.now chain.now) }
 {
     let Ok(archive) = write_archive(alloc, chain) else {
         return Err(NoMemory);
@@ -49,7 +51,7 @@ fn check_chain(
     };
     let terms = ArchiveTerms {
         root,
-        path: TRUST_PATH,
+        path,
         max_delegations: config.max_delegations,
         moment: now,
     };
@@ -62,8 +64,21 @@ fn check_chain(
     }
 }
 
+// The same for the trusted root.
+pub(crate) fn check_chain(
+    alloc: Global,
+    tables: &Tables,
+    root: &[u8],
+    now: Timestamp,
+    chain: &TrustChain,
+) -> Result<(), NoMemory>
+    ensures { OnOk result (IsTrustedAlone (anchor_by (crypto_of tables.now) root.now default_config now) chain.now) }
+{
+    check_named(alloc, tables, root, now, TRUST_PATH, chain)
+}
+
 // The rule of a number, counted from 1.
-fn rule_of(rules: &[SigningPolicy], number: usize) -> Option<&SigningPolicy>
+pub(crate) fn rule_of(rules: &[SigningPolicy], number: usize) -> Option<&SigningPolicy>
     ensures { option_copied result ≡ rule_at rules.now number }
 {
     if number == 0 {
@@ -97,7 +112,7 @@ fn check_digests<C: CryptoProvider, M: Armor>(
 }
 
 // A bundle, which is accepted under a rule and a trusted root over these digests.
-fn check_case(
+pub(crate) fn check_case(
     alloc: Global,
     tables: &Tables,
     trust: &TrustedRoot,
@@ -216,6 +231,65 @@ fn check_gated(
     }
 }
 
+// The chains of the first so many downloads, each of which is trusted by these rows alone.
+fn check_chains(
+    alloc: Global,
+    tables: &Tables,
+    request: &DownloadRequest<'_>,
+    chains: &[TrustChain],
+) -> Result<(), NoMemory>
+    ensures { OnOk result (AreTrustedAlone (anchor_by (crypto_of tables.now) request.now.root.now default_config request.now.moment) request.now.downloads.now chains.now) }
+{
+    'chains: for (i, chain) in chains.iter().enumerate() {
+        let Some(download) = request.downloads.get(i) else {
+            return Err(NoMemory);
+        };
+        let name = download.target.as_str();
+        check_named(alloc, tables, request.root, request.moment, name, chain)?;
+    }
+    Ok(())
+}
+
+// A stop that isn't for want of memory.
+fn check_stop(stop: &Option<DownloadFault>) -> Result<(), NoMemory>
+    ensures { OnOk result (HadMemory stop.now) }
+{
+    match stop {
+        None => Ok(()),
+        Some(DownloadFault::Tuf(_)) => Ok(()),
+        Some(DownloadFault::Unplaced) => Ok(()),
+        Some(DownloadFault::NoMemory) => Err(NoMemory),
+    }
+}
+
+// The chains that a download came to, for which these rows suffice.
+fn check_had(
+    alloc: Global,
+    tables: &Tables,
+    request: &DownloadRequest<'_>,
+    had: &Chains,
+) -> Result<(), NoMemory>
+    ensures { OnOk result (SufficeForTargets (anchor_by (crypto_of tables.now) request.now.root.now default_config request.now.moment) request.now.downloads.now (Ok had.now)) }
+{
+    check_stop(&had.stop)?;
+    check_chains(alloc, tables, request, had.chains.as_slice())
+}
+
+// What a download came to, for which these rows suffice.
+fn check_download(
+    alloc: Global,
+    tables: &Tables,
+    request: &DownloadRequest<'_>,
+    judged: &Result<Chains, NoMemory>,
+) -> Result<(), NoMemory>
+    ensures { OnOk result (SufficeForTargets (anchor_by (crypto_of tables.now) request.now.root.now default_config request.now.moment) request.now.downloads.now judged.now) }
+{
+    match judged {
+        Ok(had) => check_had(alloc, tables, request, had),
+        Err(_) => Err(NoMemory),
+    }
+}
+
 // What was noted, which suffices for what a verification came to; `NoMemory` where it doesn't.
 pub(crate) fn sufficient(
     alloc: Global,
@@ -250,6 +324,27 @@ pub(crate) fn sufficient_for_folder(
         return Err(NoMemory);
     };
     match check_gated(alloc, &noted.tables, request, judged) {
+        Ok(()) => Ok(noted),
+        Err(e) => {
+            drop(noted);
+            Err(e)
+        }
+    }
+}
+
+// The same of a download.
+pub(crate) fn sufficient_for_targets(
+    alloc: Global,
+    notes: Notes<'_>,
+    request: &DownloadRequest<'_>,
+    judged: &Result<Chains, NoMemory>,
+) -> Result<Noted, NoMemory>
+    ensures { IfOk result (λ noted. SufficeForTargets (anchor_by (crypto_of noted.tables) request.now.root.now default_config request.now.moment) request.now.downloads.now judged.now) }
+{
+    let Some(noted) = notes.into_noted() else {
+        return Err(NoMemory);
+    };
+    match check_download(alloc, &noted.tables, request, judged) {
         Ok(()) => Ok(noted),
         Err(e) => {
             drop(noted);

@@ -1,15 +1,25 @@
 //! Writes which signatures and armoured texts a verification from a pinned TUF root asks for, as lines of a
-//! provider file: `questions` and eight options; `gate-questions` writes those of a whole folder. With the words of a
-//! verification it writes what the refusal holds, for a reader's eye. It judges nothing.
+//! provider file: `questions` with the words of `verify`, in any of its ways; `gate-questions` writes those of a whole folder,
+//! `download-questions` those of targets. With the words of a verification it writes what the refusal holds, for a reader's
+//! eye. It judges nothing.
 #![tactic(auto)]
 
+use command_download::{DownloadLayout, asked_download_layout};
 use command_files::{
     CommandLine, Layout, Status, exit_code, or_none, read_asked_layout, read_layout,
 };
 use command_gate::asked_gate_layout;
-use command_questions::{LastAsked, ReadingStore, run_details, run_gate_questions, run_questions};
+use command_questions::{
+    LastAsked, ReadingStore, run_details, run_download_questions, run_gate_questions,
+    run_questions, run_way_questions,
+};
+use command_ways::{WayLayout, asked_way_layout};
 use foundation::NoMemory;
-use program_objects::{GateObjects, Objects, clock_of, gate_objects_at, objects_at, words_of};
+use program_objects::{
+    DownloadObjects, GateObjects, Objects, clock_of, download_objects_at, gate_objects_at,
+    objects_at, words_of,
+};
+use sigstore_keys::FileSource;
 use std::process::ExitCode;
 use std::rt::Runtime;
 
@@ -81,6 +91,63 @@ fn gate_asked<X: Runtime + AllocGlobal>(rt: &X, line: &CommandLine<'_>, layout: 
     )
 }
 
+// The same for what a verification in another way asks.
+fn way_asked<X: Runtime + AllocGlobal>(
+    rt: &X,
+    line: &CommandLine<'_>,
+    layout: WayLayout,
+) -> Status {
+    let WayLayout {
+        way,
+        archive,
+        places,
+    } = layout;
+    drop(way);
+    let mut archive = FileSource::new(rt, archive);
+    let Objects {
+        mut inputs,
+        mut repository,
+        store,
+        mut artifact,
+        mut out,
+    } = objects_at(rt, Some(places));
+    run_way_questions(
+        rt.alloc(),
+        line,
+        &mut inputs,
+        &mut repository,
+        &mut ReadingStore::new(store),
+        &mut archive,
+        &mut artifact,
+        &mut out,
+    )
+}
+
+// The same for what a download asks. The shelf isn't handed on, so that no file is put in place.
+fn download_asked<X: Runtime + AllocGlobal>(
+    rt: &X,
+    line: &CommandLine<'_>,
+    layout: DownloadLayout,
+) -> Status {
+    let DownloadLayout { places, downloads } = layout;
+    drop(downloads);
+    let DownloadObjects {
+        mut inputs,
+        mut repository,
+        store,
+        mut out,
+        ..
+    } = download_objects_at(rt, places);
+    run_download_questions(
+        rt.alloc(),
+        line,
+        &mut inputs,
+        &mut repository,
+        &mut ReadingStore::new(store),
+        &mut out,
+    )
+}
+
 fn status_of<X: Runtime + AllocGlobal>(rt: &X) -> Result<Status, NoMemory> {
     let words = words_of(rt)?;
     let line = CommandLine {
@@ -94,8 +161,16 @@ fn status_of<X: Runtime + AllocGlobal>(rt: &X) -> Result<Status, NoMemory> {
     if let Some(layout) = or_none(asked_gate_layout(rt.alloc(), &words))? {
         return Ok(gate_asked(rt, &line, layout));
     }
-    let layout = or_none(read_asked_layout(rt.alloc(), &words))?;
-    Ok(asked(rt, &line, layout))
+    if let Some(layout) = or_none(asked_download_layout(rt.alloc(), &words))? {
+        return Ok(download_asked(rt, &line, layout));
+    }
+    if let Some(layout) = or_none(read_asked_layout(rt.alloc(), &words))? {
+        return Ok(asked(rt, &line, Some(layout)));
+    }
+    if let Some(layout) = or_none(asked_way_layout(rt.alloc(), &words))? {
+        return Ok(way_asked(rt, &line, layout));
+    }
+    Ok(asked(rt, &line, None))
 }
 
 fn main(rt: HostRuntime) -> ExitCode {

@@ -1,4 +1,5 @@
-//! Verifies a bundle over an artifact from a pinned TUF root: `verify` and eight options. `gate` judges each artifact
+//! Verifies a bundle over an artifact from a pinned TUF root: `verify`, over a file or told digests, with trust from a
+//! repository, an archive or a trusted root that is handed in. `gate` judges each artifact
 //! of a folder by its own bundle. `archive` writes the chain of documents to one file, and `check` judges such a file;
 //! `download` puts the files of targets in their places; `audit` judges whether a log grew; `generate` verifies a
 //! workload and counts. The report, the lines or the refusal go to standard output; the exit status says which.
@@ -11,11 +12,13 @@ use command_files::{CommandLine, Layout, Status, StdoutSink, exit_code, or_none,
 use command_gate::{gate_layout, run_gate};
 use command_generate::{is_generate, run_generate};
 use command_verify::run;
+use command_ways::{WayLayout, run_way, way_layout};
 use foundation::NoMemory;
 use program_objects::{
     AuditObjects, DownloadObjects, GateObjects, Objects, audit_objects_at, clock_of,
     download_objects_at, gate_objects_at, objects_at, words_of,
 };
+use sigstore_keys::FileSource;
 use sigstore_types_parts::Text;
 use std::process::ExitCode;
 use std::rt::Runtime;
@@ -132,6 +135,38 @@ fn verified<X: Runtime + AllocGlobal>(
     )
 }
 
+// Runs `verify` in another way over the real objects that its words name.
+fn verified_by_way<X: Runtime + AllocGlobal>(
+    rt: &X,
+    line: &CommandLine<'_>,
+    layout: WayLayout,
+) -> Status {
+    let WayLayout {
+        way,
+        archive,
+        places,
+    } = layout;
+    drop(way);
+    let mut archive = FileSource::new(rt, archive);
+    let Objects {
+        mut inputs,
+        mut repository,
+        mut store,
+        mut artifact,
+        mut out,
+    } = objects_at(rt, Some(places));
+    run_way(
+        rt.alloc(),
+        line,
+        &mut inputs,
+        &mut repository,
+        &mut store,
+        &mut archive,
+        &mut artifact,
+        &mut out,
+    )
+}
+
 // Runs `generate`, which goes to standard output alone.
 fn generated<X: Runtime + AllocGlobal>(rt: &X, words: &[Text]) -> Status {
     run_generate(rt.alloc(), words, &mut StdoutSink::new(rt))
@@ -159,8 +194,13 @@ fn status_of<X: Runtime + AllocGlobal>(rt: &X) -> Result<Status, NoMemory> {
     if let Some(layout) = or_none(gate_layout(rt.alloc(), &words))? {
         return Ok(gated(rt, &line, layout));
     }
-    let layout = or_none(read_layout(rt.alloc(), &words))?;
-    Ok(verified(rt, &line, layout))
+    if let Some(layout) = or_none(read_layout(rt.alloc(), &words))? {
+        return Ok(verified(rt, &line, Some(layout)));
+    }
+    if let Some(layout) = or_none(way_layout(rt.alloc(), &words))? {
+        return Ok(verified_by_way(rt, &line, layout));
+    }
+    Ok(verified(rt, &line, None))
 }
 
 fn main(rt: HostRuntime) -> ExitCode {

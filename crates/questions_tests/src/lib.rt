@@ -6,6 +6,8 @@ mod answered;
 #[cfg(test)]
 mod choices;
 #[cfg(test)]
+mod downloaded;
+#[cfg(test)]
 mod gated;
 #[cfg(test)]
 mod notes;
