@@ -5,8 +5,8 @@ A file has a world a line, an object of JSON:
     name      what it changes
     base      the name of the world whose files it has where it hasn't one itself
     now       the moment of the run; words, in its place, are all the words of the run
-    files     texts by their paths: root.json, repository/.., store/.., bundle.json, artifact, policy, provider; one that
-              is null isn't there
+    files     texts by their paths: root.json, repository/.., store/.., archive, bundle.json, artifact, policy, provider;
+              one that is null isn't there
     handed    `blob` or `digest`: how the artifact is handed to the library that judges a bundle, which is tried alone, and
     most      how many bytes of the artifact that library reads; without either the run of `verify` is tried
     status    how the run of `verify` is to end, and
@@ -14,7 +14,7 @@ A file has a world a line, an object of JSON:
     lines     lines that have to stand in what it writes or in what is found beside it: `refusal`, with its number and all
               that it holds; `certificate`, with its window and its key; `result`, with the names, what was looked at and the
               times; `scts` and `logs`, how many vouched
-    failing   of an object (inputs, repository, store, artifact, sink) the number of the call that fails; the artifact
+    failing   of an object (inputs, repository, store, archive, artifact, sink) the number of the call that fails; the artifact
               is read two bytes at a time
     step      how many bytes of the artifact a read gives, 2 where it is not told; and
     room      how many bytes the sink takes

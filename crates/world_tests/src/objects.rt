@@ -20,6 +20,7 @@ pub struct Objects {
     pub inputs: MemoryInputs,
     pub repository: MemoryRepository,
     pub store: MemoryStore,
+    pub archive: MemorySource,
     pub artifact: MemorySource,
     pub sink: MemorySink,
 }
@@ -52,7 +53,7 @@ fn put_inputs(alloc: Global, world: &World, inputs: &mut MemoryInputs) -> Result
 
 // Whether a run takes a file of that name.
 fn is_input(name: &str) -> bool {
-    name == "artifact" || INPUTS.iter().any(|(_, input)| *input == name)
+    name == "artifact" || name == "archive" || INPUTS.iter().any(|(_, input)| *input == name)
 }
 
 // Puts a file of the repository in its place.
@@ -108,12 +109,17 @@ fn small(world: &World, member: &str, usual: u64) -> Result<u32, Fault> {
     u32::try_from(number).map_err(|_| Fault::World)
 }
 
-/// The artifact, two bytes at a time where the world doesn't say how many.
-pub fn artifact(alloc: Global, world: &World) -> Result<MemorySource, Fault> {
+// A file that is read in pieces, of two bytes where the world doesn't say how many.
+fn source(alloc: Global, world: &World, name: &str) -> Result<MemorySource, Fault> {
     let step = NonZeroU32::new(small(world, "step", STEP)?).ok_or(Fault::World)?;
-    let failures = failures(alloc, world, "artifact")?;
-    let octets = world.file("artifact").unwrap_or("");
+    let failures = failures(alloc, world, name)?;
+    let octets = world.file(name).unwrap_or("");
     Ok(MemorySource::new(Bytes::new(alloc, octets.as_bytes())?, step, failures))
+}
+
+/// The artifact.
+pub fn artifact(alloc: Global, world: &World) -> Result<MemorySource, Fault> {
+    source(alloc, world, "artifact")
 }
 
 fn sink(alloc: Global, world: &World) -> Result<MemorySink, Fault> {
@@ -139,6 +145,7 @@ fn fill(alloc: Global, world: &World, objects: &mut Objects) -> Result<(), Fault
 impl Objects {
     /// The objects over the files of a world.
     pub fn new(alloc: Global, world: &World) -> Result<Objects, Fault> {
+        let archive = source(alloc, world, "archive")?;
         let (artifact, sink) = (artifact(alloc, world)?, sink(alloc, world)?);
         let (inputs, repository, store) = (
             failures(alloc, world, "inputs")?,
@@ -149,6 +156,7 @@ impl Objects {
             inputs: MemoryInputs::new(inputs),
             repository: MemoryRepository::new(alloc, repository),
             store: MemoryStore::with_failures(alloc, store),
+            archive,
             artifact,
             sink,
         };

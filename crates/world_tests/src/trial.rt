@@ -4,8 +4,9 @@ use crate::fault::Fault;
 use crate::handed::{is_handed, push_alone};
 use crate::objects::Objects;
 use crate::world::World;
-use command_files::CommandLine;
+use command_files::{CommandLine, Status, read_layout};
 use command_verify::run;
+use command_ways::{run_way, way_layout};
 use jiff::Timestamp;
 use serde_json::Value;
 use sigstore_types_parts::Text;
@@ -41,22 +42,40 @@ fn words(alloc: Global, world: &World) -> Result<Vec<Text>, Fault> {
     words_in(alloc, line.as_str())
 }
 
-// Runs over the world, adds what is written, and gives the status.
-fn run_over(alloc: Global, world: &World, text: &mut String) -> Result<u64, Fault> {
-    let words = words(alloc, world)?;
-    let mut objects = Objects::new(alloc, world)?;
-    let status = run(
+// Runs `verify` in the first way, or in another one where the words are of it alone.
+fn run_by_words(alloc: Global, line: &CommandLine<'_>, objects: &mut Objects) -> Status {
+    if read_layout(alloc, line.words).is_err() && way_layout(alloc, line.words).is_ok() {
+        return run_way(
+            alloc,
+            line,
+            &mut objects.inputs,
+            &mut objects.repository,
+            &mut objects.store,
+            &mut objects.archive,
+            &mut objects.artifact,
+            &mut objects.sink,
+        );
+    }
+    run(
         alloc,
-        &CommandLine {
-            words: &words,
-            clock: Timestamp::UNIX_EPOCH,
-        },
+        line,
         &mut objects.inputs,
         &mut objects.repository,
         &mut objects.store,
         &mut objects.artifact,
         &mut objects.sink,
-    );
+    )
+}
+
+// Runs over the world, adds what is written, and gives the status.
+fn run_over(alloc: Global, world: &World, text: &mut String) -> Result<u64, Fault> {
+    let words = words(alloc, world)?;
+    let line = CommandLine {
+        words: &words,
+        clock: Timestamp::UNIX_EPOCH,
+    };
+    let mut objects = Objects::new(alloc, world)?;
+    let status = run_by_words(alloc, &line, &mut objects);
     let written = str::from_utf8(objects.sink.bytes()).unwrap_or("");
     let pushed = text.push_str(written);
     drop(objects);
