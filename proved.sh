@@ -83,15 +83,20 @@ copy_crates() {
     [ ! -e "$top/HANDLES" ] || cp "$top/HANDLES" "$to/HANDLES"
 }
 
-# Whether a proved program is there and no source of its crates is newer. It is put there whole, by a renaming. What can't
-# be found out, such as whether a source is newer, counts as no: each path is a word of its own, whatever stands in it.
+# Whether a proved program is there and no source of its crates is newer. It is put there whole, by a renaming.
 is_current() (
     if [ ! -d "$top/crates" ]; then
         [ -f "$top/programs/$1" ] && [ -x "$top/programs/$1" ]
         exit
     fi
-    built=$top/crates/$1/out/$1
-    [ -f "$built" ] && [ -x "$built" ] || exit
+    [ -x "$top/crates/$1/out/$1" ] && is_newest "$1" "$top/crates/$1/out/$1"
+)
+
+# Whether this file, built of a crate, is there and no source of its crates is newer. What can't be found out, such as
+# whether a source is newer, counts as no: each path is a word of its own, whatever stands in it.
+is_newest() (
+    built=$2
+    [ -f "$built" ] || exit
     chosen=$(crates "$1") && [ -n "$chosen" ] || exit 1
     set -- "$top/crates.txt"
     for crate in $chosen; do

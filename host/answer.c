@@ -73,7 +73,35 @@ static uint8_t *before(uint8_t *end, uint8_t tag, size_t length) {
     return end;
 }
 
-/* The key of a point, or of raw octets; of RSA as a SubjectPublicKeyInfo. */
+/* Whether a key is spelled so, as an RSAPublicKey in DER, and has an exponent that is odd and not 1 (RFC 8017, 3.1). */
+static bool is_rsa_key(const EVP_PKEY *key, const struct octets *spelled) {
+    BIGNUM *exponent = NULL;
+    uint8_t *der = NULL;
+    int length = i2d_PublicKey(key, &der);
+    bool right = length > 0 && (size_t)length == spelled->length && !memcmp(der, spelled->at, spelled->length)
+        && EVP_PKEY_get_bn_param(key, OSSL_PKEY_PARAM_RSA_E, &exponent) == 1 && BN_is_odd(exponent) && !BN_is_one(exponent);
+    BN_free(exponent);
+    OPENSSL_free(der);
+    return right;
+}
+
+/* The key of an RSAPublicKey, which is read within a SubjectPublicKeyInfo. */
+static EVP_PKEY *rsa_key_of(const struct octets *key) {
+    static const uint8_t algorithm[] = {0x30, 0x0d, 6, 9, 0x2a, 0x86, 0x48, 0x86, 0xf7, 0x0d, 1, 1, 1, 5, 0};
+    uint8_t buffer[2200], *end = buffer + sizeof buffer, *at = end - key->length;
+    memcpy(at, key->at, key->length);
+    *--at = 0;
+    at = before(at, 3, end - at);
+    at -= sizeof algorithm;
+    memcpy(at, algorithm, sizeof algorithm);
+    at = before(at, 0x30, end - at);
+    const uint8_t *read = at;
+    EVP_PKEY *found = d2i_PUBKEY(NULL, &read, end - at);
+    if (found && (read != end || !is_rsa_key(found, key))) { EVP_PKEY_free(found); return NULL; }
+    return found;
+}
+
+/* The key of a point, of raw octets, or of an RSAPublicKey. */
 static EVP_PKEY *key_of(const struct scheme *scheme, const struct octets *key) {
     if (scheme->sort == RSA_KEY ? key->length >= 2048 : key->length != (size_t)scheme->size) return NULL;
     if (scheme->sort == RAW) return EVP_PKEY_new_raw_public_key_ex(NULL, "ED25519", NULL, key->at, key->length);
@@ -90,18 +118,7 @@ static EVP_PKEY *key_of(const struct scheme *scheme, const struct octets *key) {
         EVP_PKEY_CTX_free(ctx);
         return found;
     }
-    static const uint8_t algorithm[] = {0x30, 0x0d, 6, 9, 0x2a, 0x86, 0x48, 0x86, 0xf7, 0x0d, 1, 1, 1, 5, 0};
-    uint8_t buffer[2200], *end = buffer + sizeof buffer, *at = end - key->length;
-    memcpy(at, key->at, key->length);
-    *--at = 0;
-    at = before(at, 3, end - at);
-    at -= sizeof algorithm;
-    memcpy(at, algorithm, sizeof algorithm);
-    at = before(at, 0x30, end - at);
-    const uint8_t *read = at;
-    EVP_PKEY *found = d2i_PUBKEY(NULL, &read, end - at);
-    if (found && read != end) { EVP_PKEY_free(found); return NULL; }
-    return found;
+    return rsa_key_of(key);
 }
 
 static bool verifies(const struct scheme *scheme, EVP_PKEY *key, const struct octets *subject, const struct octets *signature) {

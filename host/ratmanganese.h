@@ -35,7 +35,7 @@ struct ratmanganese_file { struct ratmanganese_bytes name, bytes; };
 struct ratmanganese_files { const struct ratmanganese_file *at; size_t length; };
 struct ratmanganese_names { const struct ratmanganese_bytes *at; size_t length; };
 
-/* A pointer that isn't null and is aligned, for a length of 0. */
+/* A pointer that isn't null and is aligned, for a length of 0. (C++ casts it to the type that is wanted.) */
 static const uint64_t ratmanganese_nothing[1] = {0};
 #define RATMANGANESE_NOTHING ((const void *)ratmanganese_nothing)
 

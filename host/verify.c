@@ -3,12 +3,17 @@
 
      verify --root=FILE --repository=DIR --store=DIR --bundle=FILE --artifact=FILE --policy=FILE [--provider=FILE]
          [--now=YYYY-MM-DDTHH:MM:SSZ] [--all] [--tell] [--repeat=N] [--fail-each]
+     verify --answer <QUESTIONS
 
    --provider  rows that hold, to begin with
    --all       hands in the whole repository at once; else only the files that are asked for are read
    --tell      says on standard error what each round asks
    --repeat    does all of it N times, and says the median times; without --all the files are read each time
-   --fail-each refuses each of the library's requests for memory in turn (in verify-wrapped) */
+   --fail-each refuses each of the library's requests for memory in turn (in verify-wrapped)
+   --answer    alone: writes, of lines `accept ..`, those whose signatures are good
+
+   The report or the refusal goes to standard output. The status is the call's; 2 for faulty words, 3 where an input or a file can't be
+   read, 4 where the store or standard output can't be written, 70 where the questions don't end. */
 #define _GNU_SOURCE
 #include "answer.h"
 #include "ratmanganese.h"
@@ -68,10 +73,13 @@ static struct ratmanganese_bytes copy_of(const void *at, size_t length) {
     return (struct ratmanganese_bytes){p, length};
 }
 
-/* At most `max` bytes of a file and one more. False, with errno, where it can't be read. */
-static bool read_file(const char *path, uint64_t max, struct ratmanganese_bytes *out) {
-    int fd = open(path, O_RDONLY | O_CLOEXEC);
+/* At most `max` bytes of a file and one more; where `regular`, of no other sort of file. False, with errno, where it can't be read. */
+static bool read_file(const char *path, uint64_t max, bool regular, struct ratmanganese_bytes *out) {
+    int fd = open(path, O_RDONLY | O_CLOEXEC | (regular ? O_NONBLOCK : 0));
+    struct stat st;
     if (fd < 0) return false;
+    if (regular && (fstat(fd, &st) || !S_ISREG(st.st_mode))) { close(fd); errno = EINVAL; return false; }
+    if (max > INT64_MAX / 2) max = INT64_MAX / 2;
     size_t length = 0, room = 0;
     uint8_t *at = NULL;
     for (;;) {
@@ -90,7 +98,7 @@ static bool read_file(const char *path, uint64_t max, struct ratmanganese_bytes 
 
 /* A memory map of a file. False where it can't be read. (Nobody may write to the file meanwhile.) */
 static bool map_file(const char *path, struct ratmanganese_bytes *out) {
-    int fd = open(path, O_RDONLY | O_CLOEXEC);
+    int fd = open(path, O_RDONLY | O_CLOEXEC | O_NONBLOCK);
     struct stat st;
     if (fd < 0) return false;
     bool done = !fstat(fd, &st) && S_ISREG(st.st_mode);
@@ -111,34 +119,79 @@ static void add(struct list *files, struct ratmanganese_bytes name, struct ratma
     files->at[files->length++] = (struct ratmanganese_file){name, bytes};
 }
 
-/* All files of a folder, by their names below it. */
-static void add_folder(struct list *files, const char *top, const char *below) {
-    char *path, *name;
-    if (asprintf(&path, "%s/%s", top, below) < 0) exit(RATMANGANESE_MEMORY);
+/* A folder, what stands between, and a name below it. */
+static char *joined(const char *top, const char *between, const char *below, size_t length) {
+    size_t front = strlen(top), middle = strlen(between);
+    char *path = grown(NULL, front + middle + length + 1);
+    memcpy(path, top, front);
+    memcpy(path + front, between, middle);
+    memcpy(path + front + middle, below, length);
+    path[front + middle + length] = 0;
+    return path;
+}
+
+/* Whether a name leads to a place below a folder. */
+static bool is_below(const struct ratmanganese_bytes *name) {
+    const char *at = (const char *)name->at, *end = at + name->length;
+    if (name->length > INT32_MAX || memchr(at, 0, name->length)) return false;
+    for (;;) {
+        const char *next = memchr(at, '/', end - at);
+        size_t length = (next ? next : end) - at;
+        if (!length || (length == 1 && *at == '.') || (length == 2 && !memcmp(at, "..", 2))) return false;
+        if (!next) return true;
+        at = next + 1;
+    }
+}
+
+/* What stands in the name of a file that isn't yet in its place. */
+#define BESIDE ".new~"
+
+/* All files of a folder, by their names below it. False, with a line on standard error, where one can't be read. */
+static bool add_folder(struct list *files, const char *top, const char *below) {
+    char *path = joined(top, "/", below, strlen(below));
     DIR *dir = opendir(path);
+    bool done = dir;
+    if (!dir) fprintf(stderr, "verify: %s: %s\n", path, strerror(errno));
     free(path);
-    for (struct dirent *entry; dir && (entry = readdir(dir));) {
+    for (struct dirent *entry; done && (errno = 0, entry = readdir(dir));) {
         if (!strcmp(entry->d_name, ".") || !strcmp(entry->d_name, "..")) continue;
-        if (asprintf(&name, "%s%s%s", below, *below ? "/" : "", entry->d_name) < 0 || asprintf(&path, "%s/%s", top, name) < 0) exit(RATMANGANESE_MEMORY);
+        char *name = joined(below, *below ? "/" : "", entry->d_name, strlen(entry->d_name));
+        path = joined(top, "/", name, strlen(name));
         struct stat st;
         struct ratmanganese_bytes bytes;
-        if (!stat(path, &st) && S_ISDIR(st.st_mode)) add_folder(files, top, name);
-        else if (read_file(path, 67108864, &bytes)) add(files, copy_of(name, strlen(name)), bytes);
+        if (!stat(path, &st) && S_ISDIR(st.st_mode)) done = add_folder(files, top, name);
+        else if (read_file(path, 67108864, true, &bytes)) add(files, copy_of(name, strlen(name)), bytes);
+        /* (another process has put it in its place) */
+        else if (errno != ENOENT || !strstr(entry->d_name, BESIDE)) done = false, fprintf(stderr, "verify: %s: %s\n", path, strerror(errno));
         free(name);
         free(path);
     }
+    done = done && !errno;
     if (dir) closedir(dir);
+    return done;
 }
 
-/* Writes a file of the store, beside and renamed, as the program does. */
+/* Flushes a folder, so that a renaming in it lasts. */
+static bool flush_folder(const char *path) {
+    int fd = open(path, O_RDONLY | O_DIRECTORY | O_CLOEXEC);
+    bool done = fd >= 0 && !fsync(fd);
+    if (fd >= 0) close(fd);
+    return done;
+}
+
+/* Writes a file of the store: beside its place, flushed, and renamed. */
 static bool write_kept(const char *top, const struct ratmanganese_bytes *name, const struct ratmanganese_bytes *bytes) {
-    char *path, *beside;
-    if (memchr(name->at, 0, name->length) || asprintf(&path, "%s/%.*s", top, (int)name->length, name->at) < 0) return false;
+    if (!is_below(name)) return false;
+    char process[32];
+    snprintf(process, sizeof process, BESIDE "%ld", (long)getpid());
+    char *path = joined(top, "/", (const char *)name->at, name->length), *beside = joined(path, "", process, strlen(process));
     for (char *slash = strchr(path + 1, '/'); slash; slash = strchr(slash + 1, '/')) { *slash = 0; mkdir(path, 0777); *slash = '/'; }
-    if (asprintf(&beside, "%s.new~%ld", path, (long)getpid()) < 0) return false;
     FILE *file = fopen(beside, "wb");
-    bool done = file && fwrite(bytes->at, 1, bytes->length, file) == bytes->length;
+    bool done = file && fwrite(bytes->at, 1, bytes->length, file) == bytes->length && !fflush(file) && !fsync(fileno(file));
     done = file && !fclose(file) && done && !rename(beside, path);
+    if (!done) unlink(beside);
+    *strrchr(path, '/') = 0;
+    done = done && flush_folder(path);
     free(path);
     free(beside);
     return done;
@@ -149,6 +202,7 @@ static bool write_kept(const char *top, const struct ratmanganese_bytes *name, c
 struct text { char *at; size_t length, room; };
 
 static void append(struct text *text, const char *at, size_t length) {
+    if (!length) return;
     if (text->length + length > text->room) text->at = grown(text->at, text->room = 2 * text->room + length + 4096);
     memcpy(text->at + text->length, at, length);
     text->length += length;
@@ -177,20 +231,23 @@ static double now_us(void) {
 
 /* A file of the repository, or that it isn't there. False where it can't be read. */
 static bool fetch(struct world *w, const char *encoded, size_t length, uint64_t max) {
-    size_t n;
-    uint8_t *name = field_of(encoded, length, &n);
-    char *path;
-    struct ratmanganese_bytes bytes;
-    if (!name || asprintf(&path, "%s/%.*s", w->repository, (int)n, name) < 0) exit(RATMANGANESE_MEMORY);
-    bool is_there = !memchr(name, 0, n) && read_file(path, max, &bytes), failed = !is_there && errno != ENOENT && errno != ENOTDIR;
-    if (is_there) add(&w->files, (struct ratmanganese_bytes){name, n}, bytes);
-    else {
+    struct ratmanganese_bytes name, bytes;
+    name.at = field_of(encoded, length, &name.length);
+    if (!name.at) return false;
+    bool below = is_below(&name);
+    char *path = joined(w->repository, "/", (const char *)name.at, below ? name.length : 0);
+    if (below && read_file(path, max, true, &bytes)) add(&w->files, name, bytes);
+    else if (!below || errno == ENOENT || errno == ENOTDIR || errno == ENAMETOOLONG) {
         w->absent = grown(w->absent, (w->absents + 1) * sizeof *w->absent);
-        w->absent[w->absents++] = (struct ratmanganese_bytes){name, n};
+        w->absent[w->absents++] = name;
+    } else {
+        fprintf(stderr, "verify: %s: %s\n", path, strerror(errno));
+        free(path);
+        free((void *)name.at);
+        return false;
     }
-    if (failed) fprintf(stderr, "verify: %s: %s\n", path, strerror(errno));
     free(path);
-    return !failed;
+    return true;
 }
 
 static uint32_t call(struct world *w) {
@@ -212,6 +269,12 @@ static uint32_t call(struct world *w) {
     }
 }
 
+/* Ends with a status of the host's own, and without a text. */
+static uint32_t failed(struct world *w, uint32_t status) {
+    w->lengths = (struct ratmanganese_lengths){0};
+    return status;
+}
+
 static uint32_t verify(struct world *w) {
     w->rounds = w->rows = 0;
     w->library = w->openssl = 0;
@@ -219,13 +282,13 @@ static uint32_t verify(struct world *w) {
         uint32_t status = call(w);
         w->rounds++;
         if (status != RATMANGANESE_ASKS) return status;
-        if (w->rounds == 1000) return RATMANGANESE_REFUSED;
+        if (w->rounds == 1000) return failed(w, 70);
         for (const char *at = (char *)w->out, *end = at + w->lengths.out, *next; at < end; at = next + 1) {
             next = memchr(at, '\n', end - at);
             if (w->tell) fprintf(stderr, "round %d: %.*s\n", w->rounds, (int)(next - at > 120 ? 120 : next - at), at);
             if (!memcmp(at, "file ", 5)) {
                 const char *blank = memchr(at + 5, ' ', next - at - 5);
-                if (!fetch(w, at + 5, blank - at - 5, strtoull(blank, NULL, 10))) return RATMANGANESE_INPUT;
+                if (!fetch(w, at + 5, blank - at - 5, strtoull(blank, NULL, 10))) return failed(w, RATMANGANESE_INPUT);
                 continue;
             }
             double t = now_us();
@@ -275,18 +338,46 @@ static const char *value(int argc, char **argv, const char *name) {
     return NULL;
 }
 
+/* Whether each word is one that the host has, and has a value where it needs one. */
+static bool are_known(int argc, char **argv) {
+    static const char *const names[] = {
+        "root", "repository", "store", "bundle", "artifact", "policy", "provider", "now", "repeat", "all", "tell", "fail-each",
+    };
+    const size_t valued = 9;
+    for (int i = 1; i < argc; i++) {
+        bool found = false;
+        size_t length = strcspn(argv[i], "=");
+        for (size_t j = 0; j < sizeof names / sizeof *names; j++)
+            if (!strncmp(argv[i], "--", 2) && strlen(names[j]) + 2 == length && !memcmp(argv[i] + 2, names[j], length - 2))
+                found = j >= valued || (argv[i][length] && argv[i][length + 1]);
+        if (!found) return false;
+    }
+    return true;
+}
+
 static struct ratmanganese_bytes input(int argc, char **argv, const char *name, uint64_t max) {
     const char *path = value(argc, argv, name);
     struct ratmanganese_bytes bytes;
     if (!path) { printf("usage\n"); exit(RATMANGANESE_USAGE); }
-    if (!read_file(path, max, &bytes)) { printf("input %s\n", name); exit(RATMANGANESE_INPUT); }
+    if (!read_file(path, max, false, &bytes)) { printf("input %s\n", name); exit(RATMANGANESE_INPUT); }
     return bytes;
 }
 
+/* Writes, of the lines of standard input, those whose signatures are good. */
+static int answer(void) {
+    char *line = NULL;
+    size_t room = 0;
+    for (ssize_t length; (length = getline(&line, &room, stdin)) >= 0;)
+        if (length && line[length - 1] == '\n' && is_good(line, length - 1)) fwrite(line, 1, length, stdout);
+    free(line);
+    return ferror(stdin) ? RATMANGANESE_INPUT : ferror(stdout) | fflush(stdout) ? 4 : 0;
+}
+
 int main(int argc, char **argv) {
+    if (argc == 2 && !strcmp(argv[1], "--answer")) return answer();
     struct world w = {.repository = value(argc, argv, "repository"), .tell = value(argc, argv, "tell"), .out_room = 65536, .kept_room = 1 << 20};
     const char *store = value(argc, argv, "store"), *now = value(argc, argv, "now"), *provider = value(argc, argv, "provider"), *count = value(argc, argv, "repeat");
-    if (!w.repository || !store) { printf("usage\n"); return RATMANGANESE_USAGE; }
+    if (!w.repository || !store || !are_known(argc, argv)) { printf("usage\n"); exit(RATMANGANESE_USAGE); }
     w.request.policy = input(argc, argv, "policy", 65536);
     if (provider) {
         struct ratmanganese_bytes rows = input(argc, argv, "provider", 16777216);
@@ -297,18 +388,19 @@ int main(int argc, char **argv) {
     w.request.root = input(argc, argv, "root", 512000);
     w.request.bundle = input(argc, argv, "bundle", 16777216);
     const char *artifact = value(argc, argv, "artifact");
-    if (!artifact) { printf("usage\n"); return RATMANGANESE_USAGE; }
-    if (!map_file(artifact, &w.request.artifact)) { fprintf(stderr, "verify: %s can't be mapped\n", artifact); return 70; }
+    if (!artifact) { printf("usage\n"); exit(RATMANGANESE_USAGE); }
+    if (!map_file(artifact, &w.request.artifact)) { fprintf(stderr, "verify: %s: it can't be mapped\n", artifact); exit(RATMANGANESE_INPUT); }
     struct tm tm = {0};
     w.request.seconds = time(NULL);
     if (now) {
         const char *rest = strptime(now, "%Y-%m-%dT%H:%M:%SZ", &tm);
-        if (!rest || *rest) { printf("usage\n"); return RATMANGANESE_USAGE; }
+        if (!rest || *rest) { printf("usage\n"); exit(RATMANGANESE_USAGE); }
         w.request.seconds = timegm(&tm);
     }
-    add_folder(&w.store, store, "");
+    struct stat st;
+    if ((!lstat(store, &st) || errno != ENOENT) && !add_folder(&w.store, store, "")) exit(RATMANGANESE_INPUT);
     w.request.whole = value(argc, argv, "all");
-    if (w.request.whole) add_folder(&w.files, w.repository, "");
+    if (w.request.whole && !add_folder(&w.files, w.repository, "")) exit(RATMANGANESE_INPUT);
     w.out = grown(NULL, w.out_room);
     w.kept = grown(NULL, w.kept_room);
 
@@ -352,9 +444,11 @@ int main(int argc, char **argv) {
         free(whole), free(library), free(openssl), free(round), free(one);
     }
     if (w.tell) fprintf(stderr, "%d rounds, %d rows answered, %zu files handed in, %zu absent, status %u\n", w.rounds, w.rows, w.files.length, w.absents, status);
-    if (status == RATMANGANESE_ACCEPTED || status == RATMANGANESE_REFUSED)
-        if (!keep(&w, store)) fprintf(stderr, "verify: the store can't be written\n");
-    if (fwrite(w.out, 1, w.lengths.out, stdout) != w.lengths.out || fflush(stdout)) return 4;
+    if ((status == RATMANGANESE_ACCEPTED || status == RATMANGANESE_REFUSED) && !keep(&w, store)) {
+        fprintf(stderr, "verify: the store can't be written\n");
+        exit(4);
+    }
+    if (fwrite(w.out, 1, w.lengths.out, stdout) != w.lengths.out || fflush(stdout)) exit(4);
     for (size_t i = 0; i < w.files.length; i++) free((void *)w.files.at[i].name.at), free((void *)w.files.at[i].bytes.at);
     for (size_t i = 0; i < w.store.length; i++) free((void *)w.store.at[i].name.at), free((void *)w.store.at[i].bytes.at);
     for (size_t i = 0; i < w.absents; i++) free((void *)w.absent[i].at);
