@@ -64,6 +64,13 @@ impl<'a> GivenRepository<'a> {
         }
     }
 
+    /// How often a fetch failed: of files that are neither handed in nor known to be absent.
+    pub fn faults(&self) -> u64
+        ensures { result ≡ self.now.faults }
+    {
+        self.faults
+    }
+
     /// The file that was asked for last and isn't handed in, where there is one.
     pub fn into_wanted(self) -> Option<Wanted> {
         let GivenRepository { wanted, .. } = self;
@@ -110,10 +117,8 @@ impl<'a> GivenRepository<'a> {
         ensures file { IsFile (files_below folder.now self.old.files.now name.now) result }
     {
         let answer = self.given(alloc, folder, name, max);
-        if answer.is_err() {
-            self.faults = self.faults.saturating_add(1);
-        }
         if let Err(FetchFault::Failed) = &answer {
+            self.faults = self.faults.saturating_add(1);
             match below(alloc, folder, name) {
                 Ok(name) => self.wanted = Some(Wanted { name, max }),
                 Err(NoMemory) => {
