@@ -1,4 +1,1 @@
-mod Judging
-mod Kept
-mod Open
-mod Saying
+mod Handing

@@ -3,23 +3,22 @@
 #![tactic(auto)]
 
 ghost use Rattle.std.specs.Prelude.{◌≡◌, ◌≢◌, ◌⊎◌, ◌<◌, ◌≤◌, length, take, string_bytes};
-ghost use Rattle.ratmanganese_c.specs.Means.{Accepts, Refuses, Asks};
+ghost use Rattle.embedded_verify.specs.Complete.{Favoured};
+ghost use Rattle.embedded_verify.specs.Means.{Accepts, Refuses, Asks};
+ghost use Rattle.embedded_verify.specs.Unread.{IsMisread, LacksInput};
 
-mod asked;
-mod asking;
-mod doubting;
-mod judge;
-mod keeping;
-mod lines;
-mod noting;
-mod request;
-mod said;
-
-use crate::request::{Lengths, Request};
-use crate::said::{Said, answer};
+use embedded_verify::{Request, Said, answer};
 use foundation::NoMemory;
 use given_objects::fill;
 use std::alloc::Global;
+
+/// How many bytes the texts have.
+#[repr(C)]
+#[derive(Clone, Copy)]
+pub struct Lengths {
+    pub out: usize,
+    pub kept: usize,
+}
 
 // A buffer is too short for its text.
 const CUT: u32 = 4;
@@ -30,7 +29,7 @@ const WANTS_MEMORY: u32 = 5;
 fn hand_over(said: &Said, out: &mut [u8], kept: &mut [u8], lengths: &mut Lengths) -> u32
     ensures out_length { lengths.new.out ≡ length (string_bytes said.now.out) }
     ensures kept_length { lengths.new.kept ≡ length (string_bytes said.now.kept) }
-    ensures status { result ≢ 4 → result ≡ said.now.status }
+    ensures status { (result ≡ 4) ⊎ (result ≡ said.now.status) }
     ensures out { result ≢ 4 → take lengths.new.out out.new ≡ string_bytes said.now.out }
     ensures kept { result ≢ 4 → take lengths.new.kept kept.new ≡ string_bytes said.now.kept }
     ensures fits { result ≢ 4 → (lengths.new.out ≤ length out.old) × (lengths.new.kept ≤ length kept.old) }
@@ -61,7 +60,11 @@ pub extern "C" fn ratmanganese_verify(
 ) -> u32
     ensures accepted { result ≡ 0 → Accepts request.now (take lengths.new.out out.new) (take lengths.new.kept kept.new) }
     ensures refused { result ≡ 1 → Refuses request.now (take lengths.new.out out.new) (take lengths.new.kept kept.new) }
+    ensures misread { result ≡ 2 → IsMisread request.now (take lengths.new.out out.new) }
+    ensures lacking { result ≡ 3 → LacksInput request.now (take lengths.new.out out.new) }
     ensures asks { result ≡ 6 → Asks request.now (take lengths.new.out out.new) }
+    ensures known { result ≤ 6 }
+    ensures complete { Favoured request.now → (result ≡ 0) ⊎ (result ≡ 4) ⊎ (result ≡ 5) }
     ensures empty { result ≡ 5 → (lengths.new.out ≡ 0) × (lengths.new.kept ≡ 0) }
     ensures kept { result ≢ 0 → result ≢ 1 → result ≢ 4 → lengths.new.kept ≡ 0 }
     ensures short { result ≡ 4 → (length out.old < lengths.new.out) ⊎ (length kept.old < lengths.new.kept) }

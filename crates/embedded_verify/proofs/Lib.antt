@@ -1,0 +1,6 @@
+mod Favouring
+mod Judging
+mod Kept
+mod Open
+mod Reading
+mod Saying

@@ -1,7 +1,0 @@
-use Rattle.std.proofs.Common.{string_bytes}
-use Rattle.ratmanganese_c.specs.Means.{AsksRows}
-use Rattle.ratmanganese_c.proofs.doubting.rows_text.Given as goal
-
--- only questions that are open were written
-abbrev pub invariant-loop-row : goal.invariant-loop-row
-invariant-loop-row l = AsksRows l.good.rows l.bad.rows (string_bytes l.noted.text)

@@ -1,7 +1,0 @@
-use Rattle.std.proofs.Common.{◌∙◌, sym}
-use Rattle.ratmanganese_c.proofs.Open.{one_more}
-use Rattle.ratmanganese_c.proofs.doubting.with_row.Goals as goal
-
-pub returns : goal.returns
-returns c =
-    one_more _ _ c.with_signature.result c.args.noted _ _ _ _ c.requires (sym c.accepts.ensures ∙ c.if-accepts.false) (sym c.accepts-else-accepts.ensures ∙ c.if-accepts-2.false) c.with_signature.ensures
