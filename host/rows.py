@@ -1,4 +1,4 @@
-"""Rows that a host is asked, good and wrong, with what each has to be answered; bench/embed asks them.
+"""Rows that a host is asked, good and wrong, with what each has to be answered; bench/embed asks them, and bench/answer most.
 
 What is right is worked out from the schemes' standards (FIPS 186-5, RFC 8017, RFC 8032, X.690), over keys and signatures that the
 command of OpenSSL makes. Python's standard library is all that is used besides.
@@ -189,6 +189,13 @@ def spellings(line):
     yield "nothing", ""
 
 
+def changes(folder, name, parts):
+    """Other rows of a scheme, whose secret key lies in the folder: titles, their parts, and whether each is good."""
+    if name == "ED25519":
+        return of_ed25519(*parts)
+    return of_ecdsa(name, *parts) if name.startswith("EC") else of_rsa(folder, name, *parts)
+
+
 def rows(folder):
     """Titles, lines without their ends, and whether each is good."""
     names = [f"ECDSA_{curve}_{digest}" for curve in ("P256", "P384") for digest in ("SHA256", "SHA384")]
@@ -198,8 +205,7 @@ def rows(folder):
         yield f"{name}, as made", row(name, *parts)[:-1], True
         yield from ((f"{name}, wrong {number}", line[:-1], False) for number, line in enumerate(answer.wrong_rows(name, *parts)))
         yield from ((f"{name}, under {other}", row(other, *parts)[:-1], False) for other in [*names, "ED25519", "ML_DSA_44"] if other != name)
-        cases = of_ed25519(*parts) if name == "ED25519" else of_ecdsa(name, *parts) if name.startswith("EC") else of_rsa(folder, name, *parts)
-        yield from ((f"{name}, {title}", row(name, *it)[:-1], wanted) for title, *it, wanted in cases)
+        yield from ((f"{name}, {title}", row(name, *it)[:-1], wanted) for title, *it, wanted in changes(folder, name, parts))
         yield from ((f"{name}, {title}", line, False) for title, line in spellings(row(name, *parts)[:-1]))
     for bits in (3072, 4096, 8192):
         yield f"RSA of {bits} bits", row("RSA_PKCS1_SHA256", *sized(folder, bits))[:-1], True
