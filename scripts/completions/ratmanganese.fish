@@ -11,7 +11,7 @@ complete -c ratmanganese -n __fish_use_subcommand -a download-questions -d 'Writ
 complete -c ratmanganese -n __fish_use_subcommand -a audit -d 'Whether a log is one growing tree'
 complete -c ratmanganese -n __fish_use_subcommand -a generate -d 'Verify a workload that a number makes'
 complete -c ratmanganese -n __fish_use_subcommand -a explain -d 'What a refusal or a status means'
-complete -c ratmanganese -n __fish_use_subcommand -a build -d 'Prove and build both programs'
+complete -c ratmanganese -n __fish_use_subcommand -a build -d 'Prove and build both programs, or the C library'
 complete -c ratmanganese -n __fish_use_subcommand -a install -d 'Put what is enough without the sources below a folder'
 complete -c ratmanganese -n __fish_use_subcommand -a lib -d 'Put the C library below a folder'
 complete -c ratmanganese -n __fish_use_subcommand -a version -d 'The commit, and the kit that proved it'
