@@ -63,8 +63,8 @@ enum {
     RATMANGANESE_USAGE = 2,    /* the policy, `good` (named provider), `bad` or the moment is outside its grammar; `out` has a line */
     RATMANGANESE_INPUT = 3,    /* an input is too long; `out` has a line */
     RATMANGANESE_SHORT = 4,    /* `out` or `kept` is shorter than its text; the lengths are those of the texts, which mean nothing yet */
-    RATMANGANESE_MEMORY = 5,   /* out of memory; or the two verdicts of a call differ and nothing is left to ask, which no request is
-                                  known to cause; both texts are empty */
+    RATMANGANESE_MEMORY = 5,   /* out of memory; or a check of the call's own work failed, which no request is known to cause; both
+                                  texts are empty */
     RATMANGANESE_ASKS = 6      /* `out` has questions, a line each; `kept` is empty. Answer each, and call again with all that was
                                   handed in before, and the answers:
                                     accept SCHEME KEY SUBJECT SIGNATURE   put the line, with its end, into `good` or into `bad`
@@ -72,6 +72,8 @@ enum {
                                                                           MAX bytes are of use (MAX + 1 tell that it is too long), or
                                                                           hand in the name as absent
                                   No question is asked that is answered. (That the calls end isn't proved.) */
+    /* No other status is given. Where the repository is whole, the store is that of earlier calls or empty, and what is in `good`
+       suffices for an acceptance, the status is 0, 4 or 5. */
 };
 
 /* A line of `kept` is `keep NAME BYTES`. NAME, BYTES, KEY, SUBJECT and SIGNATURE are base64 (RFC 4648, section 4), or a dash for no
