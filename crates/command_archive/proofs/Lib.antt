@@ -1,4 +1,3 @@
-pub mod NamedValues
 mod JsonTokens
 mod JsonTexts
 mod DelegatedNames
@@ -9,6 +8,3 @@ mod Completing
 mod Never
 mod Ending
 mod RunEnding
-mod CheckSaying
-mod CheckMeaning
-mod CheckCompleting

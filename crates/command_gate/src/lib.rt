@@ -9,5 +9,4 @@ mod program;
 
 pub use judging::{FolderRequest, gate_folder};
 pub use layout::{asked_gate_layout, gate_layout};
-pub use lines::lines_said;
-pub use program::{fault_said, run_gate};
+pub use program::run_gate;

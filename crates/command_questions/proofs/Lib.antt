@@ -2,5 +2,4 @@ mod Meaning
 mod Sufficing
 mod SufficingForFolder
 mod WaySufficing
-mod GateWaySufficing
 mod SufficingForTargets

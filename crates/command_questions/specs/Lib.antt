@@ -1,6 +1,5 @@
 pub mod DownloadMeans
 pub mod GateMeans
-pub mod GateWayMeans
 pub mod Means
 pub mod Suffice
 pub mod WaySuffice

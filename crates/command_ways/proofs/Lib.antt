@@ -3,6 +3,3 @@ mod Trusting
 mod Saying
 mod Meaning
 mod Completing
-mod FolderSaying
-mod FolderMeaning
-mod FolderCompleting

@@ -1,13 +1,12 @@
-// A client whose repository goes back: what stays in force, alone and over a store. A line of what is given is a client: how often
-// it refreshes, and what its repository replies. A line of the answer is a refresh, ` | ` and the versions then in force.
+// A client whose repository goes back: what stays in force, alone and over a store.
 use crate::client::version;
 use crate::lying_repository::{LyingRepository, Reply};
 use crate::provider::{One, OneKey, armor};
-use crate::words::filled;
+use crate::words::{check, filled, good, halves, printed, there, word};
+use jiff::Timestamp;
 use sigstore_tuf::*;
 use sigstore_types_parts::Bytes;
-use std::alloc::Global;
-use test_rows::{Fault, good, halves, number, place, printed, there, word};
+use std::process::Abort;
 
 // The documents by their kinds. The cells are, of a root its version and the id of its timestamp role; of a
 // timestamp the id that signed it, its version and that of its pin; of a snapshot its version and a name that it
@@ -18,178 +17,164 @@ timestamp {"signatures":[{"keyid":"*","sig":"01"}],"signed":{"_type":"timestamp"
 snapshot {"signatures":[{"keyid":"k","sig":"01"}],"signed":{"_type":"snapshot","spec_version":"1.0.0","version":*,"expires":"2031-01-01T00:00:00Z","meta":{"*":{"version":1},"targets.json":{"version":4}}}}
 targets {"signatures":[{"keyid":"k","sig":"01"}],"signed":{"_type":"targets","spec_version":"1.0.0","version":*,"expires":"2031-01-01T00:00:00Z","targets":{}}}"#;
 
-fn form(kind: &str) -> Result<&'static str, Fault> {
+fn form<X: Abort>(rt: &X, kind: &str) -> &'static str {
     for line in FORMS.lines() {
-        let (name, form) = halves(line, " ")?;
+        let (name, form) = halves(rt, line, " ");
         if name == kind {
-            return Ok(form);
+            return form;
         }
     }
-    Err(Fault::Row)
+    panic!(rt; "no document {kind}")
 }
 
 // A document: its kind and its cells.
-fn document(alloc: Global, words: &str) -> Result<String, Fault> {
-    let (kind, cells) = halves(words, " ")?;
-    filled(alloc, form(kind)?, cells)
+fn document<X: AllocGlobal + Abort>(rt: &X, words: &str) -> String {
+    let (kind, cells) = halves(rt, words, " ");
+    filled(rt, form(rt, kind), cells)
 }
 
 // A document, `-` where nothing is there, or `!` where the call fails.
-fn reply(alloc: Global, words: &str) -> Result<Reply, Fault> {
-    match place(words, "- !") {
-        0 => Ok(Reply::Absent),
-        1 => Ok(Reply::Failed),
-        _ => file(alloc, words),
+fn reply<X: AllocGlobal + Abort>(rt: &X, words: &str) -> Reply {
+    if words == "-" {
+        return Reply::Absent;
     }
-}
-
-fn file(alloc: Global, words: &str) -> Result<Reply, Fault> {
-    let document = document(alloc, words)?;
-    let bytes = Bytes::new(alloc, document.as_bytes());
+    if words == "!" {
+        return Reply::Failed;
+    }
+    let document = document(rt, words);
+    let bytes = good(rt, Bytes::new(rt.alloc(), document.as_bytes()));
     drop(document);
-    Ok(Reply::File(good(bytes)?))
+    Reply::File(bytes)
 }
 
 // A repository with these replies.
-fn repository(alloc: Global, list: &str) -> Result<LyingRepository, Fault> {
-    let mut replies = Vec::new(alloc);
+fn repository<X: AllocGlobal + Abort>(rt: &X, list: &str) -> LyingRepository {
+    let mut replies = Vec::new(rt.alloc());
     for words in list.split(", ") {
-        good(replies.push(reply(alloc, words)?))?;
+        good(rt, replies.push(reply(rt, words)));
     }
-    Ok(LyingRepository::new(replies))
+    LyingRepository::new(replies)
 }
 
 type Client<'a> = Updater<'a, One, OneKey, LyingRepository, MemoryStore>;
 
-// The version that a timestamp pins.
-fn pinned(timestamp: Option<&Timestamp>) -> Result<Option<u64>, Fault> {
-    match timestamp {
-        Some(timestamp) => Ok(Some(there(timestamp.snapshot_meta())?.version)),
-        None => Ok(None),
-    }
-}
-
-// The version of d.json that a snapshot pins.
-fn pinned_role(snapshot: Option<&Snapshot>) -> Result<Option<u64>, Fault> {
-    match snapshot {
-        Some(snapshot) => Ok(Some(there(snapshot.meta.get("d.json"))?.version)),
-        None => Ok(None),
-    }
-}
-
 // The versions of root and timestamp, that of its pin, the snapshot's, and that of its pin of d.json.
-fn versions(alloc: Global, set: &TrustedMetadataSet<One, OneKey>) -> Result<String, Fault> {
+fn versions<X: AllocGlobal + Abort>(rt: &X, set: &TrustedMetadataSet<One, OneKey>) -> String {
     let (root, timestamp, snapshot) = (set.root().version, set.timestamp(), set.snapshot());
-    let (pin, role) = (pinned(timestamp)?, pinned_role(snapshot)?);
-    printed(
-        alloc,
-        (root, version(timestamp), pin, version(snapshot), role),
-    )
+    let pin = match timestamp {
+        Some(timestamp) => Some(there(rt, timestamp.snapshot_meta()).version),
+        None => None,
+    };
+    let role = match snapshot {
+        Some(snapshot) => Some(there(rt, snapshot.meta.get("d.json")).version),
+        None => None,
+    };
+    printed(rt, (root, version(timestamp), pin, version(snapshot), role))
 }
 
-fn add_refresh(alloc: Global, client: &mut Client, told: &mut String) -> Result<(), Fault> {
-    let now = good("2025-01-01T00:00:00Z".parse())?;
-    let answer = word(alloc, client.refresh(alloc, now))?;
-    let versions = versions(alloc, client.trusted())?;
-    good(write!(told, "{answer} | {versions}\n"))
-}
-
-// Refreshes so often.
-fn refresh(alloc: Global, client: &mut Client, count: u64, told: &mut String) -> Result<(), Fault> {
-    for _ in 0..count {
-        add_refresh(alloc, client, told)?;
-    }
-    Ok(())
-}
-
-fn refreshed(
-    alloc: Global,
-    made: Result<Client<'_>, Fault>,
-    count: u64,
-    told: &mut String,
-) -> Result<(), Fault> {
-    match made {
-        Ok(mut client) => {
-            let refreshed = refresh(alloc, &mut client, count, told);
-            drop(client);
-            refreshed
-        }
-        Err(fault) => Err(fault),
+// Refreshes as often as there are rows: a row is the answer, ` | ` and the versions then in force.
+fn refreshed<X: AllocGlobal + Abort>(rt: &X, client: &mut Client, rows: &str) {
+    let now: Timestamp = good(rt, "2025-01-01T00:00:00Z".parse());
+    for row in rows.lines() {
+        let (wanted, stands) = halves(rt, row, " | ");
+        check(rt, row, wanted, word(rt, client.refresh(rt.alloc(), now)));
+        check(rt, row, stands, versions(rt, client.trusted()));
     }
 }
 
-// The client with a store, if there is one.
-fn with_store<'a>(
-    alloc: Global,
-    made: Result<Client<'a>, Fault>,
-    store: Option<&'a mut MemoryStore>,
-) -> Result<Client<'a>, Fault> {
-    match store {
-        Some(store) => stored(alloc, made, store),
-        None => made,
-    }
-}
-
-fn stored<'a>(
-    alloc: Global,
-    made: Result<Client<'a>, Fault>,
-    store: &'a mut MemoryStore,
-) -> Result<Client<'a>, Fault> {
-    match made {
-        Ok(client) => good(client.with_store(alloc, store)),
-        Err(fault) => Err(fault),
-    }
-}
-
-// Tells the refreshes of the client of a line.
-fn run(
-    alloc: Global,
-    line: &str,
-    store: Option<&mut MemoryStore>,
-    told: &mut String,
-) -> Result<(), Fault> {
-    let (count, replies) = halves(line, " ")?;
-    let count = number(count)?;
-    let mut repo = repository(alloc, replies)?;
-    let run = run_over(alloc, &mut repo, store, count, told);
+fn alone<X: AllocGlobal + Abort>(rt: &X, replies: &str, rows: &str) {
+    let (armor, root, mut repo) = (
+        armor(rt),
+        document(rt, "root 1 | k"),
+        repository(rt, replies),
+    );
+    let made = Updater::new(rt.alloc(), &One, &armor, &mut repo, root.as_bytes());
+    let mut client: Client = good(rt, made);
+    refreshed(rt, &mut client, rows);
+    drop(client);
     drop(repo);
-    run
-}
-
-fn run_over(
-    alloc: Global,
-    repo: &mut LyingRepository,
-    store: Option<&mut MemoryStore>,
-    count: u64,
-    told: &mut String,
-) -> Result<(), Fault> {
-    let (root, armor) = (document(alloc, "root 1 | k")?, armor(alloc)?);
-    let made = Updater::new(alloc, &One, &armor, repo, root.as_bytes());
-    let run = refreshed(alloc, with_store(alloc, good(made), store), count, told);
     drop(root);
     drop(armor);
-    run
 }
 
-/// The refreshes of a client alone.
-pub fn alone(alloc: Global, line: &str) -> Result<String, Fault> {
-    let mut told = String::new(alloc);
-    run(alloc, line, None, &mut told)?;
-    Ok(told)
+fn over<X: AllocGlobal + Abort>(rt: &X, store: &mut MemoryStore, replies: &str, rows: &str) {
+    let (armor, root, mut repo) = (
+        armor(rt),
+        document(rt, "root 1 | k"),
+        repository(rt, replies),
+    );
+    let made = Updater::new(rt.alloc(), &One, &armor, &mut repo, root.as_bytes());
+    let client: Client = good(rt, made);
+    let mut client = good(rt, client.with_store(rt.alloc(), store));
+    refreshed(rt, &mut client, rows);
+    drop(client);
+    drop(repo);
+    drop(root);
+    drop(armor);
 }
 
-/// Those of clients over one store.
-pub fn over_a_store(alloc: Global, lines: &str) -> Result<String, Fault> {
-    let mut store = MemoryStore::new(alloc);
-    let told = run_each(alloc, lines, &mut store);
+const FALLS: &str =
+    "-, timestamp k | 2 | 3, snapshot 3 | d.json, targets 4, -, timestamp k | 1 | 3, -, !, -";
+
+const FALLEN: &str = r#"Ok | (1, Some(2), Some(3), Some(3), Some(1))
+Rollback { role: "timestamp", trusted: 2, new: 1 } | (1, Some(2), Some(3), Some(3), Some(1))
+Transport(Failed) | (1, Some(2), Some(3), Some(3), Some(1))
+Transport(Absent) | (1, Some(2), Some(3), Some(3), Some(1))"#;
+
+// Another timestamp of the same version.
+const REPEATS: &str =
+    "-, timestamp k | 2 | 3, snapshot 3 | d.json, targets 4, -, timestamp k | 2 | 9";
+
+const REPEATED: &str = "Ok | (1, Some(2), Some(3), Some(3), Some(1))
+Ok | (1, Some(2), Some(3), Some(3), Some(1))";
+
+// A next snapshot without the pin of d.json.
+const DROPS: &str =
+    "-, timestamp k | 2 | 3, snapshot 3 | d.json, targets 4, -, timestamp k | 3 | 4, snapshot 4 | e.json";
+
+const DROPPED: &str = "Ok | (1, Some(2), Some(3), Some(3), Some(1))
+IntegrityMismatch(Vanished) | (1, Some(3), Some(4), Some(3), Some(1))";
+
+// Under a next root a client has no floor but that of its store, and of that only what the next root's keys signed.
+const TURNS: &str =
+    "-, timestamp k | 2 | 3, snapshot 3 | d.json, targets 4, root 2 | k, -, timestamp k | 1 | 3, snapshot 3 | d.json, targets 4";
+
+const TURNED: &str = "Ok | (1, Some(2), Some(3), Some(3), Some(1))
+Ok | (2, Some(1), Some(3), Some(3), Some(1))";
+
+const TURNED_OVER_A_STORE: &str = r#"Ok | (1, Some(2), Some(3), Some(3), Some(1))
+Rollback { role: "timestamp", trusted: 2, new: 1 } | (2, Some(2), Some(3), Some(3), Some(1))"#;
+
+const TAKES_BACK: &str =
+    "-, timestamp k | 2 | 3, snapshot 3 | d.json, targets 4, root 2 | l, -, timestamp l | 1 | 3, snapshot 3 | d.json, targets 4";
+
+const FIRST: &str = "-, timestamp k | 2 | 3, snapshot 3 | d.json, targets 4";
+
+const FIRST_DONE: &str = "Ok | (1, Some(2), Some(3), Some(3), Some(1))";
+
+const LATER: &str = "-, timestamp k | 1 | 3";
+
+const LATER_REFUSED: &str =
+    r#"Rollback { role: "timestamp", trusted: 2, new: 1 } | (1, Some(2), Some(3), Some(3), Some(1))"#;
+
+#[test]
+fn nothing_goes_below_what_was_trusted(rt: HostRuntime) {
+    alone(&rt, FALLS, FALLEN);
+    alone(&rt, REPEATS, REPEATED);
+    alone(&rt, DROPS, DROPPED);
+    alone(&rt, TURNS, TURNED);
+}
+
+#[test]
+fn a_store_carries_the_floor(rt: HostRuntime) {
+    let mut store = MemoryStore::new(rt.alloc());
+    over(&rt, &mut store, TURNS, TURNED_OVER_A_STORE);
     drop(store);
-    told
-}
-
-fn run_each(alloc: Global, lines: &str, store: &mut MemoryStore) -> Result<String, Fault> {
-    let mut told = String::new(alloc);
-    for line in lines.lines() {
-        run(alloc, line, Some(&mut *store), &mut told)?;
-    }
-    Ok(told)
+    let mut store = MemoryStore::new(rt.alloc());
+    over(&rt, &mut store, TAKES_BACK, TURNED);
+    drop(store);
+    let mut store = MemoryStore::new(rt.alloc());
+    over(&rt, &mut store, FIRST, FIRST_DONE);
+    over(&rt, &mut store, LATER, LATER_REFUSED);
+    drop(store);
 }

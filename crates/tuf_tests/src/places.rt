@@ -1,164 +1,234 @@
-// Each object of the outside, at its type and through its trait. A row has its calls, each on a line, and their answers.
-use crate::words::text_of;
+// Each object of the outside, at its type and through its trait.
+use crate::client;
+use crate::words::{
+    check, displayed, good, halves, hold, number, printed, string, text, text_of, there,
+};
 use sigstore_tuf::*;
 use sigstore_types_parts::{Bytes, FailList};
-use std::alloc::Global;
 use std::fmt::Debug;
-use test_rows::{Fault, displayed, good, halves, number, place, printed, string, there, three};
+use std::fs;
+use std::process::Abort;
 
-/// The display text of a fault of a fetch.
-pub fn fetch_fault(alloc: Global, name: &str) -> Result<String, Fault> {
-    match place(name, "Failed TooLong NoMemory") {
-        0 => displayed(alloc, FetchFault::Failed),
-        1 => displayed(alloc, FetchFault::TooLong { seen: 1 }),
-        2 => displayed(alloc, FetchFault::NoMemory),
-        _ => Err(Fault::Row),
+/// The display text of a fault; for any other name the answer of a call of the client.
+pub fn answer<X: AllocGlobal + Abort>(rt: &X, call: &str, given: &str) -> String {
+    match call {
+        "FetchFault" => match given {
+            "Failed" => displayed(rt, FetchFault::Failed),
+            "TooLong" => displayed(rt, FetchFault::TooLong { seen: 1 }),
+            _ => displayed(rt, FetchFault::NoMemory),
+        },
+        "StoreFault" => match given {
+            "Failed" => displayed(rt, StoreFault::Failed),
+            "BadName" => displayed(rt, StoreFault::BadName),
+            _ => displayed(rt, StoreFault::NoMemory),
+        },
+        _ => client::answer(rt, call, given),
     }
 }
 
-/// The display text of a fault of a store.
-pub fn store_fault(alloc: Global, name: &str) -> Result<String, Fault> {
-    match place(name, "Failed BadName NoMemory") {
-        0 => displayed(alloc, StoreFault::Failed),
-        1 => displayed(alloc, StoreFault::BadName),
-        2 => displayed(alloc, StoreFault::NoMemory),
-        _ => Err(Fault::Row),
-    }
-}
+const FETCH_FAULTS: &str = "Failed => Failed
+TooLong => TooLong
+NoMemory => NoMemory";
+
+const STORE_FAULTS: &str = "Failed => Failed
+BadName => BadName
+NoMemory => NoMemory";
 
 // The text of a short file, or the length of a long one.
-fn shown(alloc: Global, bytes: &[u8]) -> Result<String, Fault> {
+fn shown<X: AllocGlobal + Abort>(rt: &X, bytes: &[u8]) -> String {
     if bytes.len() < 100 {
-        text_of(alloc, bytes)
+        text_of(rt, bytes)
     } else {
-        printed(alloc, bytes.len())
+        printed(rt, bytes.len())
     }
 }
 
 // What was found, none, or the fault.
-fn found<E: Debug + Drop>(
-    alloc: Global,
+fn found<X: AllocGlobal + Abort, E: Debug + Drop>(
+    rt: &X,
     answer: Result<Option<Bytes>, E>,
-) -> Result<String, Fault> {
+) -> String {
     match answer {
-        Ok(Some(bytes)) => shown(alloc, bytes.as_bytes()),
-        Ok(None) => string(alloc, "none"),
-        Err(fault) => printed(alloc, fault),
+        Ok(Some(bytes)) => shown(rt, bytes.as_bytes()),
+        Ok(None) => string(rt, "none"),
+        Err(fault) => printed(rt, fault),
     }
-}
-
-/// Adds an answer as a line.
-pub fn add_line(told: &mut String, answer: Result<String, Fault>) -> Result<(), Fault> {
-    let answer = answer?;
-    good(write!(told, "{answer}\n"))
 }
 
 // A fetch of a document or of a target, of at most so many bytes.
-fn fetched<R: Repository>(alloc: Global, repo: &mut R, call: &str) -> Result<String, Fault> {
-    let (call, max, name) = three(call, " ")?;
-    let max = number(max)?;
-    match place(call, "metadata target") {
-        0 => found(alloc, repo.fetch_metadata(alloc, name, max)),
-        1 => found(alloc, repo.fetch_target(alloc, name, max)),
-        _ => Err(Fault::Row),
+fn fetched<X: AllocGlobal + Abort, R: Repository>(rt: &X, repo: &mut R, row: &str) -> String {
+    let (call, asked) = halves(rt, row, " ");
+    let (max, name) = halves(rt, asked, " ");
+    let max = number(rt, max);
+    match call {
+        "metadata" => found(rt, repo.fetch_metadata(rt.alloc(), name, max)),
+        _ => found(rt, repo.fetch_target(rt.alloc(), name, max)),
     }
 }
 
-/// What the fetches of a repository answer.
-pub fn fetch_all<R: Repository>(alloc: Global, repo: &mut R, calls: &str) -> Result<String, Fault> {
-    let mut told = String::new(alloc);
-    for call in calls.lines() {
-        add_line(&mut told, fetched(alloc, repo, call))?;
+fn fetch_all<X: AllocGlobal + Abort, R: Repository>(rt: &X, repo: &mut R, rows: &str) {
+    for row in rows.lines() {
+        let (asked, wanted) = halves(rt, row, " => ");
+        check(rt, row, wanted, fetched(rt, repo, asked));
     }
-    Ok(told)
 }
 
 // A load, or the store of a text under a name.
-fn stored<S: MetadataStore>(alloc: Global, store: &mut S, call: &str) -> Result<String, Fault> {
-    let (call, asked) = halves(call, " ")?;
-    match place(call, "load store") {
-        0 => found(alloc, store.load(alloc, asked)),
-        1 => kept(alloc, store, asked),
-        _ => Err(Fault::Row),
+fn stored<X: AllocGlobal + Abort, S: MetadataStore>(rt: &X, store: &mut S, row: &str) -> String {
+    let (call, asked) = halves(rt, row, " ");
+    match call {
+        "load" => found(rt, store.load(rt.alloc(), asked)),
+        _ => {
+            let (name, text) = halves(rt, asked, " ");
+            printed(rt, store.store(rt.alloc(), name, text.as_bytes()))
+        }
     }
 }
 
-fn kept<S: MetadataStore>(alloc: Global, store: &mut S, asked: &str) -> Result<String, Fault> {
-    let (name, text) = halves(asked, " ")?;
-    printed(alloc, store.store(alloc, name, text.as_bytes()))
-}
-
-/// What the calls of a store answer.
-pub fn store_all<S: MetadataStore>(
-    alloc: Global,
-    store: &mut S,
-    calls: &str,
-) -> Result<String, Fault> {
-    let mut told = String::new(alloc);
-    for call in calls.lines() {
-        add_line(&mut told, stored(alloc, store, call))?;
+fn store_all<X: AllocGlobal + Abort, S: MetadataStore>(rt: &X, store: &mut S, rows: &str) {
+    for row in rows.lines() {
+        let (asked, wanted) = halves(rt, row, " => ");
+        check(rt, row, wanted, stored(rt, store, asked));
     }
-    Ok(told)
 }
 
-/// Without a store nothing is there.
-pub fn no_store(alloc: Global, calls: &str) -> Result<String, Fault> {
-    store_all(alloc, &mut NoStore, calls)
+// Without a store nothing is there; names that are absolute or have a component `..` are bad.
+const NOTHING: &str = "store root.json ab => Ok(())
+load root.json => none
+load  => none
+load a/b => none
+load a//b => none
+load ./a => none
+load ... => none
+load ..a/b.. => none
+load / => BadName
+load /a => BadName
+load .. => BadName
+load ../a => BadName
+load a/.. => BadName
+load a/../b => BadName
+load a/b/../..c => BadName";
+
+fn second_fails<X: AllocGlobal + Abort>(rt: &X) -> FailList {
+    let calls = good(rt, Vec::from_slice(rt.alloc(), &[2]));
+    there(rt, FailList::new(calls))
 }
 
-/// A store in memory.
-pub fn store(alloc: Global, calls: &str) -> Result<String, Fault> {
-    let mut store = MemoryStore::new(alloc);
-    let told = store_all(alloc, &mut store, calls);
-    drop(store);
-    told
+fn repository<X: AllocGlobal + Abort>(rt: &X) -> MemoryRepository {
+    let mut repo = MemoryRepository::new(rt.alloc(), second_fails(rt));
+    good(rt, repo.put_metadata(rt.alloc(), "timestamp.json", b"old"));
+    good(rt, repo.put_metadata(rt.alloc(), "timestamp.json", b"ab"));
+    good(rt, repo.put_target(rt.alloc(), "a/b", b"file"));
+    repo
 }
 
-fn second_fails(alloc: Global) -> Result<FailList, Fault> {
-    there(FailList::new(good(Vec::from_slice(alloc, &[2]))?))
-}
+// The second call fails.
+const IN_MEMORY: &str = "metadata 2 timestamp.json => ab
+metadata 2 timestamp.json => Failed
+metadata 1 timestamp.json => TooLong { seen: 2 }
+metadata 9 a/b => none
+target 9 a/b => file
+target 9 timestamp.json => none";
 
-/// A store in memory whose second call fails.
-pub fn failing_store(alloc: Global, calls: &str) -> Result<String, Fault> {
-    let mut store = MemoryStore::with_failures(alloc, second_fails(alloc)?);
-    let told = store_all(alloc, &mut store, calls);
-    drop(store);
-    told
-}
+// The second call fails.
+const STORED: &str = "store root.json old => Ok(())
+store root.json ab => Err(Failed)
+load root.json => old
+store root.json ab => Ok(())
+load root.json => ab";
 
-/// A repository in memory whose second call fails.
-pub fn repository(alloc: Global, calls: &str) -> Result<String, Fault> {
-    let mut repo = MemoryRepository::new(alloc, second_fails(alloc)?);
-    let made = publish(alloc, &mut repo);
-    let told = fetch_all(alloc, &mut repo, calls);
-    drop(repo);
-    made?;
-    told
-}
+const STORED_ELSEWHERE: &str = "load root.json => none
+store ../a  => Err(BadName)";
 
-fn publish(alloc: Global, repo: &mut MemoryRepository) -> Result<(), Fault> {
-    good(repo.put_metadata(alloc, "timestamp.json", b"old"))?;
-    good(repo.put_metadata(alloc, "timestamp.json", b"ab"))?;
-    good(repo.put_target(alloc, "a/b", b"file"))
-}
+// A document under its name, a target under `targets/` and its path; nothing under a bad name.
+const OVER_A_STORE: &str = "metadata 2 root.json => ab
+metadata 1 root.json => TooLong { seen: 2 }
+metadata 9 2.root.json => none
+target 9 a/b => file
+target 9 root.json => none
+target 9 ../root.json => none
+metadata 9 /root.json => none";
 
-/// A repository over a store: the calls of the store, an empty line, and those of the repository.
-pub fn over_a_store(alloc: Global, calls: &str) -> Result<String, Fault> {
-    let (carried, asked) = halves(calls, "\n\n")?;
-    let mut store = MemoryStore::new(alloc);
-    let stored = store_all(alloc, &mut store, carried);
+const CARRIED_IN: &str = "store root.json ab => Ok(())
+store targets/a/b file => Ok(())";
+
+#[test]
+fn a_repository_over_a_store(rt: HostRuntime) {
+    let mut store = MemoryStore::new(rt.alloc());
+    store_all(&rt, &mut store, CARRIED_IN);
     let mut repo = StoreRepository::new(store);
-    let told = fetch_all(alloc, &mut repo, asked);
+    fetch_all(&rt, &mut repo, OVER_A_STORE);
     drop(repo);
-    both(alloc, stored, told)
 }
 
-fn both(
-    alloc: Global,
-    first: Result<String, Fault>,
-    second: Result<String, Fault>,
-) -> Result<String, Fault> {
-    let first = first?;
-    let second = second?;
-    good(format!(in alloc; "{first}{second}"))
+#[test]
+fn objects_in_memory(rt: HostRuntime) {
+    hold(&rt, "FetchFault", FETCH_FAULTS);
+    hold(&rt, "StoreFault", STORE_FAULTS);
+    store_all(&rt, &mut NoStore, NOTHING);
+    let mut repo = repository(&rt);
+    fetch_all(&rt, &mut repo, IN_MEMORY);
+    drop(repo);
+    let mut store = MemoryStore::with_failures(rt.alloc(), second_fails(&rt));
+    store_all(&rt, &mut store, STORED);
+    drop(store);
+    let mut other = MemoryStore::new(rt.alloc());
+    store_all(&rt, &mut other, STORED_ELSEWHERE);
+    drop(other);
+}
+
+const IN_A_FOLDER: &str = "metadata 2 1.root.json => ab
+metadata 1 1.root.json => TooLong { seen: 2 }
+metadata 2 2.root.json => none
+metadata 2 targets/../1.root.json => none
+metadata 2 targets => Failed
+target 70000 a/b => 70000
+target 69999 a/b => TooLong { seen: 70000 }";
+
+const STORED_IN_A_FOLDER: &str = "load root_history/1.root.json => none
+store root_history/1.root.json a longer one => Ok(())
+store root_history/1.root.json ab => Ok(())
+load root_history/1.root.json => ab
+store root_history ab => Err(Failed)
+load a/../b => BadName";
+
+#[test]
+fn a_repository_in_a_folder(rt: HostRuntime) {
+    let long = good(&rt, vec![in rt.alloc(); b'7'; 70_000]);
+    good(&rt, fs::create_dir_all(&rt, "repo/targets/a"));
+    good(&rt, fs::write(&rt, "repo/1.root.json", "ab"));
+    good(&rt, fs::write(&rt, "repo/targets/a/b", long.as_slice()));
+    let mut repo = FileRepository::new(&rt, text(&rt, "repo"));
+    drop(long);
+    fetch_all(&rt, &mut repo, IN_A_FOLDER);
+    drop(repo);
+}
+
+#[test]
+fn a_store_in_a_folder(rt: HostRuntime) {
+    let mut store = FileStore::new(&rt, text(&rt, "store"));
+    store_all(&rt, &mut store, STORED_IN_A_FOLDER);
+    drop(store);
+    let name = "store/root_history/1.root.json";
+    let written = good(&rt, fs::read_to_string(&rt, name));
+    let is_there = good(&rt, fs::exists(&rt, "store/root_history/1.root.json.new~0"));
+    let is_left = good(&rt, fs::exists(&rt, "store/root_history.new~0"));
+    let found = printed(&rt, (written, is_there, is_left));
+    check(&rt, name, r#"("ab", false, false)"#, found);
+}
+
+// Another process has begun to write the first name beside.
+const STORED_BESIDE: &str = "load timestamp.json => none
+store timestamp.json ab => Ok(())
+load timestamp.json => ab
+load timestamp.json.new~0 => half
+load timestamp.json.new~1 => none";
+
+#[test]
+fn a_store_that_another_process_writes(rt: HostRuntime) {
+    good(&rt, fs::create_dir_all(&rt, "shared"));
+    good(&rt, fs::write(&rt, "shared/timestamp.json.new~0", "half"));
+    let mut store = FileStore::new(&rt, text(&rt, "shared"));
+    store_all(&rt, &mut store, STORED_BESIDE);
+    drop(store);
 }

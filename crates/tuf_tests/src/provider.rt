@@ -8,7 +8,7 @@ use foundation::{Duplicate, NoMemory};
 use sigstore_keys::{CryptoProvider, SigningScheme, sha256, sha384, sha512};
 use sigstore_types_parts::{Armor, Bytes, HashAlgorithm};
 use std::alloc::Global;
-use test_rows::Fault;
+use std::process::Abort;
 
 // A P-256 key whose raw key is 04 and 64 zero bytes.
 pub fn p256() -> &'static str {
@@ -104,8 +104,8 @@ impl Armor for OneKey {
     }
 }
 
-pub fn armor(alloc: Global) -> Result<OneKey, Fault> {
-    Ok(OneKey {
-        key: key_bytes(alloc, p256())?,
-    })
+pub fn armor<X: AllocGlobal + Abort>(rt: &X) -> OneKey {
+    OneKey {
+        key: key_bytes(rt, p256()),
+    }
 }

@@ -1,10 +1,22 @@
 // Names and numbers of refusals, canonical texts, names of files, and members that are kept.
-use crate::words::{text, text_of};
+use crate::thresholds;
+use crate::words::{copied, good, halves, hold, number, printed, string, text, text_of};
 use serde_json::Value;
 use sigstore_tuf_parts::*;
 use sigstore_types_parts::{FromValue, Json, Text, TextMap, parse_json};
-use std::alloc::Global;
-use test_rows::{Fault, copied, good, halves, number, place, printed, string};
+use std::fmt::Debug;
+use std::process::Abort;
+
+/// The answer of a call that is given a text; for any other name that of a call that judges documents.
+pub fn answer<X: AllocGlobal + Abort>(rt: &X, call: &str, given: &str) -> String {
+    match call {
+        "refusal of tuf" => shown(rt, sample(rt, given)),
+        "canonical text" => canonical(rt, given),
+        "file name" => file_name(rt, given),
+        "other members" => kept(rt, given),
+        _ => thresholds::answer(rt, call, given),
+    }
+}
 
 // The refusals that hold no text.
 fn plain(number: u8) -> Error {
@@ -63,83 +75,115 @@ fn with_texts(number: u8, first: Text, second: Text) -> Error {
 }
 
 // A refusal of each number.
-fn sample(alloc: Global, given: &str) -> Result<Error, Fault> {
-    let number = good(given.parse::<u8>())?;
-    let (role, key) = (text(alloc, "r")?, text(alloc, "k")?);
+fn sample<X: AllocGlobal + Abort>(rt: &X, given: &str) -> Error {
+    let number = good(rt, given.parse::<u8>());
     match number {
-        5 | 7 => Ok(with_texts(number, role, key)),
-        4 | 6 | 8 | 9 | 10 | 12 | 16 => Ok(with_text(number, role)),
-        _ => Ok(plain(number)),
+        5 | 7 => with_texts(number, text(rt, "r"), text(rt, "k")),
+        4 | 6 | 8 | 9 | 10 | 12 | 16 => with_text(number, text(rt, "r")),
+        _ => plain(number),
     }
 }
 
-/// A refusal's number, its name and its display text.
-pub fn refusal(alloc: Global, given: &str) -> Result<String, Fault> {
-    let error = sample(alloc, given)?;
+fn shown<X: AllocGlobal + Abort>(rt: &X, error: Error) -> String {
     let (number, name) = (error.number(), error.name());
-    let shown = good(format!(in alloc; "{number} {name} {error}"));
+    let shown = good(rt, format!(in rt.alloc(); "{number} {name} {error}"));
     drop(error);
     shown
 }
 
-/// The canonical text of a JSON text.
-pub fn canonical(alloc: Global, text: &str) -> Result<String, Fault> {
-    let value = good(Value::from_str(alloc, text))?;
-    let answer = to_canonical_bytes(alloc, &value);
+// A row: which refusal, and its number, its name and its display text.
+const REFUSALS: &str = "1 => 1 Json Json
+2 => 2 Malformed Malformed
+3 => 3 NonIntegerNumber NonIntegerNumber
+4 => 4 UnusableKey UnusableKey
+5 => 5 UnsupportedScheme UnsupportedScheme
+6 => 6 UnknownRole UnknownRole
+7 => 7 DuplicateSignature DuplicateSignature
+8 => 8 ThresholdNotMet ThresholdNotMet
+9 => 9 Rollback Rollback
+10 => 10 EqualVersion EqualVersion
+11 => 11 BadRootVersion BadRootVersion
+12 => 12 Expired Expired
+13 => 13 IntegrityMismatch IntegrityMismatch
+14 => 14 Crypto Crypto
+15 => 15 NotRefreshed NotRefreshed
+16 => 16 TargetNotFound TargetNotFound
+18 => 18 Transport Transport
+19 => 19 NoMemory NoMemory";
+
+fn canonical<X: AllocGlobal + Abort>(rt: &X, text: &str) -> String {
+    let value = good(rt, Value::from_str(rt.alloc(), text));
+    let answer = to_canonical_bytes(rt.alloc(), &value);
     drop(value);
     match answer {
-        Ok(bytes) => text_of(alloc, bytes.as_bytes()),
-        Err(refusal) => printed(alloc, refusal),
+        Ok(bytes) => text_of(rt, bytes.as_bytes()),
+        Err(refusal) => printed(rt, refusal),
     }
 }
 
-/// The name of a root of a version, of the file of a pinned role, or the name that is meant by a word.
-pub fn file_name(alloc: Global, row: &str) -> Result<String, Fault> {
-    let (call, given) = halves(row, " ")?;
-    match place(call, "root pin name") {
-        0 => root_file(alloc, number(given)),
-        1 => text_in(pin_name(alloc, given)),
-        2 => name_of(alloc, given),
-        _ => Err(Fault::Row),
+const CANONICAL: &str =
+    r#"{"z":[3,2,1],"a":{"n":-5,"b":true}} => {"a":{"b":true,"n":-5},"z":[3,2,1]}
+"a\\b\"c" => "a\\b\"c"
+1.5 => NonIntegerNumber"#;
+
+// The name of a root of a version, of the file of a pinned role, or the name that is meant by a word.
+fn file_name<X: AllocGlobal + Abort>(rt: &X, row: &str) -> String {
+    let (call, given) = halves(rt, row, " ");
+    match call {
+        "root" => text_in(rt, root_name(rt.alloc(), number(rt, given))),
+        "pin" => text_in(rt, pin_name(rt.alloc(), given)),
+        _ => match given {
+            "targets" => string(rt, TARGETS_NAME),
+            "snapshot" => string(rt, SNAPSHOT_NAME),
+            _ => string(rt, TIMESTAMP_NAME),
+        },
     }
 }
 
-fn root_file(alloc: Global, version: Result<u64, Fault>) -> Result<String, Fault> {
-    text_in(root_name(alloc, version?))
+fn text_in<X: Abort, E: Debug>(rt: &X, text: Result<Text, E>) -> String {
+    good(rt, text).into_string()
 }
 
-fn name_of(alloc: Global, role: &str) -> Result<String, Fault> {
-    match place(role, "targets snapshot timestamp") {
-        0 => string(alloc, TARGETS_NAME),
-        1 => string(alloc, SNAPSHOT_NAME),
-        2 => string(alloc, TIMESTAMP_NAME),
-        _ => Err(Fault::Row),
-    }
-}
-
-fn text_in<E: Drop>(text: Result<Text, E>) -> Result<String, Fault> {
-    Ok(good(text)?.into_string())
-}
+const FILES: &str = "root 12 => 12.root.json
+pin targets => targets.json
+pin snapshot => snapshot.json
+pin timestamp => timestamp.json
+name targets => targets.json
+name snapshot => snapshot.json
+name timestamp => timestamp.json";
 
 // Which of the members `public` and `x-note` are there.
-fn members(alloc: Global, extra: TextMap<Json>) -> Result<String, Fault> {
+fn members<X: AllocGlobal + Abort>(rt: &X, extra: TextMap<Json>) -> String {
     let (public, note) = (extra.get("public").is_some(), extra.get("x-note").is_some());
     drop(extra);
-    printed(alloc, (public, note))
+    printed(rt, (public, note))
 }
 
-fn others_of(alloc: Global, value: &Value, call: &str) -> Result<TextMap<Json>, Fault> {
-    match place(call, "others copy") {
-        0 => good(others(alloc, value, &[DocumentMember::Public])),
-        1 => Ok(copied(alloc, good(KeyVal::from_value(alloc, value))?)?.extra),
-        _ => Err(Fault::Row),
+fn others_of<X: AllocGlobal + Abort>(rt: &X, value: &Value, call: &str) -> TextMap<Json> {
+    match call {
+        "others" => good(rt, others(rt.alloc(), value, &[DocumentMember::Public])),
+        _ => copied(rt, good(rt, KeyVal::from_value(rt.alloc(), value))).extra,
     }
 }
 
-/// The other members of a key's value, as they are read and as they stand in a copy of the value.
-pub fn kept(alloc: Global, call: &str) -> Result<String, Fault> {
-    let value = good(parse_json(alloc, b"{\"public\":\"p\",\"x-note\":7}"))?;
-    let extra = others_of(alloc, &value, call);
+// The other members of a key's value, as they are read and as they stand in a copy of the value.
+fn kept<X: AllocGlobal + Abort>(rt: &X, call: &str) -> String {
+    let value = good(
+        rt,
+        parse_json(rt.alloc(), b"{\"public\":\"p\",\"x-note\":7}"),
+    );
+    let extra = others_of(rt, &value, call);
     drop(value);
-    members(alloc, extra?)
+    members(rt, extra)
+}
+
+const KEPT: &str = "others => (false, true)
+copy => (false, true)";
+
+#[test]
+fn refusals(rt: HostRuntime) {
+    hold(&rt, "refusal of tuf", REFUSALS);
+    hold(&rt, "canonical text", CANONICAL);
+    hold(&rt, "file name", FILES);
+    hold(&rt, "other members", KEPT);
 }

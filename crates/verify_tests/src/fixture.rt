@@ -3,8 +3,8 @@ use crate::tables::{
     Change, bytes, change_in, display, failures, first, good, source, string, text_of, there, words,
 };
 use crate::{
-    archives, audits, delegated, downloads, gate_runs, gate_ways, gates, hostile, keyless,
-    keyless_data, logged, statements, told,
+    archives, audits, delegated, downloads, gate_runs, gates, hostile, keyless, keyless_data,
+    logged, told,
 };
 use command_files::{
     CommandLine, InputFile, MemoryInputs, MemorySink, Status, TableArmor, TableProvider, Tables,
@@ -26,12 +26,10 @@ pub(crate) fn answer<X: AllocGlobal + Abort>(rt: &X, call: &str, given: &str) ->
         "archive" => archives::written(rt, given),
         "check" => archives::judged(rt, given),
         "download" => downloads::said(rt, given),
-        "statement" => statements::said(rt, given),
         "audit" => audits::said(rt, given),
         "gate" => gates::said(rt, given),
         "listed" => gates::listed(rt, given),
         "gate run" => gate_runs::said(rt, given),
-        "gate way" => gate_ways::said(rt, given),
         "each" => hostile::each(rt, given),
         "bounded" => hostile::bounded(rt, given),
         "told" => told::said(rt, given),
@@ -44,7 +42,7 @@ pub(crate) fn answer<X: AllocGlobal + Abort>(rt: &X, call: &str, given: &str) ->
 }
 
 // The raw key 04 and 64 zero bytes.
-pub(crate) const RAW_KEY: &str =
+const RAW_KEY: &str =
     "BAAAAAAAAAAAAAAAAAAAAAAAAAAAAAAAAAAAAAAAAAAAAAAAAAAAAAAAAAAAAAAAAAAAAAAAAAAAAAAAAAAAAAA=";
 
 // The same key as a subject public key info.
@@ -60,7 +58,7 @@ const TIMESTAMP: &str =
 const SNAPSHOT: &str =
     r#"{"_type":"snapshot","expires":"2031-01-01T00:00:00Z","meta":{"targets.json":{"version":1}},"spec_version":"1.0.0","version":1}"#;
 
-pub(crate) const MESSAGE: &str =
+const MESSAGE: &str =
     r#""messageSignature":{"messageDigest":{"algorithm":"SHA2_256","digest":"LPJNul+wow4m6DsqxbninhsWHlwfp0JecwQzYpOLmCQ="},"signature":"AQ=="}"#;
 
 const WORDS: &str =
@@ -95,8 +93,6 @@ inputs fail
 artifact fails
 byte fails
 sink fails
-shelf fails
-archive fails
 room";
 
 // The name of a file in the repository, where the change makes names consistent, and else.
@@ -121,7 +117,7 @@ fn second_version(change: Change) -> &str {
     change.of("second root", change.of("kept root", ""))
 }
 
-pub(crate) fn trust<X: AllocGlobal + Abort>(rt: &X, change: Change) -> String {
+fn trust<X: AllocGlobal + Abort>(rt: &X, change: Change) -> String {
     if keyless::is_keyless(change) {
         return keyless::trust(rt, SPKI);
     }

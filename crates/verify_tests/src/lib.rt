@@ -14,8 +14,6 @@ mod fixture;
 #[cfg(test)]
 mod gate_runs;
 #[cfg(test)]
-mod gate_ways;
-#[cfg(test)]
 mod gates;
 #[cfg(test)]
 mod hostile;
@@ -27,8 +25,6 @@ mod keyless_data;
 mod logged;
 #[cfg(test)]
 mod runs;
-#[cfg(test)]
-mod statements;
 #[cfg(test)]
 mod tables;
 #[cfg(test)]
