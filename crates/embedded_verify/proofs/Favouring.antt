@@ -74,7 +74,7 @@ module _ (asked : Asked) (f : Favoured asked.request.now) where
   pub never_refused : (verdict : Verdict) (kept : List ℕ) → IsKnown asked verdict kept → verdict.accepted ≡ false → ⊥
   never_refused verdict kept k e =
       let j = k.judged in
-      no_refusal j.after j.judged verdict.said j.promises (j.faults_are ∙ k.whole f.whole) j.read_whole (sym j.accepted_is ∙ e) j.answers
+      no_refusal j.after j.judged verdict.said j.promises (j.faults_are ∙ k.whole f.whole) j.source_is (sym j.accepted_is ∙ e) j.answers
 
 -- it is read
 pub never_unread : (request : Request) (said : Answer) → Favoured request → IsUnread request said → ⊥

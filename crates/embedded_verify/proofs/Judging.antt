@@ -51,7 +51,7 @@ module _ (crypto : Crypto) (asked : Asked) (after : Outside) (judged : Judged) w
         promises = p;
         faults_are = r;
         store_is = s;
-        read_whole = w;
+        source_is = w;
         accepted_is = a;
         answers = subst (λ (x : Bool). Answers x judged said) m h;
       } in

@@ -1,5 +1,5 @@
 -- The questions that are open.
-use Rattle.std.proofs.Common.{◌≡◌, ℕ, List, [], ◌++◌, Bool, true, false, cond, not, ◌||◌, length, string_bytes, Option, Some, None, is_some, option_copied, Bor, Result, Ok, Err, IfOk, sym, ap, ◌∙◌, subst}
+use Rattle.std.proofs.Common.{◌≡◌, ℕ, List, [], ◌++◌, Bool, true, false, cond, not, ◌||◌, length, string_bytes, Option, Some, None, is_some, option_copied, Bor, Result, Ok, Err, IfOk, refl, sym, ap, ◌∙◌, subst}
 use Rattle.foundation.specs.declared.no_memory.NoMemory.{NoMemory}
 use Rattle.sigstore_keys.specs.declared.scheme.SigningScheme.{SigningScheme}
 use Rattle.command_files.specs.Rows.{AcceptRows, accepts_of, is_subject}
@@ -20,6 +20,11 @@ module _ (good bad : AcceptRows) where
   by_test true seen more h k = h
   by_test false seen more h k = k
 
+  -- what can't be a row isn't noted
+  by_subject : (fits known full : Bool) (seen more : Seen) → Asks seen → (fits ≡ true → Asks more) → Asks (cond (not fits || known || full) seen more)
+  by_subject false known full seen more h k = h
+  by_subject true known full seen more h k = by_test (known || full) seen more h (k refl)
+
   -- with a question that isn't answered
   pub one_more : (r : Result Noted NoMemory) (before : Noted) (scheme : SigningScheme) (key subject signature : List ℕ) → AsksRows good bad (string_bytes before.text)
       → accepts_of good scheme key subject signature ≡ false → accepts_of bad scheme key subject signature ≡ false
@@ -29,8 +34,9 @@ module _ (good bad : AcceptRows) where
       let seen : Seen = seen_of before in
       let more : Seen = record { tables = rows_with (row_of scheme key subject signature) seen.tables; text = seen.text ++ accept_line scheme key subject signature } in
       subst Asks (sym is)
-      (by_test (not (is_subject scheme subject) || accepts_of seen.tables.provider.rows scheme key subject signature || not (has_room seen.text (length key) (length subject) (length signature))) seen more asks
-      (one_row seen.text scheme key subject signature asks not_good not_bad))
+      (by_subject (is_subject scheme subject) (accepts_of seen.tables.provider.rows scheme key subject signature)
+      (not (has_room seen.text (length key) (length subject) (length signature))) seen more asks
+      (λ fits. one_row seen.text scheme key subject signature asks fits not_good not_bad))
   one_more (Err e) before scheme key subject signature asks not_good not_bad is = tt
 
   -- no question at all

@@ -8,7 +8,7 @@ use Rattle.sigstore_verify.specs.declared.by_rules.RuleAcceptance.{RuleAcceptanc
 use Rattle.sigstore_verify.specs.declared.by_rules.RulesFault.{RulesFault}
 use Rattle.sigstore_verify.specs.ByRules.{RulesInputs, RunsByRules, IsAcceptedByRule, RulesFaultCause, PromisesByRules}
 use Rattle.sigstore_verify.specs.Inputs.{Outside}
-use Rattle.command_files.specs.Rows.{AcceptRows, accepts_of}
+use Rattle.command_files.specs.Rows.{AcceptRows, accepts_of, is_subject}
 use Rattle.command_files.specs.declared.answer.Answer.{Answer}
 use Rattle.command_verify.specs.Report.{rule_report_of}
 use Rattle.command_verify.specs.Run.{given_under, are_several, refusal_answer, Answers}
@@ -87,11 +87,11 @@ pub record Refuses (request : Request) (out kept : List ℕ) : Type 0 where
 
 -- ---- answers are wanted
 
--- lines of rows alone, none of which is among those that hold or among those that don't
+-- lines of rows alone that a provider file can have, none of which is among those that hold or among those that don't
 pub data AsksRows (good bad : AcceptRows) : List ℕ → Type 0 where
   no_row : AsksRows good bad []
   one_row : (text : List ℕ) (scheme : SigningScheme) (key subject signature : List ℕ) → AsksRows good bad text
-      → accepts_of good scheme key subject signature ≡ false → accepts_of bad scheme key subject signature ≡ false
+      → is_subject scheme subject ≡ true → accepts_of good scheme key subject signature ≡ false → accepts_of bad scheme key subject signature ≡ false
       → AsksRows good bad (text ++ accept_line scheme key subject signature)
 
 -- at most one line of a file, which isn't given, isn't known to be absent, and isn't missing in a repository that is whole
@@ -127,7 +127,7 @@ pub record IsJudged (crypto : Crypto) (asked : Asked) (faults : ℕ) (store : Wa
   pub promises : PromisesByRules (given_in crypto asked) (found_in asked.request.now) after judged
   pub faults_are : after.repo.faults ≡ faults
   pub store_is : after.store ≡ store
-  pub read_whole : after.source.faults ≡ 0
+  pub source_is : after.source.faults ≡ 0
   pub accepted_is : verdict.accepted ≡ is_ok judged
   pub answers : Answers (are_several asked.gathered) judged verdict.said
 

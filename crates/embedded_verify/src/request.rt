@@ -7,14 +7,17 @@ use given_objects::{File, GivenInputs, GivenRepository, Name};
 use jiff::Timestamp;
 
 /// What a call is given: the inputs, the files of the repository and of the store, what is known of signatures, and
-/// the moment.
+/// the verification time.
 #[repr(C)]
 #[derive(Clone, Copy)]
 pub struct Request<'a> {
-    /// The pinned root, the bundle, the artifact and the policy.
+    /// The pinned root of TUF, a JSON text of at most 512,000 bytes.
     pub root: &'a [u8],
+    /// The bundle, a JSON text of at most 16 MiB.
     pub bundle: &'a [u8],
+    /// The artifact, of at most 1 TiB.
     pub artifact: &'a [u8],
+    /// The policy file, of at most 64 KiB.
     pub policy: &'a [u8],
     /// Files of the repository's folder, targets below `targets/`.
     pub repository: &'a [File<'a>],
@@ -26,8 +29,9 @@ pub struct Request<'a> {
     pub good: &'a [u8],
     /// Rows of those that aren't, as a provider file.
     pub bad: &'a [u8],
-    /// The moment: seconds since the start of 1970, and nanoseconds behind them.
+    /// The verification time, in seconds since the start of 1970.
     pub seconds: i64,
+    /// The nanoseconds behind these.
     pub nanoseconds: u32,
     /// Whether the repository has no files but those.
     pub whole: bool,
@@ -53,7 +57,7 @@ impl<'a> Request<'a> {
         GivenRepository::new(self.repository, self.absent, self.whole)
     }
 
-    /// The moment, where there is such an instant.
+    /// The verification time, where there is such an instant.
     pub fn moment(&self) -> Option<Timestamp>
         ensures some { IfSome result (IsMoment self.now) }
         ensures none { result ≡ None → (now : Instant) → IsMoment self.now now → ⊥ }

@@ -16,8 +16,11 @@ use std::alloc::Global;
 /// What a call says: its status, its text, and the lines of what the store is to keep.
 #[derive(Drop)]
 pub struct Said {
+    /// 0: accepted. 1: refused, and no question is open. 2 and 3: an input isn't read. 6: not all is known.
     pub status: u32,
+    /// The report, the refusal's lines, or the questions, a line each.
     pub out: String,
+    /// The files that the store is to keep, as lines `keep NAME BYTES`; empty but for 0 and 1.
     pub kept: String,
 }
 
@@ -100,7 +103,8 @@ fn stop(alloc: Global, said: Answer) -> Said
     }
 }
 
-/// What a call says of a request. Errors: `NoMemory`.
+/// What a call says of a request. Errors: `NoMemory`, also where a check of the call's own work fails, which no request is known
+/// to cause.
 pub fn answer(alloc: Global, request: &Request<'_>) -> Result<Said, NoMemory>
     ensures { IfOk result (λ said. Means request.now said.status (string_bytes said.out) (string_bytes said.kept)) }
 {

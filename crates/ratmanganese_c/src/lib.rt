@@ -12,18 +12,21 @@ use foundation::NoMemory;
 use given_objects::fill;
 use std::alloc::Global;
 
-/// How many bytes the texts have.
+/// How many bytes the texts take, whether they fit or not.
 #[repr(C)]
 #[derive(Clone, Copy)]
 pub struct Lengths {
+    /// Those of the text in `out`.
     pub out: usize,
+    /// Those of the text in `kept`.
     pub kept: usize,
 }
 
 // A buffer is too short for its text.
 const CUT: u32 = 4;
 
-const WANTS_MEMORY: u32 = 5;
+// Out of memory, or a check of the call's own work failed.
+const OUT_OF_MEMORY: u32 = 5;
 
 // Writes the texts where both fit, and their lengths in any case.
 fn hand_over(said: &Said, out: &mut [u8], kept: &mut [u8], lengths: &mut Lengths) -> u32
@@ -45,8 +48,8 @@ fn hand_over(said: &Said, out: &mut [u8], kept: &mut [u8], lengths: &mut Lengths
 
 /// Verifies over the files and answers that are handed in. Status 0: accepted, with the report in `out`. 1: refused,
 /// with its lines, and no question is open. 2 and 3: an input is outside its grammar, or too long, with a line. 4: `out` or
-/// `kept` is too short for its text, and the lengths tell what they take. 5: memory was wanting. 6: not all is known, and
-/// `out` has the questions, a line each: rows of a provider file, of which those of good signatures go into `good` and
+/// `kept` is too short for its text, and the lengths tell what they take. 5: out of memory, or a check of the call's own work
+/// failed, which no request is known to cause; nothing was written. 6: not all is known, and `out` has the questions, a line each: rows of a provider file, of which those of good signatures go into `good` and
 /// the others into `bad`, and `file NAME MAX`, the name in base64, for a file of the repository of which at most so many
 /// bytes are of use. With 0 and 1 `kept` has the files that the store is to keep, as lines `keep NAME BYTES`, both in
 /// base64, or a dash where there are none.
@@ -75,7 +78,7 @@ pub extern "C" fn ratmanganese_verify(
         Err(NoMemory) => {
             lengths.out = 0;
             lengths.kept = 0;
-            WANTS_MEMORY
+            OUT_OF_MEMORY
         }
     }
 }
