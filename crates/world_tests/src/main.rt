@@ -1,8 +1,9 @@
-//! Runs the worlds of the files that the words name, and says of each file how many there are, and of each world
-//! that ends otherwise than it is to end what was said. The status is 0 where each ends so, 1 where one doesn't,
-//! and 2 where they can't be tried.
+//! Runs the worlds of the files that the words name, and says of each file how many there are, and of each world that ends
+//! otherwise than it is to end what was said. Some are also asked of the library that asks. The status is 0 where each ends
+//! so, 1 where one doesn't, and 2 where they can't be tried.
 #![tactic(auto)]
 
+mod asked;
 mod details;
 mod fault;
 mod handed;

@@ -65,6 +65,11 @@ impl<'a> World<'a> {
         self.own.get(member).and_then(Value::as_u64)
     }
 
+    /// Whether the world has a member of its own.
+    pub fn has(&self, member: &str) -> bool {
+        self.own.get(member).is_some()
+    }
+
     /// The number of the call that fails, of an object.
     pub fn failing(&self, object: &str) -> Option<u64> {
         self.own
