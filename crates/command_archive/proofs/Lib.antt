@@ -1,3 +1,4 @@
+pub mod NamedValues
 mod JsonTokens
 mod JsonTexts
 mod DelegatedNames
@@ -8,3 +9,6 @@ mod Completing
 mod Never
 mod Ending
 mod RunEnding
+mod CheckSaying
+mod CheckMeaning
+mod CheckCompleting

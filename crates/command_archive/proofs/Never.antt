@@ -1,23 +1,22 @@
 -- Nothing is said with a status that says that nothing was, or that a write failed.
-use Rattle.std.proofs.Common.{◌≡◌, ℕ, List, Bool, Some, Result, Ok, Err, sym, subst}
+use Rattle.std.proofs.Common.{◌≡◌, ℕ, List, Some, Result, Ok, Err, sym, subst}
 use Rattle.std.specs.Prelude.{⊤}
 use Rattle.command_files.specs.Answer.{stop_answer}
 use Rattle.command_files.specs.Starting.{Command, misworded, lacking, unstarted, stopped, begun}
 use Rattle.command_files.specs.declared.answer.Answer.{Answer}
 use Rattle.command_files.specs.declared.answer.Status.{Status}
 use Rattle.command_files.specs.declared.answer.Status.TheVariants as status
-use Rattle.command_verify.specs.Run.{tuf_answer, Environment}
-use Rattle.sigstore_verify.specs.Inputs.{Anchor, Places, Outside}
 use Rattle.command_files.specs.declared.gather.CommandStop.{CommandStop}
 use Rattle.command_files.specs.declared.gather.CommandStop.TheVariants.{Words, Malformed, Input, Memory}
+use Rattle.command_verify.specs.Run.{tuf_answer}
+use Rattle.sigstore_verify.specs.Inputs.{Anchor, Places}
 use Rattle.trust_archive.specs.declared.error.ArchiveError.{ArchiveError}
 use Rattle.trust_archive.specs.Spelling.{spelling_of}
 use Rattle.foundation.specs.Results.{ok_same, no_both}
-use Rattle.foundation.specs.Watched.{Watched}
 use Rattle.command_archive.specs.declared.output.Output.{Output}
 use Rattle.command_archive.specs.declared.output.Output.TheVariants.{Lines}
 use Rattle.command_archive.specs.Output.{status_of}
-use Rattle.command_archive.specs.Run.{spelled, Judges, is_trusted, is_refused, Checks, unread, judged, Walks, walk_refused, walked_to, checked, walked, Commands, Says}
+use Rattle.command_archive.specs.Run.{Environment, spelled, Walks, walk_refused, walked_to, Says}
 
 -- a status with which something is said
 Told : Status → Type 0
@@ -43,33 +42,16 @@ unfolding Told
 of_spelled (Ok bytes) = tt
 of_spelled (Err e) = tt
 
-as_answer : (line other : Answer) → line ≡ other → Told other.status → Told line.status
-as_answer line other e t = subst (λ (a : Answer). Told a.status) (sym e) t
-
-of_judges : (anchor : Anchor) (bytes : List ℕ) (line : Answer) → Judges anchor bytes line → Told line.status
-unfolding Told
-of_judges anchor bytes line (is_trusted chain text h i t e) = as_answer line _ e tt
-of_judges anchor bytes line (is_refused x n h y e) = as_answer line _ e tt
-
-of_checks : (anchor : Anchor) (old new : Watched (List ℕ)) (line : Answer) → Checks anchor old new line → Told line.status
-unfolding Told
-of_checks anchor old new line (unread u e) = as_answer line _ e tt
-of_checks anchor old new line (judged bytes w j) = of_judges anchor bytes line j
-
 of_walks : (anchor : Anchor) (before after : Places) (said : Output) → Walks anchor before after said → Told (status_of said)
 unfolding Told tuf_answer
 of_walks anchor before after said (walk_refused e n p s) = as_lines said (tuf_answer e) s tt
 of_walks anchor before after said (walked_to chain p s) = subst (λ (o : Output). Told (status_of o)) (sym s) (of_spelled (spelling_of chain))
 
-of_commands : (check : Bool) (anchor : Anchor) (before after : Outside) (said : Output) → Commands check anchor before after said → Told (status_of said)
-of_commands check anchor before after said (checked line e p c s) = as_lines said line s (of_checks _ _ _ line c)
-of_commands check anchor before after said (walked e s w) = of_walks _ _ _ said w
-
 of_says : (command : Command) (before after : Environment) (said : Output) → Says command before after (Ok said) → Told (status_of said)
 of_says command before after said (unstarted e s o eq) = no_both said e eq
 of_says command before after said (stopped line (misworded w i h) o eq) = as_lines said line (ok_same said (Lines line) eq) (of_stop Words line h)
 of_says command before after said (stopped line (lacking stop l h) o eq) = as_lines said line (ok_same said (Lines line) eq) (of_stop stop line h)
-of_says command before after said (begun layout anchored b c) = of_commands layout.check _ _ _ said c
+of_says command before after said (begun layout anchored b w) = of_walks _ _ _ said w
 
 pub never_output : (command : Command) (before after : Environment) (said : Output) → Says command before after (Ok said) → status_of said ≡ status.Output → ⊥
 unfolding Told
