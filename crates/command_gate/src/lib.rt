@@ -9,4 +9,5 @@ mod program;
 
 pub use judging::{FolderRequest, gate_folder};
 pub use layout::{asked_gate_layout, gate_layout};
-pub use program::run_gate;
+pub use lines::lines_said;
+pub use program::{fault_said, run_gate};

@@ -131,7 +131,7 @@ fn status_by(lines: &[GateLine]) -> Status
 }
 
 /// What is said of a folder that was judged: a line for each artifact, and whether all are admitted.
-pub(crate) fn lines_said(alloc: Global, lines: &[GateLine]) -> Result<Answer, NoMemory>
+pub fn lines_said(alloc: Global, lines: &[GateLine]) -> Result<Answer, NoMemory>
     ensures { IfOk result (λ said. said ≡ lines_answer lines.now) }
 {
     let mut text = String::new(alloc);

@@ -20,9 +20,9 @@ use sigstore_keys::Providers;
 use sigstore_tuf::{MetadataStore, Repository};
 use std::alloc::Global;
 
-// What is said of a folder that isn't judged.
+/// What is said of a folder that isn't judged.
 #[tactic(auto, unfolding(crate::specs::Run::fault_answer))]
-fn fault_said(alloc: Global, fault: &GateFault) -> Result<Answer, NoMemory>
+pub fn fault_said(alloc: Global, fault: &GateFault) -> Result<Answer, NoMemory>
     ensures { IfOk result (λ said. fault_answer fault.now ≡ Some said) }
 {
     match fault {

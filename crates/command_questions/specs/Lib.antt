@@ -1,5 +1,6 @@
 pub mod DownloadMeans
 pub mod GateMeans
+pub mod GateWayMeans
 pub mod Means
 pub mod Suffice
 pub mod WaySuffice

@@ -1,11 +1,11 @@
-//! The questions of a run: which signatures and armoured texts a verification from a root asks for, or the judgement of
-//! all artifacts of a folder, as lines of a provider file, for a signature library to answer; and what a refusal holds,
-//! for a reader's eye.
+//! The questions of a run: which signatures and armoured texts it asks for, as lines of a provider file, for a signature
+//! library to answer; and what a refusal holds, for a reader's eye.
 #![tactic(auto)]
 
 mod details;
 mod download;
 mod gate;
+mod gate_ways;
 mod last_asked;
 mod program;
 mod reading_store;
@@ -16,6 +16,7 @@ mod ways;
 pub use details::run_details;
 pub use download::run_download_questions;
 pub use gate::run_gate_questions;
+pub use gate_ways::run_gate_way_questions;
 pub use last_asked::LastAsked;
 pub use program::{questions_text, run_questions};
 pub use reading_store::ReadingStore;

@@ -60,11 +60,11 @@ module _ (gathered : Gathered) (now : jiff.Timestamp) (file : List ℕ) (old new
   told_refuses verdict (Shared e) n t = t (λ w. n (ap (λ (d : Error). Shared d) w))
   told_refuses verdict (Each refusals) n t = t.0
 
-  accepts : (told : Option (List Digest)) (judged : JudgedByRule) → TellsSubject told old new bytes → Judges (asked_for gathered now) file told old new (Ok judged) → Verdict told ≡ Ok judged
+  pub accepts : (told : Option (List Digest)) (judged : JudgedByRule) → TellsSubject told old new bytes → Judges (asked_for gathered now) file told old new (Ok judged) → Verdict told ≡ Ok judged
   accepts None judged s j = read_accepts judged s j
   accepts (Some told) judged s j = j.1
 
-  refuses : (told : Option (List Digest)) (e : RulesError) → e ≢ Shared NoMemory → TellsSubject told old new bytes → Judges (asked_for gathered now) file told old new (Err e) → Verdict told ≡ Err e
+  pub refuses : (told : Option (List Digest)) (e : RulesError) → e ≢ Shared NoMemory → TellsSubject told old new bytes → Judges (asked_for gathered now) file told old new (Err e) → Verdict told ≡ Err e
   refuses None e n s j = read_refuses e n s j
   refuses (Some told) e n s j = told_refuses (Verdict (Some told)) e n j.1
 

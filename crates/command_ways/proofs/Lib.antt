@@ -3,3 +3,6 @@ mod Trusting
 mod Saying
 mod Meaning
 mod Completing
+mod FolderSaying
+mod FolderMeaning
+mod FolderCompleting

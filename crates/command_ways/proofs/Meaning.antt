@@ -16,7 +16,7 @@ use Rattle.command_files.specs.declared.answer.Status.TheVariants as status
 use Rattle.command_files.proofs.Endings.{ends_so}
 use Rattle.command_files.proofs.Starts.{stopped_means}
 use Rattle.command_verify.specs.Run.{tuf_answer, verify_answer, each_answer}
-use Rattle.command_archive.specs.Run.{archive_answer}
+use Rattle.command_archive.specs.Reading.{archive_answer}
 use Rattle.command_verify.specs.Run.{given_by}
 use Rattle.command_ways.specs.declared.judging.Came.{Came}
 use Rattle.command_ways.specs.declared.judging.Came.TheVariants.{Untrusted, Judged}

@@ -13,7 +13,7 @@ use Rattle.trust_archive.proofs.Whole.{chain_complete}
 use Rattle.command_files.specs.declared.answer.Answer.{Answer}
 use Rattle.command_files.proofs.Starts.{quiet_not_rose}
 use Rattle.command_files.proofs.Wholes.{same_whole, never_unread}
-use Rattle.command_archive.specs.Run.{max_archive, held_in}
+use Rattle.command_archive.specs.Reading.{max_archive, held_in}
 use Rattle.command_ways.specs.declared.layout.TrustedBy.{TrustedBy}
 use Rattle.command_ways.specs.declared.layout.TrustedBy.TheVariants as way
 use Rattle.command_ways.specs.declared.trust.Trust.{Trust}

@@ -16,7 +16,7 @@ use Rattle.command_files.specs.declared.answer.Status.{Status}
 use Rattle.command_files.specs.declared.answer.Status.TheVariants as status
 use Rattle.command_files.specs.declared.gather.Gathered.{Gathered}
 use Rattle.command_verify.specs.Run.{max_artifact}
-use Rattle.command_archive.specs.Run.{max_archive, Holds}
+use Rattle.command_archive.specs.Reading.{max_archive, Holds}
 use Rattle.command_ways.specs.declared.layout.TrustedBy.{TrustedBy}
 use Rattle.command_ways.specs.declared.layout.TrustedBy.TheVariants as way
 use Rattle.command_ways.specs.declared.layout.WayLayout.{WayLayout}

@@ -44,15 +44,16 @@ abbrev pub root_name : TrustedBy → List ℕ
 root_name Caller = codes "--trusted-root"
 root_name by = codes "--root"
 
-abbrev pub places_in : TrustedBy → List ℕ → Values → Result Layout UsageFault
-places_in by rows found = do
+-- the places, by the name of what is judged and that of the file of rows
+abbrev pub places_in : TrustedBy → List ℕ → List ℕ → Values → Result Layout UsageFault
+places_in by judged rows found = do
   now ← moment_at (codes "--now") found
   Ok (record {
     root = text_at (root_name by) found;
     repository = text_at (codes "--repository") found;
     store = text_at (codes "--store") found;
     bundle = text_at (codes "--bundle") found;
-    judged = text_at (codes "--artifact") found;
+    judged = text_at judged found;
     policy = text_at (codes "--policy") found;
     provider = text_at rows found;
     now = now;
@@ -63,7 +64,7 @@ unfoldable pub way_in : List ℕ → List Digest → Values → Result WayLayout
 way_in rows told found = do
   subject ← subject_of (has_name found (codes "--artifact")) told
   by ← trusted_in found
-  places ← places_in by rows found
+  places ← places_in by (codes "--artifact") rows found
   Ok (record { way = record { by = by; told = subject }; archive = text_at (codes "--archive") found; places = places })
 
 -- the layout of a command's words

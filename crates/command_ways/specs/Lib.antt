@@ -5,3 +5,7 @@ pub mod Judging
 pub mod Report
 pub mod Run
 pub mod Complete
+pub mod FolderLayout
+pub mod FolderJudging
+pub mod FolderRun
+pub mod FolderComplete

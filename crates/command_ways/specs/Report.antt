@@ -12,7 +12,7 @@ use Rattle.command_files.specs.declared.answer.Answer.{Answer}
 use Rattle.command_files.specs.declared.answer.Status.TheVariants as status
 use Rattle.command_verify.specs.Report.{digests_added, chain_text, result_added}
 use Rattle.command_verify.specs.Run.{tuf_answer, verify_answer, each_answer}
-use Rattle.command_archive.specs.Run.{archive_answer, unread_answer}
+use Rattle.command_archive.specs.Reading.{archive_answer, unread_answer}
 use Rattle.command_ways.specs.declared.judging.Came.{Came}
 use Rattle.command_ways.specs.declared.judging.Came.TheVariants.{Untrusted, Judged}
 use Rattle.command_ways.specs.declared.report.Telling.{Telling}

@@ -21,7 +21,7 @@ use Rattle.command_files.specs.declared.answer.Status.{Status}
 use Rattle.command_files.specs.declared.answer.Status.TheVariants as status
 use Rattle.command_files.specs.declared.gather.Gathered.{Gathered}
 use Rattle.command_verify.specs.Run.{given_by, are_several}
-use Rattle.command_archive.specs.Run.{unread_answer}
+use Rattle.command_archive.specs.Reading.{unread_answer}
 use Rattle.command_ways.specs.declared.judging.Came.{Came}
 use Rattle.command_ways.specs.declared.layout.Way.{Way}
 use Rattle.command_ways.specs.declared.layout.WayLayout.{WayLayout}

@@ -10,7 +10,7 @@ use Rattle.sigstore_verify.specs.Inputs.{Anchor, Places, places_by}
 use Rattle.sigstore_verify.specs.Promises.{PromisesChain}
 use Rattle.trust_archive.specs.declared.error.ArchiveError.{ArchiveError}
 use Rattle.command_files.specs.Whole.{GivesWhole, Unread}
-use Rattle.command_archive.specs.Run.{max_archive, held_in, Holds, Why}
+use Rattle.command_archive.specs.Reading.{max_archive, held_in, Holds, Why}
 use Rattle.command_ways.specs.declared.layout.TrustedBy.{TrustedBy}
 use Rattle.command_ways.specs.declared.layout.TrustedBy.TheVariants as way
 use Rattle.command_ways.specs.declared.trust.Trust.{Trust}

@@ -78,7 +78,7 @@ fn trusted_by(
 
 // The same by the names that stand.
 #[tactic(auto, unfolding(crate::specs::Layout::trusted_in))]
-fn trusted_in(found: &TextMap<Text>) -> Result<TrustedBy, UsageFault>
+pub(crate) fn trusted_in(found: &TextMap<Text>) -> Result<TrustedBy, UsageFault>
     ensures { result ≡ trusted_in found.now }
 {
     trusted_by(
@@ -108,14 +108,16 @@ fn subject(
     Ok(Some(told))
 }
 
-fn places(
+// The places under these names: of what is judged, and of the file of rows.
+pub(crate) fn places(
     alloc: Global,
     by: TrustedBy,
+    judged: &str,
     rows: &str,
     found: &TextMap<Text>,
 ) -> Result<Layout, UsageFault>
-    ensures ok { IfOk result (λ places. places_in by rows.now found.now ≡ Ok places) }
-    ensures err { IfErr result (λ e. e ≢ UsageFault.NoMemory → places_in by rows.now found.now ≡ Err e) }
+    ensures ok { IfOk result (λ places. places_in by judged.now rows.now found.now ≡ Ok places) }
+    ensures err { IfErr result (λ e. e ≢ UsageFault.NoMemory → places_in by judged.now rows.now found.now ≡ Err e) }
 {
     let now = moment_at(found, "--now")?;
     Ok(Layout {
@@ -123,7 +125,7 @@ fn places(
         repository: text_at(alloc, found, "--repository")?,
         store: text_at(alloc, found, "--store")?,
         bundle: text_at(alloc, found, "--bundle")?,
-        judged: text_at(alloc, found, "--artifact")?,
+        judged: text_at(alloc, found, judged)?,
         policy: text_at(alloc, found, "--policy")?,
         provider: text_at(alloc, found, rows)?,
         now,
@@ -143,7 +145,7 @@ fn way_in(
 {
     let told = subject(has(found, "--artifact"), told)?;
     let by = trusted_in(found)?;
-    let places = places(alloc, by, rows, found)?;
+    let places = places(alloc, by, "--artifact", rows, found)?;
     let archive = text_at(alloc, found, "--archive")?;
     Ok(WayLayout {
         way: Way { by, told },

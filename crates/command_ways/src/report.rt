@@ -93,7 +93,7 @@ fn accepted(
 }
 
 // What is said where there is no trusted root.
-fn untrusted(alloc: Global, fault: &TrustFault) -> Result<Answer, NoMemory>
+pub(crate) fn untrusted(alloc: Global, fault: &TrustFault) -> Result<Answer, NoMemory>
     ensures { IfOk result (λ said. untrusted_answer fault.now ≡ Some said) }
 {
     match fault {

@@ -1,6 +1,6 @@
 -- The gate: what its answers mean, and that it has to answer where nothing outside fails.
-use Rattle.std.proofs.Common.{◌≡◌, ◌≢◌, ◌⊎◌, inl, inr, List, Option, Some, Result, Ok, Err, refl, sym, ap, subst, ◌∙◌, arith}
-use Rattle.foundation.specs.Watched.{IfTold}
+use Rattle.std.proofs.Common.{◌≡◌, ◌≢◌, ◌⊎◌, inl, inr, ◌≤◌, List, length, Option, Some, Result, Ok, Err, refl, sym, ap, subst, ◌∙◌, arith}
+use Rattle.foundation.specs.Watched.{Watched, IfTold}
 use Rattle.foundation.specs.Results.{ok_same, err_same, no_both}
 use Rattle.sigstore_tuf_text.specs.declared.error.Error.{Error as TufError}
 use Rattle.sigstore_tuf_text.specs.declared.error.Error.TheVariants as tuf
@@ -9,7 +9,7 @@ use Rattle.sigstore_judgement.specs.declared.error.Error.{Error}
 use Rattle.sigstore_judgement.specs.declared.error.Error.TheVariants as verify
 use Rattle.sigstore_judgement.specs.declared.trust.Material.{Material}
 use Rattle.sigstore_verify.specs.Cause.{ChainCause}
-use Rattle.sigstore_verify.specs.Complete.{StaysWarm}
+use Rattle.sigstore_verify.specs.Complete.{TellsQuietly, StaysWarm}
 use Rattle.sigstore_verify.specs.FromRoot.{TrustsChain}
 use Rattle.sigstore_verify.specs.Promises.{PromisesChain}
 use Rattle.release_gate.specs.declared.gate.GateFault.{GateFault}
@@ -19,7 +19,8 @@ use Rattle.release_gate.specs.declared.line.GateLine.{GateLine}
 use Rattle.release_gate.specs.declared.walk.FolderStop.{FolderStop}
 use Rattle.release_gate.specs.declared.walk.FolderStop.TheVariants as stop
 use Rattle.release_gate.specs.Folder.{Contents}
-use Rattle.release_gate.specs.Gate.{GateInputs, Outside, places_in, kept_of, terms_of, fault_of_tuf, fault_of_trust, fault_of_stop, HasTrust, GateCause, JudgesUnder}
+use Rattle.release_gate.specs.Gate.{GateInputs, Outside, places_in, kept_of, terms_of, fault_of_tuf, fault_of_trust, fault_of_stop, HasTrust, GateCause, FolderCause, JudgesUnder}
+use Rattle.release_gate.specs.Names.{max_names, AreOnce}
 use Rattle.release_gate.specs.Promises.{Favours, IsJudgedUnder, chain_refused, trust_refused as trust_unusable, folder_judged as folder_runs, Promises}
 use Rattle.release_gate.specs.Walk.{StopCause}
 
@@ -32,6 +33,33 @@ tuf_want e = inr (λ h. cc)
 want : (e : Error) → (e ≡ verify.NoMemory) ⊎ (e ≢ verify.NoMemory)
 want verify.NoMemory = inl refl
 want e = inr (λ h. cc)
+
+-- ---- when it has to answer
+
+of_told : (told : Option Contents) (contents : Contents) (P : Contents → Type 0) → told ≡ Some contents → IfTold told P → P contents
+of_told told contents P e h = rw e at h
+
+-- a quiet folder that lists few names, none twice, doesn't stop
+module _ (old new : Watched Contents) (contents : Contents) (tells : TellsQuietly old new contents) (few : length contents.names ≤ max_names)
+    (once : AreOnce contents.names) where
+  pub stops_never : (s : FolderStop) → StopCause old new s → s ≡ stop.NoMemory
+  stops_never stop.Failed h = let quiet = tells.quiet in absurd (omega (arith, quiet, h))
+  stops_never (stop.TooMany count) h =
+      let told = of_told old.told contents _ tells.told h.1 in
+      let many = h.0 in
+      absurd (omega (arith, told, many, few))
+  stops_never (stop.Doubled name) h =
+      let told = of_told old.told contents _ tells.told h in
+      let single = once name in
+      let twice = told.1.twice in
+      absurd (omega (arith, single, twice))
+  stops_never (stop.Vanished name) h = absurd (of_told old.told contents _ tells.told h.1)
+  stops_never stop.NoMemory h = refl
+
+-- what is said of such a folder isn't a fault, unless memory is wanting
+pub never_stopped : (old new : Watched Contents) (contents : Contents) → TellsQuietly old new contents → length contents.names ≤ max_names
+    → AreOnce contents.names → (fault : GateFault) → FolderCause old new fault → fault ≡ gate.NoMemory
+never_stopped old new contents tells few once fault (s, is, cause) = is ∙ ap fault_of_stop (stops_never old new contents tells few once s cause)
 
 module _ (given : GateInputs) (before after : Outside) where
   abbrev Cause : GateFault → Type 0
@@ -53,27 +81,6 @@ module _ (given : GateInputs) (before after : Outside) where
   by_stop (stop.Doubled name) t h = (t, h)
   by_stop (stop.Vanished name) t h = (t, h)
   by_stop stop.NoMemory t h = tt
-
-  -- ---- when it has to answer
-
-  -- a quiet folder that lists few names, none twice, doesn't stop
-  never : (told : Option Contents) (contents : Contents) (P : Contents → Type 0) → told ≡ Some contents → IfTold told P → P contents
-  never told contents P e h = rw e at h
-
-  stops_never : (chain : TrustChain) (contents : Contents) → Favours given before after chain contents → (s : FolderStop) → StopCause before.folder after.folder s → s ≡ stop.NoMemory
-  stops_never chain contents f stop.Failed h = let quiet = f.folder.quiet in absurd (omega (arith, quiet, h))
-  stops_never chain contents f (stop.TooMany count) h =
-      let told = never before.folder.told contents _ f.folder.told h.1 in
-      let few = f.few in
-      let many = h.0 in
-      absurd (omega arith)
-  stops_never chain contents f (stop.Doubled name) h =
-      let told = never before.folder.told contents _ f.folder.told h in
-      let once = f.once name in
-      let twice = told.1.twice in
-      absurd (omega arith)
-  stops_never chain contents f (stop.Vanished name) h = absurd (never before.folder.told contents _ f.folder.told h.1)
-  stops_never chain contents f stop.NoMemory h = refl
 
   -- ---- the exits
 
@@ -118,7 +125,7 @@ module _ (given : GateInputs) (before after : Outside) where
       accepted = tt;
       refused = subst Cause (sym j.refused.1) (by_stop j.refused.0 (record { chain = chain; trusted = p.accepted; material = material; usable = usable }) j.refused.2);
       runs = folder_runs chain material (Err fault) p.runs usable j refl;
-      complete = λ offered contents f. inl (ap Err (j.refused.1 ∙ ap fault_of_stop (stops_never offered contents f j.refused.0 j.refused.2)));
+      complete = λ offered contents f. inl (ap Err (never_stopped before.folder after.folder contents f.folder f.few f.once fault j.refused));
       stored = tt;
     }
 

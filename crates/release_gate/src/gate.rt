@@ -84,8 +84,8 @@ fn fault_of_stop(stop: FolderStop) -> GateFault
     }
 }
 
-// A verifier over a trust file. Errors: `TrustRoot` for its bytes, then those of `Verifier::new`.
-fn verifier_over<'p, C: CryptoProvider, M: Armor>(
+/// A verifier over a trust file's bytes. Errors: `TrustRoot` for these, then those of `Verifier::new`.
+pub fn verifier_over<'p, C: CryptoProvider, M: Armor>(
     alloc: Global,
     providers: &Providers<'p, C, M>,
     file: &[u8],
@@ -105,8 +105,10 @@ fn verifier_over<'p, C: CryptoProvider, M: Armor>(
     }
 }
 
-// The lines on a folder under a trust file.
-fn judge_under<C: CryptoProvider, M: Armor, D: Folder>(
+/// The lines on a folder under a trust file, by a verifier over it, as `gate_from_root` judges it under its chain's. Errors, in
+/// this order: `FolderFailed` of the listing, `TooManyNames`, `DoubledName`; then in ascending order of the artifacts' names
+/// `FolderFailed` and `Vanished`.
+pub fn judge_under<C: CryptoProvider, M: Armor, D: Folder>(
     alloc: Global,
     verifier: &Verifier<'_, C, M>,
     folder: &mut D,

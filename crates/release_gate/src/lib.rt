@@ -15,7 +15,7 @@ mod walk;
 
 pub use file_folder::FileFolder;
 pub use folder::{Folder, FolderFault};
-pub use gate::{GateFault, Gated, gate_from_root};
+pub use gate::{GateFault, Gated, gate_from_root, judge_under, verifier_over};
 pub use laws::{admits_exactly, lines_are_one};
 pub use line::{GateLine, Verdict};
 pub use memory_folder::MemoryFolder;
