@@ -1,4 +1,4 @@
-//! Tests of keys, signatures, certificates and pairs of keys, and of entries of logs with their promises.
+//! Tests of keys, signatures, certificates and pairs of keys, of entries of logs with their promises, and of witnesses.
 #![tactic(auto)]
 
 #[cfg(test)]
@@ -23,3 +23,7 @@ mod rings;
 mod sources;
 #[cfg(test)]
 mod tables;
+#[cfg(test)]
+mod witness_data;
+#[cfg(test)]
+mod witnesses;

@@ -8,8 +8,8 @@ use sigstore_keys::{Keyring, VerificationKey, compute_key_hint, sha256};
 use sigstore_types_parts::{DerPublicKey, Hash, LogKeyId, Sha256Hash, TimeRange, parse_json};
 use std::process::Abort;
 
-// What a table has behind a name.
-fn behind<X: Abort>(rt: &X, table: &'static str, name: &str) -> &'static str {
+/// What a table has behind a name.
+pub fn behind<X: Abort>(rt: &X, table: &'static str, name: &str) -> &'static str {
     for row in table.lines() {
         let (first, rest) = halves(rt, row, " ");
         if first == name {
@@ -128,10 +128,12 @@ pub fn tables<X: AllocGlobal + Abort>(rt: &X) -> Tables {
 
 /// The checkpoint of a name.
 pub fn checkpoint<X: AllocGlobal + Abort>(rt: &X, name: &str) -> Checkpoint {
-    let value = good(
-        rt,
-        parse_json(rt.alloc(), behind(rt, CHECKPOINTS, name).as_bytes()),
-    );
+    read_checkpoint(rt, behind(rt, CHECKPOINTS, name))
+}
+
+/// The checkpoint of a JSON string.
+pub fn read_checkpoint<X: AllocGlobal + Abort>(rt: &X, text: &str) -> Checkpoint {
+    let value = good(rt, parse_json(rt.alloc(), text.as_bytes()));
     let signed = there(rt, value.as_str());
     good(rt, Checkpoint::from_text(rt.alloc(), signed.as_bytes()))
 }

@@ -1,7 +1,7 @@
 // How tables of rows are tried, and the words that they compare. A test ends the process where it
 // fails, so no helper hands a failure on. A call is found by its place in a list of names, since the
 // proof of a match on numbers costs far less than that of one on texts.
-use crate::{claims, key_forms, keys, logs, pairs, rings, sources};
+use crate::{claims, key_forms, keys, logs, pairs, rings, sources, witnesses};
 use foundation::Duplicate;
 use sigstore_types_parts::{Bytes, DerPublicKey, Text};
 use std::fmt::{Debug, Display};
@@ -26,7 +26,8 @@ pub fn check<X: Abort>(rt: &X, row: &str, wanted: &str, found: String) {
 
 const CALLS: &str = "\
 refusal scheme algorithm sha256 sha384 sha512 from_spki judgement answers_alike in_der under_scheme raw_key \
-signature source said public_key ring entry promise told_time under_key signed log_refusal least";
+signature source said public_key ring entry promise told_time under_key signed log_refusal least \
+vkey cosigned witness_refusal";
 
 /// The answer of a call that is given a text.
 fn answer<X: AllocGlobal + Abort>(rt: &X, call: &str, given: &str) -> String {
@@ -55,6 +56,9 @@ fn answer<X: AllocGlobal + Abort>(rt: &X, call: &str, given: &str) -> String {
         21 => logs::signed(rt, given),
         22 => logs::refusal(rt, given),
         23 => rings::least(rt, given),
+        24 => witnesses::vkey(rt, given),
+        25 => witnesses::cosigned(rt, given),
+        26 => witnesses::refusal(rt, given),
         _ => string(rt, "no call"),
     }
 }

@@ -1,0 +1,4 @@
+pub mod CosignedLaw
+pub mod Judged
+pub mod Looking
+pub mod Once

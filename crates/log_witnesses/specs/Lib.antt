@@ -1,0 +1,5 @@
+pub mod Cause
+pub mod Cosigned
+pub mod Error
+pub mod IsCosigned
+pub mod Witness
