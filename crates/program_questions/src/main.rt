@@ -1,7 +1,6 @@
-//! Writes which signatures and armoured texts a verification from a pinned TUF root asks for, as lines of a
-//! provider file: `questions` with the words of `verify`, in any of its ways; `gate-questions` writes those of a whole folder,
-//! `download-questions` those of targets. With the words of a verification it writes what the refusal holds, for a reader's
-//! eye. It judges nothing.
+//! The questions' program: which signatures and armoured texts a run asks for, as lines of a provider file. `questions` has
+//! the words of `verify`, in any of its ways; `gate-questions` writes those of a whole folder, `download-questions` those of
+//! targets. With the words of a verification it writes what the refusal holds, for a reader's eye. It judges nothing.
 #![tactic(auto)]
 
 use command_download::{DownloadLayout, asked_download_layout};
@@ -11,9 +10,9 @@ use command_files::{
 use command_gate::asked_gate_layout;
 use command_questions::{
     LastAsked, ReadingStore, run_details, run_download_questions, run_gate_questions,
-    run_questions, run_way_questions,
+    run_gate_way_questions, run_questions, run_way_questions,
 };
-use command_ways::{WayLayout, asked_way_layout};
+use command_ways::{FolderLayout, WayLayout, asked_gate_way_layout, asked_way_layout};
 use foundation::NoMemory;
 use program_objects::{
     DownloadObjects, GateObjects, Objects, clock_of, download_objects_at, gate_objects_at,
@@ -91,6 +90,37 @@ fn gate_asked<X: Runtime + AllocGlobal>(rt: &X, line: &CommandLine<'_>, layout: 
     )
 }
 
+// The same for what the judgement of a folder asks in another way.
+fn gate_way_asked<X: Runtime + AllocGlobal>(
+    rt: &X,
+    line: &CommandLine<'_>,
+    layout: FolderLayout,
+) -> Status {
+    let FolderLayout {
+        archive,
+        places,
+        ..
+    } = layout;
+    let mut archive = FileSource::new(rt, archive);
+    let GateObjects {
+        mut inputs,
+        mut repository,
+        store,
+        mut folder,
+        mut out,
+    } = gate_objects_at(rt, places);
+    run_gate_way_questions(
+        rt.alloc(),
+        line,
+        &mut inputs,
+        &mut repository,
+        &mut ReadingStore::new(store),
+        &mut archive,
+        &mut folder,
+        &mut out,
+    )
+}
+
 // The same for what a verification in another way asks.
 fn way_asked<X: Runtime + AllocGlobal>(
     rt: &X,
@@ -160,6 +190,9 @@ fn status_of<X: Runtime + AllocGlobal>(rt: &X) -> Result<Status, NoMemory> {
     }
     if let Some(layout) = or_none(asked_gate_layout(rt.alloc(), &words))? {
         return Ok(gate_asked(rt, &line, layout));
+    }
+    if let Some(layout) = or_none(asked_gate_way_layout(rt.alloc(), &words))? {
+        return Ok(gate_way_asked(rt, &line, layout));
     }
     if let Some(layout) = or_none(asked_download_layout(rt.alloc(), &words))? {
         return Ok(download_asked(rt, &line, layout));

@@ -42,7 +42,7 @@ fn ended<X: AllocGlobal + Abort>(
 }
 
 // The files that were put in place, each with its length and its SHA-256 value.
-fn placed<X: AllocGlobal + Abort>(rt: &X, shelf: &MemoryShelf) -> String {
+pub(crate) fn placed<X: AllocGlobal + Abort>(rt: &X, shelf: &MemoryShelf) -> String {
     let mut told = string(rt, "");
     for file in shelf.files() {
         if !told.is_empty() {

@@ -3,8 +3,8 @@ use crate::tables::{
     Change, bytes, change_in, display, failures, first, good, source, string, text_of, there, words,
 };
 use crate::{
-    archives, audits, delegated, downloads, gate_runs, gates, hostile, keyless, keyless_data,
-    logged, told,
+    archives, audits, delegated, downloads, gate_runs, gate_ways, gates, hostile, keyless,
+    keyless_data, logged, told,
 };
 use command_files::{
     CommandLine, InputFile, MemoryInputs, MemorySink, Status, TableArmor, TableProvider, Tables,
@@ -30,6 +30,7 @@ pub(crate) fn answer<X: AllocGlobal + Abort>(rt: &X, call: &str, given: &str) ->
         "gate" => gates::said(rt, given),
         "listed" => gates::listed(rt, given),
         "gate run" => gate_runs::said(rt, given),
+        "gate way" => gate_ways::said(rt, given),
         "each" => hostile::each(rt, given),
         "bounded" => hostile::bounded(rt, given),
         "told" => told::said(rt, given),
@@ -42,7 +43,7 @@ pub(crate) fn answer<X: AllocGlobal + Abort>(rt: &X, call: &str, given: &str) ->
 }
 
 // The raw key 04 and 64 zero bytes.
-const RAW_KEY: &str =
+pub(crate) const RAW_KEY: &str =
     "BAAAAAAAAAAAAAAAAAAAAAAAAAAAAAAAAAAAAAAAAAAAAAAAAAAAAAAAAAAAAAAAAAAAAAAAAAAAAAAAAAAAAAA=";
 
 // The same key as a subject public key info.
@@ -58,7 +59,7 @@ const TIMESTAMP: &str =
 const SNAPSHOT: &str =
     r#"{"_type":"snapshot","expires":"2031-01-01T00:00:00Z","meta":{"targets.json":{"version":1}},"spec_version":"1.0.0","version":1}"#;
 
-const MESSAGE: &str =
+pub(crate) const MESSAGE: &str =
     r#""messageSignature":{"messageDigest":{"algorithm":"SHA2_256","digest":"LPJNul+wow4m6DsqxbninhsWHlwfp0JecwQzYpOLmCQ="},"signature":"AQ=="}"#;
 
 const WORDS: &str =
@@ -93,6 +94,8 @@ inputs fail
 artifact fails
 byte fails
 sink fails
+shelf fails
+archive fails
 room";
 
 // The name of a file in the repository, where the change makes names consistent, and else.
@@ -117,7 +120,7 @@ fn second_version(change: Change) -> &str {
     change.of("second root", change.of("kept root", ""))
 }
 
-fn trust<X: AllocGlobal + Abort>(rt: &X, change: Change) -> String {
+pub(crate) fn trust<X: AllocGlobal + Abort>(rt: &X, change: Change) -> String {
     if keyless::is_keyless(change) {
         return keyless::trust(rt, SPKI);
     }

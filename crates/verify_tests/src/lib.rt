@@ -14,6 +14,8 @@ mod fixture;
 #[cfg(test)]
 mod gate_runs;
 #[cfg(test)]
+mod gate_ways;
+#[cfg(test)]
 mod gates;
 #[cfg(test)]
 mod hostile;
@@ -25,6 +27,7 @@ mod keyless_data;
 mod logged;
 #[cfg(test)]
 mod runs;
+#[cfg(test)]
 #[cfg(test)]
 mod tables;
 #[cfg(test)]
