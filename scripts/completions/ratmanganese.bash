@@ -17,10 +17,10 @@ _ratmanganese() {
         ratmanganese:1:*) names="verify questions gate gate-questions archive check download download-questions audit generate explain build install lib version help" ;;
         ratmanganese:*:verify) names="--root= --repository= --store= --bundle= --artifact= --policy= --provider= --digest= --archive= --trusted-root= --now=" ;;
         ratmanganese:*:questions) names="--root= --repository= --store= --bundle= --artifact= --policy= --refused= --digest= --archive= --trusted-root= --now=" ;;
-        ratmanganese:*:gate) names="--root= --repository= --store= --folder= --policy= --provider= --now=" ;;
-        ratmanganese:*:gate-questions) names="--root= --repository= --store= --folder= --policy= --refused= --now=" ;;
+        ratmanganese:*:gate) names="--root= --repository= --store= --folder= --policy= --provider= --archive= --trusted-root= --now=" ;;
+        ratmanganese:*:gate-questions) names="--root= --repository= --store= --folder= --policy= --refused= --archive= --trusted-root= --now=" ;;
         ratmanganese:*:archive) names="--root= --repository= --store= --provider= --now=" ;;
-        ratmanganese:*:check) names="--root= --archive= --provider= --now=" ;;
+        ratmanganese:*:check) names="--root= --archive= --provider= --least= --trusted-root= --now=" ;;
         ratmanganese:*:download) names="--root= --repository= --store= --provider= --target= --out= --now=" ;;
         ratmanganese:*:download-questions) names="--root= --repository= --store= --refused= --target= --out= --now=" ;;
         ratmanganese:*:audit) names="--key= --provider= --first= --second= --tiles=" ;;
@@ -29,9 +29,9 @@ _ratmanganese() {
         ratmanganese:*:install) paths=-d ;;
         ratmanganese:*:lib) paths=-d ;;
         verify-real:1:*) names="--root= --repository= --store= --bundle= --artifact= --policy= --digest= --archive= --trusted-root= --now= --json --help gate archive check download audit" ;;
-        verify-real:*:gate) names="--root= --repository= --store= --folder= --policy= --now= --json --help" ;;
+        verify-real:*:gate) names="--root= --repository= --store= --folder= --policy= --archive= --trusted-root= --now= --json --help" ;;
         verify-real:*:archive) names="--root= --repository= --store= --now= --help" ;;
-        verify-real:*:check) names="--root= --archive= --now= --help" ;;
+        verify-real:*:check) names="--root= --archive= --least= --trusted-root= --now= --help" ;;
         verify-real:*:download) names="--root= --repository= --store= --target= --out= --now= --help" ;;
         verify-real:*:audit) names="--key= --first= --second= --tiles= --help" ;;
         verify-real:*) names="--root= --repository= --store= --bundle= --artifact= --policy= --digest= --archive= --trusted-root= --now= --json --help" ;;
