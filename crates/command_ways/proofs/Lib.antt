@@ -1,8 +1,8 @@
 mod Words
-pub mod Trusting
-pub mod Saying
+mod Trusting
+mod Saying
 mod Meaning
-pub mod Completing
+mod Completing
 mod FolderSaying
 mod FolderMeaning
 mod FolderCompleting

@@ -28,7 +28,6 @@ mod logged;
 #[cfg(test)]
 mod runs;
 #[cfg(test)]
-mod statements;
 #[cfg(test)]
 mod tables;
 #[cfg(test)]

@@ -1,4 +1,0 @@
-mod Words
-mod Saying
-mod Meaning
-mod Completing

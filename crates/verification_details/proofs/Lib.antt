@@ -1,2 +1,0 @@
-mod Sources
-mod Subjects

@@ -1,5 +1,0 @@
-pub mod Statement
-pub mod Subject
-pub mod Lines
-pub mod Details
-pub mod Laws
