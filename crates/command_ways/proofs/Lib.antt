@@ -1,8 +1,8 @@
 mod Words
-mod Trusting
-mod Saying
+pub mod Trusting
+pub mod Saying
 mod Meaning
-mod Completing
+pub mod Completing
 mod FolderSaying
 mod FolderMeaning
 mod FolderCompleting

@@ -44,7 +44,7 @@ pub use sigstore_policy::{
     PublicKeyVerificationPolicy, SignatureConditions, SigningPolicy, TextMatcher,
     VerificationPolicy,
 };
-pub use taking::{finalize_all, hashers_for};
+pub use taking::{finalize_all, hashers_for, read_digests};
 pub use trust::Material;
 pub use under::{judge_bundle, judge_bundle_by_rules, read_trust};
 pub use verifier::{Verifier, verify};

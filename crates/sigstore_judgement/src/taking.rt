@@ -49,8 +49,9 @@ pub fn finalize_all(
     Ok(digests)
 }
 
-/// Reads the artifact to its end, and gives its digests by these algorithms, in their order.
-pub(crate) fn read_digests<A: ArtifactSource>(
+/// Reads the artifact to its end, and gives its digests by these algorithms, in their order. Errors: `Crypto` where an
+/// algorithm is of SHA-3, `ArtifactRead` where it can't be read to its end, `NoMemory`.
+pub fn read_digests<A: ArtifactSource>(
     alloc: Global,
     source: &mut A,
     max: u64,

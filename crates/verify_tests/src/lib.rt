@@ -28,6 +28,7 @@ mod logged;
 #[cfg(test)]
 mod runs;
 #[cfg(test)]
+mod statements;
 #[cfg(test)]
 mod tables;
 #[cfg(test)]

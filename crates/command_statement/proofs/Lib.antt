@@ -1,0 +1,4 @@
+mod Words
+mod Saying
+mod Meaning
+mod Completing

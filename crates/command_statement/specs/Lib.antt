@@ -1,0 +1,5 @@
+pub mod Layout
+pub mod Payload
+pub mod Run
+pub mod Promises
+pub mod Complete
