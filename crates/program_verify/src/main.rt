@@ -12,7 +12,7 @@ use command_download::{DownloadLayout, FileShelf, download_layout, run_download}
 use command_files::{CommandLine, Layout, Status, StdoutSink, exit_code, or_none, read_layout};
 use command_gate::{gate_layout, run_gate};
 use command_generate::{is_generate, run_generate};
-use command_statement::{StatementLayout, run_statement, statement_layout};
+use command_outputs::{OutputsLayout, run_outputs, outputs_layout};
 use command_verify::run;
 use command_ways::{FolderLayout, WayLayout, gate_way_layout, run_gate_way, run_way, way_layout};
 use foundation::NoMemory;
@@ -227,9 +227,9 @@ fn verified_by_way<X: Runtime + AllocGlobal>(
 fn stated<X: Runtime + AllocGlobal>(
     rt: &X,
     line: &CommandLine<'_>,
-    layout: StatementLayout,
+    layout: OutputsLayout,
 ) -> Status {
-    let StatementLayout {
+    let OutputsLayout {
         verification,
         statement,
     } = layout;
@@ -248,7 +248,7 @@ fn stated<X: Runtime + AllocGlobal>(
         mut artifact,
         mut out,
     } = objects_at(rt, Some(places));
-    run_statement(
+    run_outputs(
         rt.alloc(),
         line,
         &mut inputs,
@@ -280,7 +280,7 @@ fn judged<X: Runtime + AllocGlobal>(rt: &X, line: &CommandLine<'_>) -> Result<St
     if let Some(layout) = or_none(way_layout(rt.alloc(), line.words))? {
         return Ok(verified_by_way(rt, line, layout));
     }
-    if let Some(layout) = or_none(statement_layout(rt.alloc(), line.words))? {
+    if let Some(layout) = or_none(outputs_layout(rt.alloc(), line.words))? {
         return Ok(stated(rt, line, layout));
     }
     Ok(verified(rt, line, None))

@@ -6,7 +6,7 @@ use crate::fixture::{
 use crate::tables::{Change, change_in, failures, good, hold, source, text_of, there, words};
 use command_download::MemoryShelf;
 use command_files::{CommandLine, InputFile, MemoryInputs, MemorySink, Status};
-use command_statement::run_statement;
+use command_outputs::run_outputs;
 use jiff::Timestamp;
 use sigstore_types_parts::Bytes;
 use std::process::Abort;
@@ -86,7 +86,7 @@ fn ended<X: AllocGlobal + Abort>(
         words: &words,
         clock: Timestamp::UNIX_EPOCH,
     };
-    let status = run_statement(
+    let status = run_outputs(
         rt.alloc(),
         &line,
         &mut inputs,
