@@ -1,5 +1,5 @@
 -- A run under a trusted root that is offered does what the verdict and the bundle ask, unless it is out of memory or an object fails.
-use Rattle.std.proofs.Common.{◌≡◌, ◌≢◌, ◌⊎◌, inl, inr, ℕ, List, Option, Some, Result, Ok, Err, refl, sym, ap, ◌∙◌, subst}
+use Rattle.std.proofs.Common.{◌≡◌, ◌≢◌, ◌⊎◌, inl, inr, ℕ, List, Option, Some, None, Result, Ok, Err, refl, sym, ap, ◌∙◌, subst}
 use Rattle.foundation.specs.Watched.{Watched, Rose}
 use Rattle.foundation.specs.Results.{ok_same, some_same, no_both}
 use Rattle.foundation.specs.declared.no_memory.NoMemory.{NoMemory as OutOfMemory}
@@ -34,8 +34,10 @@ use Rattle.command_ways.proofs.Trusting.{never_untrusted, given_offered}
 use Rattle.command_outputs.specs.declared.layout.OutputsLayout.{OutputsLayout}
 use Rattle.command_outputs.specs.Layout.{outputs_layout_of}
 use Rattle.command_outputs.specs.Payload.{payload_of}
-use Rattle.command_outputs.specs.Run.{Environment, no_envelope_answer, unplaced_answer, Puts, want_putting, unplaced, placed, Delivers, want_payload, no_envelope, delivered, Follows, Concludes, want_saying, follows, JudgesOutputs, Says, RunsTo}
-use Rattle.command_outputs.specs.Promises.{IsUntouched}
+use Rattle.command_outputs.specs.declared.layout.Outputs.{Outputs}
+use Rattle.command_outputs.specs.Concluding.{no_envelope_answer, unplaced_answer, told_answer, Puts, want_putting, unplaced, placed, Delivers, want_payload, no_envelope, delivered, Gives, Yields, want_lines, yields, Follows, Concludes, want_saying, follows}
+use Rattle.command_outputs.specs.Run.{Environment, JudgesOutputs, Says, RunsTo}
+use Rattle.command_outputs.specs.Promises.{IsGiven, IsUntouched}
 use Rattle.command_outputs.specs.Complete.{Favoured, verdict_in, SaysReport, SaysNoEnvelope, SaysRefusal, Completes}
 use Rattle.command_outputs.proofs.Words.{plain_layout}
 
@@ -45,10 +47,10 @@ refused_status (Shared e) = refl
 refused_status (Each refusals) = refl
 
 -- what a verification of this layout came to, and what follows it
-record Ran (command : Command) (before after : Environment) (l : WayLayout) (file : List ℕ) (g : Gathered) (said : Answer) : Type 0 where
+record Ran (command : Command) (before after : Environment) (l : WayLayout) (outputs : Outputs) (g : Gathered) (said : Answer) : Type 0 where
   came : Came
   verifies : VerifiesWay (given_by g (now_of l.places command.clock)) l.way before.outside.verified after.outside.verified came
-  concludes : Concludes (telling_of g l.way.told) g.bundle file came before.outside.shelf after.outside.shelf (Ok said)
+  concludes : Concludes (telling_of g l.way.told) None outputs g.bundle came before.outside.shelf after.outside.shelf (Ok said)
 
 module _ (command : Command) (before after : Environment) (trust : Trust) (bytes : List ℕ) (f : Favoured command before after trust bytes) (out out' : Watched (List ℕ)) where
   abbrev layout : WayLayout
@@ -63,8 +65,8 @@ module _ (command : Command) (before after : Environment) (trust : Trust) (bytes
   abbrev told : Option (List Digest)
   told = layout.way.told
 
-  abbrev path : List ℕ
-  path = f.layout.statement
+  abbrev outputs : Outputs
+  outputs = f.layout.outputs
 
   -- what is promised of a run with this end
   abbrev C : Status → Type 0
@@ -87,33 +89,54 @@ module _ (command : Command) (before after : Environment) (trust : Trust) (bytes
     accepted : verdict_in f ≡ Ok judged
     accepted = accepts gathered moment (file_of trust) before.outside.verified.source after.outside.verified.source bytes told judged f.favoured.subject j
 
-    put_so : (payload : List ℕ) → payload_of gathered.bundle ≡ Ok (Some payload)
-        → Puts path payload report before.outside.shelf after.outside.shelf (Ok said) → W said.text → C said.status
-    put_so payload signed (want_putting e same eq) = no_both said e eq
-    put_so payload signed (unplaced p eq) =
-        as_said unplaced_answer said (sym (ok_same said unplaced_answer eq)) (λ w. inr (inl (refl, inr (p.failed refl))))
-    put_so payload signed (placed p eq) =
-        let text = text_there (anchor_for gathered moment) trust judged (telling_of gathered told) t in
-        as_said (answer status.Accepted text.0) said
-        (some_same (answer status.Accepted text.0) report (sym (ap said_of text.1) ∙ r) ∙ sym (ok_same said report eq))
-        (λ w. inr (inr (inl (record {
-          judged = judged;
-          verdict = accepted;
-          payload = payload;
-          signed = signed;
-          put = p.puts;
-          text = text.0;
-          reported = text.1;
-          written = w;
-          ended_is = refl;
-        }))))
+    abbrev with_lines : Answer → Answer
+    with_lines x = told_answer None outputs.details gathered.bundle judged x
 
-    delivered_so : Delivers gathered.bundle path report before.outside.shelf after.outside.shelf (Ok said) → W said.text → C said.status
-    delivered_so (want_payload e same eq) = no_both said e eq
-    delivered_so (no_envelope message same eq) =
-        as_said no_envelope_answer said (sym (ok_same said no_envelope_answer eq))
-        (λ w. inr (inr (inr (inl (record { judged = judged; verdict = accepted; message = message; untouched = same; written = w; ended_is = refl })))))
-    delivered_so (delivered payload signed p) = put_so payload signed p
+    reported_so : said ≡ with_lines report → IsGiven outputs.statement gathered.bundle before.outside.shelf after.outside.shelf
+        → W said.text → C said.status
+    reported_so same given =
+        let text = text_there (anchor_for gathered moment) trust judged (telling_of gathered told) t in
+        as_said (with_lines (answer status.Accepted text.0)) said
+        (ap with_lines (some_same (answer status.Accepted text.0) report (sym (ap said_of text.1) ∙ r)) ∙ sym same)
+        (λ w. inr (inr (inl (record { judged = judged; verdict = accepted; given = given; text = text.0; reported = text.1; written = w; ended_is = refl }))))
+
+    module _ (path : List ℕ) (named : outputs.statement ≡ Some path) where
+      put_so : (payload : List ℕ) → payload_of gathered.bundle ≡ Ok (Some payload)
+          → Puts path payload (with_lines report) before.outside.shelf after.outside.shelf (Ok said) → W said.text → C said.status
+      put_so payload signed (want_putting e same eq) = no_both said e eq
+      put_so payload signed (unplaced p eq) =
+          as_said unplaced_answer said (sym (ok_same said unplaced_answer eq)) (λ w. inr (inl (refl, inr (p.failed refl))))
+      put_so payload signed (placed p eq) =
+          reported_so (ok_same said (with_lines report) eq)
+          (subst (λ (o : Option (List ℕ)). IsGiven o gathered.bundle before.outside.shelf after.outside.shelf) (sym named)
+          (record { payload = payload; signed = signed; put = p.puts }))
+
+      delivered_so : Delivers gathered.bundle path (with_lines report) before.outside.shelf after.outside.shelf (Ok said) → W said.text → C said.status
+      delivered_so (want_payload e same eq) = no_both said e eq
+      delivered_so (no_envelope message same eq) =
+          as_said no_envelope_answer said (sym (ok_same said no_envelope_answer eq))
+          (λ w. inr (inr (inr (inl (record {
+            judged = judged;
+            verdict = accepted;
+            path = path;
+            named = named;
+            message = message;
+            untouched = same;
+            written = w;
+            ended_is = refl;
+          })))))
+      delivered_so (delivered payload signed p) = put_so payload signed p
+
+    gives_so : (asked_file : Option (List ℕ)) → outputs.statement ≡ asked_file
+        → Gives asked_file gathered.bundle (with_lines report) before.outside.shelf after.outside.shelf (Ok said) → W said.text → C said.status
+    gives_so None none g =
+        reported_so (ok_same said (with_lines report) g.1)
+        (subst (λ (o : Option (List ℕ)). IsGiven o gathered.bundle before.outside.shelf after.outside.shelf) (sym none) g.0)
+    gives_so (Some path) some g = delivered_so path some g
+
+    yielded_so : Yields None outputs gathered.bundle judged report before.outside.shelf after.outside.shelf (Ok said) → W said.text → C said.status
+    yielded_so (want_lines e same eq) = no_both said e eq
+    yielded_so (yields g) = gives_so outputs.statement refl g
 
   -- ---- where none does
 
@@ -134,13 +157,13 @@ module _ (command : Command) (before after : Environment) (trust : Trust) (bytes
   -- ---- the whole
 
   came_so : (came : Came) (report said : Answer) → VerifiesWay (given_by gathered moment) layout.way before.outside.verified after.outside.verified came
-      → Answers (telling_of gathered told) came report → Follows gathered.bundle path came report before.outside.shelf after.outside.shelf (Ok said)
+      → Answers (telling_of gathered told) came report → Follows None outputs gathered.bundle came report before.outside.shelf after.outside.shelf (Ok said)
       → W said.text → C said.status
   came_so (Untrusted why) report said v a k w =
       absurd (never_untrusted (anchor_for gathered moment) layout.way.by before.outside.verified.sources after.outside.verified.sources trust why report f.favoured.offers v.0 a)
   came_so (Judged found (Ok judged)) report said v a k w =
       let same = given_offered (anchor_for gathered moment) layout.way.by before.outside.verified.sources after.outside.verified.sources trust found f.favoured.offers v.0 in
-      delivered_so judged
+      yielded_so judged
       (subst (λ (x : Trust). Judges (asked_for gathered moment) (file_of x) told before.outside.verified.source after.outside.verified.source (Ok judged)) same v.2)
       (subst (IsTrusted (anchor_for gathered moment)) same v.1) report said
       (subst (λ (x : Trust). said_of (way_text x judged (telling_of gathered told)) ≡ Some report) same a) k w
@@ -150,10 +173,10 @@ module _ (command : Command) (before after : Environment) (trust : Trust) (bytes
       (subst (λ (x : Trust). Judges (asked_for gathered moment) (file_of x) told before.outside.verified.source after.outside.verified.source (Err e)) same v.2)
       a k.0 k.1 w
 
-  ran_so : (said : Answer) → Ran command before after layout path gathered said → W said.text → C said.status
+  ran_so : (said : Answer) → Ran command before after layout outputs gathered said → W said.text → C said.status
   ran_so said r = by_concluded r.concludes
     where
-      by_concluded : Concludes (telling_of gathered told) gathered.bundle path r.came before.outside.shelf after.outside.shelf (Ok said) → W said.text → C said.status
+      by_concluded : Concludes (telling_of gathered told) None outputs gathered.bundle r.came before.outside.shelf after.outside.shelf (Ok said) → W said.text → C said.status
       by_concluded (want_saying e same eq) = no_both said e eq
       by_concluded (follows report a k) = came_so r.came report said r.verifies a k
 
@@ -161,11 +184,11 @@ module _ (command : Command) (before after : Environment) (trust : Trust) (bytes
   laid = ok_same f.layout.verification layout (sym (plain_layout command.words f.layout f.worded) ∙ f.favoured.worded)
 
   begun_so : (l : OutputsLayout) (g : Gathered) (said : Answer) → l ≡ f.layout → g ≡ gathered
-      → JudgesOutputs l.verification.way l.statement g (now_of l.verification.places command.clock) before.outside after.outside (Ok said) → W said.text → C said.status
+      → JudgesOutputs l.verification.way l.outputs g (now_of l.verification.places command.clock) before.outside after.outside (Ok said) → W said.text → C said.status
   begun_so l g said same_layout same_given j =
-      ran_so said (subst (λ (x : WayLayout). Ran command before after x path gathered said) laid
-      (subst (λ (x : Gathered). Ran command before after f.layout.verification path x said) same_given
-      (subst (λ (x : OutputsLayout). Ran command before after x.verification x.statement g said) same_layout
+      ran_so said (subst (λ (x : WayLayout). Ran command before after x outputs gathered said) laid
+      (subst (λ (x : Gathered). Ran command before after f.layout.verification outputs x said) same_given
+      (subst (λ (x : OutputsLayout). Ran command before after x.verification x.outputs g said) same_layout
       (record { came = j.came; verifies = j.verifies; concludes = j.concludes }))))
 
   says_so : (said : Answer) → Says command before after (Ok said) → W said.text → C said.status

@@ -1,5 +1,5 @@
--- What each status of a run means that is asked for the statement, and what is in its place.
-use Rattle.std.proofs.Common.{◌≡◌, ◌≢◌, ◌⊎◌, inl, inr, ℕ, List, Some, Result, Ok, Err, refl, sym, ap, ◌∙◌, subst}
+-- What each status of a run means that is asked for more than the report, and what is in the statement's place.
+use Rattle.std.proofs.Common.{◌≡◌, ◌≢◌, ◌⊎◌, inl, inr, ℕ, List, Option, Some, None, Result, Ok, Err, refl, sym, ap, ◌∙◌, subst}
 use Rattle.foundation.specs.Watched.{Watched}
 use Rattle.foundation.specs.Results.{ok_same, some_same, no_both}
 use Rattle.foundation.specs.declared.no_memory.NoMemory.{NoMemory as OutOfMemory}
@@ -32,8 +32,9 @@ use Rattle.command_ways.proofs.Saying.{text_there, has_cause}
 use Rattle.command_outputs.specs.declared.layout.OutputsLayout.{OutputsLayout}
 use Rattle.command_outputs.specs.Layout.{outputs_layout_of}
 use Rattle.command_outputs.specs.Payload.{payload_of}
-use Rattle.command_outputs.specs.Run.{Outside, Environment, no_envelope_answer, unplaced_answer, Puts, want_putting, unplaced, placed, Delivers, want_payload, no_envelope, delivered, Follows, Concludes, want_saying, follows, JudgesOutputs, Says, RunsTo}
-use Rattle.command_outputs.specs.Promises.{Asked, IsAccepted, IsStatement, IsUntouched, IsDelivered, Means, Keeps}
+use Rattle.command_outputs.specs.Concluding.{no_envelope_answer, unplaced_answer, told_answer, Puts, want_putting, unplaced, placed, Delivers, want_payload, no_envelope, delivered, Gives, Yields, want_lines, yields, Follows, Concludes, want_saying, follows}
+use Rattle.command_outputs.specs.Run.{Outside, Environment, JudgesOutputs, Says, RunsTo}
+use Rattle.command_outputs.specs.Promises.{Asked, IsAccepted, AsksFor, IsStatement, IsGiven, IsUntouched, IsDelivered, Means, Keeps}
 use Rattle.command_outputs.proofs.Words.{plain_layout}
 
 module _ (command : Command) (before after : Environment) (out out' : Watched (List ℕ)) where
@@ -56,9 +57,13 @@ module _ (command : Command) (before after : Environment) (out out' : Watched (L
       read = record { worded = plain_layout command.words layout read.worded; read = read.read };
     }
 
+    asks_for : AsksFor command
+    asks_for = record { layout = layout; worded = read.worded }
+
     -- the payload of the bundle, where it has one
-    statement : (payload : List ℕ) → payload_of gathered.bundle ≡ Ok (Some payload) → IsStatement command gathered.bundle layout.statement payload
-    statement payload signed = record { layout = layout; worded = read.worded; named = refl; signed = signed }
+    statement : (path payload : List ℕ) → layout.outputs.statement ≡ Some path → payload_of gathered.bundle ≡ Ok (Some payload)
+        → IsStatement command gathered.bundle path payload
+    statement path payload named signed = record { asks = asks_for; named = named; signed = signed }
 
     -- ---- where no rule accepts
 
@@ -94,40 +99,59 @@ module _ (command : Command) (before after : Environment) (out out' : Watched (L
         abbrev is_accepted : IsAccepted command before after
         is_accepted = record { asked = asked; trust = trust; given = given; trusted = trusted; judged = judged; accepted = accepted }
 
-        put_means : (payload : List ℕ) (report said : Answer) → payload_of gathered.bundle ≡ Ok (Some payload)
-            → said_of (way_text trust judged (telling_of gathered layout.verification.way.told)) ≡ Some report
-            → Puts layout.statement payload report before.outside.shelf after.outside.shelf (Ok said) → W said.text → M said.status
-        put_means payload report said signed r (want_putting e same eq) = no_both said e eq
-        put_means payload report said signed r (unplaced p eq) =
-            as_said unplaced_answer said (sym (ok_same said unplaced_answer eq))
-            (λ w. inr (record {
-              accepted = is_accepted;
-              path = layout.statement;
-              payload = payload;
-              statement = statement payload signed;
-              rose = p.failed refl;
-              same = p.puts;
-              written = w;
-            }))
-        put_means payload report said signed r (placed p eq) =
-            let text = text_there (anchor_for gathered (now_in asked)) trust judged (telling_of gathered layout.verification.way.told) trusted in
-            as_said (answer status.Accepted text.0) said
-            (some_same (answer status.Accepted text.0) report (sym (ap said_of text.1) ∙ r) ∙ sym (ok_same said report eq))
-            (λ w. record {
-              accepts = record { asked = asked; trust = trust; given = given; trusted = trusted; judged = judged; accepted = accepted; text = text.0; reported = text.1; written = w };
-              path = layout.statement;
-              payload = payload;
-              statement = statement payload signed;
-              put = p.puts;
-            })
+        abbrev Reported : Answer → Type 0
+        Reported report = said_of (way_text trust judged (telling_of gathered layout.verification.way.told)) ≡ Some report
 
-        delivered_means : (report said : Answer) → said_of (way_text trust judged (telling_of gathered layout.verification.way.told)) ≡ Some report
-            → Delivers gathered.bundle layout.statement report before.outside.shelf after.outside.shelf (Ok said) → W said.text → M said.status
-        delivered_means report said r (want_payload e same eq) = no_both said e eq
-        delivered_means report said r (no_envelope message same eq) =
-            as_said no_envelope_answer said (sym (ok_same said no_envelope_answer eq))
-            (λ w. (inr (record { accepted = is_accepted; message = message; written = w }), same))
-        delivered_means report said r (delivered payload signed p) = put_means payload report said signed r p
+        abbrev told : Answer → Answer
+        told report = told_answer None layout.outputs.details gathered.bundle judged report
+
+        reported_means : (report said : Answer) → Reported report → said ≡ told report
+            → IsGiven layout.outputs.statement gathered.bundle before.outside.shelf after.outside.shelf → W said.text → M said.status
+        reported_means report said r same given_so =
+            let text = text_there (anchor_for gathered (now_in asked)) trust judged (telling_of gathered layout.verification.way.told) trusted in
+            as_said (told (answer status.Accepted text.0)) said
+            (ap told (some_same (answer status.Accepted text.0) report (sym (ap said_of text.1) ∙ r)) ∙ sym same)
+            (λ w. record { accepted = is_accepted; asks = asks_for; given = given_so; text = text.0; reported = text.1; written = w })
+
+        module _ (path : List ℕ) (named : layout.outputs.statement ≡ Some path) where
+          put_means : (payload : List ℕ) (report said : Answer) → payload_of gathered.bundle ≡ Ok (Some payload) → Reported report
+              → Puts path payload (told report) before.outside.shelf after.outside.shelf (Ok said) → W said.text → M said.status
+          put_means payload report said signed r (want_putting e same eq) = no_both said e eq
+          put_means payload report said signed r (unplaced p eq) =
+              as_said unplaced_answer said (sym (ok_same said unplaced_answer eq))
+              (λ w. inr (record {
+                accepted = is_accepted;
+                path = path;
+                payload = payload;
+                statement = statement path payload named signed;
+                rose = p.failed refl;
+                same = p.puts;
+                written = w;
+              }))
+          put_means payload report said signed r (placed p eq) =
+              reported_means report said r (ok_same said (told report) eq)
+              (subst (λ (o : Option (List ℕ)). IsGiven o gathered.bundle before.outside.shelf after.outside.shelf) (sym named)
+              (record { payload = payload; signed = signed; put = p.puts }))
+
+          delivered_means : (report said : Answer) → Reported report
+              → Delivers gathered.bundle path (told report) before.outside.shelf after.outside.shelf (Ok said) → W said.text → M said.status
+          delivered_means report said r (want_payload e same eq) = no_both said e eq
+          delivered_means report said r (no_envelope message same eq) =
+              as_said no_envelope_answer said (sym (ok_same said no_envelope_answer eq))
+              (λ w. (inr (record { accepted = is_accepted; asks = asks_for; path = path; named = named; message = message; written = w }), same))
+          delivered_means report said r (delivered payload signed p) = put_means payload report said signed r p
+
+        gives_means : (asked_file : Option (List ℕ)) → layout.outputs.statement ≡ asked_file → (report said : Answer) → Reported report
+            → Gives asked_file gathered.bundle (told report) before.outside.shelf after.outside.shelf (Ok said) → W said.text → M said.status
+        gives_means None none report said r g =
+            reported_means report said r (ok_same said (told report) g.1)
+            (subst (λ (o : Option (List ℕ)). IsGiven o gathered.bundle before.outside.shelf after.outside.shelf) (sym none) g.0)
+        gives_means (Some path) some report said r g = delivered_means path some report said r g
+
+        yields_means : (report said : Answer) → Reported report
+            → Yields None layout.outputs gathered.bundle judged report before.outside.shelf after.outside.shelf (Ok said) → W said.text → M said.status
+        yields_means report said r (want_lines e same eq) = no_both said e eq
+        yields_means report said r (yields g) = gives_means layout.outputs.statement refl report said r g
 
     -- ---- whatever came of the verification
 
@@ -137,16 +161,16 @@ module _ (command : Command) (before after : Environment) (out out' : Watched (L
     came_means : (came : Came) (said final : Answer)
         → VerifiesWay (given_by gathered (now_in asked)) layout.verification.way before.outside.verified after.outside.verified came
         → Answers (telling_of gathered layout.verification.way.told) came said
-        → Follows gathered.bundle layout.statement came said before.outside.shelf after.outside.shelf (Ok final) → W final.text → M final.status
+        → Follows None layout.outputs gathered.bundle came said before.outside.shelf after.outside.shelf (Ok final) → W final.text → M final.status
     came_means (Untrusted why) said final v a f = same_said said final (untrusted_means why said v.0 v.1 a f.0) f.1
-    came_means (Judged trust (Ok judged)) said final v a f = delivered_means trust v.0 v.1 judged v.2 said final a f
+    came_means (Judged trust (Ok judged)) said final v a f = yields_means trust v.0 v.1 judged v.2 said final a f
     came_means (Judged trust (Err e)) said final v a f =
         same_said said final (as_said (refused_answer e) said (sym a.0) (refused_means trust v.0 v.1 e v.2 a.1 f.0)) f.1
 
-    judged_means : (final : Answer) → JudgesOutputs layout.verification.way layout.statement gathered (now_in asked) before.outside after.outside (Ok final) → W final.text → M final.status
+    judged_means : (final : Answer) → JudgesOutputs layout.verification.way layout.outputs gathered (now_in asked) before.outside after.outside (Ok final) → W final.text → M final.status
     judged_means final j = by_concluded j.concludes
       where
-        by_concluded : Concludes (telling_of gathered layout.verification.way.told) gathered.bundle layout.statement j.came before.outside.shelf after.outside.shelf (Ok final)
+        by_concluded : Concludes (telling_of gathered layout.verification.way.told) None layout.outputs gathered.bundle j.came before.outside.shelf after.outside.shelf (Ok final)
             → W final.text → M final.status
         by_concluded (want_saying e same eq) = no_both final e eq
         by_concluded (follows said a f) = came_means j.came said final j.verifies a f
@@ -181,45 +205,55 @@ module _ (command : Command) (before after : Environment) (result : Result Answe
     }
 
     module _ (accepted : IsAccepted command before after) (same : accepted.asked.gathered ≡ gathered) where
-      put_keeps : (payload : List ℕ) (report : Answer) → payload_of gathered.bundle ≡ Ok (Some payload)
-          → Puts layout.statement payload report before.outside.shelf after.outside.shelf result → Kept
-      put_keeps payload report signed (want_putting e kept eq) = inl kept
-      put_keeps payload report signed (unplaced p eq) = inl p.puts
-      put_keeps payload report signed (placed p eq) =
+      put_keeps : (path payload : List ℕ) (report : Answer) → layout.outputs.statement ≡ Some path → payload_of gathered.bundle ≡ Ok (Some payload)
+          → Puts path payload report before.outside.shelf after.outside.shelf result → Kept
+      put_keeps path payload report named signed (want_putting e kept eq) = inl kept
+      put_keeps path payload report named signed (unplaced p eq) = inl p.puts
+      put_keeps path payload report named signed (placed p eq) =
           inr (
             report,
             eq,
             record {
               accepted = accepted;
-              path = layout.statement;
+              path = path;
               payload = payload;
               statement = record {
-                layout = layout;
-                worded = read.worded;
-                named = refl;
+                asks = record { layout = layout; worded = read.worded };
+                named = named;
                 signed = ap (λ (x : Gathered). payload_of x.bundle) same ∙ signed;
               };
               put = p.puts;
             },
           )
 
-      delivered_keeps : (report : Answer) → Delivers gathered.bundle layout.statement report before.outside.shelf after.outside.shelf result → Kept
-      delivered_keeps report (want_payload e kept eq) = untouched kept
-      delivered_keeps report (no_envelope message kept eq) = untouched kept
-      delivered_keeps report (delivered payload signed p) = put_keeps payload report signed p
+      delivered_keeps : (path : List ℕ) (report : Answer) → layout.outputs.statement ≡ Some path
+          → Delivers gathered.bundle path report before.outside.shelf after.outside.shelf result → Kept
+      delivered_keeps path report named (want_payload e kept eq) = untouched kept
+      delivered_keeps path report named (no_envelope message kept eq) = untouched kept
+      delivered_keeps path report named (delivered payload signed p) = put_keeps path payload report named signed p
+
+      gives_keeps : (asked_file : Option (List ℕ)) → layout.outputs.statement ≡ asked_file → (report : Answer)
+          → Gives asked_file gathered.bundle report before.outside.shelf after.outside.shelf result → Kept
+      gives_keeps None none report g = untouched g.0
+      gives_keeps (Some path) some report g = delivered_keeps path report some g
+
+      yields_keeps : (judged : JudgedByRule) (said : Answer)
+          → Yields None layout.outputs gathered.bundle judged said before.outside.shelf after.outside.shelf result → Kept
+      yields_keeps judged said (want_lines e kept eq) = untouched kept
+      yields_keeps judged said (yields g) = gives_keeps layout.outputs.statement refl (told_answer None layout.outputs.details gathered.bundle judged said) g
 
     came_keeps : (came : Came) (said : Answer)
         → VerifiesWay (given_by gathered (now_in asks)) layout.verification.way before.outside.verified after.outside.verified came
-        → Follows gathered.bundle layout.statement came said before.outside.shelf after.outside.shelf result → Kept
+        → Follows None layout.outputs gathered.bundle came said before.outside.shelf after.outside.shelf result → Kept
     came_keeps (Untrusted why) said v f = untouched f.0
     came_keeps (Judged trust (Ok judged)) said v f =
-        delivered_keeps (record { asked = asks; trust = trust; given = v.0; trusted = v.1; judged = judged; accepted = v.2 }) refl said f
+        yields_keeps (record { asked = asks; trust = trust; given = v.0; trusted = v.1; judged = judged; accepted = v.2 }) refl judged said f
     came_keeps (Judged trust (Err e)) said v f = untouched f.0
 
-    judged_keeps : JudgesOutputs layout.verification.way layout.statement gathered (now_in asks) before.outside after.outside result → Kept
+    judged_keeps : JudgesOutputs layout.verification.way layout.outputs gathered (now_in asks) before.outside after.outside result → Kept
     judged_keeps j = by_concluded j.concludes
       where
-        by_concluded : Concludes (telling_of gathered layout.verification.way.told) gathered.bundle layout.statement j.came before.outside.shelf after.outside.shelf result → Kept
+        by_concluded : Concludes (telling_of gathered layout.verification.way.told) None layout.outputs gathered.bundle j.came before.outside.shelf after.outside.shelf result → Kept
         by_concluded (want_saying e kept eq) = untouched kept
         by_concluded (follows said a f) = came_keeps j.came said j.verifies f
 

@@ -1,5 +1,6 @@
--- What is said of a verification, and put in its place behind it.
-use Rattle.std.proofs.Common.{◌≡◌, ℕ, List, true, false, Option, Some, None, Result, Ok, Err, IfOk, refl, ap, ◌∙◌, subst}
+-- What follows what is said of a verification.
+use Rattle.std.proofs.Common.{◌≡◌, ℕ, List, Option, Some, None, Result, Ok, Err, IfOk, refl, ap, ◌∙◌, subst}
+use Rattle.sigstore_judgement.specs.declared.rules.JudgedByRule.{JudgedByRule}
 use Rattle.foundation.specs.Watched.{Watched}
 use Rattle.foundation.specs.declared.no_memory.NoMemory.{NoMemory as OutOfMemory}
 use Rattle.jiff_core.specs.declared.timestamp.Timestamp as jiff
@@ -13,11 +14,12 @@ use Rattle.command_download.specs.declared.shelf.ShelfFault.TheVariants.{Failed}
 use Rattle.command_ways.specs.Judging.{VerifiesWay}
 use Rattle.command_ways.specs.Run.{telling_of}
 use Rattle.command_ways.specs.declared.judging.Came.{Came}
-use Rattle.command_ways.specs.declared.judging.Came.TheVariants.{Untrusted, Judged}
 use Rattle.command_ways.specs.declared.layout.Way.{Way}
 use Rattle.command_ways.specs.declared.report.Telling.{Telling}
+use Rattle.command_outputs.specs.declared.layout.Outputs.{Outputs}
 use Rattle.command_outputs.specs.Payload.{payload_of}
-use Rattle.command_outputs.specs.Run.{Outside, no_envelope_answer, unplaced_answer, Puts, want_putting, unplaced, Delivers, want_payload, no_envelope, delivered, is_accepted, Follows, Concludes, JudgesOutputs}
+use Rattle.command_outputs.specs.Concluding.{no_envelope_answer, unplaced_answer, told_answer, Puts, want_putting, unplaced, Delivers, want_payload, no_envelope, delivered, Gives, Yields, yields, Concludes}
+use Rattle.command_outputs.specs.Run.{Outside, JudgesOutputs}
 
 -- ---- where the payload is put
 
@@ -40,38 +42,29 @@ module _ (bundle path : List ℕ) (report : Answer) (old new : Watched (List Pla
   delivered_so result payload bytes some same p =
       delivered payload (read ∙ ap (λ (o : Option (List ℕ)). Ok o) some) (subst (λ b. Puts path b report old new result) same p)
 
--- ---- behind what is said of the verification
+-- ---- behind the lines
 
-module _ (bundle path : List ℕ) (said : Answer) (old : Watched (List Placed)) where
-  -- where a rule accepts
-  pub accepted_so : (came : Came) (new : Watched (List Placed)) (result : Result Answer OutOfMemory) → true ≡ is_accepted came
-      → Delivers bundle path said old new result → Follows bundle path came said old new result
-  accepted_so (Untrusted why) new result is d = cc
-  accepted_so (Judged trust (Ok judged)) new result is d = d
-  accepted_so (Judged trust (Err e)) new result is d = cc
-
-  -- where none does
-  pub refused_so : (came : Came) → false ≡ is_accepted came → Follows bundle path came said old old (Ok said)
-  refused_so (Untrusted why) is = (refl, refl)
-  refused_so (Judged trust (Ok judged)) is = cc
-  refused_so (Judged trust (Err e)) is = (refl, refl)
+pub yields_so : (line : Option ℕ) (outputs : Outputs) (bundle : List ℕ) (judged : JudgedByRule) (said report : Answer) (old new : Watched (List Placed))
+    (result : Result Answer OutOfMemory) → report ≡ told_answer line outputs.details bundle judged said
+    → Gives outputs.statement bundle report old new result → Yields line outputs bundle judged said old new result
+yields_so line outputs bundle judged said report old new result same g =
+    yields (subst (λ (x : Answer). Gives outputs.statement bundle x old new result) same g)
 
 -- ---- the verification, and what follows it
 
-pub judges_so : (way : Way) (path : List ℕ) (gathered : Gathered) (now : jiff.Timestamp) (before after : Outside) (came : Came) (telling : Telling)
-    (bundle named : List ℕ) (result : Result Answer OutOfMemory) → telling ≡ telling_of gathered way.told → bundle ≡ gathered.bundle → named ≡ path
+pub judges_so : (way : Way) (outputs : Outputs) (gathered : Gathered) (now : jiff.Timestamp) (before after : Outside) (came : Came) (telling : Telling)
+    (bundle : List ℕ) (result : Result Answer OutOfMemory) → telling ≡ telling_of gathered way.told → bundle ≡ gathered.bundle
     → VerifiesWay (given_by gathered now) way before.verified after.verified came
-    → Concludes telling bundle named came before.shelf after.shelf result → JudgesOutputs way path gathered now before after result
-judges_so way path gathered now before after came telling bundle named result t b p v c = record {
+    → Concludes telling None outputs bundle came before.shelf after.shelf result → JudgesOutputs way outputs gathered now before after result
+judges_so way outputs gathered now before after came telling bundle result t b v c = record {
   came = came;
   verifies = v;
   concludes =
-      subst (λ (x : Telling). Concludes x gathered.bundle path came before.shelf after.shelf result) t
-      (subst (λ (x : List ℕ). Concludes telling x path came before.shelf after.shelf result) b
-      (subst (λ (x : List ℕ). Concludes telling bundle x came before.shelf after.shelf result) p c));
+      subst (λ (x : Telling). Concludes x None outputs gathered.bundle came before.shelf after.shelf result) t
+      (subst (λ (x : List ℕ). Concludes telling None outputs x came before.shelf after.shelf result) b c);
 }
 
 -- at the same moment
-pub judges_at : (way : Way) (path : List ℕ) (gathered : Gathered) (now told : jiff.Timestamp) (before after : Outside) (result : Result Answer OutOfMemory)
-    → now ≡ told → JudgesOutputs way path gathered now before after result → JudgesOutputs way path gathered told before after result
-judges_at way path gathered now told before after result same h = subst (λ n. JudgesOutputs way path gathered n before after result) same h
+pub judges_at : (way : Way) (outputs : Outputs) (gathered : Gathered) (now told : jiff.Timestamp) (before after : Outside) (result : Result Answer OutOfMemory)
+    → now ≡ told → JudgesOutputs way outputs gathered now before after result → JudgesOutputs way outputs gathered told before after result
+judges_at way outputs gathered now told before after result same h = subst (λ n. JudgesOutputs way outputs gathered n before after result) same h

@@ -1,4 +1,4 @@
--- What the word `--statement=FILE` names, and what the words beside it ask for.
+-- What the word `--statement=FILE` names, and what the words ask for beside those of the outputs.
 use Rattle.std.proofs.Common.{◌≡◌, ℕ, List, ◌++◌, length, take, drop, Bool, true, false, if◌then◌else◌, Option, Some, None, Ok, MatchOption, option_map, Bor, bytes_eq, refl, sym, ap, ◌∙◌}
 use Rattle.std.specs.Str.Pattern.{FindsTextPrefix, StripsPrefix}
 use Rattle.std.proofs.Math.Seq.{take-append_seam}
@@ -8,7 +8,7 @@ use Rattle.foundation.specs.Results.{ok_same, step_ok}
 use Rattle.command_ways.specs.Digests.{behind}
 use Rattle.command_ways.specs.Layout.{way_layout_of}
 use Rattle.command_outputs.specs.declared.layout.OutputsLayout.{OutputsLayout}
-use Rattle.command_outputs.specs.Layout.{files_in, others_in, only_of, outputs_layout_of}
+use Rattle.command_outputs.specs.Layout.{files_in, others_in, file_of, outputs_layout_of}
 
 -- what `strip_prefix` leaves of a text
 module _ (prefix text : List ℕ) where
@@ -42,6 +42,6 @@ pub plain_layout : (words : List (List ℕ)) (layout : OutputsLayout) → output
     → way_layout_of (others_in words) ≡ Ok layout.verification
 unfolding outputs_layout_of
 plain_layout words layout h =
-    let named = step_ok (only_of (files_in words)) _ layout h in
+    let named = step_ok (file_of (files_in words)) _ layout h in
     let laid = step_ok (way_layout_of (others_in words)) _ layout named.2 in
     laid.1 ∙ ap (λ (x : OutputsLayout). Ok x.verification) (ok_same _ layout laid.2)

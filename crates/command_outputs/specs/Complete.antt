@@ -1,5 +1,5 @@
--- When a run that is asked for the statement has to accept, and what it says where it hasn't to: where nothing outside fails.
-use Rattle.std.specs.Prelude.{◌≡◌, ◌⊎◌, ℕ, List, Some, None, Result, Ok, Err}
+-- When a run that is asked for more than the report has to accept, and what it says where it hasn't to: where nothing outside fails.
+use Rattle.std.specs.Prelude.{◌≡◌, ◌⊎◌, ℕ, List, Option, Some, None, Result, Ok, Err}
 use Rattle.foundation.specs.Watched.{Watched, Rose}
 use Rattle.sigstore_judgement.specs.declared.rules.JudgedByRule.{JudgedByRule}
 use Rattle.sigstore_judgement.specs.declared.rules.RulesError.{RulesError}
@@ -14,12 +14,13 @@ use Rattle.command_ways.specs.Run.{asked_for, telling_of}
 use Rattle.command_ways.specs.Trust.{file_of}
 use Rattle.command_ways.specs.declared.trust.Trust.{Trust}
 use Rattle.command_outputs.specs.declared.layout.OutputsLayout.{OutputsLayout}
+use Rattle.command_outputs.specs.Concluding.{no_envelope_answer, told_text}
 use Rattle.command_outputs.specs.Layout.{outputs_layout_of}
 use Rattle.command_outputs.specs.Payload.{payload_of}
-use Rattle.command_outputs.specs.Run.{Environment, verified_in, plain_command, no_envelope_answer}
-use Rattle.command_outputs.specs.Promises.{IsPut, IsUntouched}
+use Rattle.command_outputs.specs.Run.{Environment, verified_in, plain_command}
+use Rattle.command_outputs.specs.Promises.{IsGiven, IsUntouched}
 
--- the words ask for the statement, and else the run is favoured as one of `verify`
+-- the words are read, and without those that ask for more the run is favoured as one of `verify`
 pub record Favoured (command : Command) (before after : Environment) (trust : Trust) (bytes : List ℕ) : Type 0 where
   pub layout : OutputsLayout
   pub worded : outputs_layout_of command.words ≡ Ok layout
@@ -34,24 +35,25 @@ verdict_in {command = command} {trust = trust} {bytes = bytes} f =
 
 -- ---- what is said and put in its place
 
--- A rule accepts, and the bundle has an envelope: its payload was put in its place, and the report was written whole.
+-- A rule accepts: the payload is in the statement's place, where one is named, and the report was written whole, with what is asked for
+-- behind it.
 pub record SaysReport {command : Command} {before after : Environment} {trust : Trust} {bytes : List ℕ}
     (f : Favoured command before after trust bytes) (out out' : Watched (List ℕ)) (ended : Status) : Type 0 where
   pub judged : JudgedByRule
   pub verdict : verdict_in f ≡ Ok judged
-  pub payload : List ℕ
-  pub signed : payload_of f.favoured.gathered.bundle ≡ Ok (Some payload)
-  pub put : IsPut f.layout.statement payload before.outside.shelf after.outside.shelf
+  pub given : IsGiven f.layout.outputs.statement f.favoured.gathered.bundle before.outside.shelf after.outside.shelf
   pub text : List ℕ
   pub reported : way_text trust judged (telling_of f.favoured.gathered f.favoured.layout.way.told) ≡ Ok text
-  pub written : TakesAll out out' text
+  pub written : TakesAll out out' (told_text None f.layout.outputs.details f.favoured.gathered.bundle judged text)
   pub ended_is : ended ≡ status.Accepted
 
--- A rule accepts, and the bundle has a message signature: the line that says so was written whole.
+-- A rule accepts, and the bundle, whose statement is asked for, has a message signature: the line that says so was written whole.
 pub record SaysNoEnvelope {command : Command} {before after : Environment} {trust : Trust} {bytes : List ℕ}
     (f : Favoured command before after trust bytes) (out out' : Watched (List ℕ)) (ended : Status) : Type 0 where
   pub judged : JudgedByRule
   pub verdict : verdict_in f ≡ Ok judged
+  pub path : List ℕ
+  pub named : f.layout.outputs.statement ≡ Some path
   pub message : payload_of f.favoured.gathered.bundle ≡ Ok None
   pub untouched : IsUntouched before after
   pub written : TakesAll out out' no_envelope_answer.text

@@ -1,5 +1,5 @@
--- What the statuses of a run mean that is asked for the statement, and what is in its place then.
-use Rattle.std.specs.Prelude.{◌≡◌, ◌⊎◌, ℕ, List, [], ◌∷◌, Some, None, Ok}
+-- What the statuses of a run mean that is asked for more than the report, and what is in the statement's place then.
+use Rattle.std.specs.Prelude.{◌≡◌, ◌⊎◌, ℕ, List, [], ◌∷◌, Option, Some, None, Ok}
 use Rattle.foundation.specs.Watched.{Watched, Rose}
 use Rattle.sigstore_judgement.specs.declared.rules.JudgedByRule.{JudgedByRule}
 use Rattle.command_files.specs.Ending.{TakesAll}
@@ -8,16 +8,18 @@ use Rattle.command_files.specs.declared.answer.Status.{Status}
 use Rattle.command_files.specs.declared.answer.Status.TheVariants as status
 use Rattle.command_download.specs.Shelf.{placed, with_files}
 use Rattle.command_download.specs.declared.shelf.Placed.{Placed}
+use Rattle.command_ways.specs.Report.{way_text}
 use Rattle.command_ways.specs.Run as run
-use Rattle.command_ways.specs.Run.{anchor_for, now_in, TrustIs, JudgedIs}
+use Rattle.command_ways.specs.Run.{anchor_for, now_in, telling_of, TrustIs, JudgedIs}
 use Rattle.command_ways.specs.declared.trust.Trust.{Trust}
 use Rattle.command_ways.specs.Trust.{IsTrusted}
 use Rattle.command_outputs.specs.declared.layout.OutputsLayout.{OutputsLayout}
+use Rattle.command_outputs.specs.Concluding.{no_envelope_answer, unplaced_answer, told_text}
 use Rattle.command_outputs.specs.Layout.{outputs_layout_of}
 use Rattle.command_outputs.specs.Payload.{payload_of}
-use Rattle.command_outputs.specs.Run.{Environment, verified_in, plain_command, no_envelope_answer, unplaced_answer}
+use Rattle.command_outputs.specs.Run.{Environment, verified_in, plain_command}
 
--- what the run is asked for but the statement, as `verify` takes it
+-- what the run is asked for, as `verify` takes it without the words that ask for more
 abbrev pub Asked : Command → Environment → Environment → Type 0
 Asked command before after = run.Asked (plain_command command) (verified_in before) (verified_in after)
 
@@ -30,11 +32,15 @@ pub record IsAccepted (command : Command) (before after : Environment) : Type 0 
   pub judged : JudgedByRule
   pub accepted : JudgedIs asked trust (Ok judged)
 
--- the words name the statement's file, and the bundle's bytes are an envelope's with this payload
-pub record IsStatement (command : Command) (bundle path payload : List ℕ) : Type 0 where
+-- what the words ask for beside the report
+pub record AsksFor (command : Command) : Type 0 where
   pub layout : OutputsLayout
   pub worded : outputs_layout_of command.words ≡ Ok layout
-  pub named : layout.statement ≡ path
+
+-- the words name this file for the statement, and the bundle's bytes are an envelope's with this payload
+pub record IsStatement (command : Command) (bundle path payload : List ℕ) : Type 0 where
+  pub asks : AsksFor command
+  pub named : asks.layout.outputs.statement ≡ Some path
   pub signed : payload_of bundle ≡ Ok (Some payload)
 
 -- exactly these octets were put in the place of the file of this name, whole, and nothing else was
@@ -47,19 +53,35 @@ IsUntouched before after = after.outside.shelf ≡ before.outside.shelf
 
 -- ---- status 0
 
--- What status 0 means: what it means of `verify`; and the payload of the accepted bundle was put in the statement's place.
-pub record Accepts (command : Command) (before after : Environment) (out out' : Watched (List ℕ)) : Type 0 where
-  pub accepts : run.Accepts (plain_command command) (verified_in before) (verified_in after) out out'
-  pub path : List ℕ
+-- the bundle's payload was put in the place of the file of this name
+pub record IsStated (bundle path : List ℕ) (old new : Watched (List Placed)) : Type 0 where
   pub payload : List ℕ
-  pub statement : IsStatement command accepts.asked.gathered.bundle path payload
-  pub put : IsPut path payload before.outside.shelf after.outside.shelf
+  pub signed : payload_of bundle ≡ Ok (Some payload)
+  pub put : IsPut path payload old new
+
+-- the same where a file is named; else nothing was put anywhere
+abbrev pub IsGiven : Option (List ℕ) → List ℕ → Watched (List Placed) → Watched (List Placed) → Type 0
+IsGiven None bundle old new = new ≡ old
+IsGiven (Some path) bundle old new = IsStated bundle path old new
+
+-- What status 0 means: the bundle is accepted; the payload is in the statement's place, where one is named; and the sink took exactly the
+-- report of `verify`, with the lines on the bundle behind it where they are asked for.
+pub record Accepts (command : Command) (before after : Environment) (out out' : Watched (List ℕ)) : Type 0 where
+  pub accepted : IsAccepted command before after
+  pub asks : AsksFor command
+  pub given : IsGiven asks.layout.outputs.statement accepted.asked.gathered.bundle before.outside.shelf after.outside.shelf
+  pub text : List ℕ
+  pub reported : way_text accepted.trust accepted.judged (telling_of accepted.asked.gathered accepted.asked.layout.way.told) ≡ Ok text
+  pub written : TakesAll out out' (told_text None asks.layout.outputs.details accepted.asked.gathered.bundle accepted.judged text)
 
 -- ---- status 1
 
--- a rule accepts the bundle, which has a message signature, and the sink took exactly the line that says so
+-- the statement is asked for, a rule accepts the bundle, which has a message signature, and the sink took exactly the line that says so
 pub record LacksEnvelope (command : Command) (before after : Environment) (out out' : Watched (List ℕ)) : Type 0 where
   pub accepted : IsAccepted command before after
+  pub asks : AsksFor command
+  pub path : List ℕ
+  pub named : asks.layout.outputs.statement ≡ Some path
   pub message : payload_of accepted.asked.gathered.bundle ≡ Ok None
   pub written : TakesAll out out' no_envelope_answer.text
 

@@ -12,7 +12,7 @@ use command_download::{DownloadLayout, FileShelf, download_layout, run_download}
 use command_files::{CommandLine, Layout, Status, StdoutSink, exit_code, or_none, read_layout};
 use command_gate::{gate_layout, run_gate};
 use command_generate::{is_generate, run_generate};
-use command_outputs::{OutputsLayout, run_outputs, outputs_layout};
+use command_outputs::{OutputsLayout, outputs_layout, run_outputs};
 use command_verify::run;
 use command_ways::{FolderLayout, WayLayout, gate_way_layout, run_gate_way, run_way, way_layout};
 use foundation::NoMemory;
@@ -223,17 +223,17 @@ fn verified_by_way<X: Runtime + AllocGlobal>(
     )
 }
 
-// Runs `verify` in any way over the real objects that its words name, and puts the statement in its file.
-fn stated<X: Runtime + AllocGlobal>(
+// Runs `verify` in any way over the real objects that its words name, for more than the report.
+fn verified_for_outputs<X: Runtime + AllocGlobal>(
     rt: &X,
     line: &CommandLine<'_>,
     layout: OutputsLayout,
 ) -> Status {
     let OutputsLayout {
         verification,
-        statement,
+        outputs,
     } = layout;
-    drop(statement);
+    drop(outputs);
     let WayLayout {
         way,
         archive,
@@ -281,7 +281,7 @@ fn judged<X: Runtime + AllocGlobal>(rt: &X, line: &CommandLine<'_>) -> Result<St
         return Ok(verified_by_way(rt, line, layout));
     }
     if let Some(layout) = or_none(outputs_layout(rt.alloc(), line.words))? {
-        return Ok(stated(rt, line, layout));
+        return Ok(verified_for_outputs(rt, line, layout));
     }
     Ok(verified(rt, line, None))
 }

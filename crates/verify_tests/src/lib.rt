@@ -26,9 +26,9 @@ mod keyless_data;
 #[cfg(test)]
 mod logged;
 #[cfg(test)]
-mod runs;
+mod outputs;
 #[cfg(test)]
-mod statements;
+mod runs;
 #[cfg(test)]
 mod tables;
 #[cfg(test)]

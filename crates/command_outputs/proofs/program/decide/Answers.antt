@@ -10,7 +10,7 @@ returns-in-Ok-Asked g c =
     begun c.in-Ok-Asked.layout c.in-Ok-Asked.gathered
     (began _ _ _ _ c.in-Ok-Asked.field-0 c.in-Ok-Asked.layout c.in-Ok-Asked.gathered c.in-Ok-Asked.field-0-is
     (c.in-Ok-Asked.ensures (outputs_layout_of c.args.line.now.words.now) (record { ok = c.outputs_layout.ensures.ok; err = c.outputs_layout.ensures.err })))
-    (judges_at c.in-Ok-Asked.layout.verification.way c.in-Ok-Asked.layout.statement c.in-Ok-Asked.gathered c.moment.result _ _ _ c.judge.result c.moment.ensures c.judge.ensures)
+    (judges_at c.in-Ok-Asked.layout.verification.way c.in-Ok-Asked.layout.outputs c.in-Ok-Asked.gathered c.moment.result _ _ _ c.judge.result c.moment.ensures c.judge.ensures)
 
 pub returns-in-Ok-Stopped : goal.returns-in-Ok-Stopped
 returns-in-Ok-Stopped g c =

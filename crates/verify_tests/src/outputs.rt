@@ -1,4 +1,4 @@
-// What is said of verifications that are asked for the statement, and what is put in its file.
+// What is said of verifications that are asked for more than the report, and what is put in the statement's file.
 use crate::downloads::placed;
 use crate::fixture::{
     MESSAGE, RAW_KEY, bundle, inputs, provider, repository, root, store, targets,
@@ -148,8 +148,16 @@ inputs fail | 1 | verify --root=a --repository=b --store=c --bundle=d --artifact
 shelf fails | 1 | verify --root=a --repository=b --store=c --bundle=d --artifact=e --policy=f --provider=g --now=2025-01-01T00:00:00Z --statement=s | Output "output statement\n" ""
 sink fails | 1 | verify --root=a --repository=b --store=c --bundle=d --artifact=e --policy=f --provider=g --now=2025-01-01T00:00:00Z --statement=s | Output "" "s 216 343e1b0430dc01bb90c105242a2aeb1deccbfd53743995f7f903e39252ca6995"
 room | 3 | verify --root=a --repository=b --store=c --bundle=d --artifact=e --policy=f --provider=g --now=2025-01-01T00:00:00Z --statement=s | Output "acc" "s 216 343e1b0430dc01bb90c105242a2aeb1deccbfd53743995f7f903e39252ca6995"
-# Without the word, with an empty one, with two, and with another that is faulty.
-nothing |  | verify --root=a --repository=b --store=c --bundle=d --artifact=e --policy=f --provider=g --now=2025-01-01T00:00:00Z | Usage "usage\n" ""
+# Lines on the bundle stand behind the report, before the statement is put in its place; a refusal has none.
+nothing |  | verify --root=a --repository=b --store=c --bundle=d --artifact=e --policy=f --provider=g --now=2025-01-01T00:00:00Z --details | Accepted "accepted\nroot 1\ntimestamp 1\nsnapshot 1\nrole targets 1\ntarget 2\nartifact sha256 2cf24dba5fb0a30e26e83b2ac5b9e29e1b161e5c1fa7425e73043362938b9824\nidentity none\nissuer none\ncertificate no\nsct no\ntlog no\npolicy no\nintegrated none\ntimes 0\npredicate https://example.org/p\nsubject hello\n" ""
+nothing |  | --details verify --root=a --repository=b --store=c --bundle=d --artifact=e --policy=f --provider=g --now=2025-01-01T00:00:00Z --statement=s --details | Accepted "accepted\nroot 1\ntimestamp 1\nsnapshot 1\nrole targets 1\ntarget 2\nartifact sha256 2cf24dba5fb0a30e26e83b2ac5b9e29e1b161e5c1fa7425e73043362938b9824\nidentity none\nissuer none\ncertificate no\nsct no\ntlog no\npolicy no\nintegrated none\ntimes 0\npredicate https://example.org/p\nsubject hello\n" "s 216 343e1b0430dc01bb90c105242a2aeb1deccbfd53743995f7f903e39252ca6995"
+nothing |  | verify --details --root=a --repository=b --store=c --bundle=d --digest=sha256:2cf24dba5fb0a30e26e83b2ac5b9e29e1b161e5c1fa7425e73043362938b9824 --policy=f --provider=g --now=2025-01-01T00:00:00Z | Accepted "accepted\nroot 1\ntimestamp 1\nsnapshot 1\nrole targets 1\ntarget 2\nartifact sha256 2cf24dba5fb0a30e26e83b2ac5b9e29e1b161e5c1fa7425e73043362938b9824\nidentity none\nissuer none\ncertificate no\nsct no\ntlog no\npolicy no\nintegrated none\ntimes 0\nread no\npredicate https://example.org/p\nsubject hello\n" ""
+content | message | verify --root=a --repository=b --store=c --bundle=d --artifact=e --policy=f --provider=g --now=2025-01-01T00:00:00Z --details | Accepted "accepted\nroot 1\ntimestamp 1\nsnapshot 1\nrole targets 1\ntarget 2\nartifact sha256 2cf24dba5fb0a30e26e83b2ac5b9e29e1b161e5c1fa7425e73043362938b9824\nidentity none\nissuer none\ncertificate no\nsct no\ntlog no\npolicy no\nintegrated none\ntimes 0\n" ""
+unsigned | targets | verify --root=a --repository=b --store=c --bundle=d --artifact=e --policy=f --provider=g --now=2025-01-01T00:00:00Z --details | Refused "refused tuf 8 ThresholdNotMet\n" ""
+# Without these words, with an empty path, with two, and with others that are faulty.
+nothing |  | verify --root=a --repository=b --store=c --bundle=d --artifact=e --policy=f --provider=g --now=2025-01-01T00:00:00Z | Accepted "accepted\nroot 1\ntimestamp 1\nsnapshot 1\nrole targets 1\ntarget 2\nartifact sha256 2cf24dba5fb0a30e26e83b2ac5b9e29e1b161e5c1fa7425e73043362938b9824\nidentity none\nissuer none\ncertificate no\nsct no\ntlog no\npolicy no\nintegrated none\ntimes 0\n" ""
+nothing |  | verify --root=a --repository=b --store=c --bundle=d --artifact=e --policy=f --provider=g --now=2025-01-01T00:00:00Z --details= | Usage "usage\n" ""
+nothing |  | verify --root=a --repository=b --store=c --bundle=d --artifact=e --policy=f --provider=g --now=2025-01-01T00:00:00Z --details=yes | Usage "usage\n" ""
 nothing |  | verify --root=a --repository=b --store=c --bundle=d --artifact=e --policy=f --provider=g --now=2025-01-01T00:00:00Z --statement= | Usage "usage\n" ""
 nothing |  | verify --root=a --repository=b --store=c --bundle=d --artifact=e --policy=f --provider=g --now=2025-01-01T00:00:00Z --statement=s --statement=s | Usage "usage\n" ""
 nothing |  | verify --root=a --repository=b --store=c --bundle=d --artifact=e --policy=f --provider=g --now=2025-01-01T00:00:00Z --statement=s --statement=t | Usage "usage\n" ""
@@ -157,6 +165,6 @@ nothing |  | verify --root=a --repository=b --store=c --bundle=d --artifact=e --
 nothing |  | verify --root=a --repository=b --store=c --bundle=d --artifact=e --policy=f --provider=g --now=2025-01-01T00:00:00Z --statement | Usage "usage\n" """#;
 
 #[test]
-fn the_statement_is_put_in_its_file(rt: HostRuntime) {
-    hold(&rt, "statement", SAID);
+fn outputs_follow_an_acceptance(rt: HostRuntime) {
+    hold(&rt, "outputs", SAID);
 }

@@ -1,7 +1,7 @@
 use Rattle.std.proofs.Common.{refl}
-use Rattle.command_outputs.specs.Run.{want_payload}
+use Rattle.command_outputs.specs.Concluding.{want_payload}
 use Rattle.command_outputs.proofs.Saying.{no_envelope_so, delivered_so}
-use Rattle.command_outputs.proofs.program.deliver.Goals as goal
+use Rattle.command_outputs.proofs.concluding.deliver.Goals as goal
 
 pub returns-in-Ok-Some : goal.returns-in-Ok-Some
 returns-in-Ok-Some g c =

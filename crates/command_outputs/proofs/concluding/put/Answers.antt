@@ -1,7 +1,7 @@
 use Rattle.std.proofs.Common.{refl}
-use Rattle.command_outputs.specs.Run.{want_putting}
+use Rattle.command_outputs.specs.Concluding.{want_putting}
 use Rattle.command_outputs.proofs.Saying.{unplaced_so}
-use Rattle.command_outputs.proofs.program.put.Goals as goal
+use Rattle.command_outputs.proofs.concluding.put.Goals as goal
 
 pub returns-in-Err-Failed : goal.returns-in-Err-Failed
 returns-in-Err-Failed g c =
