@@ -1,16 +1,18 @@
 // The judgement of a list of bundles: the trusted root is established once, the artifact is read once, and then the bundles
 // are judged in their order until a rule accepts one.
-ghost use Rattle.std.specs.Prelude.{◌≡◌, ◌≢◌, [], ◌∷◌, ◌++◌, map, Ok, Err, IfOk, IfErr, OnOk};
+ghost use Rattle.std.specs.Prelude.{◌≡◌, ◌≢◌, [], ◌∷◌, ◌++◌, map, Some, Ok, Err, IfOk, IfErr, OnOk};
 ghost use Rattle.sigstore_keys.specs.Crypto.{crypto_with};
 ghost use Rattle.sigstore_judgement.specs.Grounds.{grounds_at};
+ghost use Rattle.sigstore_judgement.specs.Rules.{IsReadFor};
 ghost use Rattle.sigstore_judgement.specs.Under.{bundle_of};
 ghost use Rattle.sigstore_judgement.specs.declared.error.Error.TheVariants.{NoMemory as Wanting};
 ghost use Rattle.sigstore_judgement.specs.declared.rules.RulesError.TheVariants.{Shared};
 ghost use Rattle.sigstore_policy.specs.Policy.{meaning_in};
 ghost use Rattle.sigstore_verify.specs.ByDigests.{TellsVerdict};
 ghost use Rattle.sigstore_verify.specs.Inputs.{anchor_with};
+ghost use Rattle.command_verify.specs.Run.{max_artifact};
 ghost use Rattle.command_ways.specs.Judging.{outside_by};
-ghost use Rattle.command_bundles.specs.Judging.{IsHad, verdict_under, first_of, found_as, refusal_of, JudgesOver, inputs_with, given_of, JudgesUnder, VerifiesList};
+ghost use Rattle.command_bundles.specs.Judging.{hashed, IsHad, verdict_under, first_of, found_as, refusal_of, JudgesOver, inputs_with, given_of, JudgesUnder, VerifiesList};
 
 use crate::lines::ListedBundle;
 use command_verify::MAX_ARTIFACT;
@@ -81,7 +83,23 @@ pub(crate) struct Over<'o> {
     moment: Timestamp,
 }
 
-// What is had of the artifact: its told digests, or those that are taken in one reading, by each algorithm that has a hasher.
+// Its digests, taken in one reading, by each algorithm that has a hasher; or why it wasn't read.
+fn read_once<A: ArtifactSource>(alloc: Global, artifact: &mut A) -> Result<ReadArtifact, NoMemory>
+    ensures { IfOk result (IsReadFor (A.seen artifact.old) (A.seen artifact.new) max_artifact (Some hashed)) }
+{
+    let algorithms = [
+        HashAlgorithm::Sha2256,
+        HashAlgorithm::Sha2384,
+        HashAlgorithm::Sha2512,
+    ];
+    match read_digests(alloc, artifact, MAX_ARTIFACT, &algorithms) {
+        Ok(digests) => Ok(ReadArtifact::Digests(digests)),
+        Err(Error::ArtifactRead(fault)) => Ok(ReadArtifact::Unread(fault)),
+        Err(_) => Err(NoMemory),
+    }
+}
+
+// What is had of the artifact: its told digests, or those that are taken.
 fn take<A: ArtifactSource>(
     alloc: Global,
     told: Option<Sequence<ArtifactDigest>>,
@@ -89,19 +107,10 @@ fn take<A: ArtifactSource>(
 ) -> Result<ReadArtifact, NoMemory>
     ensures { IfOk result (IsHad told (A.seen artifact.old) (A.seen artifact.new)) }
 {
-    let Some(digests) = told else {
-        let algorithms = [
-            HashAlgorithm::Sha2256,
-            HashAlgorithm::Sha2384,
-            HashAlgorithm::Sha2512,
-        ];
-        return match read_digests(alloc, artifact, MAX_ARTIFACT, &algorithms) {
-            Ok(digests) => Ok(ReadArtifact::Digests(digests)),
-            Err(Error::ArtifactRead(fault)) => Ok(ReadArtifact::Unread(fault)),
-            Err(_) => Err(NoMemory),
-        };
-    };
-    Ok(ReadArtifact::Digests(digests))
+    match told {
+        Some(digests) => Ok(ReadArtifact::Digests(digests)),
+        None => read_once(alloc, artifact),
+    }
 }
 
 fn read_bundle(alloc: Global, text: &[u8]) -> Result<Bundle, Error>

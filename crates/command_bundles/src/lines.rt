@@ -1,5 +1,5 @@
 // The bundles of a list, each on a line of its own.
-ghost use Rattle.std.specs.Prelude.{◌≡◌, ◌≢◌, ◌<◌, [], ◌∷◌, length, Ok, Err, IfOk, IfErr, OnOk, MatchOption};
+ghost use Rattle.std.specs.Prelude.{◌≡◌, ◌≢◌, ◌<◌, ◌==◌, [], ◌∷◌, length, Ok, Err, IfOk, IfErr, OnOk, MatchOption};
 ghost use Rattle.std.specs.List.{position};
 ghost use Rattle.command_bundles.specs.Lines.{is_space, is_blank, lines_of, added_of, bundles_from, listed_of};
 ghost use Rattle.command_bundles.specs.declared.lines.ListFault.TheVariants.{NoMemory as Wanting};

@@ -1,0 +1,4 @@
+mod Words
+mod Cutting
+mod Readings
+mod Searching
