@@ -2,3 +2,7 @@ mod Words
 mod Cutting
 mod Readings
 mod Searching
+mod Verdicts
+mod Saying
+mod Meaning
+mod Completing
