@@ -6,6 +6,8 @@ mod archives;
 #[cfg(test)]
 mod audits;
 #[cfg(test)]
+mod bundles;
+#[cfg(test)]
 mod delegated;
 #[cfg(test)]
 mod downloads;

@@ -24,7 +24,7 @@ room";
 
 // An envelope with a statement on `hello`, whose JSON has a blank and a line feed that no writer would put there, and SHA-256
 // of its pre-authentication encoding; by Python's base64 and hashlib.
-const ENVELOPE: &str =
+pub(crate) const ENVELOPE: &str =
     r#""dsseEnvelope":{"payload":"eyAiX3R5cGUiOiJodHRwczovL2luLXRvdG8uaW8vU3RhdGVtZW50L3YxIiwic3ViamVjdCI6W3sibmFtZSI6ImhlbGxvIiwiZGlnZXN0Ijp7InNoYTI1NiI6IjJjZjI0ZGJhNWZiMGEzMGUyNmU4M2IyYWM1YjllMjllMWIxNjFlNWMxZmE3NDI1ZTczMDQzMzYyOTM4Yjk4MjQifX1dLCJwcmVkaWNhdGVUeXBlIjoiaHR0cHM6Ly9leGFtcGxlLm9yZy9wIiwicHJlZGljYXRlIjp7fX0K","payloadType":"application/vnd.in-toto+json","signatures":[{"sig":"AQ=="}]}"#;
 
 const ENCODING: &str = "fMiOJ0UbvVeZR0N4Gqv60JNSLWGe8/RbZkOqHPq1H4k=";
@@ -44,7 +44,12 @@ fn enveloped<X: AllocGlobal + Abort>(rt: &X, change: Change) -> Bytes {
 }
 
 // The rows of the fixture, and that of the envelope.
-fn rows<X: AllocGlobal + Abort>(rt: &X, change: Change, root: &str, targets: &str) -> Bytes {
+pub(crate) fn rows<X: AllocGlobal + Abort>(
+    rt: &X,
+    change: Change,
+    root: &str,
+    targets: &str,
+) -> Bytes {
     let fixture = provider(rt, change, root, targets);
     let mut rows = text_of(rt, fixture.as_bytes());
     drop(fixture);
