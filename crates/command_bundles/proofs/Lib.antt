@@ -2,6 +2,8 @@ mod Words
 mod Cutting
 mod Readings
 mod Searching
+mod FirstLaw
+mod BytesLaw
 mod Verdicts
 mod Saying
 mod Meaning

@@ -4,12 +4,14 @@
 
 mod concluding;
 mod judging;
+mod laws;
 mod layout;
 mod lines;
 mod listed;
 mod program;
 
 pub use judging::{BundleRefusal, Found, ListCame, ListRequest, verify_list};
+pub use laws::{first_bundle_exactly, verdicts_over_bytes};
 pub use layout::bundles_layout;
 pub use lines::{ListFault, ListedBundle, MAX_BUNDLES, listed_bundles};
 pub use listed::{Listed, MAX_LIST};

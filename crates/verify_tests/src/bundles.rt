@@ -181,6 +181,7 @@ lines | b w b x b | verify --root=a --repository=b --store=c --bundles=d --artif
 lines | b b | verify --root=a --repository=b --store=c --bundles=d --artifact=e --policy=f --provider=g --now=2025-01-01T00:00:00Z | Refused "refused bundles 1 NoBundle\n" ""
 lines |  | verify --root=a --repository=b --store=c --bundles=d --artifact=e --policy=f --provider=g --now=2025-01-01T00:00:00Z --statement=s | Refused "refused bundles 1 NoBundle\n" ""
 unended | b | verify --root=a --repository=b --store=c --bundles=d --artifact=e --policy=f --provider=g --now=2025-01-01T00:00:00Z | Refused "refused bundles 1 NoBundle\n" ""
+unended |  | verify --root=a --repository=b --store=c --bundles=d --artifact=e --policy=f --provider=g --now=2025-01-01T00:00:00Z | Refused "refused bundles 1 NoBundle\n" ""
 # None is accepted.
 lines | w | verify --root=a --repository=b --store=c --bundles=d --artifact=e --policy=f --provider=g --now=2025-01-01T00:00:00Z --statement=s | Refused "bundle 1\nrefused verify 3 SignatureInvalid\n" ""
 lines | w x w | verify --root=a --repository=b --store=c --bundles=d --artifact=e --policy=f --provider=g --now=2025-01-01T00:00:00Z | Refused "bundle 1\nrefused verify 3 SignatureInvalid\nbundle 2\nrefused verify 22 InvalidBundle\nbundle 3\nrefused verify 3 SignatureInvalid\n" ""
