@@ -3,7 +3,7 @@ ghost use Rattle.std.specs.Prelude.{◌≡◌, ◌++◌, Some, Ok, IfOk, OnOk, s
 ghost use Rattle.command_ways.specs.Report.{refused_answer, Answers};
 ghost use Rattle.command_ways.specs.declared.judging.Came.TheVariants.{Judged};
 ghost use Rattle.command_outputs.specs.Concluding.{Concludes};
-ghost use Rattle.command_bundles.specs.Concluding.{list_answer, refusal_text, refusals_answer, ConcludesFound, ConcludesList, ConcludesCame};
+ghost use Rattle.command_bundles.specs.Concluding.{list_answer, refusal_text, refusals_text, refusals_answer, ConcludesFound, ConcludesList, ConcludesCame};
 ghost use Rattle.command_bundles.specs.Judging.{found_as};
 
 use crate::judging::{BundleRefusal, Found, ListCame};
@@ -50,13 +50,25 @@ fn push_refusal(alloc: Global, text: &mut String, refusal: &BundleRefusal) -> Re
 }
 
 // The same of each.
+fn push_refusals(
+    alloc: Global,
+    text: &mut String,
+    refusals: &[BundleRefusal],
+) -> Result<(), NoMemory>
+    ensures { OnOk result (string_bytes text.new ≡ string_bytes text.old ++ refusals_text refusals.now) }
+{
+    'refusals: for refusal in refusals {
+        push_refusal(alloc, text, refusal)?;
+    }
+    Ok(())
+}
+
+// What is said where every bundle is refused.
 fn refusals_said(alloc: Global, refusals: &[BundleRefusal]) -> Result<Answer, NoMemory>
     ensures { IfOk result (λ said. said ≡ refusals_answer refusals.now) }
 {
     let mut text = String::new(alloc);
-    'refusals: for refusal in refusals {
-        push_refusal(alloc, &mut text, refusal)?;
-    }
+    push_refusals(alloc, &mut text, refusals)?;
     Ok(Answer {
         status: Status::Refused,
         text: Text::from_string(text),
@@ -101,7 +113,7 @@ fn conclude_found<F: Shelf>(
     found: Found<'_>,
     shelf: &mut F,
 ) -> Result<Answer, NoMemory>
-    ensures { ConcludesFound telling outputs.now trust (found_as found) (F.seen shelf.old) (F.seen shelf.new) result }
+    ensures { ConcludesFound telling outputs.now trust (found_as found.entry) (F.seen shelf.old) (F.seen shelf.new) result }
 {
     match found {
         Found::Accepted { bundle, judged } => {
@@ -130,7 +142,7 @@ fn conclude_list<F: Shelf>(
     came: ListCame<'_>,
     shelf: &mut F,
 ) -> Result<Answer, NoMemory>
-    ensures { ConcludesList telling outputs.now came (F.seen shelf.old) (F.seen shelf.new) result }
+    ensures { ConcludesList telling outputs.now came.entry (F.seen shelf.old) (F.seen shelf.new) result }
 {
     match came {
         ListCame::Untrusted(fault) => unjudged(alloc, telling, Came::Untrusted(fault)),
@@ -156,7 +168,7 @@ pub(crate) fn conclude_came<F: Shelf>(
     came: Result<ListCame<'_>, NoMemory>,
     shelf: &mut F,
 ) -> Result<Answer, NoMemory>
-    ensures { ConcludesCame telling outputs.now came (F.seen shelf.old) (F.seen shelf.new) result }
+    ensures { ConcludesCame telling outputs.now came.entry (F.seen shelf.old) (F.seen shelf.new) result }
 {
     match came {
         Ok(came) => conclude_list(alloc, telling, outputs, came, shelf),
