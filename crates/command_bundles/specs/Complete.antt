@@ -62,8 +62,8 @@ search_in {command = command} {trust = trust} {bytes = bytes} f =
 
 -- ---- what is said and put in its place
 
--- A bundle is the first that a rule accepts: its payload is in the statement's place, where one is named, and the report was written whole,
--- with its line and what is asked for behind it.
+-- A bundle is the first that a rule accepts. Its payload is in the statement's place, where one is named. The report was written whole, with
+-- its line and what is asked for behind it.
 pub record SaysReport {command : Command} {before after : Environment} {trust : Trust} {bytes : List ℕ}
     (f : Favoured command before after trust bytes) (out out' : Watched (List ℕ)) (ended : Status) : Type 0 where
   pub bundle : ListedBundle
@@ -106,8 +106,8 @@ pub record SaysUnusable {command : Command} {before after : Environment} {trust 
   pub written : TakesAll out out' (verify_answer fault).text
   pub ended_is : ended ≡ status.Refused
 
--- Where a trusted root is offered and nothing outside fails, the run does one of these, by the trusted root and the list alone; or it is
--- out of memory, with status 5; or the sink or the shelf failed, with status 4.
+-- Where a trusted root is offered and nothing outside fails, the run does one of these, by the trusted root and the list alone. Or it is out
+-- of memory, with status 5; or the sink or the shelf failed, with status 4.
 abbrev pub Completes : Command → Environment → Environment → Watched (List ℕ) → Watched (List ℕ) → Status → Type 0
 Completes command before after out out' ended =
     (trust : Trust) (bytes : List ℕ) (f : Favoured command before after trust bytes)

@@ -43,7 +43,7 @@ refusals_answer refusals = answer status.Refused (refusals_text refusals)
 
 -- ---- what follows
 
--- The first bundle that is accepted is told with its line, and what is asked for beside follows, of this bundle; or each is told with its
+-- The first bundle that is accepted is told with its line, and what is asked for beside follows, of this bundle. Or each is told with its
 -- refusal, and nothing is put anywhere.
 abbrev pub ConcludesFound : Telling → Outputs → Trust → Search → Watched (List Placed) → Watched (List Placed) → Result Answer OutOfMemory → Type 0
 ConcludesFound telling outputs trust (Ok (bundle, judged)) old new result =

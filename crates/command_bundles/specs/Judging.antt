@@ -75,8 +75,8 @@ verdict_under grounds rules artifact text = or_shared (bundle_of text) >>= λ bu
 abbrev pub hashed : List HashAlgorithm
 hashed = Sha2256 ∷ Sha2384 ∷ Sha2512 ∷ []
 
--- What is had of the artifact: its digests by each of these, of bytes that were read once, to their end, or why they weren't; or its told
--- digests, and nothing of it is read.
+-- What is had of the artifact: its digests by each of these, of bytes that were read once, to their end, or why they weren't. Where its
+-- digests are told it is these, and nothing of it is read.
 abbrev pub IsHad : Option (List Digest) → Watched (List ℕ) → Watched (List ℕ) → ReadArtifact → Type 0
 IsHad None old new had = IsReadFor old new max_artifact (Some hashed) had
 IsHad (Some told) old new had = (new ≡ old) × (had ≡ Digests told)
@@ -131,7 +131,7 @@ JudgesUnder given trust told old new (Judged found answer) =
 
 -- ---- the whole
 
--- There is no trusted root, and the artifact isn't called; or there is one, which is trusted, and it can't be used, or the list is judged
+-- There is no trusted root, and the artifact isn't called. Or there is one, which is trusted, and it can't be used, or the list is judged
 -- under it.
 abbrev pub VerifiesList : ListInputs → Way → Outside → Outside → ListCame → Type 0
 VerifiesList given way before after (Untrusted why) =

@@ -83,8 +83,8 @@ pub record IsAccepted (command : Command) (before after : Environment) : Type 0 
 
 -- ---- status 0
 
--- What status 0 means: the first bundle that a rule accepts is this one; its payload is in the statement's place, where one is named; and
--- the sink took exactly the report of `verify`, the number of its line, and the lines on it where they are asked for.
+-- What status 0 means. This bundle is the first that a rule accepts, and its payload is in the statement's place, where one is named. The
+-- sink took exactly the report of `verify`, the number of the bundle's line, and the lines on it where they are asked for.
 pub record Accepts (command : Command) (before after : Environment) (out out' : Watched (List ℕ)) : Type 0 where
   pub accepted : IsAccepted command before after
   pub given : IsGiven accepted.under.asked.layout.outputs.statement accepted.bundle.text before.outside.shelf after.outside.shelf
@@ -96,9 +96,9 @@ pub record Accepts (command : Command) (before after : Environment) (out out' : 
 
 -- ---- status 1
 
--- What status 1 means: the list has no bundle, or too many, and nothing but the inputs was called; there is no trusted root, or it can't be
--- used, and the artifact wasn't called; every bundle is refused; or the statement is asked for, and the first that is accepted has a message
--- signature. The sink took exactly the lines that say so.
+-- What status 1 means. The list has no bundle, or too many, and nothing but the inputs was called. Or there is no trusted root, or it can't be
+-- used, and the artifact wasn't called. Or every bundle is refused. Or the statement is asked for, and the first that is accepted has a
+-- message signature. The sink took exactly the lines that say so.
 pub data Declines (command : Command) (before after : Environment) (out out' : Watched (List ℕ)) : Type 0 where
   no_list : (asked : Asked command before after) (fault : ListFault) (said : Answer) → Lists asked (Err fault)
       → after.outside ≡ before.outside → list_answer fault ≡ Some said → TakesAll out out' said.text
@@ -116,8 +116,8 @@ pub data Declines (command : Command) (before after : Environment) (out out' : W
 
 -- ---- the other statuses
 
--- this input is the last that wasn't given, and the count of the inputs' faults rose, or told inputs lack it or hold it longer than its
--- limit, which is that of a list; nothing else was called; and the sink took exactly the line that names it
+-- This input is the last that wasn't given. The count of the inputs' faults rose, or told inputs lack it or hold it longer than its limit,
+-- which is that of a list. Nothing else was called, and the sink took exactly the line that names it.
 pub record LacksOne (before after : Environment) (out out' : Watched (List ℕ)) : Type 0 where
   pub which : InputFile
   pub missing : after.inputs.missing ≡ Some which
@@ -140,8 +140,8 @@ pub record IsStatement {command : Command} {before after : Environment} (accepte
   pub named : accepted.under.asked.layout.outputs.statement ≡ Some path
   pub signed : payload_of accepted.bundle.text ≡ Ok (Some payload)
 
--- the payload of the accepted bundle couldn't be put in the statement's place, where all is as it was; the count of the shelf's faults
--- rose; and the sink took exactly the line that says so
+-- The payload of the accepted bundle couldn't be put in the statement's place, where all is as it was. The count of the shelf's faults rose,
+-- and the sink took exactly the line that says so.
 pub record Unplaces (command : Command) (before after : Environment) (out out' : Watched (List ℕ)) : Type 0 where
   pub accepted : IsAccepted command before after
   pub path : List ℕ

@@ -151,13 +151,12 @@ fn decide<
     }
 }
 
-/// Runs `verify` in any way over a list of bundles: reads the words, then the inputs policy, provider, root and, of at most
-/// `MAX_LIST` bytes, the list; then its bundles, of which there are 1 to `MAX_BUNDLES`. The trusted root is established once,
-/// and the artifact read once, or its digests are told. The bundles are judged in their order. The first that a rule accepts
-/// is told, as `run_outputs` does, with the number of its line; what else is asked for is of this bundle. Where none is
-/// accepted the number of each line is told with the bundle's refusal. Nothing is put in the statement's file in another
-/// case. Status 4 where the file couldn't be put in its place, or where a write failed; 5 out of memory; then nothing was
-/// written, and the file is as it was.
+/// Runs `verify` in any way over a list of bundles. It reads the words, then the inputs policy, provider, root and list, which
+/// has at most `MAX_LIST` bytes and 1 to `MAX_BUNDLES` bundles. The trusted root is established once; the artifact is read
+/// once, or its digests are told. The bundles are judged in their order. The first that a rule accepts is told as by
+/// `run_outputs`, with the number of its line. What else is asked for is of this bundle. Where none is accepted, the line and
+/// the refusal of each are told. Nothing is put in the statement's file in another case. Status 4 where the file couldn't be
+/// put in its place, or where a write failed. Status 5 out of memory; then nothing was written, and the file is as it was.
 pub fn run_bundles<
     I: Inputs,
     R: Repository,
