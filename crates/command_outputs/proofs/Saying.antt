@@ -1,7 +1,6 @@
 -- What follows what is said of a verification.
-use Rattle.std.proofs.Common.{sym, ◌≡◌, ℕ, List, Option, Some, None, Result, Ok, Err, IfOk, refl, ap, ◌∙◌, subst}
+use Rattle.std.proofs.Common.{◌≡◌, ℕ, List, Option, Some, None, Result, Ok, Err, IfOk, refl, ap, ◌∙◌, subst}
 use Rattle.sigstore_judgement.specs.declared.rules.JudgedByRule.{JudgedByRule}
-use Rattle.sigstore_judgement.specs.declared.rules.RulesError.{RulesError}
 use Rattle.foundation.specs.Watched.{Watched}
 use Rattle.foundation.specs.declared.no_memory.NoMemory.{NoMemory as OutOfMemory}
 use Rattle.jiff_core.specs.declared.timestamp.Timestamp as jiff
@@ -15,13 +14,11 @@ use Rattle.command_download.specs.declared.shelf.ShelfFault.TheVariants.{Failed}
 use Rattle.command_ways.specs.Judging.{VerifiesWay}
 use Rattle.command_ways.specs.Run.{telling_of}
 use Rattle.command_ways.specs.declared.judging.Came.{Came}
-use Rattle.command_ways.specs.declared.judging.Came.TheVariants.{Judged}
-use Rattle.command_ways.specs.declared.trust.Trust.{Trust}
 use Rattle.command_ways.specs.declared.layout.Way.{Way}
 use Rattle.command_ways.specs.declared.report.Telling.{Telling}
 use Rattle.command_outputs.specs.declared.layout.Outputs.{Outputs}
 use Rattle.command_outputs.specs.Payload.{payload_of}
-use Rattle.command_outputs.specs.Concluding.{no_envelope_answer, unplaced_answer, told_answer, Puts, want_putting, unplaced, Delivers, want_payload, no_envelope, delivered, Gives, Yields, yields, Follows, Concludes}
+use Rattle.command_outputs.specs.Concluding.{no_envelope_answer, unplaced_answer, told_answer, Puts, want_putting, unplaced, Delivers, want_payload, no_envelope, delivered, Gives, Yields, yields, Concludes}
 use Rattle.command_outputs.specs.Run.{Outside, JudgesOutputs}
 
 -- ---- where the payload is put
@@ -52,14 +49,6 @@ pub yields_so : (line : Option ℕ) (outputs : Outputs) (bundle : List ℕ) (jud
     → Gives outputs.statement bundle report old new result → Yields line outputs bundle judged said old new result
 yields_so line outputs bundle judged said report old new result same g =
     yields (subst (λ (x : Answer). Gives outputs.statement bundle x old new result) same g)
-
--- of a bundle that a rule accepts
-pub followed_so : (line : Option ℕ) (outputs : Outputs) (bundle : List ℕ) (came : Came) (said : Answer) (old new : Watched (List Placed)) (result : Result Answer OutOfMemory)
-    (trust : Trust) (answer : Result JudgedByRule RulesError) (judged : JudgedByRule) → came ≡ Judged trust answer → answer ≡ Ok judged
-    → Yields line outputs bundle judged said old new result → Follows line outputs bundle came said old new result
-followed_so line outputs bundle came said old new result trust answer judged is accepts y =
-    subst (λ (x : Came). Follows line outputs bundle x said old new result) (sym is)
-    (subst (λ (x : Result JudgedByRule RulesError). Follows line outputs bundle (Judged trust x) said old new result) (sym accepts) y)
 
 -- ---- the verification, and what follows it
 

@@ -3,6 +3,7 @@ use Rattle.std.specs.Prelude.{◌≡◌, ℕ, List, ◌++◌, codes, Bool, if◌
 use Rattle.foundation.specs.Watched.{Watched}
 use Rattle.foundation.specs.declared.no_memory.NoMemory.{NoMemory as OutOfMemory}
 use Rattle.sigstore_judgement.specs.declared.rules.JudgedByRule.{JudgedByRule}
+use Rattle.sigstore_judgement.specs.declared.rules.RulesError.{RulesError}
 use Rattle.command_files.specs.Answer.{answer}
 use Rattle.command_files.specs.Printed.{number_line, pair_line, refused_line}
 use Rattle.command_files.specs.declared.answer.Answer.{Answer}
@@ -74,11 +75,16 @@ pub data Yields (line : Option ℕ) (outputs : Outputs) (bundle : List ℕ) (jud
   yields : Gives outputs.statement bundle (told_answer line outputs.details bundle judged said) old new result
       → Yields line outputs bundle judged said old new result
 
--- What follows what is said of the verification: what is asked for beside, and only where a rule accepts.
+-- What follows what is said of the judgement under a trusted root: what is asked for beside, and only where a rule accepts.
+abbrev pub FollowsJudged : Option ℕ → Outputs → List ℕ → Result JudgedByRule RulesError → Answer → Watched (List Placed) → Watched (List Placed)
+    → Result Answer OutOfMemory → Type 0
+FollowsJudged line outputs bundle (Ok judged) said old new result = Yields line outputs bundle judged said old new result
+FollowsJudged line outputs bundle (Err e) said old new result = (new ≡ old) × (result ≡ Ok said)
+
+-- the same of the verification
 abbrev pub Follows : Option ℕ → Outputs → List ℕ → Came → Answer → Watched (List Placed) → Watched (List Placed) → Result Answer OutOfMemory → Type 0
 Follows line outputs bundle (Untrusted why) said old new result = (new ≡ old) × (result ≡ Ok said)
-Follows line outputs bundle (Judged trust (Ok judged)) said old new result = Yields line outputs bundle judged said old new result
-Follows line outputs bundle (Judged trust (Err e)) said old new result = (new ≡ old) × (result ≡ Ok said)
+Follows line outputs bundle (Judged trust judged) said old new result = FollowsJudged line outputs bundle judged said old new result
 
 -- the same, or memory was wanting before
 pub data Concludes (telling : Telling) (line : Option ℕ) (outputs : Outputs) (bundle : List ℕ) (came : Came) (old new : Watched (List Placed))

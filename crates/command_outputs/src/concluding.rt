@@ -1,6 +1,6 @@
 // What follows what is said of a verification.
 ghost use Rattle.std.specs.Prelude.{◌≡◌, IfOk, OnOk, string_bytes};
-ghost use Rattle.command_outputs.specs.Concluding.{no_envelope_answer, unplaced_answer, line_added, details_added, told_answer, Puts, Delivers, Gives, Yields, Follows, Concludes};
+ghost use Rattle.command_outputs.specs.Concluding.{no_envelope_answer, unplaced_answer, line_added, details_added, told_answer, Puts, Delivers, Gives, Yields, FollowsJudged, Follows, Concludes};
 
 use crate::layout::Outputs;
 use crate::payload::payload_of;
@@ -8,7 +8,7 @@ use command_download::{Shelf, ShelfFault};
 use command_files::{Answer, Status, pair, push_number_line, refusal};
 use command_ways::{Came, Telling, answered};
 use foundation::NoMemory;
-use sigstore_judgement::JudgedByRule;
+use sigstore_judgement::{JudgedByRule, RulesError};
 use sigstore_types_parts::Text;
 use std::alloc::Global;
 use verification_details::push_details;
@@ -172,6 +172,22 @@ fn yielded<F: Shelf>(
     }
 }
 
+// What follows what was said of the judgement under a trusted root.
+fn followed_judged<F: Shelf>(
+    alloc: Global,
+    asked: &Inquiry<'_>,
+    judged: &Result<JudgedByRule, RulesError>,
+    said: Answer,
+    shelf: &mut F,
+) -> Result<Answer, NoMemory>
+    ensures { FollowsJudged asked.now.line asked.now.outputs.now asked.now.bundle.now judged.now said (F.seen shelf.old) (F.seen shelf.new) result }
+{
+    match judged {
+        Ok(judged) => yielded(alloc, asked, judged, said, shelf),
+        Err(_) => Ok(said),
+    }
+}
+
 // What follows what was said of the verification.
 fn followed<F: Shelf>(
     alloc: Global,
@@ -183,11 +199,8 @@ fn followed<F: Shelf>(
     ensures { Follows asked.now.line asked.now.outputs.now asked.now.bundle.now came.now said (F.seen shelf.old) (F.seen shelf.new) result }
 {
     match came {
-        Came::Judged {
-            judged: Ok(judged),
-            ..
-        } => yielded(alloc, asked, judged, said, shelf),
-        Came::Judged { judged: Err(_), .. } | Came::Untrusted(_) => Ok(said),
+        Came::Judged { judged, .. } => followed_judged(alloc, asked, judged, said, shelf),
+        Came::Untrusted(_) => Ok(said),
     }
 }
 
