@@ -13,7 +13,7 @@ use Rattle.command_files.specs.Answer.{answer, stop_answer}
 use Rattle.command_files.specs.Ending.{TakesAll, ends_unsaid, ends_cut, ends_written, EndsText}
 use Rattle.command_files.specs.Gather.{ReadsAs}
 use Rattle.command_files.specs.Inputs.{Supply}
-use Rattle.command_files.specs.Starting.{Command, Begins, Stops, misworded, lacking, unstarted, stopped, begun}
+use Rattle.command_files.specs.Starting.{Command, now_of, Begins, Stops, misworded, lacking, unstarted, stopped, begun}
 use Rattle.command_files.specs.declared.answer.Answer.{Answer}
 use Rattle.command_files.specs.declared.answer.Status.{Status}
 use Rattle.command_files.specs.declared.answer.Status.TheVariants as status
@@ -320,7 +320,7 @@ module _ (command : Command) (before after : Environment) (result : Result Answe
     came_keeps (Err e) v c = untouched c.0
 
   judged_keeps : (layout : OutputsLayout) (listed : Listed) (read : Begins (bundles_layout_of command.words) listed_in before.inputs after.inputs layout listed)
-      → JudgesBundles layout.verification.way layout.outputs listed (now_in (record { layout = layout; listed = listed; read = read })) before.outside after.outside result → Kept
+      → JudgesBundles layout.verification.way layout.outputs listed (now_of layout.verification.places command.clock) before.outside after.outside result → Kept
   judged_keeps layout listed read (unlisted why l o a) = inl (ap (λ (x : Outside). x.shelf.told) o)
   judged_keeps layout listed read (verified bundles lists v) = came_keeps layout listed read bundles lists v.came v.verifies v.concludes
 
