@@ -1,5 +1,5 @@
 -- The digests that are taken once are those that each rule needs of each bundle.
-use Rattle.std.proofs.Common.{◌≡◌, List, [], ◌∷◌, true, false, Result, Ok, Err, refl}
+use Rattle.std.proofs.Common.{◌≡◌, List, [], ◌∷◌, true, Result, Ok, Err, refl}
 use Rattle.std.specs.List.{AllByRecursion, list_any, list_all}
 use Rattle.sigstore_types_parts.specs.HashAlgorithm.{same_algorithm}
 use Rattle.sigstore_types_parts.specs.declared.hash_algorithm.HashAlgorithm.{HashAlgorithm}

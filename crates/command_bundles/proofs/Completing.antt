@@ -7,7 +7,6 @@ use Rattle.jiff_core.specs.declared.timestamp.Timestamp as jiff
 use Rattle.sigstore_judgement.specs.declared.error.Error.{Error}
 use Rattle.sigstore_judgement.specs.declared.error.Error.TheVariants.{NoMemory}
 use Rattle.sigstore_judgement.specs.declared.rules.JudgedByRule.{JudgedByRule}
-use Rattle.sigstore_judgement.specs.declared.rules.RulesError.{RulesError}
 use Rattle.sigstore_judgement.specs.declared.rules.RulesError.TheVariants.{Shared}
 use Rattle.sigstore_verify.specs.Inputs.{Anchor}
 use Rattle.release_gate.specs.Gate.{kept_of}
@@ -29,11 +28,9 @@ use Rattle.command_ways.proofs.Saying.{text_there}
 use Rattle.command_ways.proofs.Trusting.{never_untrusted, given_offered}
 use Rattle.command_outputs.specs.declared.layout.OutputsLayout.{OutputsLayout}
 use Rattle.command_outputs.specs.Payload.{payload_of}
-use Rattle.command_outputs.specs.declared.layout.Outputs.{Outputs}
 use Rattle.command_outputs.specs.Concluding.{no_envelope_answer, unplaced_answer, told_answer, Puts, want_putting, unplaced, placed, Delivers, want_payload, no_envelope, delivered, Gives, Yields, want_lines, yields, Concludes, want_saying, follows}
 use Rattle.command_outputs.specs.Promises.{IsGiven, IsUntouched}
 use Rattle.command_outputs.specs.Run.{Environment}
-use Rattle.command_bundles.specs.declared.judging.BundleRefusal.{BundleRefusal}
 use Rattle.command_bundles.specs.declared.judging.ListCame.{ListCame}
 use Rattle.command_bundles.specs.declared.judging.ListCame.TheVariants.{Untrusted, Unusable, Judged}
 use Rattle.command_bundles.specs.declared.lines.ListFault.{ListFault}
@@ -43,7 +40,6 @@ use Rattle.command_bundles.specs.declared.listed.Listed.{Listed}
 use Rattle.command_bundles.specs.Concluding.{list_answer, refusals_answer, ConcludesFound, ConcludesList, ConcludesCame}
 use Rattle.command_bundles.specs.Judging.{Search, found_as, JudgesList, VerifiesList}
 use Rattle.command_bundles.specs.Layout.{bundles_layout_of}
-use Rattle.command_bundles.specs.Lines.{listed_of}
 use Rattle.command_bundles.specs.Listed.{listed_in}
 use Rattle.command_bundles.specs.Run.{given_by, telling_of, VerifiesAndConcludes, JudgesBundles, unlisted, verified, Says, RunsTo}
 use Rattle.command_bundles.specs.Complete.{Favoured, search_in, SaysReport, SaysNoEnvelope, SaysRefusals, SaysUnusable, Completes}

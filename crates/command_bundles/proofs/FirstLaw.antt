@@ -1,6 +1,5 @@
 -- The first bundle that is accepted, told without an order.
 use Rattle.std.proofs.Common.{◌≡◌, ℕ, List, [], ◌∷◌, ◌++◌, Result, Ok, Err, refl, sym, ap, ◌∙◌, subst}
-use Rattle.std.specs.List.{AllZip}
 use Rattle.foundation.specs.Results.{ok_same, err_same}
 use Rattle.sigstore_judgement.specs.declared.rules.JudgedByRule.{JudgedByRule}
 use Rattle.sigstore_judgement.specs.declared.rules.RulesError.{RulesError}

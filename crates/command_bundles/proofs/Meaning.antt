@@ -6,7 +6,6 @@ use Rattle.foundation.specs.declared.no_memory.NoMemory.{NoMemory as OutOfMemory
 use Rattle.sigstore_judgement.specs.declared.error.Error.{Error}
 use Rattle.sigstore_judgement.specs.declared.error.Error.TheVariants.{NoMemory}
 use Rattle.sigstore_judgement.specs.declared.rules.JudgedByRule.{JudgedByRule}
-use Rattle.sigstore_judgement.specs.declared.rules.RulesError.{RulesError}
 use Rattle.sigstore_judgement.specs.declared.rules.RulesError.TheVariants.{Shared}
 use Rattle.release_gate.specs.Gate.{kept_of}
 use Rattle.command_files.specs.Answer.{answer, stop_answer}
@@ -49,8 +48,8 @@ use Rattle.command_bundles.specs.Judging.{Search, found_as, VerifiesList}
 use Rattle.command_bundles.specs.Layout.{bundles_layout_of}
 use Rattle.command_bundles.specs.Lines.{listed_of}
 use Rattle.command_bundles.specs.Listed.{listed_in}
-use Rattle.command_bundles.specs.Run.{given_by, telling_of, VerifiesAndConcludes, JudgesBundles, unlisted, verified, Says, RunsTo}
-use Rattle.command_bundles.specs.Promises.{Asked, now_in, anchor_in, TrustIs, SearchIs, IsUnder, IsAccepted, IsStatement, no_list, no_trust, unusable, none_accepted, no_envelope, LacksOne, IsDelivered, Means, Keeps}
+use Rattle.command_bundles.specs.Run.{given_by, telling_of, JudgesBundles, unlisted, verified, Says, RunsTo}
+use Rattle.command_bundles.specs.Promises.{Asked, now_in, anchor_in, TrustIs, SearchIs, IsUnder, IsAccepted, no_list, no_trust, unusable, none_accepted, no_envelope, IsDelivered, Means, Keeps}
 
 module _ (command : Command) (before after : Environment) (out out' : Watched (List ℕ)) where
   abbrev M : Status → Type 0

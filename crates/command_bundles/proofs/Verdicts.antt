@@ -1,8 +1,8 @@
 -- The verdicts on the bundles of a list, and what is had of the artifact.
-use Rattle.std.proofs.Common.{◌≡◌, ◌≢◌, ℕ, List, [], ◌∷◌, Option, Some, None, Result, Ok, Err, refl, sym, ap, ◌∙◌, subst}
+use Rattle.std.proofs.Common.{◌≡◌, ℕ, List, [], ◌∷◌, Option, Some, None, Result, Ok, refl, sym, ap, ◌∙◌}
 use Rattle.foundation.specs.Results.{step_ok}
 use Rattle.foundation.specs.Steps.{◌>>=◌}
-use Rattle.foundation.specs.Watched.{Watched, Rose}
+use Rattle.foundation.specs.Watched.{Watched}
 use Rattle.sigstore_types.specs.declared.bundle.Bundle.{Bundle}
 use Rattle.sigstore_types.specs.declared.trusted_root.TrustedRoot.{TrustedRoot}
 use Rattle.sigstore_keys.specs.Digest.{digests_by}

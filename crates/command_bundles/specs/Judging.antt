@@ -17,7 +17,7 @@ use Rattle.sigstore_judgement.specs.Grounds.{Grounds}
 use Rattle.sigstore_judgement.specs.Rules.{answers_by, IsReadFor}
 use Rattle.sigstore_judgement.specs.Under.{bundle_of}
 use Rattle.sigstore_judgement.specs.UnderRules.{or_shared, or_each}
-use Rattle.sigstore_verify.specs.ByDigests.{ToldAsked, told_verdict_by}
+use Rattle.sigstore_verify.specs.ByDigests.{told_verdict_by}
 use Rattle.sigstore_verify.specs.Inputs.{Anchor, anchor_by}
 use Rattle.release_gate.specs.Gate.{kept_of}
 use Rattle.command_verify.specs.Run.{max_artifact}

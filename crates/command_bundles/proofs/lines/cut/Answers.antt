@@ -1,4 +1,4 @@
-use Rattle.std.proofs.Common.{Some, None, sym, ap, ◌∙◌}
+use Rattle.std.proofs.Common.{sym, ◌∙◌}
 use Rattle.command_bundles.proofs.Cutting.{cut_at, uncut}
 use Rattle.command_bundles.proofs.lines.cut.Goals as goal
 
