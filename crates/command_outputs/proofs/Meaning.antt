@@ -57,7 +57,7 @@ module _ (command : Command) (before after : Environment) (out out' : Watched (L
       read = record { worded = plain_layout command.words layout read.worded; read = read.read };
     }
 
-    asks_for : AsksFor command
+    abbrev asks_for : AsksFor command
     asks_for = record { layout = layout; worded = read.worded }
 
     -- the payload of the bundle, where it has one
