@@ -10,12 +10,14 @@ _ratmanganese() {
     fi
     case $name in
     --repository | --store | --folder | --tiles) paths=-d ;;
-    --root | --bundle | --bundles | --artifact | --archive | --trusted-root | --statement | --out | --first | --second | --policy | --provider | --refused) paths=-f ;;
+    --root | --bundle | --bundles | --artifact | --archive | --trusted-root | --statement | --out | --first | --second | --policy | --key | --provider | --refused) paths=-f ;;
     --*) return ;;
     *)
         case $host:$COMP_CWORD:${COMP_WORDS[1]} in
-        ratmanganese:1:*) names="verify questions gate gate-questions archive check download download-questions audit generate explain build install lib version help" ;;
-        ratmanganese:*:verify) names="--root= --repository= --store= --bundle= --artifact= --policy= --provider= --bundles= --digest= --archive= --trusted-root= --now= --statement= --details" ;;
+        ratmanganese:1:*) names="trust verify questions gate gate-questions archive check download download-questions audit generate explain build install lib version help" ;;
+        ratmanganese:2:trust) names="add list show remove" ;;
+        ratmanganese:*:trust) names="--root= --url= --yes" ;;
+        ratmanganese:*:verify) if [[ $word == -* ]]; then names="--trust= --root= --repository= --store= --archive= --trusted-root= --bundle= --bundles= --digest= --policy= --key= --identity= --identity-like= --issuer= --claim= --predicate= --github= --workflow= --tag-like= --print-policy --max-age= --offline --now= --statement= --details --json --artifact= --provider="; else paths=-f; fi ;;
         ratmanganese:*:questions) names="--root= --repository= --store= --bundle= --artifact= --policy= --refused= --digest= --archive= --trusted-root= --now=" ;;
         ratmanganese:*:gate) names="--root= --repository= --store= --folder= --policy= --provider= --archive= --trusted-root= --now=" ;;
         ratmanganese:*:gate-questions) names="--root= --repository= --store= --folder= --policy= --refused= --archive= --trusted-root= --now=" ;;
