@@ -203,7 +203,7 @@ def only_name():
     if len(found) == 1:
         return found[0]
     if found:
-        raise Ended(USAGE, f"several roots are kept: {', '.join(found)}; --trust=NAME says which one counts")
+        raise Ended(USAGE, f"several roots are kept: {', '.join(found)}; --trust=NAME says which one counts", "usage")
     raise Ended(INPUT, f"no root is kept: `{BEFORE}ratmanganese trust add NAME --root=FILE --url=URL` keeps one, and --root=FILE names one", "input root")
 
 
