@@ -47,15 +47,18 @@ def limits(clone, world, recorder):
     """Files that can't be taken, and what is said of them."""
     words = ["./verify-real", *words_of(world, bundle=None)]
     lines = world / "lines"
-    recorder.answers("input bundles\n", 3)
+    recorder.answers("input bundle\n", 3)
     for what, put, says in (
-        ("that isn't there", None, f"input bundles {lines}: No such file"),
-        ("of 1001 lines", lambda: lines.write_text("x\n" * 1001), "it has 1001 lines, and at most 1000"),
+        ("that isn't there", None, f"bundles {lines}: No such file"),
         ("that is too long", lambda: truncated(lines, 67108865), "longer than 67108864"),
     ):
         if put:
             put()
-        tried(f"23 a file of bundles {what}", [*words, f"--bundles={lines}"], clone, 3, "input bundles\n", [says], ["2 of 3"])
+        tried(f"23 a file of bundles {what}", [*words, f"--bundles={lines}"], clone, 3, "input bundle\n", [says], ["2 of 3"])
+    recorder.answers("refused bundles 2 TooManyBundles\n", 1)
+    lines.write_text("x\n\n" * 1001)
+    err = ["it has 1001 bundles, and at most 1000", "3 of 3", "Cause: "]
+    tried("23 a file of 1001 bundles", [*words, f"--bundles={lines}"], clone, 1, "refused bundles 2 TooManyBundles\n", err)
     recorder.answers("refused bundles 1 NoBundle\n", 1)
     lines.write_text("\n \r\n")
     tried("23 a file of blank lines", [*words, f"--bundles={lines}"], clone, 1, "refused bundles 1 NoBundle\n", ["3 of 3", "Cause: "])

@@ -6,10 +6,8 @@ prepare_lines() {
     : >"$between/bundle" || exit 70
     mkdir "$between/lines" || exit 70
     unsplit=
-    "$top/scripts/split_bundles" lines "$bundles" "$between/lines" >"$between/numbers" 2>"$between/why" || {
-        unsplit=1
-        say "the lines of $bundles can't be taken, so that nothing is asked of them: $(tail -n 1 "$between/why")"
-    }
+    "$top/scripts/split_bundles" lines "$bundles" "$between/lines" >"$between/numbers" 2>"$between/why" || unsplit=1
+    [ ! -s "$between/why" ] || say "bundles $bundles: nothing is asked of them: $(tail -n 1 "$between/why")"
     : >"$between/digests" || exit 70
     # (where the artifact can't be read, or a word can't be right, its path is asked with as it is)
     if [ -n "$artifact" ] && [ -z "$faulty" ]; then
