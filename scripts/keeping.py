@@ -135,7 +135,7 @@ def names():
         return []
     see_own(folder, stat.S_ISDIR, "base")
     try:
-        return sorted(name for name in os.listdir(folder) if NAME.fullmatch(name))
+        return sorted(name for name in os.listdir(folder) if NAME.fullmatch(name) and (folder / name).is_dir())
     except OSError as fault:
         raise Ended(INPUT, f"{folder}: {fault.strerror}") from None
 
@@ -356,7 +356,9 @@ def ran(words, **how):
 def main(run):
     """Runs a command over its words, and ends with its status."""
     for number in (signal.SIGINT, signal.SIGTERM, signal.SIGHUP):
-        signal.signal(number, interrupted)
+        # (what is ignored where this is started stays so)
+        if signal.getsignal(number) != signal.SIG_IGN:
+            signal.signal(number, interrupted)
     try:
         sys.exit(run(sys.argv[1:]))
     except Interrupted:
