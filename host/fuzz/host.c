@@ -241,7 +241,8 @@ static bool is_text(const uint8_t *at, size_t length) { return !length || at[len
 int LLVMFuzzerTestOneInput(const uint8_t *data, size_t size) {
     struct world w = {.repository = repository, .out_room = 16, .kept_room = 16};
     rest = data, rest_length = size;
-    asked.length = out_text.length = kept_text.length = 0;
+    /* (so that no pointer is null) */
+    for (struct text *texts[] = {&asked, &out_text, &kept_text}, **text = texts; text < texts + 3; text++) append(*text, "", 1), (*text)->length = 0;
     files_before = absents_before = rows_before = questions = 0;
     pending = false, calls = 0, found_files = 0;
     w.request.root = w.request.bundle = w.request.artifact = w.request.policy = (struct ratmanganese_bytes){RATMANGANESE_NOTHING, 0};
