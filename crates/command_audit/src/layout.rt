@@ -4,7 +4,7 @@ ghost use Rattle.sigstore_types_parts.specs.Entries.{at_name};
 ghost use Rattle.command_files.specs.Named.{text_at};
 ghost use Rattle.command_audit.specs.Layout.{key_in, asked_in, layout_in, audit_layout_of};
 
-use crate::terms::{Asked, asked_witnesses, others, witnesses};
+use crate::terms::{Asked, asked_witnesses, named_witnesses, others};
 use command_files::{UsageFault, named_words, text_at};
 use foundation::{NoMemory, Sequence};
 use log_witnesses::Witness;
@@ -94,7 +94,7 @@ pub fn audit_layout(alloc: Global, words: &[Text]) -> Result<AuditLayout, UsageF
     ensures ok { IfOk result (λ l. audit_layout_of words.now ≡ Ok l) }
     ensures err { IfErr result (λ e. e ≢ UsageFault.NoMemory → audit_layout_of words.now ≡ Err e) }
 {
-    let named = witnesses(alloc, words)?;
+    let named = named_witnesses(alloc, words)?;
     let others = others(alloc, words)?;
     let wanted = ["--key", "--provider", "--first", "--second", "--tiles"];
     let optional = ["--origin", "--witnesses"];

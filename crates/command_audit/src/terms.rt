@@ -68,7 +68,7 @@ fn has_key(key: &[u8], named: &[Witness]) -> bool
 }
 
 // The witness that a text tells.
-fn witness(alloc: Global, text: &str) -> Result<Witness, UsageFault>
+fn read_witness(alloc: Global, text: &str) -> Result<Witness, UsageFault>
     ensures ok { IfOk result (λ w. or_usage (witness_of text.now) ≡ Ok w) }
     ensures err { IfErr result (λ e. e ≢ UsageFault.NoMemory → or_usage (witness_of text.now) ≡ Err e) }
 {
@@ -84,7 +84,7 @@ fn add_witness(alloc: Global, named: &mut Sequence<Witness>, text: &str) -> Resu
     ensures ok { OnOk result (with_vkey named.old text.now ≡ Ok named.new) }
     ensures err { IfErr result (λ e. e ≢ UsageFault.NoMemory → with_vkey named.old text.now ≡ Err e) }
 {
-    let witness = witness(alloc, text)?;
+    let witness = read_witness(alloc, text)?;
     if has_key(witness.key(), named.as_slice()) {
         drop(witness);
         return Err(UsageFault::Usage);
@@ -106,7 +106,7 @@ fn witnesses_from(alloc: Global, texts: &[Text]) -> Result<Sequence<Witness>, Us
 }
 
 // The witnesses that words name.
-pub(crate) fn witnesses(alloc: Global, words: &[Text]) -> Result<Sequence<Witness>, UsageFault>
+pub(crate) fn named_witnesses(alloc: Global, words: &[Text]) -> Result<Sequence<Witness>, UsageFault>
     ensures ok { IfOk result (λ named. witnesses_from [] (vkeys_in words.now) ≡ Ok named) }
     ensures err { IfErr result (λ e. e ≢ UsageFault.NoMemory → witnesses_from [] (vkeys_in words.now) ≡ Err e) }
 {
