@@ -53,13 +53,12 @@ module _ (prefix text : List ℕ) where
 
 -- ---- the layout, from the values that were found
 
-module _ (words others : List (List ℕ)) (named : List Witness) (found : Values) (w : witnesses_from [] (vkeys_in words) ≡ Ok named)
-    (o : others ≡ others_in words) (n : named_of (codes "audit") wanted optional others ≡ Ok found) where
+module _ (words : List (List ℕ)) (named : List Witness) (found : Values) (w : witnesses_from [] (vkeys_in words) ≡ Ok named)
+    (n : named_of (codes "audit") wanted optional (others_in words) ≡ Ok found) where
   layout_is : audit_layout_of words ≡ layout_in named found
   unfolding audit_layout_of
   layout_is =
       ap (λ (r : Result (List Witness) UsageFault). r >>= λ some. named_of (codes "audit") wanted optional (others_in words) >>= λ values. layout_in some values) w
-      ∙ ap (λ list. named_of (codes "audit") wanted optional list >>= λ values. layout_in named values) (sym o)
       ∙ ap (λ r. r >>= λ values. layout_in named values) n
 
   pub laid_out : (result : Result AuditLayout UsageFault) → IfOk result (λ l. layout_in named found ≡ Ok l) → IfOk result (λ l. audit_layout_of words ≡ Ok l)

@@ -1,8 +1,9 @@
 // The words of the command `audit`.
 ghost use Rattle.std.specs.Prelude.{◌≡◌, ◌≢◌, Ok, Err, IfOk, IfErr, codes};
 ghost use Rattle.sigstore_types_parts.specs.Entries.{at_name};
-ghost use Rattle.command_files.specs.Named.{text_at};
-ghost use Rattle.command_audit.specs.Layout.{key_in, asked_in, layout_in, audit_layout_of};
+ghost use Rattle.command_files.specs.Named.{named_of, text_at};
+ghost use Rattle.command_audit.specs.Layout.{key_in, asked_in, layout_in, wanted, optional, audit_layout_of};
+ghost use Rattle.command_audit.specs.Terms.{others_in};
 
 use crate::terms::{Asked, asked_witnesses, named_witnesses, others};
 use command_files::{UsageFault, named_words, text_at};
@@ -85,6 +86,20 @@ fn layout_in(
     })
 }
 
+// The values of the other words by their names.
+fn values(alloc: Global, words: &[Text]) -> Result<TextMap<Text>, UsageFault>
+    ensures ok { IfOk result (λ found. named_of (codes "audit") wanted optional (others_in words.now) ≡ Ok found) }
+    ensures err { IfErr result (λ e. e ≢ UsageFault.NoMemory
+        → named_of (codes "audit") wanted optional (others_in words.now) ≡ Err e) }
+{
+    let others = others(alloc, words)?;
+    let wanted = ["--key", "--provider", "--first", "--second", "--tiles"];
+    let optional = ["--origin", "--witnesses"];
+    let found = named_words(alloc, "audit", &wanted, &optional, others.as_slice());
+    drop(others);
+    found
+}
+
 /// The layout that the words give: `audit`, then `--key=`, `--provider=`, `--first=`, `--second=`, `--tiles=`, each once, in
 /// any order, the key as base64 of a SubjectPublicKeyInfo. `--origin=` may stand once; and up to 64 times `--witness=`, each a
 /// verifier key of another witness, with `--witnesses=`, a number from 1 up to theirs. Errors: `Usage` for other words;
@@ -95,11 +110,7 @@ pub fn audit_layout(alloc: Global, words: &[Text]) -> Result<AuditLayout, UsageF
     ensures err { IfErr result (λ e. e ≢ UsageFault.NoMemory → audit_layout_of words.now ≡ Err e) }
 {
     let named = named_witnesses(alloc, words)?;
-    let others = others(alloc, words)?;
-    let wanted = ["--key", "--provider", "--first", "--second", "--tiles"];
-    let optional = ["--origin", "--witnesses"];
-    let found = named_words(alloc, "audit", &wanted, &optional, others.as_slice())?;
-    drop(others);
+    let found = values(alloc, words)?;
     let layout = layout_in(alloc, named, &found);
     drop(found);
     layout

@@ -5,7 +5,7 @@ ghost use Rattle.sigstore_entries.specs.Checkpoint.{checkpoint_of};
 ghost use Rattle.sigstore_entries.specs.declared.checkpoint.Checkpoint.{Checkpoint};
 ghost use Rattle.command_files.specs.Printed.{pair_line};
 ghost use Rattle.command_files.specs.Rows.{accepts_of};
-ghost use Rattle.command_audit.specs.Run.{log_by, environment_by, judge_of, cosigned_text, consistent_answer, refused_answer, unread_answer};
+ghost use Rattle.command_audit.specs.Run.{log_by, environment_by, judge_of, cosigned_text, consistent_answer, refused_answer, witness_answer, unread_answer};
 ghost use Rattle.command_audit.specs.Run.{Concludes, Judges, AuditsSecond, Audits, Says, Means};
 ghost use Rattle.command_audit.specs.Terms.{has_origin, cosigners_of, IsWitnessed, WitnessesCause};
 ghost use Rattle.command_audit.specs.Complete.{Completes};
@@ -110,6 +110,13 @@ fn cosigned(
     }
 }
 
+// The refusal of the witnesses.
+fn unwitnessed(alloc: Global, e: &WitnessError) -> Result<Answer, NoMemory>
+    ensures { IfOk result (λ said. said ≡ witness_answer e.now) }
+{
+    refusal(alloc, "witness", e.number(), e.name())
+}
+
 // What is said of a newer checkpoint, whose tree grew from one of this size.
 fn concluded(
     alloc: Global,
@@ -128,7 +135,7 @@ fn concluded(
         Ok(count) => consistent(alloc, size, newer.tree_size(), count),
         Err(WitnessError::NoMemory) => Err(NoMemory),
         Err(e) => {
-            let said = refusal(alloc, "witness", e.number(), e.name());
+            let said = unwitnessed(alloc, &e);
             drop(e);
             said
         }
