@@ -86,16 +86,26 @@ fn layout_in(
     })
 }
 
-// The values of the other words by their names.
+// The values of words that name no witness, by their names.
+fn values_of(alloc: Global, words: &[Text]) -> Result<TextMap<Text>, UsageFault>
+    ensures ok { IfOk result (λ found. named_of (codes "audit") wanted optional words.now ≡ Ok found) }
+    ensures err { IfErr result (λ e. e ≢ UsageFault.NoMemory → named_of (codes "audit") wanted optional words.now ≡ Err e) }
+{
+    let wanted = ["--key", "--provider", "--first", "--second", "--tiles"];
+    match named_words(alloc, "audit", &wanted, &["--origin", "--witnesses"], words) {
+        Ok(found) => Ok(found),
+        Err(e) => Err(e),
+    }
+}
+
+// Those of the words that name none.
 fn values(alloc: Global, words: &[Text]) -> Result<TextMap<Text>, UsageFault>
     ensures ok { IfOk result (λ found. named_of (codes "audit") wanted optional (others_in words.now) ≡ Ok found) }
     ensures err { IfErr result (λ e. e ≢ UsageFault.NoMemory
         → named_of (codes "audit") wanted optional (others_in words.now) ≡ Err e) }
 {
     let others = others(alloc, words)?;
-    let wanted = ["--key", "--provider", "--first", "--second", "--tiles"];
-    let optional = ["--origin", "--witnesses"];
-    let found = named_words(alloc, "audit", &wanted, &optional, others.as_slice());
+    let found = values_of(alloc, others.as_slice());
     drop(others);
     found
 }
