@@ -1,5 +1,5 @@
 -- What follows what is said of a verification.
-use Rattle.std.proofs.Common.{◌≡◌, ℕ, List, Option, Some, None, Result, Ok, Err, IfOk, refl, sym, ap, ◌∙◌, subst}
+use Rattle.std.proofs.Common.{◌≡◌, ℕ, List, Option, Some, None, Result, Ok, Err, IfOk, refl, ap, ◌∙◌, subst}
 use Rattle.sigstore_judgement.specs.declared.rules.JudgedByRule.{JudgedByRule}
 use Rattle.foundation.specs.Watched.{Watched}
 use Rattle.foundation.specs.declared.no_memory.NoMemory.{NoMemory as OutOfMemory}
@@ -14,13 +14,11 @@ use Rattle.command_download.specs.declared.shelf.ShelfFault.TheVariants.{Failed}
 use Rattle.command_ways.specs.Judging.{VerifiesWay}
 use Rattle.command_ways.specs.Run.{telling_of}
 use Rattle.command_ways.specs.declared.judging.Came.{Came}
-use Rattle.command_ways.specs.declared.judging.Came.TheVariants.{Judged}
 use Rattle.command_ways.specs.declared.layout.Way.{Way}
 use Rattle.command_ways.specs.declared.report.Telling.{Telling}
-use Rattle.command_ways.specs.declared.trust.Trust.{Trust}
 use Rattle.command_outputs.specs.declared.layout.Outputs.{Outputs}
 use Rattle.command_outputs.specs.Payload.{payload_of}
-use Rattle.command_outputs.specs.Concluding.{no_envelope_answer, unplaced_answer, told_answer, Puts, want_putting, unplaced, Delivers, want_payload, no_envelope, delivered, Gives, Yields, yields, Follows, Concludes}
+use Rattle.command_outputs.specs.Concluding.{no_envelope_answer, unplaced_answer, told_answer, Puts, want_putting, unplaced, Delivers, want_payload, no_envelope, delivered, Gives, Yields, yields, Concludes}
 use Rattle.command_outputs.specs.Run.{Outside, JudgesOutputs}
 
 -- ---- where the payload is put
@@ -44,14 +42,6 @@ module _ (bundle path : List ℕ) (report : Answer) (old new : Watched (List Pla
   delivered_so result payload bytes some same p =
       delivered payload (read ∙ ap (λ (o : Option (List ℕ)). Ok o) some) (subst (λ b. Puts path b report old new result) same p)
 
--- where the statement is asked for
-pub gives_so : (held : Option (List ℕ)) (bundle path named : List ℕ) (report : Answer) (old new : Watched (List Placed))
-    (result : Result Answer OutOfMemory) → held ≡ Some path → named ≡ path → Delivers bundle named report old new result
-    → Gives held bundle report old new result
-gives_so held bundle path named report old new result some same d =
-    subst (λ (o : Option (List ℕ)). Gives o bundle report old new result) (sym some)
-    (subst (λ (p : List ℕ). Delivers bundle p report old new result) same d)
-
 -- ---- behind the lines
 
 pub yields_so : (line : Option ℕ) (outputs : Outputs) (bundle : List ℕ) (judged : JudgedByRule) (said report : Answer) (old new : Watched (List Placed))
@@ -59,13 +49,6 @@ pub yields_so : (line : Option ℕ) (outputs : Outputs) (bundle : List ℕ) (jud
     → Gives outputs.statement bundle report old new result → Yields line outputs bundle judged said old new result
 yields_so line outputs bundle judged said report old new result same g =
     yields (subst (λ (x : Answer). Gives outputs.statement bundle x old new result) same g)
-
--- where a rule accepts
-pub follows_so : (line : Option ℕ) (outputs : Outputs) (bundle : List ℕ) (came : Came) (trust : Trust) (judged : JudgedByRule) (said : Answer)
-    (old new : Watched (List Placed)) (result : Result Answer OutOfMemory) → came ≡ Judged trust (Ok judged)
-    → Yields line outputs bundle judged said old new result → Follows line outputs bundle came said old new result
-follows_so line outputs bundle came trust judged said old new result is y =
-    subst (λ (x : Came). Follows line outputs bundle x said old new result) (sym is) y
 
 -- ---- the verification, and what follows it
 
