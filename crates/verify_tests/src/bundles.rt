@@ -59,11 +59,11 @@ fn push_kind<X: AllocGlobal + Abort>(rt: &X, list: &mut String, kind: &str) {
 // The list of lines of these kinds.
 fn lines_of<X: AllocGlobal + Abort>(rt: &X, kinds: &str, end: &str) -> String {
     let mut list = String::new(rt.alloc());
-    let mut between = "";
     for kind in kinds.split_whitespace() {
-        good(rt, list.push_str(between));
+        if !list.is_empty() {
+            good(rt, list.push_str("\n"));
+        }
         push_kind(rt, &mut list, kind);
-        between = "\n";
     }
     good(rt, list.push_str(end));
     list
