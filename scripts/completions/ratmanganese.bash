@@ -25,9 +25,9 @@ _ratmanganese() {
         ratmanganese:*:check) names="--root= --archive= --provider= --least= --trusted-root= --now=" ;;
         ratmanganese:*:download) names="--root= --repository= --store= --provider= --target= --out= --now=" ;;
         ratmanganese:*:download-questions) names="--root= --repository= --store= --refused= --target= --out= --now=" ;;
-        ratmanganese:*:audit) names="--key= --provider= --first= --second= --tiles=" ;;
+        ratmanganese:*:audit) names="--key= --provider= --first= --second= --tiles= --origin= --witness= --witnesses=" ;;
         ratmanganese:*:generate) names="--number= --count=" ;;
-        ratmanganese:2:explain) names="tuf verify bundles statement archive audit gate status" ;;
+        ratmanganese:2:explain) names="tuf verify bundles statement archive audit witness gate status" ;;
         ratmanganese:*:install) paths=-d ;;
         ratmanganese:*:lib) paths=-d ;;
         verify-real:1:*) names="--root= --repository= --store= --bundle= --artifact= --policy= --bundles= --digest= --archive= --trusted-root= --now= --statement= --details --json --help gate archive check download audit" ;;
@@ -35,7 +35,7 @@ _ratmanganese() {
         verify-real:*:archive) names="--root= --repository= --store= --now= --help" ;;
         verify-real:*:check) names="--root= --archive= --least= --trusted-root= --now= --help" ;;
         verify-real:*:download) names="--root= --repository= --store= --target= --out= --now= --help" ;;
-        verify-real:*:audit) names="--key= --first= --second= --tiles= --help" ;;
+        verify-real:*:audit) names="--key= --first= --second= --tiles= --origin= --witness= --witnesses= --help" ;;
         verify-real:*) names="--root= --repository= --store= --bundle= --artifact= --policy= --bundles= --digest= --archive= --trusted-root= --now= --statement= --details --json --help" ;;
         fetch-repository:*) if [[ $word == -* ]]; then names="--root= --seconds= --help"; else paths=-d; fi ;;
         esac

@@ -4,6 +4,8 @@
 #[cfg(test)]
 mod archives;
 #[cfg(test)]
+mod audit_data;
+#[cfg(test)]
 mod audits;
 #[cfg(test)]
 mod bundles;

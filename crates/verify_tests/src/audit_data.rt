@@ -1,0 +1,33 @@
+// Witnesses of the audits, their lines of the checkpoints, and the signatures. Made by `bench/witness_vectors audits` with
+// OpenSSL, which found each of the signatures good.
+
+/// Texts that tell witnesses, by their names.
+pub(crate) const WITNESSES: &str = "\
+first first.example+3f675369+BLujfWyIQ8e1rX8PBwO/LTAJ83vEegxLWkVuuqfLYuVj
+second second.example+001346e0+BM3IZCrphlaRvspNLme7PlXZiPswjWJQmsvCHyMqDmUS
+third third.example+08981a1e+BHri753HMmKmaeqDGTwsMbZS+WEIqQ7ItdGwoiULUyXc
+alias alias.example+64fdc8ed+BLujfWyIQ8e1rX8PBwO/LTAJ83vEegxLWkVuuqfLYuVj
+renewed first.example+74300172+BHri753HMmKmaeqDGTwsMbZS+WEIqQ7ItdGwoiULUyXc
+log log.example+d8669889+AXri753HMmKmaeqDGTwsMbZS+WEIqQ7ItdGwoiULUyXc
+nobody nobody.example+00000000+AAAA";
+
+/// Lines of witnesses, by the number of leaves and the witness.
+pub(crate) const COSIGNATURES: &str = "\
+3first — first.example P2dTaQAAAABlU/Fnk6KIvolXYAFAn1mfbGh68hyNVLmk9OnKkcB9J9Smf+bEO64JGaTtkUe1ofvuZac5ZbUGIPLSwo3C6dkHp5QJDw==
+3second — second.example ABNG4AAAAABlU/FnQWelTvuZTFQCUui+GkhG6KonpU3c+pcd0aiWvvaMh0Eu/klLudLvcwvOOoU7CxxX+oHnZL6jN8EyH5uVjuvTDA==
+3third — third.example CJgaHgAAAABlU/Fnfmp/kPSO6ZGhSCZXRwV4I49o3OvNFUKPdjun8JbDCVXh0F6JTozgI2T2ontxzjqyjcLdaUewUNaiVMz+uWT2Aw==
+3alias — alias.example ZP3I7QAAAABlU/Fnk6KIvolXYAFAn1mfbGh68hyNVLmk9OnKkcB9J9Smf+bEO64JGaTtkUe1ofvuZac5ZbUGIPLSwo3C6dkHp5QJDw==
+7first — first.example P2dTaQAAAABlU/FrLUf+lUsI1knmFt58NlT6lB6/By2vqRra9c0TUyvL1hwwHHwmnlSnKYMOfotyWvzK9nP570+Nz9XGl9KyfHz0DA==
+7second — second.example ABNG4AAAAABlU/FrwOkP1CNyJumEWrOhfKrIWtrDnF0mEdmyBvHmuChJEEQRmL3BCN4hR6Gz/OvN5iOt2yvgZvalyEkViYkIoI5qDA==
+7third — third.example CJgaHgAAAABlU/Fr9LhhKfRNnoR80cCCgSnkWed04UiY4d+TRZTkcyb4EOtaUvQbGvweoA6BUa4B01hElIEweLmkzudRc9RDNDXFAw==
+7alias — alias.example ZP3I7QAAAABlU/FrLUf+lUsI1knmFt58NlT6lB6/By2vqRra9c0TUyvL1hwwHHwmnlSnKYMOfotyWvzK9nP570+Nz9XGl9KyfHz0DA==";
+
+/// The provider's rows of the signatures.
+pub(crate) const ROWS: &str = "\
+accept ED25519 u6N9bIhDx7Wtfw8HA78tMAnze8R6DEtaRW66p8ti5WM= Y29zaWduYXR1cmUvdjEKdGltZSAxNzAwMDAwMTAzCmV4YW1wbGUuY29tL2xvZwozCllUaGVaN1c2ZHRoVEd5Q3R3VXZzbnZiZ1ZUcTh4VzJKbm1RTlRXZEFGQ2s9Cg== k6KIvolXYAFAn1mfbGh68hyNVLmk9OnKkcB9J9Smf+bEO64JGaTtkUe1ofvuZac5ZbUGIPLSwo3C6dkHp5QJDw==
+accept ED25519 zchkKumGVpG+yk0uZ7s+VdmI+zCNYlCay8IfIyoOZRI= Y29zaWduYXR1cmUvdjEKdGltZSAxNzAwMDAwMTAzCmV4YW1wbGUuY29tL2xvZwozCllUaGVaN1c2ZHRoVEd5Q3R3VXZzbnZiZ1ZUcTh4VzJKbm1RTlRXZEFGQ2s9Cg== QWelTvuZTFQCUui+GkhG6KonpU3c+pcd0aiWvvaMh0Eu/klLudLvcwvOOoU7CxxX+oHnZL6jN8EyH5uVjuvTDA==
+accept ED25519 euLvnccyYqZp6oMZPCwxtlL5YQipDsi10bCiJQtTJdw= Y29zaWduYXR1cmUvdjEKdGltZSAxNzAwMDAwMTAzCmV4YW1wbGUuY29tL2xvZwozCllUaGVaN1c2ZHRoVEd5Q3R3VXZzbnZiZ1ZUcTh4VzJKbm1RTlRXZEFGQ2s9Cg== fmp/kPSO6ZGhSCZXRwV4I49o3OvNFUKPdjun8JbDCVXh0F6JTozgI2T2ontxzjqyjcLdaUewUNaiVMz+uWT2Aw==
+accept ED25519 u6N9bIhDx7Wtfw8HA78tMAnze8R6DEtaRW66p8ti5WM= Y29zaWduYXR1cmUvdjEKdGltZSAxNzAwMDAwMTA3CmV4YW1wbGUuY29tL2xvZwo3Cm1LNElIVzdhamVDZTFmakY2TWZmN3NheEtPbTM4M1p3czhYQzdlbG1JU3M9Cg== LUf+lUsI1knmFt58NlT6lB6/By2vqRra9c0TUyvL1hwwHHwmnlSnKYMOfotyWvzK9nP570+Nz9XGl9KyfHz0DA==
+accept ED25519 zchkKumGVpG+yk0uZ7s+VdmI+zCNYlCay8IfIyoOZRI= Y29zaWduYXR1cmUvdjEKdGltZSAxNzAwMDAwMTA3CmV4YW1wbGUuY29tL2xvZwo3Cm1LNElIVzdhamVDZTFmakY2TWZmN3NheEtPbTM4M1p3czhYQzdlbG1JU3M9Cg== wOkP1CNyJumEWrOhfKrIWtrDnF0mEdmyBvHmuChJEEQRmL3BCN4hR6Gz/OvN5iOt2yvgZvalyEkViYkIoI5qDA==
+accept ED25519 euLvnccyYqZp6oMZPCwxtlL5YQipDsi10bCiJQtTJdw= Y29zaWduYXR1cmUvdjEKdGltZSAxNzAwMDAwMTA3CmV4YW1wbGUuY29tL2xvZwo3Cm1LNElIVzdhamVDZTFmakY2TWZmN3NheEtPbTM4M1p3czhYQzdlbG1JU3M9Cg== 9LhhKfRNnoR80cCCgSnkWed04UiY4d+TRZTkcyb4EOtaUvQbGvweoA6BUa4B01hElIEweLmkzudRc9RDNDXFAw==
+";
