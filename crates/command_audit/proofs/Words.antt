@@ -17,7 +17,7 @@ use Rattle.command_files.specs.Named.{Values, named_of, text_at}
 use Rattle.command_files.specs.declared.usage_fault.UsageFault.{UsageFault}
 use Rattle.command_files.specs.declared.usage_fault.UsageFault.TheVariants.{Usage, NoMemory}
 use Rattle.command_audit.specs.Layout.{key_in, asked_in, layout_in, wanted, optional, audit_layout_of}
-use Rattle.command_audit.specs.Terms.{behind, vkeys_in, others_in, witnesses_from, least_in, least_of, witnesses_of}
+use Rattle.command_audit.specs.Terms.{behind, command_checked, vkeys_in, others_in, witnesses_from, least_in, least_of, witnesses_of}
 use Rattle.command_audit.specs.declared.layout.AuditLayout.{AuditLayout}
 use Rattle.command_audit.specs.declared.terms.Asked.{Asked}
 use Rattle.command_audit.specs.declared.terms.Witnesses.{Witnesses}
@@ -53,12 +53,13 @@ module _ (prefix text : List ℕ) where
 
 -- ---- the layout, from the values that were found
 
-module _ (words : List (List ℕ)) (named : List Witness) (found : Values) (w : witnesses_from [] (vkeys_in words) ≡ Ok named)
+module _ (words : List (List ℕ)) (named : List Witness) (found : Values) (x : ⊤) (c : command_checked words ≡ Ok x) (w : witnesses_from [] (vkeys_in words) ≡ Ok named)
     (n : named_of (codes "audit") wanted optional (others_in words) ≡ Ok found) where
   layout_is : audit_layout_of words ≡ layout_in named found
   unfolding audit_layout_of
   layout_is =
-      ap (λ (r : Result (List Witness) UsageFault). r >>= λ some. named_of (codes "audit") wanted optional (others_in words) >>= λ values. layout_in some values) w
+      ap (λ (r : Result ⊤ UsageFault). r >>= λ _. witnesses_from [] (vkeys_in words) >>= λ some. named_of (codes "audit") wanted optional (others_in words) >>= λ values. layout_in some values) c
+      ∙ ap (λ (r : Result (List Witness) UsageFault). r >>= λ some. named_of (codes "audit") wanted optional (others_in words) >>= λ values. layout_in some values) w
       ∙ ap (λ r. r >>= λ values. layout_in named values) n
 
   pub laid_out : (result : Result AuditLayout UsageFault) → IfOk result (λ l. layout_in named found ≡ Ok l) → IfOk result (λ l. audit_layout_of words ≡ Ok l)
@@ -102,7 +103,8 @@ few_told named (Some text) witnesses h =
 pub few_named : (words : List (List ℕ)) (layout : AuditLayout) → audit_layout_of words ≡ Ok layout → AreFew layout.asked.witnesses
 unfolding audit_layout_of
 few_named words layout h =
-    let named = step_ok (witnesses_from [] (vkeys_in words)) _ layout h in
+    let first = step_ok (command_checked words) _ layout h in
+    let named = step_ok (witnesses_from [] (vkeys_in words)) _ layout first.2 in
     let found = step_ok (named_of (codes "audit") wanted optional (others_in words)) _ layout named.2 in
     let asked = step_ok (asked_in named.0 found.0) _ layout found.2 in
     let key = step_ok (key_in (text_at (codes "--key") found.0)) _ asked.0 asked.1 in

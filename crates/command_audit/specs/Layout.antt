@@ -7,7 +7,7 @@ use Rattle.sigstore_types_parts.specs.Error.{types_of}
 use Rattle.log_witnesses.specs.declared.witness.Witness.{Witness}
 use Rattle.command_files.specs.Named.{Values, named_of, text_at}
 use Rattle.command_files.specs.declared.usage_fault.UsageFault.{UsageFault}
-use Rattle.command_audit.specs.Terms.{or_usage, vkeys_in, others_in, witnesses_from, witnesses_of}
+use Rattle.command_audit.specs.Terms.{or_usage, command_checked, vkeys_in, others_in, witnesses_from, witnesses_of}
 use Rattle.command_audit.specs.declared.layout.AuditLayout.{AuditLayout}
 use Rattle.command_audit.specs.declared.terms.Asked.{Asked}
 
@@ -43,6 +43,7 @@ optional = codes "--origin" ∷ codes "--witnesses" ∷ []
 
 unfoldable pub audit_layout_of : List (List ℕ) → Result AuditLayout UsageFault
 audit_layout_of words = do
+  _ ← command_checked words
   named ← witnesses_from [] (vkeys_in words)
   found ← named_of (codes "audit") wanted optional (others_in words)
   layout_in named found

@@ -1,7 +1,7 @@
 -- What an audit asks besides the log's signatures: of which log the checkpoints have to be, and how many of which witnesses have to have
 -- cosigned the newer one (C2SP tlog-cosignature). By the words; and where checkpoints are so.
 use Rattle.std.specs.Prelude.{◌≡◌, ◌≢◌, ℕ, ◌==◌, nat_eq, nat_le, List, [], ◌∷◌, ◌++◌, length, take, drop, bytes_eq, codes, filter, filter_map}
-use Rattle.std.specs.Prelude.{Bool, true, not, ◌&&◌, if◌then◌else◌, ⊤, is_none, Option, Some, None, Result, Ok, Err, ok_or}
+use Rattle.std.specs.Prelude.{Bool, true, not, ◌&&◌, ◌||◌, if◌then◌else◌, ⊤, is_none, Option, Some, None, Result, Ok, Err, ok_or}
 use Rattle.std.specs.List.{list_any}
 use Rattle.foundation.specs.Steps.{◌>>=◌}
 use Rattle.sigstore_entries.specs.Checkpoint.{shortest_of}
@@ -22,7 +22,12 @@ abbrev pub or_usage : {A E : Type 0} → Result A E → Result A UsageFault
 or_usage (Ok x) = Ok x
 or_usage (Err e) = Err Usage
 
--- ---- the witnesses that the words name
+-- ---- the words
+
+-- the first one is the command's
+abbrev pub command_checked : List (List ℕ) → Result ⊤ UsageFault
+command_checked [] = Err Usage
+command_checked (word ∷ words) = if bytes_eq word (codes "audit") then Ok tt else Err Usage
 
 -- what stands behind a prefix; none where the text doesn't begin with it
 unfoldable pub behind : List ℕ → List ℕ → Option (List ℕ)
@@ -39,13 +44,16 @@ vkeys_in words = filter_map vkey_in words
 abbrev pub others_in : List (List ℕ) → List (List ℕ)
 others_in words = filter (λ word. is_none (vkey_in word)) words
 
--- a witness has this key: whoever has two names is one party
-abbrev pub has_key : List ℕ → List Witness → Bool
-has_key key named = list_any (λ (witness : Witness). bytes_eq witness.key key) named
+-- they are one party: whoever has two names, or two keys
+abbrev pub is_same : Witness → Witness → Bool
+is_same one other = bytes_eq one.name other.name || bytes_eq one.key other.key
 
--- one more, whose key none of them has
+abbrev pub is_among : Witness → List Witness → Bool
+is_among witness named = list_any (λ other. is_same witness other) named
+
+-- one more, whose name and key none of them has
 abbrev pub with_witness : List Witness → Witness → Result (List Witness) UsageFault
-with_witness named witness = if has_key witness.key named then Err Usage else Ok (named ++ witness ∷ [])
+with_witness named witness = if is_among witness named then Err Usage else Ok (named ++ witness ∷ [])
 
 abbrev pub with_vkey : List Witness → List ℕ → Result (List Witness) UsageFault
 with_vkey named text = or_usage (witness_of text) >>= with_witness named

@@ -5,7 +5,7 @@ ghost use Rattle.command_files.specs.Named.{named_of, text_at};
 ghost use Rattle.command_audit.specs.Layout.{key_in, asked_in, layout_in, wanted, optional, audit_layout_of};
 ghost use Rattle.command_audit.specs.Terms.{others_in};
 
-use crate::terms::{Asked, asked_witnesses, named_witnesses, others};
+use crate::terms::{Asked, asked_witnesses, check_command, named_witnesses, others};
 use command_files::{UsageFault, named_words, text_at};
 use foundation::{NoMemory, Sequence};
 use log_witnesses::Witness;
@@ -112,13 +112,14 @@ fn values(alloc: Global, words: &[Text]) -> Result<TextMap<Text>, UsageFault>
 
 /// The layout that the words give: `audit`, then `--key=`, `--provider=`, `--first=`, `--second=`, `--tiles=`, each once, in
 /// any order, the key as base64 of a SubjectPublicKeyInfo. `--origin=` may stand once; and up to 64 times `--witness=`, each a
-/// verifier key of another witness, with `--witnesses=`, a number from 1 up to theirs. Errors: `Usage` for other words;
+/// verifier key with another name and key, with `--witnesses=`, a number from 1 up to theirs. Errors: `Usage` for other words;
 /// `NoMemory`.
 #[tactic(auto, unfolding(crate::specs::Layout::audit_layout_of))]
 pub fn audit_layout(alloc: Global, words: &[Text]) -> Result<AuditLayout, UsageFault>
     ensures ok { IfOk result (λ l. audit_layout_of words.now ≡ Ok l) }
     ensures err { IfErr result (λ e. e ≢ UsageFault.NoMemory → audit_layout_of words.now ≡ Err e) }
 {
+    check_command(words)?;
     let named = named_witnesses(alloc, words)?;
     let found = values(alloc, words)?;
     let layout = layout_in(alloc, named, &found);

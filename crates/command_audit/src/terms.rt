@@ -1,7 +1,7 @@
 // What an audit asks of the checkpoints, by its words.
 ghost use Rattle.std.specs.Prelude.{◌≡◌, ◌≢◌, ◌==◌, [], length, codes, Ok, Err, IfOk, IfErr, OnOk, option_map};
 ghost use Rattle.sigstore_types_parts.specs.Entries.{at_name};
-ghost use Rattle.command_audit.specs.Terms.{or_usage, vkey_in, vkeys_in, others_in, has_key, with_vkey, witnesses_from, least_in, least_of, witnesses_of};
+ghost use Rattle.command_audit.specs.Terms.{or_usage, vkey_in, command_checked, vkeys_in, others_in, is_same, is_among, with_vkey, witnesses_from, least_in, least_of, witnesses_of};
 ghost use Rattle.log_witnesses.specs.Witness.{witness_of};
 
 use command_files::UsageFault;
@@ -13,7 +13,7 @@ use sigstore_types_parts::{DerPublicKey, Text, TextMap};
 use std::alloc::Global;
 use std::num::NonZeroU8;
 
-/// Witnesses, each of another key, and how many of them have to have cosigned the newer checkpoint.
+/// Witnesses, each of another name and key, and how many of them have to have cosigned the newer checkpoint.
 #[derive(Drop)]
 pub struct Witnesses {
     pub least: Threshold,
@@ -26,6 +26,16 @@ pub struct Asked {
     pub key: DerPublicKey,
     pub origin: Option<Text>,
     pub witnesses: Option<Witnesses>,
+}
+
+// Whether the first word is the command's.
+pub(crate) fn check_command(words: &[Text]) -> Result<(), UsageFault>
+    ensures { result ≡ command_checked words.now }
+{
+    match words {
+        [word, ..] if word.as_str() == "audit" => Ok(()),
+        _ => Err(UsageFault::Usage),
+    }
 }
 
 // The text of a word `--witness=VKEY`.
@@ -61,10 +71,17 @@ fn vkeys(alloc: Global, words: &[Text]) -> Result<Sequence<Text>, NoMemory>
     Ok(texts)
 }
 
-fn has_key(key: &[u8], named: &[Witness]) -> bool
-    ensures { result ≡ has_key key.now named.now }
+// Whether two are one party.
+fn is_same(one: &Witness, other: &Witness) -> bool
+    ensures { result ≡ is_same one.now other.now }
 {
-    named.iter().any(|witness| witness.key() == key)
+    one.name() == other.name() || one.key() == other.key()
+}
+
+fn is_among(witness: &Witness, named: &[Witness]) -> bool
+    ensures { result ≡ is_among witness.now named.now }
+{
+    named.iter().any(|other| is_same(witness, other))
 }
 
 // The witness that a text tells.
@@ -79,13 +96,13 @@ fn read_witness(alloc: Global, text: &str) -> Result<Witness, UsageFault>
     }
 }
 
-// Adds the witness that a text tells, whose key none of the others has.
+// Adds the witness that a text tells, whose name and key none of the others has.
 fn add_witness(alloc: Global, named: &mut Sequence<Witness>, text: &str) -> Result<(), UsageFault>
     ensures ok { OnOk result (with_vkey named.old text.now ≡ Ok named.new) }
     ensures err { IfErr result (λ e. e ≢ UsageFault.NoMemory → with_vkey named.old text.now ≡ Err e) }
 {
     let witness = read_witness(alloc, text)?;
-    if has_key(witness.key(), named.as_slice()) {
+    if is_among(&witness, named.as_slice()) {
         drop(witness);
         return Err(UsageFault::Usage);
     }
