@@ -1,8 +1,7 @@
 -- What is said of two checkpoints of one growing tree, and when it isn't refused.
-use Rattle.std.proofs.Common.{◌≡◌, ◌≢◌, ℕ, ◌≤◌, List, length, Bool, true, false, bytes_eq, if◌then◌else◌, nat_le, Option, Some, None, Result, Ok, Err, IfOk, OnOk, refl, sym, ap, ◌∙◌, subst, arith}
+use Rattle.std.proofs.Common.{◌≡◌, ◌≢◌, ℕ, ◌≤◌, List, length, Bool, true, false, bytes_eq, if◌then◌else◌, nat_le, Option, Some, None, Result, Ok, Err, IfOk, refl, sym, ap, ◌∙◌, subst, arith}
 use Rattle.std.specs.Prelude.{⊤}
 use Rattle.std.proofs.lemmas.Slice.Eq.{bytes_eq-Decides}
-use Rattle.foundation.specs.Steps.{◌>>=◌}
 use Rattle.foundation.specs.Results.{ok_same, step_ok}
 use Rattle.foundation.specs.declared.no_memory.NoMemory.{NoMemory}
 use Rattle.sigstore_keys.specs.Distinct.{is_enough}
@@ -11,13 +10,11 @@ use Rattle.sigstore_keys.specs.Key.{spki_key_of}
 use Rattle.sigstore_keys.specs.declared.distinct.Threshold.{Threshold}
 use Rattle.sigstore_entries.specs.Checkpoint.{checkpoint_of}
 use Rattle.sigstore_entries.specs.declared.checkpoint.Checkpoint.{Checkpoint}
-use Rattle.log_tiles.specs.Auditing.{or_refusal, checkpoint_as, pair_of, signed_as, of_one_log, pair_signed, signed_pair}
+use Rattle.log_tiles.specs.Auditing.{or_refusal, checkpoint_as, pair_of, signed_as, pair_signed, signed_pair}
 use Rattle.log_tiles.specs.declared.error.TileError.{TileError}
 use Rattle.log_tiles.specs.declared.error.TileError.TheVariants as refusal
 use Rattle.log_tiles.specs.declared.error.WhichTree.TheVariants.{First, Second}
 use Rattle.log_witnesses.specs.Cosigned.{cosigned_by, cosigned_judged, max_witnesses}
-use Rattle.log_witnesses.specs.IsCosigned.{IsCosigned}
-use Rattle.log_witnesses.specs.Cause.{WitnessCause}
 use Rattle.log_witnesses.specs.declared.error.WitnessError.{WitnessError}
 use Rattle.log_witnesses.specs.declared.error.WitnessError.TheVariants as lacking
 use Rattle.log_witnesses.specs.declared.witness.Witness.{Witness}

@@ -7,7 +7,7 @@ use Rattle.std.proofs.lemmas.Bool.Decides.{nat_tests}
 use Rattle.std.proofs.lemmas.List.{take-append-drop}
 use Rattle.std.proofs.lemmas.Slice.Eq.{bytes_eq-Decides}
 use Rattle.foundation.specs.Steps.{◌>>=◌}
-use Rattle.foundation.specs.Results.{ok_same, step_ok, and_true}
+use Rattle.foundation.specs.Results.{ok_same, step_ok}
 use Rattle.sigstore_entries.specs.Checkpoint.{shortest_of}
 use Rattle.sigstore_keys.specs.declared.distinct.Threshold.{Threshold}
 use Rattle.sigstore_types_parts.specs.Entries.{at_name}
