@@ -1,3 +1,5 @@
 mod Completing
-mod Saying
+mod Concluding
 mod RunEnding
+mod Saying
+mod Words

@@ -1,11 +1,12 @@
 -- What the parts of a run of `audit` say of the whole.
-use Rattle.std.proofs.Common.{◌≡◌, ◌≢◌, inr, ℕ, List, Some, Result, Ok, Err, IfOk, IfErr, sym, ap, ◌∙◌, subst}
+use Rattle.std.proofs.Common.{◌≡◌, ◌≢◌, inr, ℕ, List, Some, Result, Ok, Err, IfOk, sym, ap, ◌∙◌, subst}
 use Rattle.std.specs.Prelude.{⊤}
-use Rattle.foundation.specs.Steps.{◌>>=◌}
 use Rattle.foundation.specs.Results.{ok_same, no_both}
 use Rattle.foundation.specs.Watched.{Watched}
 use Rattle.foundation.specs.declared.no_memory.NoMemory.{NoMemory}
 use Rattle.sigstore_keys.specs.Good.{Judge}
+use Rattle.sigstore_entries.specs.Checkpoint.{checkpoint_of}
+use Rattle.sigstore_entries.specs.declared.checkpoint.Checkpoint.{Checkpoint}
 use Rattle.log_tiles.specs.Auditing.{AuditCause, IsGrowth, OfSigned}
 use Rattle.log_tiles.specs.declared.auditing.Growth.{Growth}
 use Rattle.log_tiles.specs.Source.{Leaves}
@@ -13,7 +14,6 @@ use Rattle.log_tiles.specs.declared.error.TileError.{TileError}
 use Rattle.log_tiles.specs.declared.error.TileError.TheVariants as refusal
 use Rattle.command_files.specs.Answer.{stop_answer}
 use Rattle.command_files.specs.Ending.{TakesAll}
-use Rattle.command_files.specs.Named.{Values}
 use Rattle.command_files.specs.Starting.{misworded, lacking, unstarted, stopped, begun}
 use Rattle.command_files.specs.Whole.{GivesWhole}
 use Rattle.command_files.specs.declared.gather.CommandStop.{CommandStop}
@@ -21,53 +21,43 @@ use Rattle.command_files.specs.declared.gather.CommandStop.TheVariants.{Words, M
 use Rattle.command_files.specs.declared.answer.Answer.{Answer}
 use Rattle.command_files.specs.declared.answer.Status.{Status}
 use Rattle.command_files.specs.declared.answer.Status.TheVariants as status
-use Rattle.command_files.specs.declared.usage_fault.UsageFault.{UsageFault}
-use Rattle.command_files.specs.declared.usage_fault.UsageFault.TheVariants as usage
 use Rattle.command_audit.specs.Complete.{Completes}
-use Rattle.command_audit.specs.Run.{Log, Environment, max_checkpoint, consistent_answer, refused_answer, Judges, is_joined, is_refused, AuditsSecond, second_unread, judged, Audits, first_unread, first_read, Says, SaysWhole, Means}
+use Rattle.command_audit.specs.Run.{Log, Environment, max_checkpoint, refused_answer, Concludes, is_met, is_elsewhere, is_unwitnessed, Judges, is_joined, is_refused, AuditsSecond, second_unread, judged, Audits, first_unread, first_read, Says, SaysWhole, Means}
+use Rattle.command_audit.specs.declared.terms.Asked.{Asked}
 use Rattle.command_audit.proofs.Completing.{says_consistent}
+use Rattle.command_audit.proofs.Concluding.{newer_read}
 
 -- ---- what is said of joined ones
 
-pub joined_said : (accepts : Judge) (key first second : List ℕ) (old new : Watched Leaves) (found : Growth) (result : Result Answer NoMemory)
-    → OfSigned accepts key first second (λ older newer. IsGrowth older newer old.told found)
-    → IfOk result (λ said. said ≡ consistent_answer found.first found.second) → IfOk result (Judges accepts key first second old new)
-joined_said accepts key first second old new found (Err e) of s = tt
-joined_said accepts key first second old new found (Ok said) of s =
-    is_joined of.older of.newer found.proof of.signed of.holds.joined (rw (← of.holds.first, ← of.holds.second) s)
+pub joined_said : (accepts : Judge) (asked : Asked) (first second : List ℕ) (old new : Watched Leaves) (found : Growth) (size : ℕ) (result : Result Answer NoMemory)
+    → OfSigned accepts asked.key first second (λ older newer. IsGrowth older newer old.told found) → size ≡ found.first
+    → ((older newer : Checkpoint) → checkpoint_of second ≡ Ok newer → older.tree_size ≡ size → older.origin ≡ newer.origin → IfOk result (Concludes accepts asked older newer))
+    → IfOk result (Judges accepts asked first second old new)
+joined_said accepts asked first second old new found size result of same concludes =
+    let read = newer_read accepts asked.key first second of.older of.newer of.signed in
+    by_result result (concludes of.older of.newer read.0 (sym (same ∙ of.holds.first)) read.1)
+  where
+    by_result : (r : Result Answer NoMemory) → IfOk r (Concludes accepts asked of.older of.newer) → IfOk r (Judges accepts asked first second old new)
+    by_result (Ok said) c = is_joined of.older of.newer found.proof of.signed of.holds.joined c
+    by_result (Err e) c = tt
 
 -- ---- the parts of a run
 
-pub refused_said : (accepts : Judge) (key first second : List ℕ) (old new : Watched Leaves) (e : TileError) (result : Result Answer NoMemory) → e ≢ refusal.NoMemory
-    → AuditCause accepts key first second old new e → IfOk result (λ said. said ≡ refused_answer e) → IfOk result (Judges accepts key first second old new)
-refused_said accepts key first second old new e (Ok said) n c s = is_refused e n c s
-refused_said accepts key first second old new e (Err f) n c s = tt
+pub refused_said : (accepts : Judge) (asked : Asked) (first second : List ℕ) (old new : Watched Leaves) (e : TileError) (result : Result Answer NoMemory) → e ≢ refusal.NoMemory
+    → AuditCause accepts asked.key first second old new e → IfOk result (λ said. said ≡ refused_answer e) → IfOk result (Judges accepts asked first second old new)
+refused_said accepts asked first second old new e (Ok said) n c s = is_refused e n c s
+refused_said accepts asked first second old new e (Err f) n c s = tt
 
-pub second_said : (accepts : Judge) (key first : List ℕ) (old new : Watched (List ℕ)) (tiles tiles' : Watched Leaves) (second : List ℕ) (result : Result Answer NoMemory)
-    → GivesWhole old new max_checkpoint second → IfOk result (Judges accepts key first second tiles tiles') → IfOk result (AuditsSecond accepts key first old new tiles tiles')
-second_said accepts key first old new tiles tiles' second (Ok said) w j = judged second w j
-second_said accepts key first old new tiles tiles' second (Err e) w j = tt
+pub second_said : (accepts : Judge) (asked : Asked) (first : List ℕ) (old new : Watched (List ℕ)) (tiles tiles' : Watched Leaves) (second : List ℕ) (result : Result Answer NoMemory)
+    → GivesWhole old new max_checkpoint second → IfOk result (Judges accepts asked first second tiles tiles') → IfOk result (AuditsSecond accepts asked first old new tiles tiles')
+second_said accepts asked first old new tiles tiles' second (Ok said) w j = judged second w j
+second_said accepts asked first old new tiles tiles' second (Err e) w j = tt
 
-pub audits_said : (accepts : Judge) (key : List ℕ) (before after : Log) (first : List ℕ) (result : Result Answer NoMemory)
+pub audits_said : (accepts : Judge) (asked : Asked) (before after : Log) (first : List ℕ) (result : Result Answer NoMemory)
     → GivesWhole before.first after.first max_checkpoint first
-    → IfOk result (AuditsSecond accepts key first before.second after.second before.tiles after.tiles) → IfOk result (Audits accepts key before after)
-audits_said accepts key before after first (Ok said) w j = first_read first w j
-audits_said accepts key before after first (Err e) w j = tt
-
--- ---- the words
-
-pub read_ok : {A : Type 0} (found : Values) (read : Result Values UsageFault) (k : Values → Result A UsageFault) (result : Result A UsageFault) → read ≡ Ok found
-    → IfOk result (λ l. k found ≡ Ok l) → IfOk result (λ l. (read >>= k) ≡ Ok l)
-read_ok found read k (Ok l) e h = ap (λ r. r >>= k) e ∙ h
-read_ok found read k (Err f) e h = tt
-
-pub read_err : {A : Type 0} (found : Values) (read : Result Values UsageFault) (k : Values → Result A UsageFault) (result : Result A UsageFault) → read ≡ Ok found
-    → IfErr result (λ e. e ≢ usage.NoMemory → k found ≡ Err e) → IfErr result (λ e. e ≢ usage.NoMemory → (read >>= k) ≡ Err e)
-read_err found read k (Ok l) e h = tt
-read_err found read k (Err f) e h = λ n. ap (λ r. r >>= k) e ∙ h n
-
-pub unread_err : {A : Type 0} (read : Result Values UsageFault) (k : Values → Result A UsageFault) (f : UsageFault) → read ≡ Err f → (read >>= k) ≡ Err f
-unread_err read k f e = ap (λ r. r >>= k) e
+    → IfOk result (AuditsSecond accepts asked first before.second after.second before.tiles after.tiles) → IfOk result (Audits accepts asked before after)
+audits_said accepts asked before after first (Ok said) w j = first_read first w j
+audits_said accepts asked before after first (Err e) w j = tt
 
 -- ---- the whole
 
@@ -95,20 +85,26 @@ unfolding Told
 of_refused refusal.TileFailed = tt
 of_refused e = tt
 
-of_judges : (accepts : Judge) (key first second : List ℕ) (old new : Watched Leaves) (said : Answer) → Judges accepts key first second old new said → Told said.status
+of_concludes : (accepts : Judge) (asked : Asked) (older newer : Checkpoint) (said : Answer) → Concludes accepts asked older newer said → Told said.status
 unfolding Told
-of_judges accepts key first second old new said (is_joined older newer hashes h j s) = as_answer said _ s tt
-of_judges accepts key first second old new said (is_refused e n c s) = as_answer said _ s (of_refused e)
+of_concludes accepts asked older newer said (is_met o w s) = as_answer said _ s tt
+of_concludes accepts asked older newer said (is_elsewhere o s) = as_answer said _ s tt
+of_concludes accepts asked older newer said (is_unwitnessed e n o c s) = as_answer said _ s tt
 
-of_second : (accepts : Judge) (key first : List ℕ) (old new : Watched (List ℕ)) (tiles tiles' : Watched Leaves) (said : Answer) → AuditsSecond accepts key first old new tiles tiles' said → Told said.status
+of_judges : (accepts : Judge) (asked : Asked) (first second : List ℕ) (old new : Watched Leaves) (said : Answer) → Judges accepts asked first second old new said → Told said.status
 unfolding Told
-of_second accepts key first old new tiles tiles' said (second_unread u t s) = as_answer said _ s tt
-of_second accepts key first old new tiles tiles' said (judged second w j) = of_judges accepts key first second tiles tiles' said j
+of_judges accepts asked first second old new said (is_joined older newer hashes h j c) = of_concludes accepts asked older newer said c
+of_judges accepts asked first second old new said (is_refused e n c s) = as_answer said _ s (of_refused e)
 
-of_audits : (accepts : Judge) (key : List ℕ) (before after : Log) (said : Answer) → Audits accepts key before after said → Told said.status
+of_second : (accepts : Judge) (asked : Asked) (first : List ℕ) (old new : Watched (List ℕ)) (tiles tiles' : Watched Leaves) (said : Answer) → AuditsSecond accepts asked first old new tiles tiles' said → Told said.status
 unfolding Told
-of_audits accepts key before after said (first_unread u a t s) = as_answer said _ s tt
-of_audits accepts key before after said (first_read first w j) = of_second accepts key first _ _ _ _ said j
+of_second accepts asked first old new tiles tiles' said (second_unread u t s) = as_answer said _ s tt
+of_second accepts asked first old new tiles tiles' said (judged second w j) = of_judges accepts asked first second tiles tiles' said j
+
+of_audits : (accepts : Judge) (asked : Asked) (before after : Log) (said : Answer) → Audits accepts asked before after said → Told said.status
+unfolding Told
+of_audits accepts asked before after said (first_unread u a t s) = as_answer said _ s tt
+of_audits accepts asked before after said (first_read first w j) = of_second accepts asked first _ _ _ _ said j
 
 of_says : (words : List (List ℕ)) (before after : Environment) (said : Answer) → Says words before after (Ok said) → Told said.status
 of_says words before after said (unstarted e s o eq) = no_both said e eq

@@ -1,3 +1,4 @@
+pub mod Complete
 pub mod Layout
 pub mod Run
-pub mod Complete
+pub mod Terms

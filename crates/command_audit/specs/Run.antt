@@ -1,5 +1,5 @@
 -- A run of `audit`: what it says, and why.
-use Rattle.std.specs.Prelude.{◌≡◌, ◌≢◌, ℕ, ◌^◌, List, ◌∷◌, ◌++◌, codes, Result, Ok, IfOk}
+use Rattle.std.specs.Prelude.{◌≡◌, ◌≢◌, ℕ, ◌^◌, List, [], ◌∷◌, ◌++◌, codes, Option, Some, None, Result, Ok, IfOk}
 use Rattle.std.specs.Fmt.{decimal}
 use Rattle.foundation.specs.Watched.{Watched, Rose}
 use Rattle.foundation.specs.declared.no_memory.NoMemory as wanting
@@ -10,11 +10,14 @@ use Rattle.log_tiles.specs.Auditing.{AuditCause, signed_pair, AreJoined}
 use Rattle.log_tiles.specs.Error as refusal
 use Rattle.log_tiles.specs.declared.error.TileError.{TileError}
 use Rattle.log_tiles.specs.declared.error.TileError.TheVariants.{TileFailed, NoMemory}
+use Rattle.log_witnesses.specs.Error as witness
+use Rattle.log_witnesses.specs.declared.error.WitnessError.{WitnessError}
+use Rattle.log_witnesses.specs.declared.error.WitnessError.TheVariants as lacking
 use Rattle.command_files.specs.Answer.{answer}
 use Rattle.command_files.specs.Ending.{TakesAll}
 use Rattle.command_files.specs.Gather.{tables_in}
 use Rattle.command_files.specs.Inputs.{Supply}
-use Rattle.command_files.specs.Printed.{pair_line, refused_line}
+use Rattle.command_files.specs.Printed.{pair_line, number_line, refused_line}
 use Rattle.command_files.specs.Rows.{accepts_of}
 use Rattle.command_files.specs.Starting as start
 use Rattle.command_files.specs.Starting.{Decides}
@@ -24,6 +27,8 @@ use Rattle.command_files.specs.declared.answer.Status.{Status}
 use Rattle.command_files.specs.declared.answer.Status.TheVariants as status
 use Rattle.command_files.specs.declared.tables.Tables.{Tables}
 use Rattle.command_audit.specs.Layout.{audit_layout_of}
+use Rattle.command_audit.specs.Terms.{AreOfOrigin, AreElsewhere, IsWitnessed, cosigners_of, WitnessesCause}
+use Rattle.command_audit.specs.declared.terms.Asked.{Asked}
 
 -- ---- what is found and left
 
@@ -57,9 +62,23 @@ judge_of tables = accepts_of tables.provider.rows
 abbrev pub unread_answer : List ℕ → Answer
 unread_answer word = answer status.Input (pair_line (codes "input") word)
 
--- `consistent M N`: the sizes of both trees
-abbrev pub consistent_answer : ℕ → ℕ → Answer
-consistent_answer m n = answer status.Accepted (pair_line (codes "consistent") (decimal m ++ 32 ∷ decimal n))
+-- `cosigned N`: how many witnesses cosigned the newer checkpoint, where that is asked
+abbrev pub cosigned_text : Option ℕ → List ℕ
+cosigned_text None = []
+cosigned_text (Some count) = number_line (codes "cosigned") count
+
+-- `consistent M N`: the sizes of both trees; and behind it the witnesses
+abbrev pub consistent_answer : ℕ → ℕ → Option ℕ → Answer
+consistent_answer m n cosigned =
+    answer status.Accepted (pair_line (codes "consistent") (decimal m ++ 32 ∷ decimal n) ++ cosigned_text cosigned)
+
+-- the origin is another, which has the number behind those of an audit's other refusals
+abbrev pub origin_answer : Answer
+origin_answer = answer status.Refused (refused_line (codes "audit") 13 (codes "OriginMismatch"))
+
+-- the refusal of the witnesses
+abbrev pub witness_answer : WitnessError → Answer
+witness_answer e = answer status.Refused (refused_line (codes "witness") (witness.number_of e) (witness.name_of e))
 
 -- the tiles can't be read, or the refusal
 abbrev pub refused_answer : TileError → Answer
@@ -68,33 +87,43 @@ refused_answer e = answer status.Refused (refused_line (codes "audit") (refusal.
 
 -- ---- why it is said
 
--- The judgement of two checkpoints: they are signed under the key, and a proof of the tiles joins their trees; or why there is none.
-pub data Judges (accepts : Judge) (key first second : List ℕ) (old new : Watched Leaves) (said : Answer) : Type 0 where
-  is_joined : (older newer : Checkpoint) (hashes : Leaves) → signed_pair accepts key first second ≡ Ok (older, newer)
-      → AreJoined older newer old.told hashes → said ≡ consistent_answer older.tree_size newer.tree_size
-      → Judges accepts key first second old new said
-  is_refused : (e : TileError) → e ≢ NoMemory → AuditCause accepts key first second old new e
-      → said ≡ refused_answer e → Judges accepts key first second old new said
+-- What is said of two checkpoints of one growing tree: by their origin first, and then by the witnesses.
+pub data Concludes (accepts : Judge) (asked : Asked) (older newer : Checkpoint) (said : Answer) : Type 0 where
+  is_met : AreOfOrigin asked.origin older newer → IsWitnessed accepts asked.witnesses newer
+      → said ≡ consistent_answer older.tree_size newer.tree_size (cosigners_of accepts asked.witnesses newer)
+      → Concludes accepts asked older newer said
+  is_elsewhere : AreElsewhere asked.origin older newer → said ≡ origin_answer → Concludes accepts asked older newer said
+  is_unwitnessed : (e : WitnessError) → e ≢ lacking.NoMemory → AreOfOrigin asked.origin older newer
+      → WitnessesCause accepts asked.witnesses newer e → said ≡ witness_answer e → Concludes accepts asked older newer said
+
+-- The judgement of two checkpoints: they are signed under the key, and a proof of the tiles joins their trees, and they are as asked or
+-- not; or why there is no proof.
+pub data Judges (accepts : Judge) (asked : Asked) (first second : List ℕ) (old new : Watched Leaves) (said : Answer) : Type 0 where
+  is_joined : (older newer : Checkpoint) (hashes : Leaves) → signed_pair accepts asked.key first second ≡ Ok (older, newer)
+      → AreJoined older newer old.told hashes → Concludes accepts asked older newer said
+      → Judges accepts asked first second old new said
+  is_refused : (e : TileError) → e ≢ NoMemory → AuditCause accepts asked.key first second old new e
+      → said ≡ refused_answer e → Judges accepts asked first second old new said
 
 -- The newer checkpoint is read to its end, and both are judged.
-pub data AuditsSecond (accepts : Judge) (key first : List ℕ) (old new : Watched (List ℕ)) (tiles tiles' : Watched Leaves) (said : Answer) : Type 0 where
+pub data AuditsSecond (accepts : Judge) (asked : Asked) (first : List ℕ) (old new : Watched (List ℕ)) (tiles tiles' : Watched Leaves) (said : Answer) : Type 0 where
   second_unread : Unread max_checkpoint old new → tiles' ≡ tiles → said ≡ unread_answer (codes "second")
-      → AuditsSecond accepts key first old new tiles tiles' said
-  judged : (second : List ℕ) → GivesWhole old new max_checkpoint second → Judges accepts key first second tiles tiles' said
-      → AuditsSecond accepts key first old new tiles tiles' said
+      → AuditsSecond accepts asked first old new tiles tiles' said
+  judged : (second : List ℕ) → GivesWhole old new max_checkpoint second → Judges accepts asked first second tiles tiles' said
+      → AuditsSecond accepts asked first old new tiles tiles' said
 
 -- The older one first. What comes after a refusal isn't called.
-pub data Audits (accepts : Judge) (key : List ℕ) (before after : Log) (said : Answer) : Type 0 where
+pub data Audits (accepts : Judge) (asked : Asked) (before after : Log) (said : Answer) : Type 0 where
   first_unread : Unread max_checkpoint before.first after.first → after.second ≡ before.second → after.tiles ≡ before.tiles
-      → said ≡ unread_answer (codes "first") → Audits accepts key before after said
+      → said ≡ unread_answer (codes "first") → Audits accepts asked before after said
   first_read : (first : List ℕ) → GivesWhole before.first after.first max_checkpoint first
-      → AuditsSecond accepts key first before.second after.second before.tiles after.tiles said → Audits accepts key before after said
+      → AuditsSecond accepts asked first before.second after.second before.tiles after.tiles said → Audits accepts asked before after said
 
 -- The words first, then the input provider, then the checkpoints.
 abbrev pub Says : List (List ℕ) → Environment → Environment → Result Answer wanting.NoMemory → Type 0
 Says words before after result =
     Decides (audit_layout_of words) tables_in (λ said. said)
-    (λ layout tables old new said. IfOk said (Audits (judge_of tables) layout.key old new)) before after result
+    (λ layout tables old new said. IfOk said (Audits (judge_of tables) layout.asked old new)) before after result
 
 -- what is said was taken whole, and this is its status
 pub record SaysWhole (words : List (List ℕ)) (before after : Environment) (out out' : Watched (List ℕ)) (ended : Status) : Type 0 where

@@ -3,4 +3,5 @@ mod Judging
 mod Kept
 mod Open
 mod Reading
+mod Rooting
 mod Saying

@@ -16,11 +16,14 @@ use Rattle.command_files.specs.declared.answer.Status.TheVariants as status
 use Rattle.command_files.specs.declared.gather.CommandStop.{CommandStop}
 use Rattle.command_files.specs.declared.gather.CommandStop.TheVariants.{Words, Malformed, Input, Memory}
 use Rattle.command_files.specs.declared.usage_fault.UsageFault.TheVariants.{Usage}
+use Rattle.command_files.specs.declared.usage_fault.UsageFault.TheVariants as fault
 use Rattle.embedded_verify.specs.Handed.{held_in}
 use Rattle.embedded_verify.specs.Means.{Means}
-use Rattle.embedded_verify.specs.Unread.{IsUnread, no_moment, no_input, no_rows}
+use Rattle.embedded_verify.specs.Unread.{IsStopped, IsUnread, no_moment, no_way, long_archive, no_input, no_rows}
+use Rattle.embedded_verify.specs.Ways.{way_of}
 use Rattle.embedded_verify.specs.declared.request.Request.{Request}
 use Rattle.embedded_verify.proofs.Favouring.{never_unread}
+use Rattle.embedded_verify.proofs.Rooting.{not_risen}
 
 -- ---- the moment
 
@@ -31,9 +34,6 @@ no_instant (Ok t) o n taken is none now at = cc
 no_instant {E} (Err e) o n taken is none now at = let there : IsOk {T = jiff.Timestamp} {E = E} (Err e) = taken.1 (subst IsTimestampNanos at now.in_range) in cc
 
 -- ---- the inputs
-
-not_risen : Rose 0 0 → ⊥
-not_risen r = omega arith
 
 unsaid : (said : Answer) → stop_answer Memory ≡ Some said → ⊥
 unfolding stop_answer
@@ -46,18 +46,18 @@ told_same r b p g r' b' p' g' e f h k = cc
 
 module _ (request : Request) (before after : Supply) (told : before.told ≡ Some (held_in request)) (old : before.faults ≡ 0) (new : after.faults ≡ 0) where
   by_either : (stop : CommandStop) (said : Answer) → stop_answer stop ≡ Some said
-      → Rose before.faults after.faults ⊎ IfTold before.told (λ held. gathered_of held ≡ Err stop) → IsUnread request said
+      → Rose before.faults after.faults ⊎ IfTold before.told (λ held. gathered_of held ≡ Err stop) → IsStopped request said
   by_either stop said h (inl rose) = absurd (not_risen (subst (λ (n : ℕ). Rose 0 n) new (subst (λ (n : ℕ). Rose n after.faults) old rose)))
-  by_either stop said h (inr refuses) = no_input stop (subst (λ (t : Option Held). IfTold t (λ held. gathered_of held ≡ Err stop)) told refuses) h
+  by_either stop said h (inr refuses) = (stop, subst (λ (t : Option Held). IfTold t (λ held. gathered_of held ≡ Err stop)) told refuses, h)
 
-  by_lacking : (stop : CommandStop) (said : Answer) → ReadsAs gathered_of before after (Err stop) → stop_answer stop ≡ Some said → IsUnread request said
+  by_lacking : (stop : CommandStop) (said : Answer) → ReadsAs gathered_of before after (Err stop) → stop_answer stop ≡ Some said → IsStopped request said
   by_lacking Words said r h = by_either Words said h (r.err (λ e. cc))
   by_lacking (Malformed which) said r h = by_either (Malformed which) said h (r.err (λ e. cc))
   by_lacking (Input which) said r h = by_either (Input which) said h (r.err (λ e. cc))
   by_lacking Memory said r h = absurd (unsaid said h)
 
   -- what stops the reading of the inputs
-  pub unread : (said : Answer) → Stops {L = ⊤} (Ok tt) gathered_of before after said → IsUnread request said
+  pub unread : (said : Answer) → Stops {L = ⊤} (Ok tt) gathered_of before after said → IsStopped request said
   unread said (misworded w i h) = no_both {A = ⊤} tt Usage w
   unread said (lacking stop l h) = by_lacking stop said l.refused h
 
@@ -76,8 +76,22 @@ by_stop Memory said h = cc
 -- a line of usage is said, or one of an input
 either : (request : Request) (said : Answer) → IsUnread request said → (said ≡ answer status.Usage said.text) ⊎ (said ≡ answer status.Input said.text)
 either request said (no_moment none is) = inl (as_said status.Usage said _ is)
-either request said (no_input stop refused is) = by_stop stop said is
-either request said (no_rows refused is) = inl (as_said status.Usage said _ is)
+either request said (no_way refused is) = inl (as_said status.Usage said _ is)
+either request said (long_archive way told long is) = inr (as_said status.Input said _ is)
+either request said (no_input way told (stop, refused, is)) = by_stop stop said is
+either request said (no_rows way told refused is) = inl (as_said status.Usage said _ is)
+
+not_usage : {C : Type 0} (said : Answer) (text other : List ℕ) → said ≡ answer status.Usage text → said ≡ answer status.Input other → C
+not_usage said text other u i =
+    let same : status.Usage ≡ status.Input = sym (ap (λ (a : Answer). a.status) u) ∙ ap (λ (a : Answer). a.status) i in cc
+
+-- what is said of an input is said in one way
+one_way : {C : Type 0} (request : Request) (said : Answer) → IsUnread request said → said ≡ answer status.Input said.text → way_of request ≡ Err fault.Usage → C
+one_way request said (no_moment none is) i e = not_usage said _ _ is i
+one_way request said (no_way refused is) i e = not_usage said _ _ is i
+one_way request said (long_archive way told long is) i e = no_both way fault.Usage (sym told ∙ e)
+one_way request said (no_input way told stopped) i e = no_both way fault.Usage (sym told ∙ e)
+one_way request said (no_rows way told refused is) i e = no_both way fault.Usage (sym told ∙ e)
 
 -- what status 2 means
 pub misread_means : (request : Request) (said : Answer) (kept : List ℕ) → IsUnread request said → said ≡ answer status.Usage said.text → kept ≡ [] → Means request 2 said.text kept
@@ -89,6 +103,7 @@ misread_means request said kept u is none = record {
   asks = λ e. cc;
   known = omega arith;
   complete = λ f. absurd (never_unread request said f u);
+  one_way = λ e. refl;
   keeps_nothing = λ e d. none;
   not_cut = λ e. cc;
   not_wanting = λ e. cc;
@@ -104,6 +119,7 @@ lacking_means request said kept u is none = record {
   asks = λ e. cc;
   known = omega arith;
   complete = λ f. absurd (never_unread request said f u);
+  one_way = λ e. one_way request said u is e;
   keeps_nothing = λ e d. none;
   not_cut = λ e. cc;
   not_wanting = λ e. cc;

@@ -1,80 +1,66 @@
 -- What the statuses of a call mean.
-use Rattle.std.specs.Prelude.{◌≡◌, ◌≢◌, ℕ, ◌≤◌, List, [], ◌++◌, true, false, is_ok, Some, None, Result, Ok, Err}
-use Rattle.foundation.specs.Watched.{Watched}
+use Rattle.std.specs.Prelude.{◌≡◌, ◌≢◌, ℕ, ◌≤◌, List, [], ◌++◌, true, false, None, Ok, Err, Some}
 use Rattle.sigstore_keys.specs.declared.scheme.SigningScheme.{SigningScheme}
 use Rattle.sigstore_keys.specs.Crypto.{Crypto}
-use Rattle.sigstore_tuf_outside.specs.Repository.{Files}
-use Rattle.sigstore_verify.specs.declared.by_rules.RuleAcceptance.{RuleAcceptance}
-use Rattle.sigstore_verify.specs.declared.by_rules.RulesFault.{RulesFault}
-use Rattle.sigstore_verify.specs.ByRules.{RulesInputs, RunsByRules, IsAcceptedByRule, RulesFaultCause, PromisesByRules}
-use Rattle.sigstore_verify.specs.Inputs.{Outside}
+use Rattle.sigstore_judgement.specs.declared.error.Error.TheVariants.{NoMemory}
+use Rattle.sigstore_judgement.specs.declared.rules.JudgedByRule.{JudgedByRule}
+use Rattle.sigstore_judgement.specs.declared.rules.RulesError.TheVariants.{Shared}
 use Rattle.command_files.specs.Rows.{AcceptRows, accepts_of, is_subject}
 use Rattle.command_files.specs.declared.answer.Answer.{Answer}
-use Rattle.command_verify.specs.Report.{rule_report_of}
-use Rattle.command_verify.specs.Run.{given_under, are_several, refusal_answer, Answers}
+use Rattle.command_files.specs.declared.answer.Status.TheVariants as status
+use Rattle.command_ways.specs.declared.judging.Came.{Came}
+use Rattle.command_ways.specs.declared.judging.Came.TheVariants.{Untrusted, Judged}
+use Rattle.command_ways.specs.declared.trust.Trust.{Trust}
+use Rattle.command_ways.specs.Judging.{Judges, Outside, VerifiesWay, RefusalCause}
+use Rattle.command_ways.specs.Report.{way_text, untrusted_answer, refused_answer}
+use Rattle.command_ways.specs.Trust.{file_of, IsTrusted, GivesTrust}
 use Rattle.question_notes.specs.Lines.{accept_line}
-use Rattle.given_objects.specs.Given.{at_file, has_name, given_files, files_over}
-use Rattle.given_objects.specs.declared.file.File.{File}
+use Rattle.given_objects.specs.Given.{at_file, has_name}
 use Rattle.embedded_verify.specs.Complete.{Favoured}
-use Rattle.embedded_verify.specs.Handed.{found_in, knowing, trusting}
-use Rattle.embedded_verify.specs.Lines.{keep_lines, file_line}
-use Rattle.embedded_verify.specs.Unread.{IsUnread, IsMisread, LacksInput}
+use Rattle.embedded_verify.specs.Handed.{found_in}
+use Rattle.embedded_verify.specs.Judged.{given_in, anchor_in, asks_in, telling_in, as_known, as_trusted, FromRoot, Keeps}
+use Rattle.embedded_verify.specs.Lines.{file_line}
+use Rattle.embedded_verify.specs.Unread.{IsMisread, LacksInput}
+use Rattle.embedded_verify.specs.Ways.{TellsNoWay}
 use Rattle.embedded_verify.specs.declared.asked.Asked.{Asked}
-use Rattle.embedded_verify.specs.declared.asking.Asking.{Asking}
-use Rattle.embedded_verify.specs.declared.asking.Asking.TheVariants as asking
-use Rattle.embedded_verify.specs.declared.judge.Verdict.{Verdict}
 use Rattle.embedded_verify.specs.declared.request.Request.{Request}
-
--- what was read is that of the request; what is said where it isn't read has its cause
-abbrev pub IsAsking : Request → Asking → Type 0
-IsAsking request (asking.Asked asked) = asked.request.now ≡ request
-IsAsking request (asking.Stopped said) = IsUnread request said
-
--- what the top call is given: the request's inputs at its moment, and who decides signatures
-abbrev pub given_in : Crypto → Asked → RulesInputs
-given_in crypto asked = given_under crypto asked.gathered asked.moment
-
--- the signatures whose rows the request says to be good are good, and no others
-abbrev pub as_known : Asked → Crypto
-as_known asked = knowing asked.gathered.tables.provider.rows
-
--- all are but those whose rows the request says not to be
-abbrev pub as_trusted : Asked → Crypto
-as_trusted asked = trusting asked.bad.provider.rows
-
--- ---- what the store is to keep
-
--- The text has a line for each of these files; put over the files that were given, they are exactly what the store holds.
-pub record Keeps (given : List File) (store : Watched Files) (text : List ℕ) : Type 0 where
-  pub files : List (List ℕ × List ℕ)
-  pub text_is : text ≡ keep_lines files
-  pub holds : store.told ≡ Some (files_over files (given_files given))
 
 -- ---- accepted
 
--- The inputs were read, the verification over exactly what the request holds accepts by a rule, the text is exactly the report, and
--- what the store holds more than was given is what is to be kept.
+-- The inputs were read; by the way that the request tells there is a trusted root, which is trusted; under it a rule accepts, over the
+-- artifact's bytes or its told digests; all of it over exactly what the request holds. The text is exactly the report, and what the store
+-- holds more than was given is what is to be kept.
 pub record Accepts (request : Request) (out kept : List ℕ) : Type 0 where
   pub asked : Asked
   pub of : asked.request.now ≡ request
-  pub ruled : RuleAcceptance
+  pub trust : Trust
+  pub judged : JudgedByRule
   pub after : Outside
-  pub verified : RunsByRules (given_in (as_known asked) asked) (found_in request) after (Ok ruled)
-  pub accepted : IsAcceptedByRule (given_in (as_known asked) asked) (found_in request) after ruled
-  pub reported : rule_report_of (are_several asked.gathered) ruled ≡ Ok out
-  pub keeps : Keeps request.store.now after.store kept
+  pub given : GivesTrust (anchor_in (as_known asked) asked) asked.way.by (found_in request).sources after.sources (Ok trust)
+  pub trusted : IsTrusted (anchor_in (as_known asked) asked) trust
+  pub accepted : Judges (asks_in (as_known asked) asked) (file_of trust) asked.way.told (found_in request).source after.source (Ok judged)
+  pub from_root : FromRoot (given_in (as_known asked) asked) asked.way (found_in request) after (Judged trust (Ok judged))
+  pub reported : way_text trust judged (telling_in asked) ≡ Ok out
+  pub keeps : Keeps request.store.now after.sources.store kept
 
 -- ---- refused
 
+-- There is no trusted root, and that is said; or under one the judgement refuses, for its cause, and this is said.
+abbrev pub SaysRefusal : Crypto → Asked → Outside → Came → List ℕ → Type 0
+SaysRefusal crypto asked after (Untrusted why) out =
+    (said : Answer) × (untrusted_answer why ≡ Some said) × (said.status ≡ status.Refused) × (out ≡ said.text)
+SaysRefusal crypto asked after (Judged trust (Ok judged)) out = ⊥
+SaysRefusal crypto asked after (Judged trust (Err e)) out =
+    RefusalCause (asks_in crypto asked) (file_of trust) asked.way.told (found_in asked.request.now).source after.source e
+    × e ≢ Shared NoMemory × (out ≡ (refused_answer e).text)
+
 -- by this judge of signatures the verification refuses, for its cause, and the text is exactly what is said of it
 pub record RefusesBy (crypto : Crypto) (asked : Asked) (out : List ℕ) : Type 0 where
-  pub fault : RulesFault
+  pub came : Came
   pub after : Outside
-  pub verified : RunsByRules (given_in crypto asked) (found_in asked.request.now) after (Err fault)
-  pub cause : RulesFaultCause (given_in crypto asked) (found_in asked.request.now) after fault
-  pub said : Answer
-  pub line : refusal_answer fault ≡ Some said
-  pub text_is : out ≡ said.text
+  pub verified : VerifiesWay (given_in crypto asked) asked.way (found_in asked.request.now) after came
+  pub says : SaysRefusal crypto asked after came out
+  pub from_root : FromRoot (given_in crypto asked) asked.way (found_in asked.request.now) after came
 
 -- The inputs were read, and the verification over exactly what the request holds refuses; and it refuses in the same words where all
 -- signatures are good but those of which the request says that they aren't. (What was asked on the way stands in no contract.)
@@ -83,7 +69,7 @@ pub record Refuses (request : Request) (out kept : List ℕ) : Type 0 where
   pub of : asked.request.now ≡ request
   pub known : RefusesBy (as_known asked) asked out
   pub trusted : RefusesBy (as_trusted asked) asked out
-  pub keeps : Keeps request.store.now known.after.store kept
+  pub keeps : Keeps request.store.now known.after.sources.store kept
 
 -- ---- answers are wanted
 
@@ -118,32 +104,7 @@ pub record Asks (request : Request) (out : List ℕ) : Type 0 where
   pub lines : AsksLines asked out
   pub some : out ≢ []
 
--- ---- parts of a call
-
--- what a verification by this judge came to, how often the repository failed, what was left of the store, and what is said of it
-pub record IsJudged (crypto : Crypto) (asked : Asked) (faults : ℕ) (store : Watched Files) (verdict : Verdict) : Type 0 where
-  pub judged : Result RuleAcceptance RulesFault
-  pub after : Outside
-  pub promises : PromisesByRules (given_in crypto asked) (found_in asked.request.now) after judged
-  pub faults_are : after.repo.faults ≡ faults
-  pub store_is : after.store ≡ store
-  pub source_is : after.source.faults ≡ 0
-  pub accepted_is : verdict.accepted ≡ is_ok judged
-  pub answers : Answers (are_several asked.gathered) judged verdict.said
-
--- the same by what is known, with what is to be kept; a repository that has no files but those didn't fail
-pub record IsKnown (asked : Asked) (verdict : Verdict) (kept : List ℕ) : Type 0 where
-  pub faults : ℕ
-  pub store : Watched Files
-  pub judged : IsJudged (as_known asked) asked faults store verdict
-  pub whole : asked.request.now.whole ≡ true → faults ≡ 0
-  pub keeps : Keeps asked.request.now.store.now store kept
-
--- the same of the judge who takes what isn't known for good
-abbrev pub IsTrusting : Asked → Verdict → Type 0
-IsTrusting asked verdict = (faults : ℕ) × (store : Watched Files) × IsJudged (as_trusted asked) asked faults store verdict
-
--- what each status means, and when it has to be 0
+-- what each status means, when it has to be 0, and that a request that tells two ways, or none, has status 2
 pub record Means (request : Request) (status : ℕ) (out kept : List ℕ) : Type 0 where
   pub accepted : status ≡ 0 → Accepts request out kept
   pub refused : status ≡ 1 → Refuses request out kept
@@ -152,6 +113,7 @@ pub record Means (request : Request) (status : ℕ) (out kept : List ℕ) : Type
   pub asks : status ≡ 6 → Asks request out
   pub known : status ≤ 6
   pub complete : Favoured request → status ≡ 0
+  pub one_way : TellsNoWay request → status ≡ 2
   pub keeps_nothing : status ≢ 0 → status ≢ 1 → kept ≡ []
   pub not_cut : status ≢ 4
   pub not_wanting : status ≢ 5

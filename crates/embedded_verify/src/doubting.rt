@@ -1,7 +1,8 @@
 // The verdict by which what isn't known is taken for good, and the questions that it asks.
 ghost use Rattle.std.specs.Prelude.{◌≡◌, IfOk, string_bytes};
 ghost use Rattle.given_objects.specs.Given.{told_given};
-ghost use Rattle.embedded_verify.specs.Means.{AsksRows, AsksFile, AsksLines, IsTrusting};
+ghost use Rattle.embedded_verify.specs.Judged.{IsTrusting};
+ghost use Rattle.embedded_verify.specs.Means.{AsksRows, AsksFile, AsksLines};
 
 use crate::asked::Asked;
 use crate::judge::{Verdict, judge};

@@ -2,7 +2,7 @@
 ghost use Rattle.std.specs.Prelude.{◌≡◌, ◌++◌, true, IfOk, OnOk, string_bytes};
 ghost use Rattle.given_objects.specs.Given.{told_over};
 ghost use Rattle.embedded_verify.specs.Lines.{keep_lines};
-ghost use Rattle.embedded_verify.specs.Means.{Keeps, IsKnown};
+ghost use Rattle.embedded_verify.specs.Judged.{Keeps, IsKnown};
 
 use crate::asked::Asked;
 use crate::judge::{Verdict, judge};

@@ -1,13 +1,22 @@
 // What a call is given.
 ghost use Rattle.std.specs.Prelude.{◌≡◌, None, IfSome};
 ghost use Rattle.jiff_core.specs.declared.timestamp.Timestamp.{Timestamp as Instant};
-ghost use Rattle.embedded_verify.specs.Handed.{IsMoment};
+ghost use Rattle.embedded_verify.specs.Handed.{root_of, IsMoment};
 
 use given_objects::{File, GivenInputs, GivenRepository, Name};
 use jiff::Timestamp;
 
-/// What a call is given: the inputs, the files of the repository and of the store, what is known of signatures, and
-/// the verification time.
+/// The trusted root comes from the repository and the store.
+pub const FROM_REPOSITORY: u32 = 0;
+
+/// It comes from the archive.
+pub const FROM_ARCHIVE: u32 = 1;
+
+/// The caller hands it in.
+pub const FROM_CALLER: u32 = 2;
+
+/// What a call is given: the inputs, from where the trusted root comes, the artifact or its digests, what is known of
+/// signatures, and the verification time. What the way that is told doesn't take is empty.
 #[repr(C)]
 #[derive(Clone, Copy)]
 pub struct Request<'a> {
@@ -35,18 +44,43 @@ pub struct Request<'a> {
     pub nanoseconds: u32,
     /// Whether the repository has no files but those.
     pub whole: bool,
+    /// The artifact's digest by SHA-256, where it is told; else empty.
+    pub sha256: &'a [u8],
+    /// That by SHA-384.
+    pub sha384: &'a [u8],
+    /// That by SHA-512.
+    pub sha512: &'a [u8],
+    /// The archive, of at most 256 MiB, in place of the repository and the store.
+    pub archive: &'a [u8],
+    /// The trusted root, of at most 512,000 bytes, in place of the pinned root, the repository and the store.
+    pub trusted_root: &'a [u8],
+    /// From where the trusted root comes: `FROM_REPOSITORY`, `FROM_ARCHIVE` or `FROM_CALLER`.
+    pub trust: u32,
+    /// Whether the artifact is told by its digests, in place of its bytes.
+    pub told: bool,
 }
 
 impl<'a> Request<'a> {
-    /// The inputs that are read: the root, the bundle, the policy, and the rows of the good signatures.
+    // The pinned root; or the trusted root, where the caller hands it in.
+    fn root(&self) -> &'a [u8]
+        ensures { result.now ≡ root_of self.now }
+    {
+        if self.trust == FROM_CALLER {
+            return self.trusted_root;
+        }
+        self.root
+    }
+
+    /// The inputs that are read: the root, the bundle, the policy, and the rows of the good signatures. Where the caller
+    /// hands in the trusted root, it stands in the root's place.
     pub fn inputs(&self) -> GivenInputs<'a>
-        ensures root { result.root.now ≡ self.now.root.now }
+        ensures root { result.root.now ≡ root_of self.now }
         ensures bundle { result.bundle.now ≡ self.now.bundle.now }
         ensures policy { result.policy.now ≡ self.now.policy.now }
         ensures provider { result.provider.now ≡ self.now.good.now }
         ensures missing { result.missing ≡ None }
     {
-        GivenInputs::new(self.root, self.bundle, self.policy, self.good)
+        GivenInputs::new(self.root(), self.bundle, self.policy, self.good)
     }
 
     /// The repository.

@@ -1,6 +1,7 @@
 // What a call says.
 ghost use Rattle.std.specs.Prelude.{◌≡◌, false, IfOk, string_bytes};
-ghost use Rattle.embedded_verify.specs.Means.{IsKnown, Means};
+ghost use Rattle.embedded_verify.specs.Judged.{IsKnown};
+ghost use Rattle.embedded_verify.specs.Means.{Means};
 ghost use Rattle.embedded_verify.specs.Unread.{IsUnread};
 ghost use Rattle.embedded_verify.specs.declared.request.Request.{Request};
 

@@ -33,13 +33,13 @@ pub fn audit_objects_at<X: Runtime + AllocGlobal>(
     ensures tiles { result.tiles.dir ≡ layout.tiles }
 {
     let AuditLayout {
-        key,
+        asked,
         provider,
         first,
         second,
         tiles,
     } = layout;
-    drop(key);
+    drop(asked);
     let alloc = rt.alloc();
     AuditObjects {
         inputs: FileInputs::new(rt, empty(alloc), empty(alloc), empty(alloc), provider),

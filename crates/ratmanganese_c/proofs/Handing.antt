@@ -2,6 +2,7 @@
 use Rattle.std.proofs.Common.{◌≡◌, ◌≢◌, ◌⊎◌, inl, inr, ℕ, ◌≤◌, List, sym, ◌∙◌, subst, arith}
 use Rattle.embedded_verify.specs.Complete.{Favoured}
 use Rattle.embedded_verify.specs.Means.{Means}
+use Rattle.embedded_verify.specs.Ways.{TellsNoWay}
 use Rattle.embedded_verify.specs.declared.request.Request.{Request}
 
 uncut : (result status : ℕ) → (result ≡ 4) ⊎ (result ≡ status) → result ≢ 4 → result ≡ status
@@ -18,6 +19,12 @@ pub complete_of : (request : Request) (result status : ℕ) (o k : List ℕ) →
     → Favoured request → (result ≡ 0) ⊎ (result ≡ 4) ⊎ (result ≡ 5)
 complete_of request result status o k m (inl cut) f = inr (inl cut)
 complete_of request result status o k m (inr same) f = inl (same ∙ m.complete f)
+
+-- and one that tells two ways or none is refused as that, or it is cut
+pub one_way_of : (request : Request) (result status : ℕ) (o k : List ℕ) → Means request status o k → (result ≡ 4) ⊎ (result ≡ status)
+    → TellsNoWay request → (result ≡ 2) ⊎ (result ≡ 4) ⊎ (result ≡ 5)
+one_way_of request result status o k m (inl cut) n = inr (inl cut)
+one_way_of request result status o k m (inr same) n = inl (same ∙ m.one_way n)
 
 -- where nothing was cut off, what was said is what is handed over
 pub handed : (request : Request) (result status : ℕ) (out kept o k : List ℕ) → Means request status o k → (result ≡ 4) ⊎ (result ≡ status) → (result ≢ 4 → out ≡ o)

@@ -1,11 +1,12 @@
-//! The verification of a bundle from a pinned TUF root as a static library for C. It opens, reads and writes nothing:
-//! all that is judged is handed in as bytes, and what is missing comes out as questions.
+//! The verification of a bundle as a static library for C, in any way that the command `verify` has. It opens, reads and writes
+//! nothing: all that is judged is handed in as bytes, and what is missing comes out as questions.
 #![tactic(auto)]
 
 ghost use Rattle.std.specs.Prelude.{◌≡◌, ◌≢◌, ◌⊎◌, ◌<◌, ◌≤◌, length, take, string_bytes};
 ghost use Rattle.embedded_verify.specs.Complete.{Favoured};
 ghost use Rattle.embedded_verify.specs.Means.{Accepts, Refuses, Asks};
 ghost use Rattle.embedded_verify.specs.Unread.{IsMisread, LacksInput};
+ghost use Rattle.embedded_verify.specs.Ways.{TellsNoWay};
 
 use embedded_verify::{Request, Said, answer};
 use foundation::NoMemory;
@@ -47,11 +48,12 @@ fn hand_over(said: &Said, out: &mut [u8], kept: &mut [u8], lengths: &mut Lengths
 }
 
 /// Verifies over the files and answers that are handed in. Status 0: accepted, with the report in `out`. 1: refused,
-/// with its lines, and no question is open. 2 and 3: an input is outside its grammar, or too long, with a line. 4: `out` or
-/// `kept` is too short for its text, and the lengths tell what they take. 5: out of memory, or a check of the call's own work
-/// failed, which no request is known to cause; nothing was written. 6: not all is known, and `out` has the questions, a line each: rows of a provider file, of which those of good signatures go into `good` and
-/// the others into `bad`, and `file NAME MAX`, the name in base64, for a file of the repository of which at most so many
-/// bytes are of use. With 0 and 1 `kept` has the files that the store is to keep, as lines `keep NAME BYTES`, both in
+/// with its lines, and no question is open. 2: an input is outside its grammar, or the request tells two ways or none, with a
+/// line. 3: an input is too long, with a line. 4: `out` or `kept` is too short for its text, and the lengths tell what they
+/// take. 5: out of memory, or a check of the call's own work failed, which no request is known to cause; nothing was written.
+/// 6: not all is known, and `out` has the questions, a line each: rows of a provider file, of which those of good signatures
+/// go into `good` and the others into `bad`, and `file NAME MAX`, the name in base64, for a file of the repository of which
+/// at most so many bytes are of use. With 0 and 1 `kept` has the files that the store is to keep, as lines `keep NAME BYTES`, both in
 /// base64, or a dash where there are none.
 #[unsafe(no_mangle)]
 pub extern "C" fn ratmanganese_verify(
@@ -68,6 +70,7 @@ pub extern "C" fn ratmanganese_verify(
     ensures asks { result ≡ 6 → Asks request.now (take lengths.new.out out.new) }
     ensures known { result ≤ 6 }
     ensures complete { Favoured request.now → (result ≡ 0) ⊎ (result ≡ 4) ⊎ (result ≡ 5) }
+    ensures one_way { TellsNoWay request.now → (result ≡ 2) ⊎ (result ≡ 4) ⊎ (result ≡ 5) }
     ensures empty { result ≡ 5 → (lengths.new.out ≡ 0) × (lengths.new.kept ≡ 0) }
     ensures kept { result ≢ 0 → result ≢ 1 → result ≢ 4 → lengths.new.kept ≡ 0 }
     ensures short { result ≡ 4 → (length out.old < lengths.new.out) ⊎ (length kept.old < lengths.new.kept) }

@@ -1,10 +1,11 @@
 // Audits over the tiles of seven leaves, the hashes of which are their numbers 32 times over.
-use crate::tables::{bytes, failures, good, hold, string, text_of, there, words};
+use crate::audit_data::{COSIGNATURES, ROWS, WITNESSES};
+use crate::tables::{bytes, failures, good, halves, hold, string, text, text_of, there};
 use command_audit::{Checkpoints, run_audit};
 use command_files::{InputFile, MemoryInputs, MemorySink, Status};
 use log_tiles::MemoryTiles;
 use sigstore_keys::MemorySource;
-use sigstore_types_parts::{Hash, Sha256Hash};
+use sigstore_types_parts::{Hash, Sha256Hash, Text};
 use std::num::NonZeroU32;
 use std::process::Abort;
 
@@ -27,8 +28,19 @@ const ELSEWHERE: &str = "example.com/second\n7\nmK4IHW7ajeCe1fjF6Mff7saxKOm383Zw
 const PROVIDER: &str =
     "accept ECDSA_P256_SHA256 BAAAAAAAAAAAAAAAAAAAAAAAAAAAAAAAAAAAAAAAAAAAAAAAAAAAAAAAAAAAAAAAAAAAAAAAAAAAAAAAAAAAAAA= Xce1X6DHRzIHvC8ha8bOg7y11+cZPWmLbxnlMlPAjbs= AQ==\naccept ECDSA_P256_SHA256 BAAAAAAAAAAAAAAAAAAAAAAAAAAAAAAAAAAAAAAAAAAAAAAAAAAAAAAAAAAAAAAAAAAAAAAAAAAAAAAAAAAAAAA= 9z/5F5S2I046Q+Ga71jtCasj/FeO35rjRJX9/oqj0fE= AQ==\naccept ECDSA_P256_SHA256 BAAAAAAAAAAAAAAAAAAAAAAAAAAAAAAAAAAAAAAAAAAAAAAAAAAAAAAAAAAAAAAAAAAAAAAAAAAAAAAAAAAAAAA= 0kQwjiriECLSWTRVwnPgeFg9OYTnxsUKuZfd4EI8UMo= AQ==\naccept ECDSA_P256_SHA256 BAAAAAAAAAAAAAAAAAAAAAAAAAAAAAAAAAAAAAAAAAAAAAAAAAAAAAAAAAAAAAAAAAAAAAAAAAAAAAAAAAAAAAA= TuLz+4hxZOlhmTogPNFJi9NabcT4L2anetQDcni3hrU= AQ==\n";
 
-// The checkpoint of that name.
-fn checkpoint<X: AllocGlobal + Abort>(rt: &X, name: &str) -> String {
+// What a table has behind a name.
+fn behind<X: Abort>(rt: &X, table: &'static str, name: &str) -> &'static str {
+    for row in table.lines() {
+        let (first, rest) = halves(rt, row, " ");
+        if first == name {
+            return rest;
+        }
+    }
+    there(rt, None)
+}
+
+// The checkpoint of that name, without the lines of witnesses.
+fn logged<X: AllocGlobal + Abort>(rt: &X, name: &str) -> String {
     let (body, line) = match name {
         "three" => (THREE, LINE),
         "seven" => (SEVEN, LINE),
@@ -44,6 +56,44 @@ fn checkpoint<X: AllocGlobal + Abort>(rt: &X, name: &str) -> String {
     let mut text = string(rt, body);
     good(rt, text.push_str(line));
     text
+}
+
+// The checkpoint of that name, with the lines of the witnesses behind a plus.
+fn checkpoint<X: AllocGlobal + Abort>(rt: &X, name: &str) -> String {
+    match name.split_once('+') {
+        Some((name, lines)) => {
+            let mut text = logged(rt, name);
+            for line in lines.split('+') {
+                good(rt, text.push_str(behind(rt, COSIGNATURES, line)));
+                good(rt, text.push('\n'));
+            }
+            text
+        }
+        None => logged(rt, name),
+    }
+}
+
+// The words of a row: a witness is told by its name.
+fn words<X: AllocGlobal + Abort>(rt: &X, line: &str) -> Vec<Text> {
+    let mut words = Vec::new(rt.alloc());
+    for word in line.split_whitespace() {
+        let mut spelled = string(rt, word);
+        if let Some(name) = word.strip_prefix("--witness=") {
+            spelled.clear();
+            good(rt, spelled.push_str("--witness="));
+            good(rt, spelled.push_str(behind(rt, WITNESSES, name)));
+        }
+        there(rt, words.push(text(rt, spelled.as_str())).ok());
+        drop(spelled);
+    }
+    words
+}
+
+// The provider file: the log's signatures, and the witnesses'.
+fn provider<X: AllocGlobal + Abort>(rt: &X) -> String {
+    let mut rows = string(rt, PROVIDER);
+    good(rt, rows.push_str(ROWS));
+    rows
 }
 
 // A source of that checkpoint, of which the first read fails where it is the one that is named.
@@ -79,7 +129,9 @@ pub(crate) fn said<X: AllocGlobal + Abort>(rt: &X, row: &str) -> String {
     let tiles_fail = failures(rt, if fails == "tiles" { "1" } else { "" });
     let mut tiles = MemoryTiles::new(leaves(rt, count), tiles_fail);
     let mut inputs = MemoryInputs::new(failures(rt, if fails == "inputs" { "1" } else { "" }));
-    inputs.put(InputFile::Provider, bytes(rt, PROVIDER.as_bytes()));
+    let rows = provider(rt);
+    inputs.put(InputFile::Provider, bytes(rt, rows.as_bytes()));
+    drop(rows);
     let sink_fails = failures(rt, if fails == "sink" { "1" } else { "" });
     let mut sink = good(rt, MemorySink::new(rt.alloc(), 1024, sink_fails));
     let words = words(rt, line);
@@ -132,7 +184,38 @@ three seven 7 tiles | audit --key=MFkwEwYHKoZIzj0CAQYIKoZIzj0DAQcDQgAEAAAAAAAAAA
 three seven 7 sink | audit --key=MFkwEwYHKoZIzj0CAQYIKoZIzj0DAQcDQgAEAAAAAAAAAAAAAAAAAAAAAAAAAAAAAAAAAAAAAAAAAAAAAAAAAAAAAAAAAAAAAAAAAAAAAAAAAAAAAAAAAAAAAA== --provider=b --first=c --second=d --tiles=e | Output ""
 three seven 7 | audit --key=%% --provider=b --first=c --second=d --tiles=e | Usage "usage\n"
 three seven 7 | audit --key=MFkwEwYHKoZIzj0CAQYIKoZIzj0DAQcDQgAEAAAAAAAAAAAAAAAAAAAAAAAAAAAAAAAAAAAAAAAAAAAAAAAAAAAAAAAAAAAAAAAAAAAAAAAAAAAAAAAAAAAAAA== --provider=b --first=c --second=d | Usage "usage\n"
-three seven 7 | audit --key=MFkwEwYHKoZIzj0CAQYIKoZIzj0DAQcDQgAEAAAAAAAAAAAAAAAAAAAAAAAAAAAAAAAAAAAAAAAAAAAAAAAAAAAAAAAAAAAAAAAAAAAAAAAAAAAAAAAAAAAAAA== --provider=b --first=c --second=d --tiles=e --now=2025-01-01T00:00:00Z | Usage "usage\n""#;
+three seven 7 | audit --key=MFkwEwYHKoZIzj0CAQYIKoZIzj0DAQcDQgAEAAAAAAAAAAAAAAAAAAAAAAAAAAAAAAAAAAAAAAAAAAAAAAAAAAAAAAAAAAAAAAAAAAAAAAAAAAAAAAAAAAAAAA== --provider=b --first=c --second=d --tiles=e --now=2025-01-01T00:00:00Z | Usage "usage\n"
+three seven 7 | audit --key=MFkwEwYHKoZIzj0CAQYIKoZIzj0DAQcDQgAEAAAAAAAAAAAAAAAAAAAAAAAAAAAAAAAAAAAAAAAAAAAAAAAAAAAAAAAAAAAAAAAAAAAAAAAAAAAAAAAAAAAAAA== --provider=b --first=c --second=d --tiles=e --origin=example.com/log | Accepted "consistent 3 7\n"
+three seven 7 | audit --key=MFkwEwYHKoZIzj0CAQYIKoZIzj0DAQcDQgAEAAAAAAAAAAAAAAAAAAAAAAAAAAAAAAAAAAAAAAAAAAAAAAAAAAAAAAAAAAAAAAAAAAAAAAAAAAAAAAAAAAAAAA== --provider=b --first=c --second=d --tiles=e --origin=example.com/lo | Refused "refused audit 13 OriginMismatch\n"
+three seven 7 | audit --key=MFkwEwYHKoZIzj0CAQYIKoZIzj0DAQcDQgAEAAAAAAAAAAAAAAAAAAAAAAAAAAAAAAAAAAAAAAAAAAAAAAAAAAAAAAAAAAAAAAAAAAAAAAAAAAAAAAAAAAAAAA== --provider=b --first=c --second=d --tiles=e --origin=example.com/logs | Refused "refused audit 13 OriginMismatch\n"
+elsewhere elsewhere 7 | audit --key=MFkwEwYHKoZIzj0CAQYIKoZIzj0DAQcDQgAEAAAAAAAAAAAAAAAAAAAAAAAAAAAAAAAAAAAAAAAAAAAAAAAAAAAAAAAAAAAAAAAAAAAAAAAAAAAAAAAAAAAAAA== --provider=b --first=c --second=d --tiles=e --origin=example.com/second | Accepted "consistent 7 7\n"
+elsewhere elsewhere 7 | audit --key=MFkwEwYHKoZIzj0CAQYIKoZIzj0DAQcDQgAEAAAAAAAAAAAAAAAAAAAAAAAAAAAAAAAAAAAAAAAAAAAAAAAAAAAAAAAAAAAAAAAAAAAAAAAAAAAAAAAAAAAAAA== --provider=b --first=c --second=d --tiles=e --origin=example.com/log | Refused "refused audit 13 OriginMismatch\n"
+three elsewhere 7 | audit --key=MFkwEwYHKoZIzj0CAQYIKoZIzj0DAQcDQgAEAAAAAAAAAAAAAAAAAAAAAAAAAAAAAAAAAAAAAAAAAAAAAAAAAAAAAAAAAAAAAAAAAAAAAAAAAAAAAAAAAAAAAA== --provider=b --first=c --second=d --tiles=e --origin=example.com/log | Refused "refused audit 11 Origin\n"
+three other 7 | audit --key=MFkwEwYHKoZIzj0CAQYIKoZIzj0DAQcDQgAEAAAAAAAAAAAAAAAAAAAAAAAAAAAAAAAAAAAAAAAAAAAAAAAAAAAAAAAAAAAAAAAAAAAAAAAAAAAAAAAAAAAAAA== --provider=b --first=c --second=d --tiles=e --origin=example.com/second | Refused "refused audit 9 RootMismatch\n"
+three seven+7first 7 | audit --key=MFkwEwYHKoZIzj0CAQYIKoZIzj0DAQcDQgAEAAAAAAAAAAAAAAAAAAAAAAAAAAAAAAAAAAAAAAAAAAAAAAAAAAAAAAAAAAAAAAAAAAAAAAAAAAAAAAAAAAAAAA== --provider=b --first=c --second=d --tiles=e --witness=first --witnesses=1 | Accepted "consistent 3 7\ncosigned 1\n"
+three seven+7second+7first 7 | audit --key=MFkwEwYHKoZIzj0CAQYIKoZIzj0DAQcDQgAEAAAAAAAAAAAAAAAAAAAAAAAAAAAAAAAAAAAAAAAAAAAAAAAAAAAAAAAAAAAAAAAAAAAAAAAAAAAAAAAAAAAAAA== --provider=b --first=c --second=d --tiles=e --witnesses=2 --witness=first --witness=second | Accepted "consistent 3 7\ncosigned 2\n"
+three seven+7second+7first 7 | audit --key=MFkwEwYHKoZIzj0CAQYIKoZIzj0DAQcDQgAEAAAAAAAAAAAAAAAAAAAAAAAAAAAAAAAAAAAAAAAAAAAAAAAAAAAAAAAAAAAAAAAAAAAAAAAAAAAAAAAAAAAAAA== --provider=b --first=c --second=d --tiles=e --witness=first --origin=example.com/log --witness=second --witnesses=1 | Accepted "consistent 3 7\ncosigned 2\n"
+three seven+7first 7 | audit --key=MFkwEwYHKoZIzj0CAQYIKoZIzj0DAQcDQgAEAAAAAAAAAAAAAAAAAAAAAAAAAAAAAAAAAAAAAAAAAAAAAAAAAAAAAAAAAAAAAAAAAAAAAAAAAAAAAAAAAAAAAA== --provider=b --first=c --second=d --tiles=e --witness=first --witness=second --witness=third --witnesses=1 | Accepted "consistent 3 7\ncosigned 1\n"
+three seven+7first 7 | audit --key=MFkwEwYHKoZIzj0CAQYIKoZIzj0DAQcDQgAEAAAAAAAAAAAAAAAAAAAAAAAAAAAAAAAAAAAAAAAAAAAAAAAAAAAAAAAAAAAAAAAAAAAAAAAAAAAAAAAAAAAAAA== --provider=b --first=c --second=d --tiles=e --witness=first --witness=second --witnesses=2 | Refused "refused witness 5 TooFew\n"
+three seven+7first+7first 7 | audit --key=MFkwEwYHKoZIzj0CAQYIKoZIzj0DAQcDQgAEAAAAAAAAAAAAAAAAAAAAAAAAAAAAAAAAAAAAAAAAAAAAAAAAAAAAAAAAAAAAAAAAAAAAAAAAAAAAAAAAAAAAAA== --provider=b --first=c --second=d --tiles=e --witness=first --witness=second --witnesses=2 | Refused "refused witness 5 TooFew\n"
+three seven+7first+7alias 7 | audit --key=MFkwEwYHKoZIzj0CAQYIKoZIzj0DAQcDQgAEAAAAAAAAAAAAAAAAAAAAAAAAAAAAAAAAAAAAAAAAAAAAAAAAAAAAAAAAAAAAAAAAAAAAAAAAAAAAAAAAAAAAAA== --provider=b --first=c --second=d --tiles=e --witness=first --witness=second --witnesses=2 | Refused "refused witness 5 TooFew\n"
+three+3first seven 7 | audit --key=MFkwEwYHKoZIzj0CAQYIKoZIzj0DAQcDQgAEAAAAAAAAAAAAAAAAAAAAAAAAAAAAAAAAAAAAAAAAAAAAAAAAAAAAAAAAAAAAAAAAAAAAAAAAAAAAAAAAAAAAAA== --provider=b --first=c --second=d --tiles=e --witness=first --witnesses=1 | Refused "refused witness 5 TooFew\n"
+three+3first seven+3first 7 | audit --key=MFkwEwYHKoZIzj0CAQYIKoZIzj0DAQcDQgAEAAAAAAAAAAAAAAAAAAAAAAAAAAAAAAAAAAAAAAAAAAAAAAAAAAAAAAAAAAAAAAAAAAAAAAAAAAAAAAAAAAAAAA== --provider=b --first=c --second=d --tiles=e --witness=first --witnesses=1 | Refused "refused witness 5 TooFew\n"
+three seven+7third 7 | audit --key=MFkwEwYHKoZIzj0CAQYIKoZIzj0DAQcDQgAEAAAAAAAAAAAAAAAAAAAAAAAAAAAAAAAAAAAAAAAAAAAAAAAAAAAAAAAAAAAAAAAAAAAAAAAAAAAAAAAAAAAAAA== --provider=b --first=c --second=d --tiles=e --witness=first --witnesses=1 | Refused "refused witness 5 TooFew\n"
+three seven+7first 7 | audit --key=MFkwEwYHKoZIzj0CAQYIKoZIzj0DAQcDQgAEAAAAAAAAAAAAAAAAAAAAAAAAAAAAAAAAAAAAAAAAAAAAAAAAAAAAAAAAAAAAAAAAAAAAAAAAAAAAAAAAAAAAAA== --provider=b --first=c --second=d --tiles=e --witness=first --witnesses=1 --origin=example.com/second | Refused "refused audit 13 OriginMismatch\n"
+three other+7first 7 | audit --key=MFkwEwYHKoZIzj0CAQYIKoZIzj0DAQcDQgAEAAAAAAAAAAAAAAAAAAAAAAAAAAAAAAAAAAAAAAAAAAAAAAAAAAAAAAAAAAAAAAAAAAAAAAAAAAAAAAAAAAAAAA== --provider=b --first=c --second=d --tiles=e --witness=first --witnesses=1 | Refused "refused audit 9 RootMismatch\n"
+three seven+7first 7 | audit --key=MFkwEwYHKoZIzj0CAQYIKoZIzj0DAQcDQgAEAAAAAAAAAAAAAAAAAAAAAAAAAAAAAAAAAAAAAAAAAAAAAAAAAAAAAAAAAAAAAAAAAAAAAAAAAAAAAAAAAAAAAA== --provider=b --first=c --second=d --tiles=e --witness=first | Usage "usage\n"
+three seven+7first 7 | audit --key=MFkwEwYHKoZIzj0CAQYIKoZIzj0DAQcDQgAEAAAAAAAAAAAAAAAAAAAAAAAAAAAAAAAAAAAAAAAAAAAAAAAAAAAAAAAAAAAAAAAAAAAAAAAAAAAAAAAAAAAAAA== --provider=b --first=c --second=d --tiles=e --witnesses=1 | Usage "usage\n"
+three seven+7first 7 | audit --key=MFkwEwYHKoZIzj0CAQYIKoZIzj0DAQcDQgAEAAAAAAAAAAAAAAAAAAAAAAAAAAAAAAAAAAAAAAAAAAAAAAAAAAAAAAAAAAAAAAAAAAAAAAAAAAAAAAAAAAAAAA== --provider=b --first=c --second=d --tiles=e --witness=first --witnesses=0 | Usage "usage\n"
+three seven+7first 7 | audit --key=MFkwEwYHKoZIzj0CAQYIKoZIzj0DAQcDQgAEAAAAAAAAAAAAAAAAAAAAAAAAAAAAAAAAAAAAAAAAAAAAAAAAAAAAAAAAAAAAAAAAAAAAAAAAAAAAAAAAAAAAAA== --provider=b --first=c --second=d --tiles=e --witness=first --witnesses=2 | Usage "usage\n"
+three seven+7first 7 | audit --key=MFkwEwYHKoZIzj0CAQYIKoZIzj0DAQcDQgAEAAAAAAAAAAAAAAAAAAAAAAAAAAAAAAAAAAAAAAAAAAAAAAAAAAAAAAAAAAAAAAAAAAAAAAAAAAAAAAAAAAAAAA== --provider=b --first=c --second=d --tiles=e --witness=first --witnesses=01 | Usage "usage\n"
+three seven+7first 7 | audit --key=MFkwEwYHKoZIzj0CAQYIKoZIzj0DAQcDQgAEAAAAAAAAAAAAAAAAAAAAAAAAAAAAAAAAAAAAAAAAAAAAAAAAAAAAAAAAAAAAAAAAAAAAAAAAAAAAAAAAAAAAAA== --provider=b --first=c --second=d --tiles=e --witness=first --witnesses=1 --witnesses=1 | Usage "usage\n"
+three seven+7first 7 | audit --key=MFkwEwYHKoZIzj0CAQYIKoZIzj0DAQcDQgAEAAAAAAAAAAAAAAAAAAAAAAAAAAAAAAAAAAAAAAAAAAAAAAAAAAAAAAAAAAAAAAAAAAAAAAAAAAAAAAAAAAAAAA== --provider=b --first=c --second=d --tiles=e --witness=first --witness=first --witnesses=1 | Usage "usage\n"
+three seven+7first 7 | audit --key=MFkwEwYHKoZIzj0CAQYIKoZIzj0DAQcDQgAEAAAAAAAAAAAAAAAAAAAAAAAAAAAAAAAAAAAAAAAAAAAAAAAAAAAAAAAAAAAAAAAAAAAAAAAAAAAAAAAAAAAAAA== --provider=b --first=c --second=d --tiles=e --witness=first --witness=alias --witnesses=1 | Usage "usage\n"
+three seven+7first 7 | audit --key=MFkwEwYHKoZIzj0CAQYIKoZIzj0DAQcDQgAEAAAAAAAAAAAAAAAAAAAAAAAAAAAAAAAAAAAAAAAAAAAAAAAAAAAAAAAAAAAAAAAAAAAAAAAAAAAAAAAAAAAAAA== --provider=b --first=c --second=d --tiles=e --witness=first --witness=nobody --witnesses=1 | Usage "usage\n"
+three seven+7first 7 | audit --key=MFkwEwYHKoZIzj0CAQYIKoZIzj0DAQcDQgAEAAAAAAAAAAAAAAAAAAAAAAAAAAAAAAAAAAAAAAAAAAAAAAAAAAAAAAAAAAAAAAAAAAAAAAAAAAAAAAAAAAAAAA== --provider=b --first=c --second=d --tiles=e --witness=log --witnesses=1 | Usage "usage\n"
+three seven 7 | audit --key=MFkwEwYHKoZIzj0CAQYIKoZIzj0DAQcDQgAEAAAAAAAAAAAAAAAAAAAAAAAAAAAAAAAAAAAAAAAAAAAAAAAAAAAAAAAAAAAAAAAAAAAAAAAAAAAAAAAAAAAAAA== --provider=b --first=c --second=d --tiles=e --origin= | Usage "usage\n"
+three seven 7 | audit --key=MFkwEwYHKoZIzj0CAQYIKoZIzj0DAQcDQgAEAAAAAAAAAAAAAAAAAAAAAAAAAAAAAAAAAAAAAAAAAAAAAAAAAAAAAAAAAAAAAAAAAAAAAAAAAAAAAAAAAAAAAA== --provider=b --first=c --second=d --tiles=e --origin=example.com/log --origin=example.com/log | Usage "usage\n""#;
 
 #[test]
 fn checkpoints_are_audited(rt: HostRuntime) {

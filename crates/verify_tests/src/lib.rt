@@ -4,7 +4,11 @@
 #[cfg(test)]
 mod archives;
 #[cfg(test)]
+mod audit_data;
+#[cfg(test)]
 mod audits;
+#[cfg(test)]
+mod bundles;
 #[cfg(test)]
 mod delegated;
 #[cfg(test)]
@@ -26,9 +30,9 @@ mod keyless_data;
 #[cfg(test)]
 mod logged;
 #[cfg(test)]
-mod runs;
+mod outputs;
 #[cfg(test)]
-mod statements;
+mod runs;
 #[cfg(test)]
 mod tables;
 #[cfg(test)]

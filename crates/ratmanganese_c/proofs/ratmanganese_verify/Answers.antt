@@ -1,5 +1,5 @@
 use Rattle.std.proofs.Common.{◌≡◌, sym, ◌∙◌}
-use Rattle.ratmanganese_c.proofs.Handing.{handed, known_of, complete_of}
+use Rattle.ratmanganese_c.proofs.Handing.{handed, known_of, complete_of, one_way_of}
 use Rattle.ratmanganese_c.proofs.ratmanganese_verify.Goals as goal
 
 pub returns-in-Ok-clause-accepted : goal.returns-in-Ok-clause-accepted
@@ -25,3 +25,6 @@ returns-in-Ok-clause-known c = known_of _ _ _ _ _ c.in-Ok.ensures c.hand_over.en
 
 pub returns-in-Ok-clause-complete : goal.returns-in-Ok-clause-complete
 returns-in-Ok-clause-complete c = complete_of _ _ _ _ _ c.in-Ok.ensures c.hand_over.ensures.status
+
+pub returns-in-Ok-clause-one_way : goal.returns-in-Ok-clause-one_way
+returns-in-Ok-clause-one_way c = one_way_of _ _ _ _ _ c.in-Ok.ensures c.hand_over.ensures.status

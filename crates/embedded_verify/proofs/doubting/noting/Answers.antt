@@ -1,5 +1,5 @@
 use Rattle.std.proofs.lemmas.Result.{IfOk-weaker}
-use Rattle.embedded_verify.specs.Means.{as_trusted, IsJudged, IsTrusting}
+use Rattle.embedded_verify.specs.Judged.{as_trusted, IsJudged, IsTrusting}
 use Rattle.given_objects.specs.Given.{told_over}
 use Rattle.embedded_verify.proofs.doubting.noting.Goals as goal
 

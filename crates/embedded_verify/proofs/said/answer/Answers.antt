@@ -1,5 +1,5 @@
 use Rattle.std.proofs.Common.{subst}
-use Rattle.embedded_verify.specs.Means.{IsAsking}
+use Rattle.embedded_verify.specs.Judged.{IsAsking}
 use Rattle.embedded_verify.proofs.said.answer.Goals as goal
 
 pub returns-in-Stopped : goal.returns-in-Stopped

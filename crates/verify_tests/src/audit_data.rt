@@ -1,0 +1,32 @@
+// Witnesses of the audits, their lines of the checkpoints, and the signatures. Made by `bench/witness_vectors audits` with
+// OpenSSL, which found each of the signatures good.
+
+/// Texts that tell witnesses, by their names.
+pub(crate) const WITNESSES: &str = "\
+first first.example+fcc3250a+BCCzOoTEijBZ6OWc569ff9mWzWLnIVZL8BtUSgnMljI7
+second second.example+7ecedf88+BPXyPTiRPOF3cj+hIxQlyRPxFN4FGIkAT6yIPV8+unHa
+third third.example+5ad0d984+BOl3dRWxx9n80hNi26xFafB4bOGvkQW1zHbc6UEOt0PN
+alias alias.example+7f519729+BCCzOoTEijBZ6OWc569ff9mWzWLnIVZL8BtUSgnMljI7
+log log.example+fba04c7c+Ael3dRWxx9n80hNi26xFafB4bOGvkQW1zHbc6UEOt0PN
+nobody nobody.example+00000000+AAAA";
+
+/// Lines of witnesses, by the number of leaves and the witness.
+pub(crate) const COSIGNATURES: &str = "\
+3first — first.example /MMlCgAAAABlU/Fnov45nyLipMdJXRDe2l/XpmsWbVOF40Q6rLeqAbnw0HLwo5PmS5+uEiGAMkAZbC1v7WZfiJPSzroxJzVx64M/BQ==
+3second — second.example fs7fiAAAAABlU/Fn5houDjKQLueI8/sUlkb57MW5nrKde60RDewH2XeoPGjGDJNuKLejzM/2Bus+PDrqDoomrdcDAswG4uuuVZwaBQ==
+3third — third.example WtDZhAAAAABlU/Fnml1NbfraQR5lsMG6yBpd3oIKpkkEv1O7VSKzGPz5jFhTrk9XdhSdywwUK8FvpaUXCn/PxMy/8C5aesgGKR62CQ==
+3alias — alias.example f1GXKQAAAABlU/Fnov45nyLipMdJXRDe2l/XpmsWbVOF40Q6rLeqAbnw0HLwo5PmS5+uEiGAMkAZbC1v7WZfiJPSzroxJzVx64M/BQ==
+7first — first.example /MMlCgAAAABlU/Frca1lMqav8yQ2um0p8foep7JP0gWhjn5+t9avaX4oBI0vmR/VQ31N7lAClTINnvzrEgYCi+cGfAuVj+fUlyBlDA==
+7second — second.example fs7fiAAAAABlU/FrT9x/Zrg2Y/011Ii818I664UstgiDjuGNGFpwLNw+Lu/C4LXuzcV2q710BlgwaJyu+Gbh0iVyo75LO1hpDSvCCg==
+7third — third.example WtDZhAAAAABlU/FrGhVhtkWPdWHDtZqKciAjjRTKnh9rh+qXBgYqr/sUj1W7Rz9z11TBEnOWTdA2PnJB/b5su8J3QvaJL/aCSf3ABw==
+7alias — alias.example f1GXKQAAAABlU/Frca1lMqav8yQ2um0p8foep7JP0gWhjn5+t9avaX4oBI0vmR/VQ31N7lAClTINnvzrEgYCi+cGfAuVj+fUlyBlDA==";
+
+/// The provider's rows of the signatures.
+pub(crate) const ROWS: &str = "\
+accept ED25519 ILM6hMSKMFno5Zznr19/2ZbNYuchVkvwG1RKCcyWMjs= Y29zaWduYXR1cmUvdjEKdGltZSAxNzAwMDAwMTAzCmV4YW1wbGUuY29tL2xvZwozCllUaGVaN1c2ZHRoVEd5Q3R3VXZzbnZiZ1ZUcTh4VzJKbm1RTlRXZEFGQ2s9Cg== ov45nyLipMdJXRDe2l/XpmsWbVOF40Q6rLeqAbnw0HLwo5PmS5+uEiGAMkAZbC1v7WZfiJPSzroxJzVx64M/BQ==
+accept ED25519 9fI9OJE84XdyP6EjFCXJE/EU3gUYiQBPrIg9Xz66cdo= Y29zaWduYXR1cmUvdjEKdGltZSAxNzAwMDAwMTAzCmV4YW1wbGUuY29tL2xvZwozCllUaGVaN1c2ZHRoVEd5Q3R3VXZzbnZiZ1ZUcTh4VzJKbm1RTlRXZEFGQ2s9Cg== 5houDjKQLueI8/sUlkb57MW5nrKde60RDewH2XeoPGjGDJNuKLejzM/2Bus+PDrqDoomrdcDAswG4uuuVZwaBQ==
+accept ED25519 6Xd1FbHH2fzSE2LbrEVp8Hhs4a+RBbXMdtzpQQ63Q80= Y29zaWduYXR1cmUvdjEKdGltZSAxNzAwMDAwMTAzCmV4YW1wbGUuY29tL2xvZwozCllUaGVaN1c2ZHRoVEd5Q3R3VXZzbnZiZ1ZUcTh4VzJKbm1RTlRXZEFGQ2s9Cg== ml1NbfraQR5lsMG6yBpd3oIKpkkEv1O7VSKzGPz5jFhTrk9XdhSdywwUK8FvpaUXCn/PxMy/8C5aesgGKR62CQ==
+accept ED25519 ILM6hMSKMFno5Zznr19/2ZbNYuchVkvwG1RKCcyWMjs= Y29zaWduYXR1cmUvdjEKdGltZSAxNzAwMDAwMTA3CmV4YW1wbGUuY29tL2xvZwo3Cm1LNElIVzdhamVDZTFmakY2TWZmN3NheEtPbTM4M1p3czhYQzdlbG1JU3M9Cg== ca1lMqav8yQ2um0p8foep7JP0gWhjn5+t9avaX4oBI0vmR/VQ31N7lAClTINnvzrEgYCi+cGfAuVj+fUlyBlDA==
+accept ED25519 9fI9OJE84XdyP6EjFCXJE/EU3gUYiQBPrIg9Xz66cdo= Y29zaWduYXR1cmUvdjEKdGltZSAxNzAwMDAwMTA3CmV4YW1wbGUuY29tL2xvZwo3Cm1LNElIVzdhamVDZTFmakY2TWZmN3NheEtPbTM4M1p3czhYQzdlbG1JU3M9Cg== T9x/Zrg2Y/011Ii818I664UstgiDjuGNGFpwLNw+Lu/C4LXuzcV2q710BlgwaJyu+Gbh0iVyo75LO1hpDSvCCg==
+accept ED25519 6Xd1FbHH2fzSE2LbrEVp8Hhs4a+RBbXMdtzpQQ63Q80= Y29zaWduYXR1cmUvdjEKdGltZSAxNzAwMDAwMTA3CmV4YW1wbGUuY29tL2xvZwo3Cm1LNElIVzdhamVDZTFmakY2TWZmN3NheEtPbTM4M1p3czhYQzdlbG1JU3M9Cg== GhVhtkWPdWHDtZqKciAjjRTKnh9rh+qXBgYqr/sUj1W7Rz9z11TBEnOWTdA2PnJB/b5su8J3QvaJL/aCSf3ABw==
+";
