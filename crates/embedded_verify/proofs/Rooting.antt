@@ -108,7 +108,7 @@ module _ (anchor : Anchor) (by : TrustedBy) (before after : Sources) (bytes : Li
   archived_reads : Archived anchor before.archive after.archive (Err fault.Unread) → ⊥
   archived_reads (unread u e) = never_unread before.archive after.archive max_archive bytes (ap (λ (w : Watched (List ℕ)). w.told) told) no_rise short u
   archived_reads (read found w (inl e)) = cc
-  archived_reads (read found w (inr (d, e, h))) = cc
+  archived_reads (read found w (inr (d, e, h, k))) = cc
   archived_reads (wanting e) = let w = err_same fault.Unread fault.NoMemory e in cc
 
   is_read : GivesTrust anchor by before after (Err fault.Unread) → ⊥
