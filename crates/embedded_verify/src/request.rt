@@ -1,5 +1,5 @@
 // What a call is given.
-ghost use Rattle.std.specs.Prelude.{◌≡◌, None, IfSome};
+ghost use Rattle.std.specs.Prelude.{◌≡◌, None, IfSome, pos, ◌+ℤ◌, ◌*ℤ◌};
 ghost use Rattle.jiff_core.specs.declared.timestamp.Timestamp.{Timestamp as Instant};
 ghost use Rattle.embedded_verify.specs.Handed.{root_of, IsMoment};
 
@@ -60,6 +60,13 @@ pub struct Request<'a> {
     pub told: bool,
 }
 
+// The nanoseconds since the start of 1970 of so many seconds, and nanoseconds behind them.
+fn nanosecond_at(seconds: i64, nanoseconds: u32) -> i128
+    ensures { result ≡ seconds *ℤ pos 1_000_000_000 +ℤ pos nanoseconds }
+{
+    seconds as i128 * 1_000_000_000 + nanoseconds as i128
+}
+
 impl<'a> Request<'a> {
     // The pinned root; or the trusted root, where the caller hands it in.
     fn root(&self) -> &'a [u8]
@@ -96,7 +103,6 @@ impl<'a> Request<'a> {
         ensures some { IfSome result (IsMoment self.now) }
         ensures none { result ≡ None → (now : Instant) → IsMoment self.now now → ⊥ }
     {
-        let nanosecond = self.seconds as i128 * 1_000_000_000 + self.nanoseconds as i128;
-        Timestamp::from_nanosecond(nanosecond).ok()
+        Timestamp::from_nanosecond(nanosecond_at(self.seconds, self.nanoseconds)).ok()
     }
 }
