@@ -1,6 +1,6 @@
 -- What is said of a request that isn't read.
 use Rattle.std.proofs.Common.{◌≡◌, ◌⊎◌, inl, inr, ℕ, ℤ, List, [], Option, Some, None, Result, Ok, Err, refl, sym, ap, ◌∙◌, subst, arith}
-use Rattle.std.specs.Prelude.{◌↔◌, IsOk, IfOk, IfSome, ⊤}
+use Rattle.std.specs.Prelude.{◌↔◌, IsOk, ⊤}
 use Rattle.std.specs.Result.{result_ok}
 use Rattle.jiff_core.specs.Timestamp.{IsTimestampNanos}
 use Rattle.jiff_core.specs.declared.timestamp.Timestamp as jiff
@@ -32,12 +32,6 @@ pub no_instant : {E : Type 0} (r : Result jiff.Timestamp E) (o : Option jiff.Tim
     → (now : jiff.Timestamp) → now.nanosecond ≡ n → ⊥
 no_instant (Ok t) o n taken is none now at = cc
 no_instant {E} (Err e) o n taken is none now at = let there : IsOk {T = jiff.Timestamp} {E = E} (Err e) = taken.1 (subst IsTimestampNanos at now.in_range) in cc
-
--- and the one that is there has the number that is taken
-pub is_instant : {E : Type 0} (r : Result jiff.Timestamp E) (o : Option jiff.Timestamp) (n : ℤ) → IfOk r (λ t. t.nanosecond ≡ n) → o ≡ result_ok r
-    → IfSome o (λ t. t.nanosecond ≡ n)
-is_instant (Ok t) o n value is = subst (λ (p : Option jiff.Timestamp). IfSome p (λ t. t.nanosecond ≡ n)) (sym is) value
-is_instant (Err e) o n value is = subst (λ (p : Option jiff.Timestamp). IfSome p (λ t. t.nanosecond ≡ n)) (sym is) tt
 
 -- ---- the inputs
 

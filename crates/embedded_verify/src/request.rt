@@ -60,11 +60,13 @@ pub struct Request<'a> {
     pub told: bool,
 }
 
-// The nanoseconds since the start of 1970 of so many seconds, and nanoseconds behind them.
-fn nanosecond_at(seconds: i64, nanoseconds: u32) -> i128
-    ensures { result ≡ seconds *ℤ pos 1_000_000_000 +ℤ pos nanoseconds }
+// The instant of so many seconds since the start of 1970 and nanoseconds behind them, where there is one.
+fn instant_at(seconds: i64, nanoseconds: u32) -> Option<Timestamp>
+    ensures some { IfSome result (λ now. now.nanosecond ≡ seconds *ℤ pos 1_000_000_000 +ℤ pos nanoseconds) }
+    ensures none { result ≡ None → (now : Instant) → now.nanosecond ≡ seconds *ℤ pos 1_000_000_000 +ℤ pos nanoseconds → ⊥ }
 {
-    seconds as i128 * 1_000_000_000 + nanoseconds as i128
+    let nanosecond = seconds as i128 * 1_000_000_000 + nanoseconds as i128;
+    Timestamp::from_nanosecond(nanosecond).ok()
 }
 
 impl<'a> Request<'a> {
@@ -103,6 +105,6 @@ impl<'a> Request<'a> {
         ensures some { IfSome result (IsMoment self.now) }
         ensures none { result ≡ None → (now : Instant) → IsMoment self.now now → ⊥ }
     {
-        Timestamp::from_nanosecond(nanosecond_at(self.seconds, self.nanoseconds)).ok()
+        instant_at(self.seconds, self.nanoseconds)
     }
 }
