@@ -92,8 +92,7 @@ enum {
                                                                           hand in the name as absent
                                   No question is asked that is answered. (That the calls end isn't proved.) */
     /* No other status is given. Where the repository is whole (or trust comes from an archive or the caller), the store is that of
-       earlier calls or empty, and what is in `good` suffices for an acceptance, the status is 0, 4 or 5. Of a file is asked only with
-       RATMANGANESE_FROM_REPOSITORY; without it `kept` is empty. */
+       earlier calls or empty, and what is in `good` suffices for an acceptance, the status is 0, 4 or 5. */
 };
 
 /* A line of `kept` is `keep NAME BYTES`. NAME, BYTES, KEY, SUBJECT and SIGNATURE are base64 (RFC 4648, section 4), or a dash for no
