@@ -1,9 +1,7 @@
 -- What is said under a trusted root is its report or its refusal.
-use Rattle.std.proofs.Common.{◌≡◌, ℕ, List, Option, Some, None, Result, Ok, Err, IfOk, codes, refl, ap, subst}
+use Rattle.std.proofs.Common.{◌≡◌, ℕ, List, Option, Some, None, Ok, Err, codes, refl, ap}
 use Rattle.foundation.specs.Steps.{◌>>=◌}
 use Rattle.foundation.specs.Watched.{Watched}
-use Rattle.foundation.specs.declared.no_memory.NoMemory.{NoMemory as OutOfMemory}
-use Rattle.jiff_core.specs.declared.timestamp.Timestamp as jiff
 use Rattle.sigstore_judgement.specs.declared.rules.JudgedByRule.{JudgedByRule}
 use Rattle.sigstore_judgement.specs.declared.rules.RulesError.{RulesError}
 use Rattle.sigstore_judgement.specs.declared.rules.RulesError.TheVariants.{Shared, Each}
@@ -11,20 +9,14 @@ use Rattle.sigstore_judgement.specs.UnderRules.{RulesAsked}
 use Rattle.sigstore_judgement.proofs.RuleCauses.{rules_refused, shared_refused}
 use Rattle.sigstore_verify.specs.FromRoot.{trust_path}
 use Rattle.sigstore_verify.specs.Inputs.{Anchor}
-use Rattle.command_files.specs.declared.answer.Answer.{Answer}
-use Rattle.command_files.specs.declared.gather.Gathered.{Gathered}
 use Rattle.command_verify.specs.Report.{digests_added, result_added}
 use Rattle.command_verify.proofs.ReportThere.{chain_text_there}
-use Rattle.command_verify.specs.Run.{given_by}
-use Rattle.command_ways.specs.declared.judging.Came.{Came}
-use Rattle.command_ways.specs.declared.layout.Way.{Way}
 use Rattle.command_ways.specs.declared.report.Telling.{Telling}
 use Rattle.command_ways.specs.declared.trust.Trust.{Trust}
 use Rattle.command_ways.specs.declared.trust.Trust.TheVariants.{Chain, File}
 use Rattle.command_ways.specs.Digests.{Digest}
-use Rattle.command_ways.specs.Judging.{Judges, Outside, VerifiesWay, RefusalCause}
-use Rattle.command_ways.specs.Report.{head_of, rule_added, read_added, way_text, Answers}
-use Rattle.command_ways.specs.Run.{telling_of, JudgesWay, want_judging, answered}
+use Rattle.command_ways.specs.Judging.{Judges, RefusalCause}
+use Rattle.command_ways.specs.Report.{head_of, rule_added, read_added, way_text}
 use Rattle.command_ways.specs.Trust.{IsTrusted}
 
 -- ---- the report under a trusted root can always be made
@@ -50,16 +42,3 @@ pub has_cause : (asked : RulesAsked) (file : List ℕ) (told : Option (List Dige
 has_cause asked file None old new (Shared e) j = shared_refused asked file old new e j
 has_cause asked file None old new (Each refusals) j = rules_refused asked file old new refusals j
 has_cause asked file (Some told) old new e j = j
-
--- ---- what is said of what a verification came to
-
-pub judges_so : (way : Way) (gathered : Gathered) (now : jiff.Timestamp) (before after : Outside) (came : Came) (telling : Telling) (result : Result Answer OutOfMemory)
-    → telling ≡ telling_of gathered way.told → VerifiesWay (given_by gathered now) way before after came
-    → IfOk result (Answers telling came) → JudgesWay way gathered now before after result
-judges_so way gathered now before after came telling (Err e) t v s = want_judging e refl
-judges_so way gathered now before after came telling (Ok said) t v s = answered came said v (subst (λ (x : Telling). Answers x came said) t s) refl
-
--- at the same moment
-pub judges_at : (way : Way) (gathered : Gathered) (now told : jiff.Timestamp) (before after : Outside) (result : Result Answer OutOfMemory) → now ≡ told
-    → JudgesWay way gathered now before after result → JudgesWay way gathered told before after result
-judges_at way gathered now told before after result same h = subst (λ n. JudgesWay way gathered n before after result) same h

@@ -1,7 +1,6 @@
 -- The judgement of a folder under a trusted root, by the way that is asked.
 use Rattle.std.specs.Prelude.{◌≡◌, ◌≢◌, ℕ, List, Result, Ok, Err}
 use Rattle.foundation.specs.Watched.{Watched}
-use Rattle.sigstore_tuf_outside.specs.Repository.{Files, Folders}
 use Rattle.sigstore_judgement.specs.declared.error.Error.TheVariants.{NoMemory}
 use Rattle.sigstore_judgement.specs.declared.trust.Material.{Material}
 use Rattle.release_gate.specs.Folder.{Contents, Call}
@@ -13,15 +12,15 @@ use Rattle.command_ways.specs.declared.folder_judging.FolderCame.{FolderCame}
 use Rattle.command_ways.specs.declared.folder_judging.FolderCame.TheVariants.{Untrusted, Unusable, Judged}
 use Rattle.command_ways.specs.declared.layout.TrustedBy.{TrustedBy}
 use Rattle.command_ways.specs.declared.trust.Trust.{Trust}
-use Rattle.command_ways.specs.Trust.{Sources, sources_by, file_of, IsTrusted, GivesTrust}
+use Rattle.command_ways.specs.Trust.{Sources, file_of, IsTrusted, GivesTrust}
 
 -- the outside at one moment: where a trusted root may come from, and the folder
 pub record FolderOutside : Type 0 where
   pub sources : Sources
   pub folder : Watched Contents
 
-abbrev pub folder_outside_by : Watched Folders → Watched Files → Watched (List ℕ) → Watched Contents → FolderOutside
-folder_outside_by repo store archive folder = record { sources = sources_by repo store archive; folder = folder }
+abbrev pub folder_outside_by : Sources → Watched Contents → FolderOutside
+folder_outside_by sources folder = record { sources = sources; folder = folder }
 
 -- The trusted root is usable, and the folder was judged under what is kept of it: its lines, or why there are none.
 pub record JudgesFolder (given : GateInputs) (file : List ℕ) (old new : Watched Contents) (judged : Result (List GateLine) GateFault)

@@ -4,7 +4,6 @@ use Rattle.foundation.specs.Watched.{Watched, Rose}
 use Rattle.foundation.specs.declared.no_memory.NoMemory.{NoMemory as OutOfMemory}
 use Rattle.sigstore_judgement.specs.declared.error.Error.{Error}
 use Rattle.sigstore_judgement.specs.declared.error.Error.TheVariants.{NoMemory}
-use Rattle.sigstore_tuf_outside.specs.Repository.{Files, Folders}
 use Rattle.release_gate.specs.Folder.{Contents}
 use Rattle.release_gate.specs.Gate.{GateInputs}
 use Rattle.release_gate.specs.declared.line.GateLine.{GateLine}
@@ -28,13 +27,14 @@ use Rattle.command_ways.specs.declared.trust.Trust.{Trust}
 use Rattle.command_ways.specs.FolderJudging.{FolderOutside, folder_outside_by, GatesWay}
 use Rattle.command_ways.specs.FolderLayout.{folder_layout_of}
 use Rattle.command_ways.specs.Report.{untrusted_answer}
+use Rattle.command_ways.specs.Trust.{Sources}
 
 -- what a run finds and leaves, but for its output
 abbrev pub Environment : Type 0
 Environment = start.Environment FolderOutside
 
-abbrev pub environment_by : Supply → Watched Folders → Watched Files → Watched (List ℕ) → Watched Contents → Environment
-environment_by inputs repo store archive folder = record { inputs = inputs; outside = folder_outside_by repo store archive folder }
+abbrev pub environment_by : Supply → Sources → Watched Contents → Environment
+environment_by inputs sources folder = record { inputs = inputs; outside = folder_outside_by sources folder }
 
 -- ---- what is said
 

@@ -2,7 +2,6 @@
 use Rattle.std.specs.Prelude.{◌≡◌, ℕ, List, Option, Some, None, Result, Ok, Err}
 use Rattle.std.specs.List.{AllZip}
 use Rattle.foundation.specs.Watched.{Watched}
-use Rattle.sigstore_tuf_outside.specs.Repository.{Files, Folders}
 use Rattle.sigstore_policy.specs.Policy.{Meaning}
 use Rattle.sigstore_judgement.specs.declared.rules.JudgedByRule.{JudgedByRule}
 use Rattle.sigstore_judgement.specs.declared.rules.ReadArtifact.TheVariants.{Digests}
@@ -18,7 +17,7 @@ use Rattle.command_ways.specs.declared.judging.Came.{Came}
 use Rattle.command_ways.specs.declared.judging.Came.TheVariants.{Untrusted, Judged}
 use Rattle.command_ways.specs.declared.layout.Way.{Way}
 use Rattle.command_ways.specs.Digests.{Digest}
-use Rattle.command_ways.specs.Trust.{Sources, sources_by, file_of, IsTrusted, GivesTrust}
+use Rattle.command_ways.specs.Trust.{Sources, file_of, IsTrusted, GivesTrust}
 
 -- The artifact is read, and judged by its bytes; or it is told, nothing of it is read, and it is judged by its digests. By
 -- `DigestsStandForBytes` the one verdict is the other.
@@ -39,8 +38,8 @@ pub record Outside : Type 0 where
   pub sources : Sources
   pub source : Watched (List ℕ)
 
-abbrev pub outside_by : Watched Folders → Watched Files → Watched (List ℕ) → Watched (List ℕ) → Outside
-outside_by repo store archive source = record { sources = sources_by repo store archive; source = source }
+abbrev pub outside_by : Sources → Watched (List ℕ) → Outside
+outside_by sources source = record { sources = sources; source = source }
 
 -- There is no trusted root, and the artifact isn't called; or there is one, which is trusted, and the bundle is judged under it.
 abbrev pub VerifiesBy : Anchor → RulesAsked → Way → Outside → Outside → Came → Type 0

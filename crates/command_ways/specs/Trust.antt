@@ -17,6 +17,7 @@ use Rattle.command_ways.specs.declared.trust.Trust.{Trust}
 use Rattle.command_ways.specs.declared.trust.Trust.TheVariants.{Chain, File}
 use Rattle.command_ways.specs.declared.trust.TrustFault.{TrustFault}
 use Rattle.command_ways.specs.declared.trust.TrustFault.TheVariants as fault
+use Rattle.command_ways.specs.declared.trust.TrustSources.{TrustSources}
 
 -- the trusted root's bytes
 abbrev pub file_of : Trust → List ℕ
@@ -35,8 +36,13 @@ pub record Sources : Type 0 where
   pub store : Watched Files
   pub archive : Watched (List ℕ)
 
-abbrev pub sources_by : Watched Folders → Watched Files → Watched (List ℕ) → Sources
-sources_by repo store archive = record { repo = repo; store = store; archive = archive }
+-- those of a call of the code
+abbrev pub sources_with : {R S B : Type 0} → (R → Watched Folders) → (S → Watched Files) → (B → Watched (List ℕ)) → TrustSources R S B → Sources
+sources_with repo store archive sources = record {
+  repo = repo sources.repository;
+  store = store sources.store;
+  archive = archive sources.archive;
+}
 
 abbrev pub places_of : Sources → Places
 places_of sources = places_by sources.repo sources.store

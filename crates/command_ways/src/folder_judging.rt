@@ -7,9 +7,10 @@ ghost use Rattle.sigstore_keys.specs.Crypto.{crypto_with};
 ghost use Rattle.command_verify.specs.Run.{max_artifact};
 ghost use Rattle.command_gate.specs.Run.{given_of};
 ghost use Rattle.command_ways.specs.FolderJudging.{folder_outside_by, GatesUnder, GatesWay, RestsWay};
+ghost use Rattle.command_ways.specs.Trust.{sources_with};
 
 use crate::layout::TrustedBy;
-use crate::trust::{Trust, TrustFault, establish};
+use crate::trust::{Trust, TrustFault, TrustSources, establish};
 use command_gate::FolderRequest;
 use command_verify::MAX_ARTIFACT;
 use foundation::Sequence;
@@ -75,18 +76,16 @@ fn gate_by<
     anchor: &Anchor<'_, C, M>,
     by: TrustedBy,
     rules: &[SigningPolicy],
-    repo: &mut R,
-    store: &mut S,
-    archive: &mut B,
+    sources: &mut TrustSources<R, S, B>,
     folder: &mut D,
 ) -> FolderCame
     ensures gates { GatesWay (gate_inputs_by (anchor_with C.CryptoProvider M.Armor anchor.entry.now) (map meaning_in rules.now) max_artifact) by
-        (folder_outside_by (R.seen repo.old) (S.seen store.old) (B.seen archive.old) (D.seen folder.old))
-        (folder_outside_by (R.seen repo.new) (S.seen store.new) (B.seen archive.new) (D.seen folder.new)) result }
+        (folder_outside_by (sources_with R.seen S.seen B.seen sources.old) (D.seen folder.old))
+        (folder_outside_by (sources_with R.seen S.seen B.seen sources.new) (D.seen folder.new)) result }
     ensures rests { RestsWay D.gave folder.old folder.new
         (gate_inputs_by (anchor_with C.CryptoProvider M.Armor anchor.entry.now) (map meaning_in rules.now) max_artifact) result }
 {
-    match establish(alloc, by, anchor, repo, store, archive) {
+    match establish(alloc, by, anchor, sources) {
         Ok(trust) => gate_under(alloc, anchor, trust, rules, folder),
         Err(fault) => FolderCame::Untrusted(fault),
     }
@@ -106,14 +105,12 @@ pub fn gate_way<
     request: &FolderRequest<'_>,
     providers: Providers<'_, C, M>,
     by: TrustedBy,
-    repo: &mut R,
-    store: &mut S,
-    archive: &mut B,
+    sources: &mut TrustSources<R, S, B>,
     folder: &mut D,
 ) -> FolderCame
     ensures gates { GatesWay (given_of (crypto_with C.CryptoProvider M.Armor providers.entry) request.now) by
-        (folder_outside_by (R.seen repo.old) (S.seen store.old) (B.seen archive.old) (D.seen folder.old))
-        (folder_outside_by (R.seen repo.new) (S.seen store.new) (B.seen archive.new) (D.seen folder.new)) result }
+        (folder_outside_by (sources_with R.seen S.seen B.seen sources.old) (D.seen folder.old))
+        (folder_outside_by (sources_with R.seen S.seen B.seen sources.new) (D.seen folder.new)) result }
     ensures rests { RestsWay D.gave folder.old folder.new (given_of (crypto_with C.CryptoProvider M.Armor providers.entry) request.now) result }
 {
     let anchor = Anchor {
@@ -123,5 +120,5 @@ pub fn gate_way<
         now: request.moment,
     };
     let rules = request.rules;
-    gate_by(alloc, &anchor, by, rules, repo, store, archive, folder)
+    gate_by(alloc, &anchor, by, rules, sources, folder)
 }

@@ -1,15 +1,17 @@
 // A run of `gate` in any way.
-ghost use Rattle.std.specs.Prelude.{◌≡◌, IfOk};
+ghost use Rattle.std.specs.Prelude.{IfOk};
 ghost use Rattle.command_files.specs.Starting.{command_of};
 ghost use Rattle.command_gate.specs.Run.{given_by};
 ghost use Rattle.command_ways.specs.FolderJudging.{folder_outside_by, RestsWay};
 ghost use Rattle.command_ways.specs.FolderRun.{environment_by, JudgesWay, Says, Means, Rested};
 ghost use Rattle.command_ways.specs.FolderComplete.{Completes};
+ghost use Rattle.command_ways.specs.Trust.{sources_with};
 
 use crate::folder_judging::gate_way;
 use crate::folder_report::folder_said;
 use crate::folder_words::{FolderLayout, gate_way_layout};
 use crate::layout::TrustedBy;
+use crate::trust::TrustSources;
 use command_files::{Answer, CommandLine, Governed, Inputs, Sink, Started, Status, finish, start};
 use command_gate::FolderRequest;
 use foundation::NoMemory;
@@ -25,14 +27,12 @@ fn judge<R: Repository, S: MetadataStore, B: ArtifactSource, D: Folder>(
     by: TrustedBy,
     governed: Governed,
     now: Timestamp,
-    repo: &mut R,
-    store: &mut S,
-    archive: &mut B,
+    sources: &mut TrustSources<R, S, B>,
     folder: &mut D,
 ) -> Result<Answer, NoMemory>
     ensures { IfOk result (JudgesWay (RestsWay D.gave folder.old folder.new) by (given_by governed now)
-        (folder_outside_by (R.seen repo.old) (S.seen store.old) (B.seen archive.old) (D.seen folder.old))
-        (folder_outside_by (R.seen repo.new) (S.seen store.new) (B.seen archive.new) (D.seen folder.new))) }
+        (folder_outside_by (sources_with R.seen S.seen B.seen sources.old) (D.seen folder.old))
+        (folder_outside_by (sources_with R.seen S.seen B.seen sources.new) (D.seen folder.new))) }
 {
     let request = FolderRequest {
         rules: governed.rules.as_slice(),
@@ -43,7 +43,7 @@ fn judge<R: Repository, S: MetadataStore, B: ArtifactSource, D: Folder>(
         provider: &governed.anchored.tables.provider,
         armor: &governed.anchored.tables.armor,
     };
-    let came = gate_way(alloc, &request, providers, by, repo, store, archive, folder);
+    let came = gate_way(alloc, &request, providers, by, sources, folder);
     let said = folder_said(alloc, &came);
     drop(came);
     drop(governed);
@@ -55,20 +55,18 @@ fn decide<I: Inputs, R: Repository, S: MetadataStore, B: ArtifactSource, D: Fold
     alloc: Global,
     line: &CommandLine<'_>,
     inputs: &mut I,
-    repo: &mut R,
-    store: &mut S,
-    archive: &mut B,
+    sources: &mut TrustSources<R, S, B>,
     folder: &mut D,
 ) -> Result<Answer, NoMemory>
     ensures { Says (RestsWay D.gave folder.old folder.new) (command_of line.now)
-        (environment_by (I.seen inputs.old) (R.seen repo.old) (S.seen store.old) (B.seen archive.old) (D.seen folder.old))
-        (environment_by (I.seen inputs.new) (R.seen repo.new) (S.seen store.new) (B.seen archive.new) (D.seen folder.new)) result }
+        (environment_by (I.seen inputs.old) (sources_with R.seen S.seen B.seen sources.old) (D.seen folder.old))
+        (environment_by (I.seen inputs.new) (sources_with R.seen S.seen B.seen sources.new) (D.seen folder.new)) result }
 {
     match start(alloc, gate_way_layout(alloc, line.words), inputs) {
         Ok(Started::Asked(layout, governed)) => {
             let FolderLayout { by, places, .. } = layout;
             let now = places.moment(line.clock);
-            judge(alloc, by, governed, now, repo, store, archive, folder)
+            judge(alloc, by, governed, now, sources, folder)
         }
         Ok(Started::Stopped(said)) => Ok(said),
         Err(e) => Err(e),
@@ -90,25 +88,23 @@ pub fn run_gate_way<
     alloc: Global,
     line: &CommandLine<'_>,
     inputs: &mut I,
-    repo: &mut R,
-    store: &mut S,
-    archive: &mut B,
+    sources: &mut TrustSources<R, S, B>,
     folder: &mut D,
     out: &mut K,
 ) -> Status
     ensures means { Means (command_of line.now)
-        (environment_by (I.seen inputs.old) (R.seen repo.old) (S.seen store.old) (B.seen archive.old) (D.seen folder.old))
-        (environment_by (I.seen inputs.new) (R.seen repo.new) (S.seen store.new) (B.seen archive.new) (D.seen folder.new))
+        (environment_by (I.seen inputs.old) (sources_with R.seen S.seen B.seen sources.old) (D.seen folder.old))
+        (environment_by (I.seen inputs.new) (sources_with R.seen S.seen B.seen sources.new) (D.seen folder.new))
         (K.seen out.old) (K.seen out.new) result }
     ensures complete { Completes (command_of line.now)
-        (environment_by (I.seen inputs.old) (R.seen repo.old) (S.seen store.old) (B.seen archive.old) (D.seen folder.old))
-        (environment_by (I.seen inputs.new) (R.seen repo.new) (S.seen store.new) (B.seen archive.new) (D.seen folder.new))
+        (environment_by (I.seen inputs.old) (sources_with R.seen S.seen B.seen sources.old) (D.seen folder.old))
+        (environment_by (I.seen inputs.new) (sources_with R.seen S.seen B.seen sources.new) (D.seen folder.new))
         (K.seen out.old) (K.seen out.new) result }
     ensures rests { Rested (RestsWay D.gave folder.old folder.new) (command_of line.now)
-        (environment_by (I.seen inputs.old) (R.seen repo.old) (S.seen store.old) (B.seen archive.old) (D.seen folder.old))
-        (environment_by (I.seen inputs.new) (R.seen repo.new) (S.seen store.new) (B.seen archive.new) (D.seen folder.new))
+        (environment_by (I.seen inputs.old) (sources_with R.seen S.seen B.seen sources.old) (D.seen folder.old))
+        (environment_by (I.seen inputs.new) (sources_with R.seen S.seen B.seen sources.new) (D.seen folder.new))
         (K.seen out.old) (K.seen out.new) result }
 {
-    let said = decide(alloc, line, inputs, repo, store, archive, folder);
+    let said = decide(alloc, line, inputs, sources, folder);
     finish(&said, out)
 }

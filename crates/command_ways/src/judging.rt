@@ -4,9 +4,10 @@ ghost use Rattle.sigstore_keys.specs.Crypto.{crypto_with};
 ghost use Rattle.sigstore_verify.specs.Inputs.{anchor_with};
 ghost use Rattle.command_verify.specs.Run.{given_of};
 ghost use Rattle.command_ways.specs.Judging.{Judges, outside_by, VerifiesBy, VerifiesWay};
+ghost use Rattle.command_ways.specs.Trust.{sources_with};
 
 use crate::layout::Way;
-use crate::trust::{Trust, TrustFault, establish};
+use crate::trust::{Trust, TrustFault, TrustSources, establish};
 use command_verify::{MAX_ARTIFACT, VerifyRequest};
 use foundation::Sequence;
 use sigstore_judgement::{JudgedByRule, RulesAsked, RulesError, judge_bundle_by_rules};
@@ -65,18 +66,16 @@ fn verify_by<
     anchor: &Anchor<'_, C, M>,
     way: Way,
     asked: &RulesAsked<'_>,
-    repo: &mut R,
-    store: &mut S,
-    archive: &mut B,
+    sources: &mut TrustSources<R, S, B>,
     artifact: &mut A,
 ) -> Came
     ensures { VerifiesBy (anchor_with C.CryptoProvider M.Armor anchor.entry.now)
         (rules_asked_with (crypto_with C.CryptoProvider M.Armor anchor.entry.now.providers) anchor.entry.now.now asked.now) way
-        (outside_by (R.seen repo.old) (S.seen store.old) (B.seen archive.old) (A.seen artifact.old))
-        (outside_by (R.seen repo.new) (S.seen store.new) (B.seen archive.new) (A.seen artifact.new)) result }
+        (outside_by (sources_with R.seen S.seen B.seen sources.old) (A.seen artifact.old))
+        (outside_by (sources_with R.seen S.seen B.seen sources.new) (A.seen artifact.new)) result }
 {
     let Way { by, told } = way;
-    match establish(alloc, by, anchor, repo, store, archive) {
+    match establish(alloc, by, anchor, sources) {
         Ok(trust) => {
             let judged = judge_subject(alloc, anchor, trust.file(), told, artifact, asked);
             Came::Judged { trust, judged }
@@ -103,14 +102,12 @@ pub fn verify_way<
     request: &VerifyRequest<'_>,
     providers: Providers<'_, C, M>,
     way: Way,
-    repo: &mut R,
-    store: &mut S,
-    archive: &mut B,
+    sources: &mut TrustSources<R, S, B>,
     artifact: &mut A,
 ) -> Came
     ensures { VerifiesWay (given_of (crypto_with C.CryptoProvider M.Armor providers.entry) request.now) way
-        (outside_by (R.seen repo.old) (S.seen store.old) (B.seen archive.old) (A.seen artifact.old))
-        (outside_by (R.seen repo.new) (S.seen store.new) (B.seen archive.new) (A.seen artifact.new)) result }
+        (outside_by (sources_with R.seen S.seen B.seen sources.old) (A.seen artifact.old))
+        (outside_by (sources_with R.seen S.seen B.seen sources.new) (A.seen artifact.new)) result }
 {
     let anchor = Anchor {
         providers,
@@ -123,5 +120,5 @@ pub fn verify_way<
         max_artifact: MAX_ARTIFACT,
         rules: request.rules,
     };
-    verify_by(alloc, &anchor, way, &asked, repo, store, archive, artifact)
+    verify_by(alloc, &anchor, way, &asked, sources, artifact)
 }

@@ -8,7 +8,6 @@ mod folder_report;
 mod folder_words;
 mod judging;
 mod layout;
-mod program;
 mod report;
 mod trust;
 
@@ -17,6 +16,5 @@ pub use folder_program::run_gate_way;
 pub use folder_words::{FolderLayout, asked_gate_way_layout, gate_way_layout};
 pub use judging::{Came, verify_way};
 pub use layout::{TrustedBy, Way, WayLayout, asked_way_layout, way_layout};
-pub use program::run_way;
 pub use report::{Telling, answered};
-pub use trust::{Trust, TrustFault, establish};
+pub use trust::{Trust, TrustFault, TrustSources, establish};

@@ -1,7 +1,7 @@
 // From where a trusted root comes.
 ghost use Rattle.std.specs.Prelude.{◌≡◌};
 ghost use Rattle.sigstore_verify.specs.Inputs.{anchor_with, places_by};
-ghost use Rattle.command_ways.specs.Trust.{file_of, walk_fault_of, Walks, IsHeld, Archived, sources_by, GivesTrust};
+ghost use Rattle.command_ways.specs.Trust.{file_of, walk_fault_of, Walks, IsHeld, Archived, sources_with, GivesTrust};
 
 use crate::layout::TrustedBy;
 use command_archive::{MAX_ARCHIVE, chain_in_archive};
@@ -12,6 +12,14 @@ use sigstore_types_parts::{Armor, Bytes};
 use sigstore_verify::{Anchor, chain_from_root};
 use std::alloc::Global;
 use trust_archive::ArchiveError;
+
+/// From where a trusted root may come: a repository over a store, or an archive. A way calls only what it needs.
+#[derive(Drop)]
+pub struct TrustSources<R, S, B> {
+    pub repository: R,
+    pub store: S,
+    pub archive: B,
+}
 
 /// A trusted root: with the chain of documents that authorises it, or its bytes alone, which the caller hands in.
 #[derive(Drop)]
@@ -108,21 +116,20 @@ fn archived<C: CryptoProvider, M: Armor, A: ArtifactSource>(
 /// The trusted root, by the way that is asked: the chain that a repository offers over a store, the one that an archive
 /// holds, or what the caller hands in, which is what the anchor has in the place of the pinned root. Only what a way needs
 /// is called. Errors: `Tuf`; `Archive`, `Unread`; `NoMemory`.
-pub fn establish<C: CryptoProvider, M: Armor, R: Repository, S: MetadataStore, A: ArtifactSource>(
+pub fn establish<C: CryptoProvider, M: Armor, R: Repository, S: MetadataStore, B: ArtifactSource>(
     alloc: Global,
     by: TrustedBy,
     anchor: &Anchor<'_, C, M>,
-    repo: &mut R,
-    store: &mut S,
-    archive: &mut A,
+    sources: &mut TrustSources<R, S, B>,
 ) -> Result<Trust, TrustFault>
     ensures { GivesTrust (anchor_with C.CryptoProvider M.Armor anchor.entry.now) by
-        (sources_by (R.seen repo.old) (S.seen store.old) (A.seen archive.old))
-        (sources_by (R.seen repo.new) (S.seen store.new) (A.seen archive.new)) result }
+        (sources_with R.seen S.seen B.seen sources.old) (sources_with R.seen S.seen B.seen sources.new) result }
 {
     match by {
-        TrustedBy::Repository => walked(alloc, anchor, repo, store),
-        TrustedBy::Archive => archived(alloc, anchor, archive),
+        TrustedBy::Repository => {
+            walked(alloc, anchor, &mut sources.repository, &mut sources.store)
+        }
+        TrustedBy::Archive => archived(alloc, anchor, &mut sources.archive),
         TrustedBy::Caller => match Bytes::new(alloc, anchor.root) {
             Ok(bytes) => Ok(Trust::File(bytes)),
             Err(_) => Err(TrustFault::NoMemory),
