@@ -1,4 +1,4 @@
-mod Words
+pub mod Words
 mod Saying
 mod Meaning
 mod Completing

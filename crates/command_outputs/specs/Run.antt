@@ -3,7 +3,6 @@ use Rattle.std.specs.Prelude.{ℕ, List, None, Result}
 use Rattle.jiff_core.specs.declared.timestamp.Timestamp as jiff
 use Rattle.foundation.specs.Watched.{Watched}
 use Rattle.foundation.specs.declared.no_memory.NoMemory.{NoMemory as OutOfMemory}
-use Rattle.sigstore_tuf_outside.specs.Repository.{Files, Folders}
 use Rattle.command_files.specs.Ending.{SaysAndEnds}
 use Rattle.command_files.specs.Gather.{gathered_of}
 use Rattle.command_files.specs.Inputs.{Supply}
@@ -18,6 +17,7 @@ use Rattle.command_ways.specs.Judging as ways
 use Rattle.command_ways.specs.Judging.{VerifiesWay}
 use Rattle.command_ways.specs.Run.{telling_of}
 use Rattle.command_ways.specs.Run as run
+use Rattle.command_ways.specs.Trust.{Sources}
 use Rattle.command_ways.specs.declared.judging.Came.{Came}
 use Rattle.command_ways.specs.declared.layout.Way.{Way}
 use Rattle.command_outputs.specs.declared.layout.Outputs.{Outputs}
@@ -31,16 +31,15 @@ pub record Outside : Type 0 where
   pub verified : ways.Outside
   pub shelf : Watched (List Placed)
 
-abbrev pub outside_by : Watched Folders → Watched Files → Watched (List ℕ) → Watched (List ℕ) → Watched (List Placed) → Outside
-outside_by repo store archive source shelf = record { verified = ways.outside_by repo store archive source; shelf = shelf }
+abbrev pub outside_by : Sources → Watched (List ℕ) → Watched (List Placed) → Outside
+outside_by sources source shelf = record { verified = ways.outside_by sources source; shelf = shelf }
 
 -- what a run finds and leaves, but for its output
 abbrev pub Environment : Type 0
 Environment = start.Environment Outside
 
-abbrev pub environment_by : Supply → Watched Folders → Watched Files → Watched (List ℕ) → Watched (List ℕ) → Watched (List Placed)
-    → Environment
-environment_by inputs repo store archive source shelf = record { inputs = inputs; outside = outside_by repo store archive source shelf }
+abbrev pub environment_by : Supply → Sources → Watched (List ℕ) → Watched (List Placed) → Environment
+environment_by inputs sources source shelf = record { inputs = inputs; outside = outside_by sources source shelf }
 
 -- what a run of `verify` finds and leaves that is asked for no more than the report
 abbrev pub verified_in : Environment → run.Environment

@@ -9,4 +9,4 @@ mod program;
 
 pub use concluding::{Inquiry, conclude};
 pub use layout::{Outputs, OutputsLayout, outputs_layout};
-pub use program::run_outputs;
+pub use program::{Destinations, run_outputs};

@@ -1,5 +1,6 @@
 // A run of `verify` that is asked for more than the report.
 ghost use Rattle.command_files.specs.Starting.{command_of};
+ghost use Rattle.command_ways.specs.Trust.{sources_with};
 ghost use Rattle.command_outputs.specs.Run.{outside_by, environment_by, JudgesOutputs, Says};
 ghost use Rattle.command_outputs.specs.Promises.{Means, Keeps};
 ghost use Rattle.command_outputs.specs.Complete.{Completes};
@@ -9,12 +10,19 @@ use crate::layout::{Outputs, OutputsLayout, outputs_layout};
 use command_download::Shelf;
 use command_files::{Answer, CommandLine, Gathered, Inputs, Sink, Started, Status, finish, start};
 use command_verify::VerifyRequest;
-use command_ways::{Telling, Way, WayLayout, verify_way};
+use command_ways::{Telling, TrustSources, Way, WayLayout, verify_way};
 use foundation::NoMemory;
 use jiff::Timestamp;
 use sigstore_keys::{ArtifactSource, Providers};
 use sigstore_tuf::{MetadataStore, Repository};
 use std::alloc::Global;
+
+/// Where a run writes: the shelf that the statement's file is put on, and the sink for what is said.
+#[derive(Drop)]
+pub struct Destinations<F, K> {
+    pub shelf: F,
+    pub sink: K,
+}
 
 // What is asked for: the way of the verification, what it gives beside its report, the inputs, and the moment.
 #[derive(Drop)]
@@ -29,15 +37,13 @@ pub(crate) struct Asked {
 fn judge<R: Repository, S: MetadataStore, B: ArtifactSource, A: ArtifactSource, F: Shelf>(
     alloc: Global,
     asked: Asked,
-    repo: &mut R,
-    store: &mut S,
-    archive: &mut B,
+    sources: &mut TrustSources<R, S, B>,
     artifact: &mut A,
     shelf: &mut F,
 ) -> Result<Answer, NoMemory>
     ensures { JudgesOutputs asked.way asked.outputs asked.gathered asked.now
-        (outside_by (R.seen repo.old) (S.seen store.old) (B.seen archive.old) (A.seen artifact.old) (F.seen shelf.old))
-        (outside_by (R.seen repo.new) (S.seen store.new) (B.seen archive.new) (A.seen artifact.new) (F.seen shelf.new)) result }
+        (outside_by (sources_with R.seen S.seen B.seen sources.old) (A.seen artifact.old) (F.seen shelf.old))
+        (outside_by (sources_with R.seen S.seen B.seen sources.new) (A.seen artifact.new) (F.seen shelf.new)) result }
 {
     let Asked {
         way,
@@ -59,9 +65,7 @@ fn judge<R: Repository, S: MetadataStore, B: ArtifactSource, A: ArtifactSource, 
         provider: &gathered.tables.provider,
         armor: &gathered.tables.armor,
     };
-    let came = verify_way(
-        alloc, &request, providers, way, repo, store, archive, artifact,
-    );
+    let came = verify_way(alloc, &request, providers, way, sources, artifact);
     let inquiry = Inquiry {
         telling,
         bundle: gathered.bundle.as_bytes(),
@@ -87,15 +91,13 @@ fn decide<
     alloc: Global,
     line: &CommandLine<'_>,
     inputs: &mut I,
-    repo: &mut R,
-    store: &mut S,
-    archive: &mut B,
+    sources: &mut TrustSources<R, S, B>,
     artifact: &mut A,
     shelf: &mut F,
 ) -> Result<Answer, NoMemory>
     ensures { Says (command_of line.now)
-        (environment_by (I.seen inputs.old) (R.seen repo.old) (S.seen store.old) (B.seen archive.old) (A.seen artifact.old) (F.seen shelf.old))
-        (environment_by (I.seen inputs.new) (R.seen repo.new) (S.seen store.new) (B.seen archive.new) (A.seen artifact.new) (F.seen shelf.new)) result }
+        (environment_by (I.seen inputs.old) (sources_with R.seen S.seen B.seen sources.old) (A.seen artifact.old) (F.seen shelf.old))
+        (environment_by (I.seen inputs.new) (sources_with R.seen S.seen B.seen sources.new) (A.seen artifact.new) (F.seen shelf.new)) result }
 {
     match start(alloc, outputs_layout(alloc, line.words), inputs) {
         Ok(Started::Asked(layout, gathered)) => {
@@ -110,7 +112,7 @@ fn decide<
                 gathered,
                 now: places.moment(line.clock),
             };
-            judge(alloc, asked, repo, store, archive, artifact, shelf)
+            judge(alloc, asked, sources, artifact, shelf)
         }
         Ok(Started::Stopped(said)) => Ok(said),
         Err(e) => Err(e),
@@ -135,25 +137,22 @@ pub fn run_outputs<
     alloc: Global,
     line: &CommandLine<'_>,
     inputs: &mut I,
-    repo: &mut R,
-    store: &mut S,
-    archive: &mut B,
+    sources: &mut TrustSources<R, S, B>,
     artifact: &mut A,
-    shelf: &mut F,
-    out: &mut K,
+    out: &mut Destinations<F, K>,
 ) -> Status
     ensures means { Means (command_of line.now)
-        (environment_by (I.seen inputs.old) (R.seen repo.old) (S.seen store.old) (B.seen archive.old) (A.seen artifact.old) (F.seen shelf.old))
-        (environment_by (I.seen inputs.new) (R.seen repo.new) (S.seen store.new) (B.seen archive.new) (A.seen artifact.new) (F.seen shelf.new))
-        (K.seen out.old) (K.seen out.new) result }
+        (environment_by (I.seen inputs.old) (sources_with R.seen S.seen B.seen sources.old) (A.seen artifact.old) (F.seen out.old.shelf))
+        (environment_by (I.seen inputs.new) (sources_with R.seen S.seen B.seen sources.new) (A.seen artifact.new) (F.seen out.new.shelf))
+        (K.seen out.old.sink) (K.seen out.new.sink) result }
     ensures keeps { Keeps (command_of line.now)
-        (environment_by (I.seen inputs.old) (R.seen repo.old) (S.seen store.old) (B.seen archive.old) (A.seen artifact.old) (F.seen shelf.old))
-        (environment_by (I.seen inputs.new) (R.seen repo.new) (S.seen store.new) (B.seen archive.new) (A.seen artifact.new) (F.seen shelf.new)) }
+        (environment_by (I.seen inputs.old) (sources_with R.seen S.seen B.seen sources.old) (A.seen artifact.old) (F.seen out.old.shelf))
+        (environment_by (I.seen inputs.new) (sources_with R.seen S.seen B.seen sources.new) (A.seen artifact.new) (F.seen out.new.shelf)) }
     ensures complete { Completes (command_of line.now)
-        (environment_by (I.seen inputs.old) (R.seen repo.old) (S.seen store.old) (B.seen archive.old) (A.seen artifact.old) (F.seen shelf.old))
-        (environment_by (I.seen inputs.new) (R.seen repo.new) (S.seen store.new) (B.seen archive.new) (A.seen artifact.new) (F.seen shelf.new))
-        (K.seen out.old) (K.seen out.new) result }
+        (environment_by (I.seen inputs.old) (sources_with R.seen S.seen B.seen sources.old) (A.seen artifact.old) (F.seen out.old.shelf))
+        (environment_by (I.seen inputs.new) (sources_with R.seen S.seen B.seen sources.new) (A.seen artifact.new) (F.seen out.new.shelf))
+        (K.seen out.old.sink) (K.seen out.new.sink) result }
 {
-    let said = decide(alloc, line, inputs, repo, store, archive, artifact, shelf);
-    finish(&said, out)
+    let said = decide(alloc, line, inputs, sources, artifact, &mut out.shelf);
+    finish(&said, &mut out.sink)
 }
