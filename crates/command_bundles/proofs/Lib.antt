@@ -1,4 +1,3 @@
-mod Words
 mod Cutting
 mod Readings
 mod Searching

@@ -12,11 +12,12 @@ ghost use Rattle.sigstore_verify.specs.ByDigests.{TellsVerdict};
 ghost use Rattle.sigstore_verify.specs.Inputs.{anchor_with};
 ghost use Rattle.command_verify.specs.Run.{max_artifact};
 ghost use Rattle.command_ways.specs.Judging.{outside_by};
+ghost use Rattle.command_ways.specs.Trust.{sources_with};
 ghost use Rattle.command_bundles.specs.Judging.{hashed, IsHad, verdict_under, first_of, found_as, refusal_of, JudgesOver, inputs_with, given_of, JudgesUnder, VerifiesList};
 
 use crate::lines::ListedBundle;
 use command_verify::MAX_ARTIFACT;
-use command_ways::{Trust, TrustFault, Way, establish};
+use command_ways::{Trust, TrustFault, TrustSources, Way, establish};
 use foundation::{NoMemory, Sequence};
 use jiff::Timestamp;
 use release_gate::verifier_over;
@@ -256,17 +257,15 @@ fn verify_by<
     anchor: &Anchor<'_, C, M>,
     way: Way,
     asked: &ListAsked<'l>,
-    repo: &mut R,
-    store: &mut S,
-    archive: &mut B,
+    sources: &mut TrustSources<R, S, B>,
     artifact: &mut A,
 ) -> Result<ListCame<'l>, NoMemory>
     ensures { IfOk result (VerifiesList (inputs_with (anchor_with C.CryptoProvider M.Armor anchor.entry.now) asked.now) way
-        (outside_by (R.seen repo.old) (S.seen store.old) (B.seen archive.old) (A.seen artifact.old))
-        (outside_by (R.seen repo.new) (S.seen store.new) (B.seen archive.new) (A.seen artifact.new))) }
+        (outside_by (sources_with R.seen S.seen B.seen sources.old) (A.seen artifact.old))
+        (outside_by (sources_with R.seen S.seen B.seen sources.new) (A.seen artifact.new))) }
 {
     let Way { by, told } = way;
-    match establish(alloc, by, anchor, repo, store, archive) {
+    match establish(alloc, by, anchor, sources) {
         Ok(trust) => judge_under(alloc, anchor, trust, told, asked, artifact),
         Err(fault) => {
             drop(told);
@@ -291,14 +290,12 @@ pub fn verify_list<
     request: &ListRequest<'l>,
     providers: Providers<'_, C, M>,
     way: Way,
-    repo: &mut R,
-    store: &mut S,
-    archive: &mut B,
+    sources: &mut TrustSources<R, S, B>,
     artifact: &mut A,
 ) -> Result<ListCame<'l>, NoMemory>
     ensures { IfOk result (VerifiesList (given_of (crypto_with C.CryptoProvider M.Armor providers.entry) request.now) way
-        (outside_by (R.seen repo.old) (S.seen store.old) (B.seen archive.old) (A.seen artifact.old))
-        (outside_by (R.seen repo.new) (S.seen store.new) (B.seen archive.new) (A.seen artifact.new))) }
+        (outside_by (sources_with R.seen S.seen B.seen sources.old) (A.seen artifact.old))
+        (outside_by (sources_with R.seen S.seen B.seen sources.new) (A.seen artifact.new))) }
 {
     let anchor = Anchor {
         providers,
@@ -310,5 +307,5 @@ pub fn verify_list<
         bundles: request.bundles,
         rules: request.rules,
     };
-    verify_by(alloc, &anchor, way, &asked, repo, store, archive, artifact)
+    verify_by(alloc, &anchor, way, &asked, sources, artifact)
 }

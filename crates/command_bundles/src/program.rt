@@ -1,5 +1,6 @@
 // A run of `verify` over a list of bundles.
 ghost use Rattle.command_files.specs.Starting.{command_of};
+ghost use Rattle.command_ways.specs.Trust.{sources_with};
 ghost use Rattle.command_outputs.specs.Run.{outside_by, environment_by};
 ghost use Rattle.command_bundles.specs.Run.{JudgesBundles, VerifiesAndConcludes, Says};
 ghost use Rattle.command_bundles.specs.Promises.{Means, Keeps};
@@ -12,8 +13,8 @@ use crate::lines::{ListedBundle, listed_bundles};
 use crate::listed::Listed;
 use command_download::Shelf;
 use command_files::{Answer, CommandLine, Inputs, Sink, Started, Status, finish, start};
-use command_outputs::{Outputs, OutputsLayout};
-use command_ways::{Telling, Way, WayLayout};
+use command_outputs::{Destinations, Outputs, OutputsLayout};
+use command_ways::{Telling, TrustSources, Way, WayLayout};
 use foundation::NoMemory;
 use jiff::Timestamp;
 use sigstore_keys::{ArtifactSource, Providers};
@@ -34,15 +35,13 @@ fn judge_listed<R: Repository, S: MetadataStore, B: ArtifactSource, A: ArtifactS
     alloc: Global,
     asked: Asked,
     bundles: &[ListedBundle],
-    repo: &mut R,
-    store: &mut S,
-    archive: &mut B,
+    sources: &mut TrustSources<R, S, B>,
     artifact: &mut A,
     shelf: &mut F,
 ) -> Result<Answer, NoMemory>
     ensures { VerifiesAndConcludes asked.way asked.outputs asked.listed asked.now bundles.now
-        (outside_by (R.seen repo.old) (S.seen store.old) (B.seen archive.old) (A.seen artifact.old) (F.seen shelf.old))
-        (outside_by (R.seen repo.new) (S.seen store.new) (B.seen archive.new) (A.seen artifact.new) (F.seen shelf.new)) result }
+        (outside_by (sources_with R.seen S.seen B.seen sources.old) (A.seen artifact.old) (F.seen shelf.old))
+        (outside_by (sources_with R.seen S.seen B.seen sources.new) (A.seen artifact.new) (F.seen shelf.new)) result }
 {
     let Asked {
         way,
@@ -64,9 +63,7 @@ fn judge_listed<R: Repository, S: MetadataStore, B: ArtifactSource, A: ArtifactS
         provider: &listed.governed.anchored.tables.provider,
         armor: &listed.governed.anchored.tables.armor,
     };
-    let came = verify_list(
-        alloc, &request, providers, way, repo, store, archive, artifact,
-    );
+    let came = verify_list(alloc, &request, providers, way, sources, artifact);
     let said = conclude_came(alloc, telling, &outputs, came, shelf);
     drop(outputs);
     drop(listed);
@@ -77,28 +74,17 @@ fn judge_listed<R: Repository, S: MetadataStore, B: ArtifactSource, A: ArtifactS
 fn judge<R: Repository, S: MetadataStore, B: ArtifactSource, A: ArtifactSource, F: Shelf>(
     alloc: Global,
     asked: Asked,
-    repo: &mut R,
-    store: &mut S,
-    archive: &mut B,
+    sources: &mut TrustSources<R, S, B>,
     artifact: &mut A,
     shelf: &mut F,
 ) -> Result<Answer, NoMemory>
     ensures { JudgesBundles asked.way asked.outputs asked.listed asked.now
-        (outside_by (R.seen repo.old) (S.seen store.old) (B.seen archive.old) (A.seen artifact.old) (F.seen shelf.old))
-        (outside_by (R.seen repo.new) (S.seen store.new) (B.seen archive.new) (A.seen artifact.new) (F.seen shelf.new)) result }
+        (outside_by (sources_with R.seen S.seen B.seen sources.old) (A.seen artifact.old) (F.seen shelf.old))
+        (outside_by (sources_with R.seen S.seen B.seen sources.new) (A.seen artifact.new) (F.seen shelf.new)) result }
 {
     match listed_bundles(alloc, asked.listed.list.as_bytes()) {
         Ok(bundles) => {
-            let said = judge_listed(
-                alloc,
-                asked,
-                bundles.as_slice(),
-                repo,
-                store,
-                archive,
-                artifact,
-                shelf,
-            );
+            let said = judge_listed(alloc, asked, bundles.as_slice(), sources, artifact, shelf);
             drop(bundles);
             said
         }
@@ -121,15 +107,13 @@ fn decide<
     alloc: Global,
     line: &CommandLine<'_>,
     inputs: &mut I,
-    repo: &mut R,
-    store: &mut S,
-    archive: &mut B,
+    sources: &mut TrustSources<R, S, B>,
     artifact: &mut A,
     shelf: &mut F,
 ) -> Result<Answer, NoMemory>
     ensures { Says (command_of line.now)
-        (environment_by (I.seen inputs.old) (R.seen repo.old) (S.seen store.old) (B.seen archive.old) (A.seen artifact.old) (F.seen shelf.old))
-        (environment_by (I.seen inputs.new) (R.seen repo.new) (S.seen store.new) (B.seen archive.new) (A.seen artifact.new) (F.seen shelf.new)) result }
+        (environment_by (I.seen inputs.old) (sources_with R.seen S.seen B.seen sources.old) (A.seen artifact.old) (F.seen shelf.old))
+        (environment_by (I.seen inputs.new) (sources_with R.seen S.seen B.seen sources.new) (A.seen artifact.new) (F.seen shelf.new)) result }
 {
     match start(alloc, bundles_layout(alloc, line.words), inputs) {
         Ok(Started::Asked(layout, listed)) => {
@@ -144,7 +128,7 @@ fn decide<
                 listed,
                 now: places.moment(line.clock),
             };
-            judge(alloc, asked, repo, store, archive, artifact, shelf)
+            judge(alloc, asked, sources, artifact, shelf)
         }
         Ok(Started::Stopped(said)) => Ok(said),
         Err(e) => Err(e),
@@ -169,25 +153,22 @@ pub fn run_bundles<
     alloc: Global,
     line: &CommandLine<'_>,
     inputs: &mut I,
-    repo: &mut R,
-    store: &mut S,
-    archive: &mut B,
+    sources: &mut TrustSources<R, S, B>,
     artifact: &mut A,
-    shelf: &mut F,
-    out: &mut K,
+    out: &mut Destinations<F, K>,
 ) -> Status
     ensures means { Means (command_of line.now)
-        (environment_by (I.seen inputs.old) (R.seen repo.old) (S.seen store.old) (B.seen archive.old) (A.seen artifact.old) (F.seen shelf.old))
-        (environment_by (I.seen inputs.new) (R.seen repo.new) (S.seen store.new) (B.seen archive.new) (A.seen artifact.new) (F.seen shelf.new))
-        (K.seen out.old) (K.seen out.new) result }
+        (environment_by (I.seen inputs.old) (sources_with R.seen S.seen B.seen sources.old) (A.seen artifact.old) (F.seen out.old.shelf))
+        (environment_by (I.seen inputs.new) (sources_with R.seen S.seen B.seen sources.new) (A.seen artifact.new) (F.seen out.new.shelf))
+        (K.seen out.old.sink) (K.seen out.new.sink) result }
     ensures keeps { Keeps (command_of line.now)
-        (environment_by (I.seen inputs.old) (R.seen repo.old) (S.seen store.old) (B.seen archive.old) (A.seen artifact.old) (F.seen shelf.old))
-        (environment_by (I.seen inputs.new) (R.seen repo.new) (S.seen store.new) (B.seen archive.new) (A.seen artifact.new) (F.seen shelf.new)) }
+        (environment_by (I.seen inputs.old) (sources_with R.seen S.seen B.seen sources.old) (A.seen artifact.old) (F.seen out.old.shelf))
+        (environment_by (I.seen inputs.new) (sources_with R.seen S.seen B.seen sources.new) (A.seen artifact.new) (F.seen out.new.shelf)) }
     ensures complete { Completes (command_of line.now)
-        (environment_by (I.seen inputs.old) (R.seen repo.old) (S.seen store.old) (B.seen archive.old) (A.seen artifact.old) (F.seen shelf.old))
-        (environment_by (I.seen inputs.new) (R.seen repo.new) (S.seen store.new) (B.seen archive.new) (A.seen artifact.new) (F.seen shelf.new))
-        (K.seen out.old) (K.seen out.new) result }
+        (environment_by (I.seen inputs.old) (sources_with R.seen S.seen B.seen sources.old) (A.seen artifact.old) (F.seen out.old.shelf))
+        (environment_by (I.seen inputs.new) (sources_with R.seen S.seen B.seen sources.new) (A.seen artifact.new) (F.seen out.new.shelf))
+        (K.seen out.old.sink) (K.seen out.new.sink) result }
 {
-    let said = decide(alloc, line, inputs, repo, store, archive, artifact, shelf);
-    finish(&said, out)
+    let said = decide(alloc, line, inputs, sources, artifact, &mut out.shelf);
+    finish(&said, &mut out.sink)
 }

@@ -1,4 +1,4 @@
-use Rattle.command_bundles.proofs.Words.{stripped}
+use Rattle.command_outputs.proofs.Words.{stripped}
 use Rattle.command_bundles.proofs.layout.behind.Goals as goal
 
 pub returns : goal.returns
