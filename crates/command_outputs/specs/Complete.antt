@@ -1,5 +1,5 @@
 -- When a run that is asked for more than the report has to accept, and what it says where it hasn't to: where nothing outside fails.
-use Rattle.std.specs.Prelude.{◌≡◌, ◌⊎◌, ℕ, List, Option, Some, None, Result, Ok, Err}
+use Rattle.std.specs.Prelude.{◌≡◌, ◌⊎◌, ℕ, List, Some, None, Result, Ok, Err}
 use Rattle.foundation.specs.Watched.{Watched, Rose}
 use Rattle.sigstore_judgement.specs.declared.rules.JudgedByRule.{JudgedByRule}
 use Rattle.sigstore_judgement.specs.declared.rules.RulesError.{RulesError}

@@ -1,4 +1,4 @@
--- A run of `verify` that is asked for more than the report: what it goes to, and what it says.
+-- A run of `verify` in any way, which may be asked for more than the report: what it goes to, and what it says.
 use Rattle.std.specs.Prelude.{ℕ, List, None, Result}
 use Rattle.jiff_core.specs.declared.timestamp.Timestamp as jiff
 use Rattle.foundation.specs.Watched.{Watched}

@@ -1,5 +1,5 @@
-//! The command `verify` where it is asked for more than the report: lines on the bundle behind it, and the payload that was
-//! signed, which is put in a file once a rule accepts the bundle, and never before.
+//! The command `verify` in any way: its report, where they are asked for lines on the bundle behind it, and the payload that
+//! was signed, which is put in a file once a rule accepts the bundle, and never before.
 #![tactic(auto)]
 
 mod concluding;

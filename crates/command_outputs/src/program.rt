@@ -1,4 +1,4 @@
-// A run of `verify` that is asked for more than the report.
+// A run of `verify` in any way.
 ghost use Rattle.command_files.specs.Starting.{command_of};
 ghost use Rattle.command_ways.specs.Trust.{sources_with};
 ghost use Rattle.command_outputs.specs.Run.{outside_by, environment_by, JudgesOutputs, Says};
@@ -119,12 +119,14 @@ fn decide<
     }
 }
 
-/// Runs `verify` in any way over its words, its clock and the objects of the outside, as `run_way` does. Where a rule accepts
-/// the bundle and details are asked for, lines on the bundle stand behind the report. Where the statement is asked for, the
-/// payload that the envelope's signature covers is put in the file that the words name, whole, and then the report is
-/// written. A bundle with a message signature has no such payload: an accepted one is refused, in one line. Nothing is put
-/// in the file in another case. Status 4 where the file couldn't be put in its place, or where a write failed; 5 out of
-/// memory; then nothing was written, and the file is as it was.
+/// Runs the command `verify` in any way over its words, its clock and the objects of the outside: reads the words, then the
+/// inputs policy, provider, root and bundle; establishes the trusted root by the repository and the store, by the archive, or
+/// as the input root, where the caller hands it in; verifies under the policy's rules, over the artifact or its told digests;
+/// and writes one text. Where a rule accepts the bundle and details are asked for, lines on the bundle stand behind the
+/// report. Where the statement is asked for, the payload that the envelope's signature covers is put in the file that the
+/// words name, whole, and then the report is written. A bundle with a message signature has no such payload: an accepted one
+/// is refused, in one line. Nothing is put in the file in another case. Status 4 where the file couldn't be put in its place,
+/// or where a write failed; 5 out of memory; then nothing was written, and the file is as it was.
 pub fn run_outputs<
     I: Inputs,
     R: Repository,

@@ -1,6 +1,5 @@
 mod Meaning
 mod Sufficing
-mod SufficingForFolder
 mod WaySufficing
 mod GateWaySufficing
 mod SufficingForTargets

@@ -1,5 +1,4 @@
 pub mod DownloadMeans
-pub mod GateMeans
 pub mod GateWayMeans
 pub mod Means
 pub mod Suffice

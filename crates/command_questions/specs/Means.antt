@@ -1,34 +1,19 @@
 -- What a run asks and writes: the rows that were noted, which suffice, and nothing else; or the line of a stop.
 use Rattle.std.specs.Prelude.{◌≡◌, ℕ, List, Result, Ok, IfOk}
-use Rattle.jiff_core.specs.declared.timestamp.Timestamp as jiff
 use Rattle.foundation.specs.Watched.{Watched}
 use Rattle.foundation.specs.declared.no_memory.NoMemory.{NoMemory}
-use Rattle.command_files.specs.Ending.{TakesAll, SaysAndEnds}
-use Rattle.command_files.specs.Gather.{gathered_of}
+use Rattle.command_files.specs.Ending.{TakesAll}
 use Rattle.command_files.specs.Inputs.{Held}
-use Rattle.command_files.specs.Layout.{asked_layout_of}
 use Rattle.command_files.specs.Starting as start
-use Rattle.command_files.specs.Starting.{Command, now_of, Begins, Decides}
-use Rattle.command_files.specs.Tables.{tables_of, crypto_of}
+use Rattle.command_files.specs.Starting.{Begins, Decides}
+use Rattle.command_files.specs.Tables.{tables_of}
 use Rattle.command_files.specs.declared.answer.Answer.{Answer}
-use Rattle.command_files.specs.declared.answer.Status.{Status}
 use Rattle.command_files.specs.declared.answer.Status.TheVariants.{Accepted}
 use Rattle.command_files.specs.declared.gather.CommandStop.{CommandStop}
-use Rattle.command_files.specs.declared.gather.Gathered.{Gathered}
-use Rattle.command_files.specs.declared.layout.Layout.{Layout}
 use Rattle.command_files.specs.declared.tables.Tables.{Tables}
 use Rattle.command_files.specs.declared.usage_fault.UsageFault.{UsageFault}
-use Rattle.sigstore_verify.specs.declared.by_rules.RuleAcceptance.{RuleAcceptance}
-use Rattle.sigstore_verify.specs.declared.by_rules.RulesFault.{RulesFault}
-use Rattle.sigstore_verify.specs.ByRules.{RunsByRules}
-use Rattle.sigstore_verify.specs.Inputs.{Outside}
-use Rattle.question_notes.specs.Believing.{believing}
 use Rattle.question_notes.specs.Notes.{Asked}
 use Rattle.question_notes.specs.Holds.{TextsHold, HasRowsAlone}
-use Rattle.command_verify.specs.Run.{given_under, Environment}
-use Rattle.command_questions.specs.Suffice.{Suffice}
-
--- ---- of any judgement
 
 -- A text of questions: it is read as these tables and holds what may be noted, each armoured text in it holds what its row says,
 -- and each of its lines is a row's.
@@ -63,28 +48,3 @@ pub record WritesOf {L A O : Type 0} (words : Result L UsageFault) (of : Held �
   pub text : List ℕ
   pub rows : IsQuestions text tables
   pub written : TakesAll out out' text
-
--- ---- of the verification of a bundle
-
--- What was run is the verification of these inputs at the moment, in which the signatures of the file `refused` aren't good and
--- all others are. What it came to is told to nobody, but the rows suffice for it.
-pub record Asks (gathered : Gathered) (now : jiff.Timestamp) (rows : Tables) (before after : Outside) : Type 0 where
-  pub judged : Result RuleAcceptance RulesFault
-  pub runs : RunsByRules (given_under (believing gathered.tables.provider.rows) gathered now) before after judged
-  pub suffice : Suffice (given_under (crypto_of rows) gathered now) judged
-
--- by what the words and the inputs ask for
-abbrev pub AsksFor : Command → Layout → Gathered → Tables → Outside → Outside → Type 0
-AsksFor command layout gathered rows before after = Asks gathered (now_of layout command.clock) rows before after
-
-abbrev pub Says : Command → Environment → Environment → Result Answer NoMemory → Type 0
-Says command before after result = SaysOf (asked_layout_of command.words) gathered_of (AsksFor command) before after result
-
--- a run: what is said is written
-abbrev pub RunsTo : Command → Environment → Environment → Watched (List ℕ) → Watched (List ℕ) → Status → Type 0
-RunsTo command before after out out' ended = SaysAndEnds (Says command before after) out out' ended
-
--- what status 0 means: the words and the inputs were read, the verification was run in which all but the refused signatures are
--- good, and the sink took exactly a text of questions, which suffice for what it came to
-abbrev pub WritesRows : Command → Environment → Environment → Watched (List ℕ) → Watched (List ℕ) → Type 0
-WritesRows command before after out out' = WritesOf (asked_layout_of command.words) gathered_of (AsksFor command) before after out out'

@@ -3,8 +3,6 @@ use Rattle.std.specs.Prelude.{◌≡◌, ⊤, ℕ, ◌-◌, ◌==◌, List, [], 
 use Rattle.foundation.specs.declared.no_memory.NoMemory.{NoMemory}
 use Rattle.sigstore_types.specs.declared.bundle.Bundle.{Bundle}
 use Rattle.sigstore_types.specs.declared.trusted_root.TrustedRoot.{TrustedRoot}
-use Rattle.sigstore_types.specs.Bundle.{bundle_of_bytes}
-use Rattle.sigstore_types.specs.TrustedRoot.{trusted_root_of_bytes}
 use Rattle.sigstore_types_parts.specs.declared.hash_algorithm.ArtifactDigest.{ArtifactDigest}
 use Rattle.sigstore_keys.specs.Crypto.{Crypto}
 use Rattle.jiff_core.specs.declared.timestamp.Timestamp as jiff
@@ -18,16 +16,8 @@ use Rattle.sigstore_tuf_rules.specs.declared.chain.TrustChain.{TrustChain}
 use Rattle.trust_archive.specs.Archive.{IsArchive}
 use Rattle.trust_archive.specs.Spelling.{spelling_of}
 use Rattle.sigstore_policy.specs.Policy.{Meaning}
-use Rattle.sigstore_verify.specs.declared.by_rules.RuleAcceptance.{RuleAcceptance}
-use Rattle.sigstore_verify.specs.declared.by_rules.RulesFault.{RulesFault}
-use Rattle.sigstore_verify.specs.declared.by_rules.RulesFault.TheVariants.{Root, Each}
-use Rattle.sigstore_verify.specs.ByRules.{RulesInputs}
-use Rattle.sigstore_verify.specs.declared.from_root.RootFault.TheVariants as root
 use Rattle.sigstore_verify.specs.FromRoot.{trust_path}
 use Rattle.sigstore_verify.specs.Inputs.{Anchor}
-use Rattle.release_gate.specs.declared.gate.Gated.{Gated}
-use Rattle.release_gate.specs.declared.gate.GateFault.{GateFault}
-use Rattle.release_gate.specs.declared.gate.GateFault.TheVariants as gate
 use Rattle.command_download.specs.declared.chains.Chains.{Chains}
 use Rattle.command_download.specs.declared.fault.DownloadFault.{DownloadFault}
 use Rattle.command_download.specs.declared.fault.DownloadFault.TheVariants as fault
@@ -64,33 +54,7 @@ pub record IsAcceptedUnder (crypto : Crypto) (trust : TrustedRoot) (policy : Mea
 abbrev pub rule_at : {A : Type 0} → List A → ℕ → Option A
 rule_at rules number = if number == 0 then None else slice_get rules (number - 1)
 
--- the bundle is accepted under its rule and the trust file of the chain, over the digests that were taken
-pub record IsAcceptedAlone (given : RulesInputs) (ruled : RuleAcceptance) : Type 0 where
-  pub policy : Meaning
-  pub at : rule_at given.rules ruled.rule ≡ Some policy
-  pub trust : TrustedRoot
-  pub trust_read : trusted_root_of_bytes ruled.acceptance.chain.file ≡ Ok trust
-  pub reading : Bundle
-  pub read : bundle_of_bytes given.bundle ≡ Ok reading
-  pub under : IsAcceptedUnder given.anchor.crypto trust policy given.anchor.now reading ruled.acceptance.digests
-
--- ---- what suffices
-
--- Of a verification: where it came to a chain of documents, that is trusted by the rows alone; where it accepted the bundle, that is
--- accepted by them alone. Where it wanted memory, no rows suffice.
-abbrev pub Suffice : RulesInputs → Result RuleAcceptance RulesFault → Type 0
-Suffice given (Ok ruled) = IsTrustedAlone given.anchor ruled.acceptance.chain × IsAcceptedAlone given ruled
-Suffice given (Err (Each faults chain)) = IsTrustedAlone given.anchor chain
-Suffice given (Err (Root (root.Verify fault chain))) = IsTrustedAlone given.anchor chain
-Suffice given (Err (Root (root.Tuf e))) = ⊤
-Suffice given (Err (Root root.NoMemory)) = ⊥
-
--- The same of the judgement of a folder, but for its artifacts.
-abbrev pub SufficeForFolder : Anchor → Result Gated GateFault → Type 0
-SufficeForFolder anchor (Ok gated) = IsTrustedAlone anchor gated.chain
-SufficeForFolder anchor (Err (gate.Trust fault chain)) = IsTrustedAlone anchor chain
-SufficeForFolder anchor (Err gate.NoMemory) = ⊥
-SufficeForFolder anchor (Err e) = ⊤
+-- ---- what suffices for a download
 
 -- these are chains of the first so many downloads, each of which is trusted by the rows alone
 abbrev pub AreTrustedAlone : Anchor → List Download → List TrustChain → Type 0
@@ -106,7 +70,7 @@ HadMemory (Some (fault.Tuf e)) = ⊤
 HadMemory (Some fault.Unplaced) = ⊤
 HadMemory (Some fault.NoMemory) = ⊥
 
--- The same of a download: the chain of each target that it had is trusted by the rows alone.
+-- The chain of each target that it had is trusted by the rows alone.
 abbrev pub SufficeForTargets : Anchor → List Download → Result Chains NoMemory → Type 0
 SufficeForTargets anchor downloads (Ok had) = HadMemory had.stop × AreTrustedAlone anchor downloads had.chains
 SufficeForTargets anchor downloads (Err e) = ⊥

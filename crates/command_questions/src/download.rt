@@ -9,9 +9,9 @@ ghost use Rattle.command_download.specs.Client.{outside_by};
 ghost use Rattle.command_download.specs.Run.{environment_by};
 ghost use Rattle.command_questions.specs.DownloadMeans.{Asks, Says, RunsTo, WritesRows};
 
-use crate::program::questions_text;
 use crate::reading_store::ReadingStore;
 use crate::suffice::sufficient_for_targets;
+use crate::text::questions_text;
 use command_download::{
     Chains, Download, DownloadLayout, DownloadRequest, NoShelf, asked_download_layout, chains_of,
 };

@@ -7,18 +7,18 @@ ghost use Rattle.command_files.specs.declared.answer.Status.TheVariants.{Accepte
 ghost use Rattle.command_gate.specs.Run.{given_of};
 ghost use Rattle.command_ways.specs.FolderJudging.{folder_outside_by, GatesWay};
 ghost use Rattle.command_ways.specs.FolderRun.{environment_by};
+ghost use Rattle.command_ways.specs.Trust.{sources_with};
 ghost use Rattle.command_questions.specs.GateWayMeans.{SufficeForFolder, Asks, Says, RunsTo, WritesRows};
-ghost use Rattle.command_questions.specs.WaySuffice.{IsTrustedSo};
 
-use crate::program::questions_text;
 use crate::reading_store::ReadingStore;
-use crate::suffice::check_chain;
+use crate::text::questions_text;
+use crate::way_suffice::check_trust;
 use command_files::{
     Answer, CommandLine, Governed, Inputs, Sink, Started, Status, Tables, finish, start,
 };
 use command_gate::FolderRequest;
 use command_ways::{
-    FolderCame, FolderLayout, Trust, TrustFault, TrustedBy, asked_gate_way_layout, gate_way,
+    FolderCame, FolderLayout, TrustFault, TrustSources, TrustedBy, asked_gate_way_layout, gate_way,
 };
 use foundation::NoMemory;
 use jiff::Timestamp;
@@ -29,21 +29,6 @@ use sigstore_keys::{ArtifactSource, Providers};
 use sigstore_tuf::{MetadataStore, Repository};
 use std::alloc::Global;
 
-// A trusted root, whose chain is trusted by these rows alone, where it has one.
-fn check_trust(
-    alloc: Global,
-    tables: &Tables,
-    request: &FolderRequest<'_>,
-    trust: &Trust,
-) -> Result<(), NoMemory>
-    ensures { OnOk result (IsTrustedSo (given_of (crypto_of tables.now) request.now).anchor trust.now) }
-{
-    match trust {
-        Trust::Chain(chain) => check_chain(alloc, tables, request.root, request.moment, chain),
-        Trust::File(_) => Ok(()),
-    }
-}
-
 // What came of a folder, for which these rows suffice.
 fn check_came(
     alloc: Global,
@@ -53,6 +38,7 @@ fn check_came(
 ) -> Result<(), NoMemory>
     ensures { OnOk result (SufficeForFolder (given_of (crypto_of tables.now) request.now).anchor came.now) }
 {
+    let (root, now) = (request.root, request.moment);
     match came {
         FolderCame::Untrusted(TrustFault::NoMemory) => Err(NoMemory),
         FolderCame::Untrusted(_) => Ok(()),
@@ -60,12 +46,12 @@ fn check_came(
             fault: Error::NoMemory,
             ..
         } => Err(NoMemory),
-        FolderCame::Unusable { trust, .. } => check_trust(alloc, tables, request, trust),
+        FolderCame::Unusable { trust, .. } => check_trust(alloc, tables, root, now, trust),
         FolderCame::Judged {
             judged: Err(GateFault::NoMemory),
             ..
         } => Err(NoMemory),
-        FolderCame::Judged { trust, .. } => check_trust(alloc, tables, request, trust),
+        FolderCame::Judged { trust, .. } => check_trust(alloc, tables, root, now, trust),
     }
 }
 
@@ -96,14 +82,12 @@ fn gate_noting<R: Repository, S: MetadataStore, B: ArtifactSource, D: Folder>(
     notes: &Notes<'_>,
     request: &FolderRequest<'_>,
     by: TrustedBy,
-    repo: &mut R,
-    store: &mut S,
-    archive: &mut B,
+    sources: &mut TrustSources<R, S, B>,
     folder: &mut D,
 ) -> FolderCame
     ensures { GatesWay (given_of (believing notes.now.refused.now.rows) request.now) by
-        (folder_outside_by (R.seen repo.old) (S.seen store.old) (B.seen archive.old) (D.seen folder.old))
-        (folder_outside_by (R.seen repo.new) (S.seen store.new) (B.seen archive.new) (D.seen folder.new)) result }
+        (folder_outside_by (sources_with R.seen S.seen B.seen sources.old) (D.seen folder.old))
+        (folder_outside_by (sources_with R.seen S.seen B.seen sources.new) (D.seen folder.new)) result }
 {
     let provider = NotingProvider::new(notes);
     let armor = NotingArmor::new(notes);
@@ -111,7 +95,7 @@ fn gate_noting<R: Repository, S: MetadataStore, B: ArtifactSource, D: Folder>(
         provider: &provider,
         armor: &armor,
     };
-    gate_way(alloc, request, providers, by, repo, store, archive, folder)
+    gate_way(alloc, request, providers, by, sources, folder)
 }
 
 // What the judgement of a folder asks, which suffices for the trusted root that it came to; its verdicts are thrown away.
@@ -120,14 +104,12 @@ fn asked<R: Repository, S: MetadataStore, B: ArtifactSource, D: Folder>(
     by: TrustedBy,
     governed: Governed,
     now: Timestamp,
-    repo: &mut R,
-    store: &mut S,
-    archive: &mut B,
+    sources: &mut TrustSources<R, S, B>,
     folder: &mut D,
 ) -> Result<Noted, NoMemory>
     ensures { IfOk result (λ noted. Asks by governed now noted.tables
-        (folder_outside_by (R.seen repo.old) (S.seen store.old) (B.seen archive.old) (D.seen folder.old))
-        (folder_outside_by (R.seen repo.new) (S.seen store.new) (B.seen archive.new) (D.seen folder.new))) }
+        (folder_outside_by (sources_with R.seen S.seen B.seen sources.old) (D.seen folder.old))
+        (folder_outside_by (sources_with R.seen S.seen B.seen sources.new) (D.seen folder.new))) }
 {
     let request = FolderRequest {
         rules: governed.rules.as_slice(),
@@ -135,7 +117,7 @@ fn asked<R: Repository, S: MetadataStore, B: ArtifactSource, D: Folder>(
         moment: now,
     };
     let notes = Notes::new(alloc, &governed.anchored.tables.provider);
-    let came = gate_noting(alloc, &notes, &request, by, repo, store, archive, folder);
+    let came = gate_noting(alloc, &notes, &request, by, sources, folder);
     let noted = sufficient(alloc, notes, &request, &came);
     drop(came);
     noted
@@ -146,20 +128,18 @@ fn decide<I: Inputs, R: Repository, S: MetadataStore, B: ArtifactSource, D: Fold
     alloc: Global,
     line: &CommandLine<'_>,
     inputs: &mut I,
-    repo: &mut R,
-    store: &mut S,
-    archive: &mut B,
+    sources: &mut TrustSources<R, S, B>,
     folder: &mut D,
 ) -> Result<Answer, NoMemory>
     ensures { Says (command_of line.now)
-        (environment_by (I.seen inputs.old) (R.seen repo.old) (S.seen store.old) (B.seen archive.old) (D.seen folder.old))
-        (environment_by (I.seen inputs.new) (R.seen repo.new) (S.seen store.new) (B.seen archive.new) (D.seen folder.new)) result }
+        (environment_by (I.seen inputs.old) (sources_with R.seen S.seen B.seen sources.old) (D.seen folder.old))
+        (environment_by (I.seen inputs.new) (sources_with R.seen S.seen B.seen sources.new) (D.seen folder.new)) result }
 {
     match start(alloc, asked_gate_way_layout(alloc, line.words), inputs) {
         Ok(Started::Asked(layout, governed)) => {
             let FolderLayout { by, places, .. } = layout;
             let now = places.moment(line.clock);
-            match asked(alloc, by, governed, now, repo, store, archive, folder) {
+            match asked(alloc, by, governed, now, sources, folder) {
                 Ok(noted) => Ok(questions_text(noted)),
                 Err(e) => Err(e),
             }
@@ -169,10 +149,13 @@ fn decide<I: Inputs, R: Repository, S: MetadataStore, B: ArtifactSource, D: Fold
     }
 }
 
-/// Notes what the judgement of a folder asks in any way, as `run_gate_questions` does of the first: with trust from an archive
-/// or from a trusted root. Accepted says that the questions were written, and that the trusted root that the run came to
-/// stands by them alone.
-pub fn run_gate_way_questions<
+/// Notes what the judgement of a folder in any way asks, over these words, inputs and objects of the outside, where the
+/// signatures of the file `refused` aren't good and all others are, and writes it as a provider file: each question of all
+/// artifacts once, in the order in which they were asked, as many as a provider file may hold. Nothing is judged: the
+/// status is never Refused, and Accepted says that the questions were written, and that the chain of documents that the
+/// run came to is trusted by them alone. Status 4 where a write failed, 5 where memory was wanting, or a provider file has
+/// no room for a question that is needed; then nothing was written.
+pub fn run_gate_questions<
     I: Inputs,
     R: Repository,
     S: MetadataStore,
@@ -183,21 +166,19 @@ pub fn run_gate_way_questions<
     alloc: Global,
     line: &CommandLine<'_>,
     inputs: &mut I,
-    repo: &mut R,
-    store: &mut ReadingStore<S>,
-    archive: &mut B,
+    sources: &mut TrustSources<R, ReadingStore<S>, B>,
     folder: &mut D,
     out: &mut K,
 ) -> Status
     ensures runs { RunsTo (command_of line.now)
-        (environment_by (I.seen inputs.old) (R.seen repo.old) (⟦<ReadingStore<S> as MetadataStore>⟧.seen store.old) (B.seen archive.old) (D.seen folder.old))
-        (environment_by (I.seen inputs.new) (R.seen repo.new) (⟦<ReadingStore<S> as MetadataStore>⟧.seen store.new) (B.seen archive.new) (D.seen folder.new))
+        (environment_by (I.seen inputs.old) (sources_with R.seen ⟦<ReadingStore<S> as MetadataStore>⟧.seen B.seen sources.old) (D.seen folder.old))
+        (environment_by (I.seen inputs.new) (sources_with R.seen ⟦<ReadingStore<S> as MetadataStore>⟧.seen B.seen sources.new) (D.seen folder.new))
         (K.seen out.old) (K.seen out.new) result }
     ensures rows { result ≡ Accepted → WritesRows (command_of line.now)
-        (environment_by (I.seen inputs.old) (R.seen repo.old) (⟦<ReadingStore<S> as MetadataStore>⟧.seen store.old) (B.seen archive.old) (D.seen folder.old))
-        (environment_by (I.seen inputs.new) (R.seen repo.new) (⟦<ReadingStore<S> as MetadataStore>⟧.seen store.new) (B.seen archive.new) (D.seen folder.new))
+        (environment_by (I.seen inputs.old) (sources_with R.seen ⟦<ReadingStore<S> as MetadataStore>⟧.seen B.seen sources.old) (D.seen folder.old))
+        (environment_by (I.seen inputs.new) (sources_with R.seen ⟦<ReadingStore<S> as MetadataStore>⟧.seen B.seen sources.new) (D.seen folder.new))
         (K.seen out.old) (K.seen out.new) }
 {
-    let said = decide(alloc, line, inputs, repo, store, archive, folder);
+    let said = decide(alloc, line, inputs, sources, folder);
     finish(&said, out)
 }

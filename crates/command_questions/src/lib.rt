@@ -4,20 +4,18 @@
 
 mod details;
 mod download;
-mod gate;
 mod gate_ways;
 mod last_asked;
-mod program;
 mod reading_store;
 mod suffice;
+mod text;
 mod way_suffice;
 mod ways;
 
 pub use details::run_details;
 pub use download::run_download_questions;
-pub use gate::run_gate_questions;
-pub use gate_ways::run_gate_way_questions;
+pub use gate_ways::run_gate_questions;
 pub use last_asked::LastAsked;
-pub use program::{questions_text, run_questions};
 pub use reading_store::ReadingStore;
-pub use ways::run_way_questions;
+pub use text::questions_text;
+pub use ways::run_questions;

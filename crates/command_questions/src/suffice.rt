@@ -2,30 +2,24 @@
 // a shared cell holds, so that this, and no count of questions, says that none is lacking.
 ghost use Rattle.std.specs.Prelude.{◌≡◌, Ok, OnOk, IfOk, option_copied};
 ghost use Rattle.sigstore_judgement.specs.Grounds.{terms_by};
-ghost use Rattle.sigstore_types.specs.TrustedRoot.{trusted_root_of_bytes};
 ghost use Rattle.command_files.specs.Tables.{crypto_of};
 ghost use Rattle.sigstore_policy.specs.Policy.{meaning_in};
 ghost use Rattle.sigstore_tuf_rules.specs.Config.{default_config};
 ghost use Rattle.sigstore_verify.specs.Inputs.{anchor_by};
-ghost use Rattle.command_gate.specs.Run as gate;
-ghost use Rattle.command_verify.specs.Run.{given_of};
-ghost use Rattle.command_questions.specs.Suffice.{rule_at, IsTrustedFor, IsTrustedAlone, IsAcceptedOver, IsAcceptedUnder, IsAcceptedAlone, AreTrustedAlone, HadMemory, Suffice, SufficeForFolder, SufficeForTargets};
+ghost use Rattle.command_questions.specs.Suffice.{rule_at, IsTrustedFor, IsTrustedAlone, IsAcceptedOver, IsAcceptedUnder, AreTrustedAlone, HadMemory, SufficeForTargets};
 
 use command_download::{Chains, DownloadFault, DownloadRequest};
 use command_files::Tables;
-use command_gate::FolderRequest;
-use command_verify::VerifyRequest;
 use foundation::NoMemory;
 use jiff::Timestamp;
 use question_notes::{Noted, Notes};
-use release_gate::{GateFault, Gated};
 use sigstore_judgement::{Case, prepare_reader};
 use sigstore_keys::{CryptoProvider, Providers};
 use sigstore_policy::SigningPolicy;
 use sigstore_tuf::{TrustChain, UpdaterConfig};
 use sigstore_types::{Bundle, TrustedRoot};
 use sigstore_types_parts::{Armor, ArtifactDigest};
-use sigstore_verify::{RootFault, RuleAcceptance, RulesFault, TRUST_PATH, Verifier};
+use sigstore_verify::{TRUST_PATH, Verifier};
 use std::alloc::Global;
 use trust_archive::{ArchiveTerms, read_archive, write_archive};
 
@@ -134,103 +128,6 @@ pub(crate) fn check_case(
     }
 }
 
-// An acceptance, whose bundle is accepted under its rule by these rows alone.
-fn check_bundle(
-    alloc: Global,
-    tables: &Tables,
-    request: &VerifyRequest<'_>,
-    ruled: &RuleAcceptance,
-    trust: &TrustedRoot,
-) -> Result<(), NoMemory>
-    requires { trusted_root_of_bytes ruled.now.acceptance.chain.file ≡ Ok trust.now }
-    ensures { OnOk result (IsAcceptedAlone (given_of (crypto_of tables.now) request.now) ruled.now) }
-{
-    let Some(policy) = rule_of(request.rules, ruled.rule) else {
-        return Err(NoMemory);
-    };
-    let Ok(bundle) = Bundle::from_json(alloc, request.bundle) else {
-        return Err(NoMemory);
-    };
-    let case = Case {
-        bundle: &bundle,
-        policy,
-        moment: request.moment,
-    };
-    let checked = check_case(
-        alloc,
-        tables,
-        trust,
-        &case,
-        ruled.acceptance.digests.as_slice(),
-    );
-    drop(bundle);
-    checked
-}
-
-// An acceptance, whose chain is trusted and whose bundle is accepted by these rows alone.
-fn check_accepted(
-    alloc: Global,
-    tables: &Tables,
-    request: &VerifyRequest<'_>,
-    ruled: &RuleAcceptance,
-) -> Result<(), NoMemory>
-    ensures { OnOk result (Suffice (given_of (crypto_of tables.now) request.now) (Ok ruled.now)) }
-{
-    let chain = &ruled.acceptance.chain;
-    check_chain(alloc, tables, request.root, request.moment, chain)?;
-    let Ok(trust) = TrustedRoot::from_json(alloc, chain.file.as_bytes()) else {
-        return Err(NoMemory);
-    };
-    let checked = check_bundle(alloc, tables, request, ruled, &trust);
-    drop(trust);
-    checked
-}
-
-// What a verification came to, for which these rows suffice.
-fn check_judged(
-    alloc: Global,
-    tables: &Tables,
-    request: &VerifyRequest<'_>,
-    judged: &Result<RuleAcceptance, RulesFault>,
-) -> Result<(), NoMemory>
-    ensures { OnOk result (Suffice (given_of (crypto_of tables.now) request.now) judged.now) }
-{
-    match judged {
-        Ok(ruled) => check_accepted(alloc, tables, request, ruled),
-        Err(RulesFault::Root(RootFault::Verify { chain, .. })) => {
-            check_chain(alloc, tables, request.root, request.moment, chain)
-        }
-        Err(RulesFault::Each { chain, .. }) => {
-            check_chain(alloc, tables, request.root, request.moment, chain)
-        }
-        Err(RulesFault::Root(RootFault::Tuf(_))) => Ok(()),
-        Err(RulesFault::Root(RootFault::NoMemory)) => Err(NoMemory),
-    }
-}
-
-// What the judgement of a folder came to, for which these rows suffice.
-fn check_gated(
-    alloc: Global,
-    tables: &Tables,
-    request: &FolderRequest<'_>,
-    judged: &Result<Gated, GateFault>,
-) -> Result<(), NoMemory>
-    ensures { OnOk result (SufficeForFolder (gate.given_of (crypto_of tables.now) request.now).anchor judged.now) }
-{
-    match judged {
-        Ok(gated) => check_chain(alloc, tables, request.root, request.moment, &gated.chain),
-        Err(GateFault::Trust { chain, .. }) => {
-            check_chain(alloc, tables, request.root, request.moment, chain)
-        }
-        Err(GateFault::Tuf(_)) => Ok(()),
-        Err(GateFault::FolderFailed) => Ok(()),
-        Err(GateFault::DoubledName { .. }) => Ok(()),
-        Err(GateFault::TooManyNames { .. }) => Ok(()),
-        Err(GateFault::Vanished { .. }) => Ok(()),
-        Err(GateFault::NoMemory) => Err(NoMemory),
-    }
-}
-
 // The chains of the first so many downloads, each of which is trusted by these rows alone.
 fn check_chains(
     alloc: Global,
@@ -290,49 +187,7 @@ fn check_download(
     }
 }
 
-// What was noted, which suffices for what a verification came to; `NoMemory` where it doesn't.
-pub(crate) fn sufficient(
-    alloc: Global,
-    notes: Notes<'_>,
-    request: &VerifyRequest<'_>,
-    judged: &Result<RuleAcceptance, RulesFault>,
-) -> Result<Noted, NoMemory>
-    ensures { IfOk result (λ noted. Suffice (given_of (crypto_of noted.tables) request.now) judged.now) }
-{
-    let Some(noted) = notes.into_noted() else {
-        return Err(NoMemory);
-    };
-    match check_judged(alloc, &noted.tables, request, judged) {
-        Ok(()) => Ok(noted),
-        Err(e) => {
-            drop(noted);
-            Err(e)
-        }
-    }
-}
-
-// The same of the judgement of a folder.
-pub(crate) fn sufficient_for_folder(
-    alloc: Global,
-    notes: Notes<'_>,
-    request: &FolderRequest<'_>,
-    judged: &Result<Gated, GateFault>,
-) -> Result<Noted, NoMemory>
-    ensures { IfOk result (λ noted. SufficeForFolder (gate.given_of (crypto_of noted.tables) request.now).anchor judged.now) }
-{
-    let Some(noted) = notes.into_noted() else {
-        return Err(NoMemory);
-    };
-    match check_gated(alloc, &noted.tables, request, judged) {
-        Ok(()) => Ok(noted),
-        Err(e) => {
-            drop(noted);
-            Err(e)
-        }
-    }
-}
-
-// The same of a download.
+// What was noted, which suffices for what a download came to; `NoMemory` where it doesn't.
 pub(crate) fn sufficient_for_targets(
     alloc: Global,
     notes: Notes<'_>,

@@ -1,7 +1,9 @@
 // Whether the rows that were noted suffice for what a verification in any way came to.
 ghost use Rattle.std.specs.Prelude.{◌≡◌, ℕ, List, Ok, OnOk, IfOk};
 ghost use Rattle.sigstore_types.specs.TrustedRoot.{trusted_root_of_bytes};
+ghost use Rattle.sigstore_tuf_rules.specs.Config.{default_config};
 ghost use Rattle.sigstore_verify.specs.ByRules.{rules_asked_by};
+ghost use Rattle.sigstore_verify.specs.Inputs.{anchor_by};
 ghost use Rattle.command_files.specs.Tables.{crypto_of};
 ghost use Rattle.command_verify.specs.Run.{given_of};
 ghost use Rattle.command_questions.specs.WaySuffice.{IsTrustedSo, IsJudgedAlone, IsAnsweredSo, SufficeForWay};
@@ -11,22 +13,24 @@ use command_files::Tables;
 use command_verify::VerifyRequest;
 use command_ways::{Came, Trust, TrustFault};
 use foundation::NoMemory;
+use jiff::Timestamp;
 use question_notes::{Noted, Notes};
 use sigstore_judgement::{Case, Error, JudgedByRule, RulesError};
 use sigstore_types::{Bundle, TrustedRoot};
 use std::alloc::Global;
 
 // A trusted root, whose chain is trusted by these rows alone, where it has one.
-fn check_trust(
+pub(crate) fn check_trust(
     alloc: Global,
     tables: &Tables,
-    request: &VerifyRequest<'_>,
+    root: &[u8],
+    now: Timestamp,
     trust: &Trust,
 ) -> Result<(), NoMemory>
-    ensures { OnOk result (IsTrustedSo (given_of (crypto_of tables.now) request.now).anchor trust.now) }
+    ensures { OnOk result (IsTrustedSo (anchor_by (crypto_of tables.now) root.now default_config now) trust.now) }
 {
     match trust {
-        Trust::Chain(chain) => check_chain(alloc, tables, request.root, request.moment, chain),
+        Trust::Chain(chain) => check_chain(alloc, tables, root, now, chain),
         Trust::File(_) => Ok(()),
     }
 }
@@ -110,7 +114,7 @@ fn check_came(
 {
     match came {
         Came::Judged { trust, judged } => {
-            check_trust(alloc, tables, request, trust)?;
+            check_trust(alloc, tables, request.root, request.moment, trust)?;
             check_answer(alloc, tables, request, trust.file(), judged)
         }
         Came::Untrusted(TrustFault::NoMemory) => Err(NoMemory),

@@ -1,4 +1,4 @@
-//! The commands `verify` and `gate` with trust from a repository, an archive or the caller; `verify` also over told digests.
+//! Verification with trust from a repository, an archive or the caller, also over told digests; and the command `gate` so.
 #![tactic(auto)]
 
 mod digests;

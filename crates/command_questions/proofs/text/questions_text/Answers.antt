@@ -2,7 +2,7 @@ use Rattle.std.proofs.Common.{string_bytes, sym, subst}
 use Rattle.question_notes.specs.Notes.{Seen}
 use Rattle.question_notes.proofs.AskedFacts.{texts_of_asked, rows_of_asked}
 use Rattle.command_questions.specs.Means.{IsQuestions}
-use Rattle.command_questions.proofs.program.questions_text.Goals as goal
+use Rattle.command_questions.proofs.text.questions_text.Goals as goal
 
 pub returns-clause-rows : goal.returns-clause-rows
 returns-clause-rows c =

@@ -4,7 +4,7 @@ use Rattle.command_files.proofs.Endings.{says_and_ends}
 use Rattle.command_ways.specs.FolderLayout.{asked_folder_layout_of}
 use Rattle.command_questions.specs.GateWayMeans.{AsksFor, Says}
 use Rattle.command_questions.proofs.Meaning.{asked_rows}
-use Rattle.command_questions.proofs.gate_ways.run_gate_way_questions.Goals as goal
+use Rattle.command_questions.proofs.gate_ways.run_gate_questions.Goals as goal
 
 pub returns-clause-runs : goal.returns-clause-runs
 returns-clause-runs g c = says_and_ends (Says (command_of c.args.line.now) _ _) _ _ _ c.decide-said.result c.decide-said.ensures c.finish.ensures

@@ -1,9 +1,0 @@
-use Rattle.std.proofs.Common.{ap}
-use Rattle.question_notes.specs.declared.notes.Notes.{Notes}
-use Rattle.command_questions.proofs.SufficingForFolder.{gated_noting}
-use Rattle.command_questions.proofs.gate.gate_noting.Goals as goal
-
-pub returns : goal.returns
-returns g c =
-    gated_noting c.args.request.now _ _ _ c.new-provider.result.notes.now.refused.now c.args.notes.now.refused.now
-    (ap (λ (n : Notes). n.refused.now) c.new-provider.ensures) c.gate_folder.ensures.promises

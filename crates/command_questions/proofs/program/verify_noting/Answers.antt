@@ -1,9 +1,0 @@
-use Rattle.std.proofs.Common.{ap}
-use Rattle.question_notes.specs.declared.notes.Notes.{Notes}
-use Rattle.command_questions.proofs.Sufficing.{ran_noting}
-use Rattle.command_questions.proofs.program.verify_noting.Goals as goal
-
-pub returns : goal.returns
-returns g c =
-    ran_noting c.args.request.now _ _ _ c.new-provider.result.notes.now.refused.now c.args.notes.now.refused.now
-    (ap (λ (n : Notes). n.refused.now) c.new-provider.ensures) c.verify_request.ensures
