@@ -18,7 +18,7 @@ pub struct Objects<'r, X: Runtime + AllocGlobal> {
     pub out: StdoutSink<'r, X>,
 }
 
-fn empty(alloc: Global) -> Text {
+pub(crate) fn empty(alloc: Global) -> Text {
     Text::from_string(String::new(alloc))
 }
 

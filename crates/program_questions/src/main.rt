@@ -4,19 +4,17 @@
 #![tactic(auto)]
 
 use command_download::{DownloadLayout, asked_download_layout};
-use command_files::{
-    CommandLine, Layout, Status, exit_code, or_none, read_asked_layout, read_layout,
-};
-use command_gate::asked_gate_layout;
+use command_files::{CommandLine, Layout, Status, exit_code, or_none, read_layout};
 use command_questions::{
-    LastAsked, ReadingStore, run_details, run_download_questions, run_gate_questions,
-    run_gate_way_questions, run_questions, run_way_questions,
+    LastAsked, ReadingStore, run_details, run_download_questions, run_gate_questions, run_questions,
 };
-use command_ways::{FolderLayout, WayLayout, asked_gate_way_layout, asked_way_layout};
+use command_ways::{
+    FolderLayout, TrustSources, WayLayout, asked_gate_way_layout, asked_way_layout,
+};
 use foundation::NoMemory;
 use program_objects::{
-    DownloadObjects, GateObjects, Objects, clock_of, download_objects_at, gate_objects_at,
-    objects_at, words_of,
+    DownloadObjects, GateObjects, Objects, WayObjects, clock_of, download_objects_at,
+    gate_objects_at, objects_at, way_objects_at, words_of,
 };
 use sigstore_keys::FileSource;
 use std::process::ExitCode;
@@ -26,39 +24,43 @@ use std::rt::Runtime;
 fn asked<X: Runtime + AllocGlobal>(
     rt: &X,
     line: &CommandLine<'_>,
-    layout: Option<Layout>,
+    layout: Option<WayLayout>,
 ) -> Status {
-    let Objects {
+    let WayObjects {
         mut inputs,
-        mut repository,
-        store,
+        sources,
         mut artifact,
         mut out,
-    } = objects_at(rt, layout);
+    } = way_objects_at(rt, layout);
+    let TrustSources {
+        repository,
+        store,
+        archive,
+    } = sources;
+    let mut sources = TrustSources {
+        repository,
+        store: ReadingStore::new(store),
+        archive,
+    };
     run_questions(
         rt.alloc(),
         line,
         &mut inputs,
-        &mut repository,
-        &mut ReadingStore::new(store),
+        &mut sources,
         &mut artifact,
-        &mut out,
+        &mut out.sink,
     )
 }
 
 // The same for what a refusal holds.
-fn detailed<X: Runtime + AllocGlobal>(
-    rt: &X,
-    line: &CommandLine<'_>,
-    layout: Option<Layout>,
-) -> Status {
+fn detailed<X: Runtime + AllocGlobal>(rt: &X, line: &CommandLine<'_>, layout: Layout) -> Status {
     let Objects {
         mut inputs,
         repository,
         store,
         mut artifact,
         mut out,
-    } = objects_at(rt, layout);
+    } = objects_at(rt, Some(layout));
     run_details(
         rt.alloc(),
         line,
@@ -71,27 +73,7 @@ fn detailed<X: Runtime + AllocGlobal>(
 }
 
 // The same for what the judgement of a folder asks.
-fn gate_asked<X: Runtime + AllocGlobal>(rt: &X, line: &CommandLine<'_>, layout: Layout) -> Status {
-    let GateObjects {
-        mut inputs,
-        mut repository,
-        store,
-        mut folder,
-        mut out,
-    } = gate_objects_at(rt, layout);
-    run_gate_questions(
-        rt.alloc(),
-        line,
-        &mut inputs,
-        &mut repository,
-        &mut ReadingStore::new(store),
-        &mut folder,
-        &mut out,
-    )
-}
-
-// The same for what the judgement of a folder asks in another way.
-fn gate_way_asked<X: Runtime + AllocGlobal>(
+fn gate_asked<X: Runtime + AllocGlobal>(
     rt: &X,
     line: &CommandLine<'_>,
     layout: FolderLayout,
@@ -101,54 +83,24 @@ fn gate_way_asked<X: Runtime + AllocGlobal>(
         places,
         ..
     } = layout;
-    let mut archive = FileSource::new(rt, archive);
     let GateObjects {
         mut inputs,
-        mut repository,
+        repository,
         store,
         mut folder,
         mut out,
     } = gate_objects_at(rt, places);
-    run_gate_way_questions(
+    let mut sources = TrustSources {
+        repository,
+        store: ReadingStore::new(store),
+        archive: FileSource::new(rt, archive),
+    };
+    run_gate_questions(
         rt.alloc(),
         line,
         &mut inputs,
-        &mut repository,
-        &mut ReadingStore::new(store),
-        &mut archive,
+        &mut sources,
         &mut folder,
-        &mut out,
-    )
-}
-
-// The same for what a verification in another way asks.
-fn way_asked<X: Runtime + AllocGlobal>(
-    rt: &X,
-    line: &CommandLine<'_>,
-    layout: WayLayout,
-) -> Status {
-    let WayLayout {
-        way,
-        archive,
-        places,
-    } = layout;
-    drop(way);
-    let mut archive = FileSource::new(rt, archive);
-    let Objects {
-        mut inputs,
-        mut repository,
-        store,
-        mut artifact,
-        mut out,
-    } = objects_at(rt, Some(places));
-    run_way_questions(
-        rt.alloc(),
-        line,
-        &mut inputs,
-        &mut repository,
-        &mut ReadingStore::new(store),
-        &mut archive,
-        &mut artifact,
         &mut out,
     )
 }
@@ -184,26 +136,17 @@ fn status_of<X: Runtime + AllocGlobal>(rt: &X) -> Result<Status, NoMemory> {
         words: &words,
         clock: clock_of(rt),
     };
-    let layout = or_none(read_layout(rt.alloc(), &words))?;
-    if layout.is_some() {
+    if let Some(layout) = or_none(read_layout(rt.alloc(), &words))? {
         return Ok(detailed(rt, &line, layout));
     }
-    if let Some(layout) = or_none(asked_gate_layout(rt.alloc(), &words))? {
-        return Ok(gate_asked(rt, &line, layout));
-    }
     if let Some(layout) = or_none(asked_gate_way_layout(rt.alloc(), &words))? {
-        return Ok(gate_way_asked(rt, &line, layout));
+        return Ok(gate_asked(rt, &line, layout));
     }
     if let Some(layout) = or_none(asked_download_layout(rt.alloc(), &words))? {
         return Ok(download_asked(rt, &line, layout));
     }
-    if let Some(layout) = or_none(read_asked_layout(rt.alloc(), &words))? {
-        return Ok(asked(rt, &line, Some(layout)));
-    }
-    if let Some(layout) = or_none(asked_way_layout(rt.alloc(), &words))? {
-        return Ok(way_asked(rt, &line, layout));
-    }
-    Ok(asked(rt, &line, None))
+    let layout = or_none(asked_way_layout(rt.alloc(), &words))?;
+    Ok(asked(rt, &line, layout))
 }
 
 fn main(rt: HostRuntime) -> ExitCode {

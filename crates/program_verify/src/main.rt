@@ -1,9 +1,9 @@
 //! The program: `verify` judges a bundle over an artifact from a pinned TUF root. It is over a file or told digests, with
 //! trust from a repository, an archive or a trusted root that is handed in; where it is asked for the statement, the
-//! payload that was signed is put in a file; of a list of bundles it tells the first that is accepted. `gate` judges each artifact of a folder by its own bundle. `archive` writes
-//! the chain of documents to one file, and `check` judges such a file; `download` puts the files of targets in their
-//! places; `audit` judges whether a log grew; `generate` verifies a workload and counts. The report, the lines or the
-//! refusal go to standard output; the exit status says which.
+//! payload that was signed is put in a file; of a list of bundles it tells the first that is accepted. `gate` judges each
+//! artifact of a folder by its own bundle. `archive` writes the chain of documents to one file, and `check` judges such a
+//! file; `download` puts the files of targets in their places; `audit` judges whether a log grew; `generate` verifies a
+//! workload and counts. The report, the lines or the refusal go to standard output; the exit status says which.
 #![tactic(auto)]
 
 use command_archive::{CheckLayout, archive_layout, check_layout, run_archive, run_check};
@@ -15,11 +15,11 @@ use command_gate::{gate_layout, run_gate};
 use command_generate::{is_generate, run_generate};
 use command_outputs::{OutputsLayout, outputs_layout, run_outputs};
 use command_verify::run;
-use command_ways::{FolderLayout, WayLayout, gate_way_layout, run_gate_way, run_way, way_layout};
+use command_ways::{FolderLayout, TrustSources, gate_way_layout, run_gate_way};
 use foundation::NoMemory;
 use program_objects::{
-    AuditObjects, DownloadObjects, GateObjects, Objects, audit_objects_at, clock_of,
-    download_objects_at, gate_objects_at, objects_at, words_of,
+    AuditObjects, DownloadObjects, GateObjects, Objects, WayObjects, audit_objects_at, clock_of,
+    download_objects_at, gate_objects_at, objects_at, way_objects_at, words_of,
 };
 use sigstore_keys::FileSource;
 use sigstore_types_parts::Text;
@@ -148,21 +148,23 @@ fn gated_by_way<X: Runtime + AllocGlobal>(
         places,
         ..
     } = layout;
-    let mut archive = FileSource::new(rt, archive);
     let GateObjects {
         mut inputs,
-        mut repository,
-        mut store,
+        repository,
+        store,
         mut folder,
         mut out,
     } = gate_objects_at(rt, places);
+    let mut sources = TrustSources {
+        repository,
+        store,
+        archive: FileSource::new(rt, archive),
+    };
     run_gate_way(
         rt.alloc(),
         line,
         &mut inputs,
-        &mut repository,
-        &mut store,
-        &mut archive,
+        &mut sources,
         &mut folder,
         &mut out,
     )
@@ -192,112 +194,44 @@ fn verified<X: Runtime + AllocGlobal>(
     )
 }
 
-// Runs `verify` in another way over the real objects that its words name.
+// Runs `verify` in any way over the real objects that its words name, of which one may be a list of bundles.
 fn verified_by_way<X: Runtime + AllocGlobal>(
     rt: &X,
     line: &CommandLine<'_>,
-    layout: WayLayout,
-) -> Status {
-    let WayLayout {
-        way,
-        archive,
-        places,
-    } = layout;
-    drop(way);
-    let mut archive = FileSource::new(rt, archive);
-    let Objects {
-        mut inputs,
-        mut repository,
-        mut store,
-        mut artifact,
-        mut out,
-    } = objects_at(rt, Some(places));
-    run_way(
-        rt.alloc(),
-        line,
-        &mut inputs,
-        &mut repository,
-        &mut store,
-        &mut archive,
-        &mut artifact,
-        &mut out,
-    )
-}
-
-// Runs `verify` in any way over the real objects that its words name, for more than the report.
-fn verified_for_outputs<X: Runtime + AllocGlobal>(
-    rt: &X,
-    line: &CommandLine<'_>,
     layout: OutputsLayout,
+    is_list: bool,
 ) -> Status {
     let OutputsLayout {
         verification,
         outputs,
     } = layout;
     drop(outputs);
-    let WayLayout {
-        way,
-        archive,
-        places,
-    } = verification;
-    drop(way);
-    let (mut archive, mut shelf) = (FileSource::new(rt, archive), FileShelf::new(rt));
-    let Objects {
+    let WayObjects {
         mut inputs,
-        mut repository,
-        mut store,
+        mut sources,
         mut artifact,
         mut out,
-    } = objects_at(rt, Some(places));
-    run_outputs(
-        rt.alloc(),
-        line,
-        &mut inputs,
-        &mut repository,
-        &mut store,
-        &mut archive,
-        &mut artifact,
-        &mut shelf,
-        &mut out,
-    )
-}
-
-// Runs `verify` in any way over the real objects that its words name, of which one is a list of bundles.
-fn verified_by_list<X: Runtime + AllocGlobal>(
-    rt: &X,
-    line: &CommandLine<'_>,
-    layout: OutputsLayout,
-) -> Status {
-    let OutputsLayout {
-        verification,
-        outputs,
-    } = layout;
-    drop(outputs);
-    let WayLayout {
-        way,
-        archive,
-        places,
-    } = verification;
-    drop(way);
-    let (mut archive, mut shelf) = (FileSource::new(rt, archive), FileShelf::new(rt));
-    let Objects {
-        mut inputs,
-        mut repository,
-        mut store,
-        mut artifact,
-        mut out,
-    } = objects_at(rt, Some(places));
-    run_bundles(
-        rt.alloc(),
-        line,
-        &mut inputs,
-        &mut repository,
-        &mut store,
-        &mut archive,
-        &mut artifact,
-        &mut shelf,
-        &mut out,
-    )
+    } = way_objects_at(rt, Some(verification));
+    let alloc = rt.alloc();
+    if is_list {
+        run_bundles(
+            alloc,
+            line,
+            &mut inputs,
+            &mut sources,
+            &mut artifact,
+            &mut out,
+        )
+    } else {
+        run_outputs(
+            alloc,
+            line,
+            &mut inputs,
+            &mut sources,
+            &mut artifact,
+            &mut out,
+        )
+    }
 }
 
 // Runs `generate`, which goes to standard output alone.
@@ -316,14 +250,11 @@ fn judged<X: Runtime + AllocGlobal>(rt: &X, line: &CommandLine<'_>) -> Result<St
     if let Some(layout) = or_none(read_layout(rt.alloc(), line.words))? {
         return Ok(verified(rt, line, Some(layout)));
     }
-    if let Some(layout) = or_none(way_layout(rt.alloc(), line.words))? {
-        return Ok(verified_by_way(rt, line, layout));
-    }
     if let Some(layout) = or_none(outputs_layout(rt.alloc(), line.words))? {
-        return Ok(verified_for_outputs(rt, line, layout));
+        return Ok(verified_by_way(rt, line, layout, false));
     }
     if let Some(layout) = or_none(bundles_layout(rt.alloc(), line.words))? {
-        return Ok(verified_by_list(rt, line, layout));
+        return Ok(verified_by_way(rt, line, layout, true));
     }
     Ok(verified(rt, line, None))
 }

@@ -1,9 +1,10 @@
 // The questions of a folder over the stored world.
-use crate::runs::{NONE, inputs, repository, sink, taken, words};
+use crate::runs::{NONE, inputs, no_archive, repository, sink, taken, words};
 use crate::tables::{bytes, check, good, no_failures};
 use crate::world::{BUNDLE, RELEASE, ROWS};
 use command_files::{CommandLine, InputFile, Status};
 use command_questions::{ReadingStore, run_gate_questions};
+use command_ways::TrustSources;
 use jiff::Timestamp;
 use release_gate::MemoryFolder;
 use sigstore_tuf::MemoryStore;
@@ -33,9 +34,13 @@ fn folder<X: AllocGlobal + Abort>(rt: &X) -> MemoryFolder {
 // How the questions of these words over the folder end, and what is written.
 fn asked<X: AllocGlobal + Abort>(rt: &X, line: &str) -> (Status, String) {
     let words = words(rt, line);
-    let (mut inputs, mut repo) = (inputs(rt, NONE), repository(rt, NONE));
+    let mut inputs = inputs(rt, NONE);
     inputs.put(InputFile::Provider, bytes(rt, ""));
-    let mut store = ReadingStore::new(MemoryStore::new(rt.alloc()));
+    let mut sources = TrustSources {
+        repository: repository(rt, NONE),
+        store: ReadingStore::new(MemoryStore::new(rt.alloc())),
+        archive: no_archive(rt),
+    };
     let mut folder = folder(rt);
     let mut sink = sink(rt);
     let ended = run_gate_questions(
@@ -45,15 +50,13 @@ fn asked<X: AllocGlobal + Abort>(rt: &X, line: &str) -> (Status, String) {
             clock: Timestamp::UNIX_EPOCH,
         },
         &mut inputs,
-        &mut repo,
-        &mut store,
+        &mut sources,
         &mut folder,
         &mut sink,
     );
     drop(words);
     drop(inputs);
-    drop(repo);
-    drop(store);
+    drop(sources);
     drop(folder);
     (ended, taken(rt, sink))
 }

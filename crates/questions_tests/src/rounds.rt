@@ -7,6 +7,7 @@ use crate::choices::{
     BUNDLE, POLICY, RELEASE, ROOT, SECOND_ROOT, SNAPSHOT, TARGETS, TIMESTAMP, TRUE_ROWS, TRUST,
     TRUST_NAME,
 };
+use crate::runs::no_archive;
 use crate::tables::{bytes, check, good, halves, no_failures, string, there};
 use command_files::{
     CommandLine, Gather, Gathered, InputFile, MemoryInputs, MemorySink, Status, TableProvider,
@@ -14,6 +15,7 @@ use command_files::{
 };
 use command_questions::{ReadingStore, run_questions};
 use command_verify::{VerifyRequest, run};
+use command_ways::TrustSources;
 use jiff::Timestamp;
 use sigstore_keys::{MemorySource, Providers};
 use sigstore_tuf::{MemoryRepository, MemoryStore};
@@ -112,8 +114,12 @@ fn taken<X: AllocGlobal + Abort>(rt: &X, sink: MemorySink) -> String {
 // The questions of the case where these rows are refused.
 fn asked<X: AllocGlobal + Abort>(rt: &X, case: Case, refused: &str) -> String {
     let words = words(rt, ASK);
-    let (mut inputs, mut repo) = (inputs(rt, case, refused), repository(rt));
-    let mut store = ReadingStore::new(MemoryStore::new(rt.alloc()));
+    let mut inputs = inputs(rt, case, refused);
+    let mut sources = TrustSources {
+        repository: repository(rt),
+        store: ReadingStore::new(MemoryStore::new(rt.alloc())),
+        archive: no_archive(rt),
+    };
     let (mut artifact, mut sink) = (artifact(rt), sink(rt));
     let ended = run_questions(
         rt.alloc(),
@@ -122,15 +128,13 @@ fn asked<X: AllocGlobal + Abort>(rt: &X, case: Case, refused: &str) -> String {
             clock: Timestamp::UNIX_EPOCH,
         },
         &mut inputs,
-        &mut repo,
-        &mut store,
+        &mut sources,
         &mut artifact,
         &mut sink,
     );
     drop(words);
     drop(inputs);
-    drop(repo);
-    drop(store);
+    drop(sources);
     drop(artifact);
     let text = taken(rt, sink);
     assert!(rt;

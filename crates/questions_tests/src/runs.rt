@@ -7,6 +7,7 @@ use crate::world::{
 use command_files::{CommandLine, InputFile, MemoryInputs, MemorySink, Status};
 use command_questions::{LastAsked, ReadingStore, run_details, run_questions};
 use command_verify::run;
+use command_ways::TrustSources;
 use jiff::Timestamp;
 use sigstore_keys::MemorySource;
 use sigstore_tuf::{MemoryRepository, MemoryStore, MetadataStore, StoreFault};
@@ -88,6 +89,12 @@ fn artifact<X: AllocGlobal + Abort>(rt: &X, change: Change) -> MemorySource {
     MemorySource::new(release, step, no_failures(rt))
 }
 
+// An archive of which nothing is read.
+pub(crate) fn no_archive<X: AllocGlobal + Abort>(rt: &X) -> MemorySource {
+    let step = there(rt, NonZeroU32::new(8));
+    MemorySource::new(bytes(rt, ""), step, no_failures(rt))
+}
+
 pub(crate) fn words<X: AllocGlobal + Abort>(rt: &X, line: &str) -> Vec<Text> {
     let mut words = Vec::new(rt.alloc());
     for word in line.split_whitespace() {
@@ -166,13 +173,17 @@ impl<S: MetadataStore> MetadataStore for CountedStore<'_, S> {
 // may reach the store.
 fn asked<X: AllocGlobal + Abort>(rt: &X, line: &str, refused: &str) -> (Status, String) {
     let words = words(rt, line);
-    let (mut inputs, mut repo) = (inputs(rt, NONE), repository(rt, NONE));
+    let mut inputs = inputs(rt, NONE);
     inputs.put(InputFile::Provider, bytes(rt, refused));
     let writes = Cell::new(0);
-    let mut store = ReadingStore::new(CountedStore {
-        inner: MemoryStore::new(rt.alloc()),
-        writes: &writes,
-    });
+    let mut sources = TrustSources {
+        repository: repository(rt, NONE),
+        store: ReadingStore::new(CountedStore {
+            inner: MemoryStore::new(rt.alloc()),
+            writes: &writes,
+        }),
+        archive: no_archive(rt),
+    };
     let mut artifact = artifact(rt, NONE);
     let mut sink = sink(rt);
     let ended = run_questions(
@@ -182,16 +193,14 @@ fn asked<X: AllocGlobal + Abort>(rt: &X, line: &str, refused: &str) -> (Status, 
             clock: Timestamp::UNIX_EPOCH,
         },
         &mut inputs,
-        &mut repo,
-        &mut store,
+        &mut sources,
         &mut artifact,
         &mut sink,
     );
     assert!(rt; writes.get() == 0, "the store stays as it was");
     drop(words);
     drop(inputs);
-    drop(repo);
-    drop(store);
+    drop(sources);
     drop(artifact);
     (ended, taken(rt, sink))
 }

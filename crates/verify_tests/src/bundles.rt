@@ -8,6 +8,8 @@ use crate::tables::{
 use command_bundles::run_bundles;
 use command_download::MemoryShelf;
 use command_files::{CommandLine, InputFile, MemoryInputs, MemorySink, Status};
+use command_outputs::Destinations;
+use command_ways::TrustSources;
 use jiff::Timestamp;
 use sigstore_types_parts::Bytes;
 use std::process::Abort;
@@ -106,14 +108,15 @@ fn ended<X: AllocGlobal + Abort>(
     rt: &X,
     change: Change,
     line: &str,
-    shelf: &mut MemoryShelf,
-    sink: &mut MemorySink,
+    out: &mut Destinations<MemoryShelf, MemorySink>,
 ) -> Status {
     let (root, targets) = (root(rt, change, "1"), targets(rt, change));
     let mut inputs = given(rt, change, root.as_str(), targets.as_str());
-    let mut repo = repository(rt, change, targets.as_str());
-    let mut store = store(rt, change);
-    let mut archive = source(rt, "SIGCHAIN2", 2, change.of("archive fails", ""));
+    let mut sources = TrustSources {
+        repository: repository(rt, change, targets.as_str()),
+        store: store(rt, change),
+        archive: source(rt, "SIGCHAIN2", 2, change.of("archive fails", "")),
+    };
     let mut artifact = source(rt, "hello", 2, change.of("artifact fails", ""));
     let words = words(rt, line);
     let line = CommandLine {
@@ -124,18 +127,13 @@ fn ended<X: AllocGlobal + Abort>(
         rt.alloc(),
         &line,
         &mut inputs,
-        &mut repo,
-        &mut store,
-        &mut archive,
+        &mut sources,
         &mut artifact,
-        shelf,
-        sink,
+        out,
     );
     drop(words);
     drop(artifact);
-    drop(archive);
-    drop(store);
-    drop(repo);
+    drop(sources);
     drop(inputs);
     drop(root);
     drop(targets);
@@ -148,14 +146,14 @@ pub(crate) fn said<X: AllocGlobal + Abort>(rt: &X, row: &str) -> String {
     let change = change_in(rt, row, PARTS);
     let room = good(rt, change.of("room", "1024").parse::<u32>());
     let fails = failures(rt, change.of("sink fails", ""));
-    let mut sink = good(rt, MemorySink::new(rt.alloc(), room, fails));
+    let sink = good(rt, MemorySink::new(rt.alloc(), room, fails));
     let fails = failures(rt, change.of("shelf fails", ""));
-    let mut shelf = MemoryShelf::new(rt.alloc(), fails);
-    let status = ended(rt, change, line, &mut shelf, &mut sink);
-    let taken = text_of(rt, sink.bytes());
-    let files = placed(rt, &shelf);
-    drop(shelf);
-    drop(sink);
+    let shelf = MemoryShelf::new(rt.alloc(), fails);
+    let mut out = Destinations { shelf, sink };
+    let status = ended(rt, change, line, &mut out);
+    let taken = text_of(rt, out.sink.bytes());
+    let files = placed(rt, &out.shelf);
+    drop(out);
     let said = format!(in rt.alloc(); "{status:?} {taken:?} {files:?}");
     drop(taken);
     drop(files);

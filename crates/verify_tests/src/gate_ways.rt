@@ -4,7 +4,7 @@ use crate::fixture::{PARTS, inputs, repository, root, store, targets, trust};
 use crate::gates::folder;
 use crate::tables::{Change, bytes, change_in, failures, good, hold, text_of, there, words};
 use command_files::{CommandLine, InputFile, MemoryInputs, MemorySink, Status};
-use command_ways::run_gate_way;
+use command_ways::{TrustSources, run_gate_way};
 use jiff::Timestamp;
 use sigstore_keys::MemorySource;
 use sigstore_types_parts::Bytes;
@@ -50,9 +50,11 @@ fn ended<X: AllocGlobal + Abort>(
 ) -> Status {
     let targets = targets(rt, change);
     let mut inputs = inputs_for(rt, change, line, targets.as_str());
-    let mut repo = repository(rt, change, targets.as_str());
-    let mut store = store(rt, change);
-    let mut archive = source(rt, change);
+    let mut sources = TrustSources {
+        repository: repository(rt, change, targets.as_str()),
+        store: store(rt, change),
+        archive: source(rt, change),
+    };
     let mut folder = folder(rt, change, files);
     let words = words(rt, line);
     let line = CommandLine {
@@ -63,17 +65,13 @@ fn ended<X: AllocGlobal + Abort>(
         rt.alloc(),
         &line,
         &mut inputs,
-        &mut repo,
-        &mut store,
-        &mut archive,
+        &mut sources,
         &mut folder,
         sink,
     );
     drop(words);
     drop(folder);
-    drop(archive);
-    drop(store);
-    drop(repo);
+    drop(sources);
     drop(inputs);
     drop(targets);
     status

@@ -144,8 +144,8 @@ pub fn push_found(
         alloc,
         &request,
         providers,
-        &mut objects.repository,
-        &mut objects.store,
+        &mut objects.sources.repository,
+        &mut objects.sources.store,
         &mut objects.artifact,
     );
     let pushed = push_judged(alloc, text, request.bundle, &judged);

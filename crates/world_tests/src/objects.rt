@@ -1,7 +1,10 @@
 // The objects of a run over a world.
 use crate::fault::Fault;
 use crate::world::World;
+use command_download::NoShelf;
 use command_files::{InputFile, MemoryInputs, MemorySink};
+use command_outputs::Destinations;
+use command_ways::TrustSources;
 use serde_json::{Map, Value};
 use sigstore_keys::MemorySource;
 use sigstore_tuf::{MemoryRepository, MemoryStore, MetadataStore};
@@ -18,11 +21,9 @@ const ROOM: u64 = 65_536;
 #[derive(Drop)]
 pub struct Objects {
     pub inputs: MemoryInputs,
-    pub repository: MemoryRepository,
-    pub store: MemoryStore,
-    pub archive: MemorySource,
+    pub sources: TrustSources<MemoryRepository, MemoryStore, MemorySource>,
     pub artifact: MemorySource,
-    pub sink: MemorySink,
+    pub out: Destinations<NoShelf, MemorySink>,
 }
 
 // The calls of an object that fail: the one of that number, or none.
@@ -135,8 +136,8 @@ fn fill(alloc: Global, world: &World, objects: &mut Objects) -> Result<(), Fault
             alloc,
             world,
             files,
-            &mut objects.repository,
-            &mut objects.store,
+            &mut objects.sources.repository,
+            &mut objects.sources.store,
         )?;
     }
     Ok(())
@@ -154,11 +155,16 @@ impl Objects {
         );
         let mut objects = Objects {
             inputs: MemoryInputs::new(inputs),
-            repository: MemoryRepository::new(alloc, repository),
-            store: MemoryStore::with_failures(alloc, store),
-            archive,
+            sources: TrustSources {
+                repository: MemoryRepository::new(alloc, repository),
+                store: MemoryStore::with_failures(alloc, store),
+                archive,
+            },
             artifact,
-            sink,
+            out: Destinations {
+                shelf: NoShelf,
+                sink,
+            },
         };
         match fill(alloc, world, &mut objects) {
             Ok(()) => Ok(objects),

@@ -6,8 +6,8 @@ use crate::handed::{is_handed, push_alone};
 use crate::objects::Objects;
 use crate::world::World;
 use command_files::{CommandLine, Status, read_layout};
+use command_outputs::{outputs_layout, run_outputs};
 use command_verify::run;
-use command_ways::{run_way, way_layout};
 use jiff::Timestamp;
 use serde_json::Value;
 use sigstore_types_parts::Text;
@@ -47,26 +47,24 @@ fn words(alloc: Global, world: &World) -> Result<Vec<Text>, Fault> {
 
 // Runs `verify` in the first way, or in another one where the words are of it alone.
 fn run_by_words(alloc: Global, line: &CommandLine<'_>, objects: &mut Objects) -> Status {
-    if read_layout(alloc, line.words).is_err() && way_layout(alloc, line.words).is_ok() {
-        return run_way(
+    if read_layout(alloc, line.words).is_err() && outputs_layout(alloc, line.words).is_ok() {
+        return run_outputs(
             alloc,
             line,
             &mut objects.inputs,
-            &mut objects.repository,
-            &mut objects.store,
-            &mut objects.archive,
+            &mut objects.sources,
             &mut objects.artifact,
-            &mut objects.sink,
+            &mut objects.out,
         );
     }
     run(
         alloc,
         line,
         &mut objects.inputs,
-        &mut objects.repository,
-        &mut objects.store,
+        &mut objects.sources.repository,
+        &mut objects.sources.store,
         &mut objects.artifact,
-        &mut objects.sink,
+        &mut objects.out.sink,
     )
 }
 
@@ -79,7 +77,7 @@ fn run_over(alloc: Global, world: &World, text: &mut String) -> Result<u64, Faul
     };
     let mut objects = Objects::new(alloc, world)?;
     let status = run_by_words(alloc, &line, &mut objects);
-    let written = str::from_utf8(objects.sink.bytes()).unwrap_or("");
+    let written = str::from_utf8(objects.out.sink.bytes()).unwrap_or("");
     let pushed = text.push_str(written);
     drop(objects);
     pushed?;
