@@ -2,14 +2,19 @@
 # programs judge them by themselves; what is said here stands on standard error, and changes no answer.
 # shellcheck shell=sh disable=SC2034,SC2154
 
+# Finds the first folder that is there, of a path and those above it. (In a folder that may not be searched not even `.` is there.)
+find_above() {
+    above=$1
+    while [ ! -e "$above" ] && [ "$above" != . ]; do above=$(dirname -- "$above"); done
+}
+
 # Says why a file can't be put in its place: the word that names it, and its path.
 look_at_out() {
     [ -n "$2" ] || return 0
-    above=$(dirname -- "$2")
-    while [ ! -e "$above" ]; do above=$(dirname -- "$above"); done
+    find_above "$(dirname -- "$2")"
     if [ -d "$2" ]; then
         say "$1 $2: it is a folder"
-    elif [ ! -d "$above" ]; then
+    elif [ -e "$above" ] && [ ! -d "$above" ]; then
         say "$1 $2: $above is no folder"
     elif [ ! -w "$above" ]; then
         say "$1 $2: Permission denied in $above"
@@ -73,9 +78,8 @@ look_at_store() {
     elif [ -d "$store" ]; then
         if tried=$(LC_ALL=C mktemp -- "$store/.tried.XXXXXX" 2>&1); then rm -f "$tried"; else why=${tried##*: }; fi
     else
-        above=$store
-        while [ ! -e "$above" ]; do above=$(dirname -- "$above"); done
-        if [ ! -d "$above" ]; then
+        find_above "$store"
+        if [ -e "$above" ] && [ ! -d "$above" ]; then
             why="$above is no folder"
         elif tried=$(LC_ALL=C mktemp -d -- "$above/.tried.XXXXXX" 2>&1); then
             rmdir "$tried"

@@ -66,7 +66,7 @@ static const uint8_t *rest;
 static size_t rest_length;
 static struct text asked, out_text, kept_text;
 static uint32_t given;      /* the status of the call */
-static bool in_grammar, pending;
+static bool in_grammar, pending, was_raw;
 static int calls;
 static size_t files_before, absents_before, rows_before, questions;
 
@@ -124,6 +124,12 @@ static void append_lines(struct text *to, const uint8_t *at, size_t length, bool
     }
 }
 
+static size_t lines_of(const struct ratmanganese_bytes *bytes) {
+    size_t found = 0;
+    for (size_t i = 0; i < bytes->length; i++) found += bytes->at[i] == '\n';
+    return found;
+}
+
 /* Makes the next answer of the input. */
 static void next_answer(void) {
     const uint8_t *end = rest_length ? memmem(rest, rest_length, DIVIDER, 4) : NULL;
@@ -132,25 +138,21 @@ static void next_answer(void) {
     rest_length -= end ? length + 4 : length;
     rest = end ? end + 4 : rest + length;
     out_text.length = kept_text.length = questions = 0;
-    given = length ? at[0] % 9 : 1;
+    given = length > 1 ? at[0] % 9 : RATMANGANESE_REFUSED;
     in_grammar = length < 2 || at[1] % 2 == 0;
     if (length < 2) return;
     const uint8_t *split = memmem(at + 2, length - 2, SPLIT, 4);
     size_t first = split ? (size_t)(split - at) - 2 : length - 2;
     if (in_grammar && given == RATMANGANESE_ASKS) append_lines(&out_text, at + 2, first, false);
     else append(&out_text, (const char *)at + 2, first);
+    /* (what is answered of a text as it stands is each line of it) */
+    if (!in_grammar && given == RATMANGANESE_ASKS) was_raw = true, questions = lines_of(&(struct ratmanganese_bytes){(uint8_t *)out_text.at, out_text.length});
     if (in_grammar && split) append_lines(&kept_text, split + 4, length - first - 6, true);
     else if (split) append(&kept_text, (const char *)split + 4, length - first - 6);
     /* (the header: no questions are no text, and another status than 0 and 1 keeps nothing) */
     if (in_grammar && given == RATMANGANESE_ASKS && !out_text.length) given = RATMANGANESE_REFUSED;
     if (in_grammar && given > RATMANGANESE_REFUSED) kept_text.length = 0;
     if (in_grammar && given == RATMANGANESE_SHORT) given = RATMANGANESE_MEMORY;
-}
-
-static size_t lines_of(const struct ratmanganese_bytes *bytes) {
-    size_t found = 0;
-    for (size_t i = 0; i < bytes->length; i++) found += bytes->at[i] == '\n';
-    return found;
 }
 
 /* What the host hands in: all that it did before, and an answer to each question. */
@@ -163,8 +165,10 @@ static void look_at(const struct ratmanganese_request *r) {
         size_t j = 0, most = sizeof names / sizeof *names;
         while (j < most && (strlen(names[j]) != file->name.length || memcmp(names[j], file->name.at, file->name.length))) j++;
         if (j == most) fail("a file that the repository doesn't have");
-        size_t length = file->name.length % 2 ? file->name.length : 4;
-        if (file->bytes.length != (length < file->name.length ? length : file->name.length) || memcmp(file->bytes.at, names[j], file->bytes.length)) fail("a file has other bytes");
+        size_t length = file->name.length % 2 ? file->name.length : 4, most_bytes = length < file->name.length ? length : file->name.length;
+        /* (a text as it stands may ask for any number of bytes) */
+        if (was_raw ? file->bytes.length > file->name.length : file->bytes.length != most_bytes) fail("a file has another length");
+        if (memcmp(file->bytes.at, names[j], file->bytes.length)) fail("a file has other bytes");
     }
     for (size_t i = 0; i < r->absent.length; i++)
         for (size_t j = 0; j < sizeof names / sizeof *names; j++)
@@ -244,7 +248,7 @@ int LLVMFuzzerTestOneInput(const uint8_t *data, size_t size) {
     /* (so that no pointer is null) */
     for (struct text *texts[] = {&asked, &out_text, &kept_text}, **text = texts; text < texts + 3; text++) append(*text, "", 1), (*text)->length = 0;
     files_before = absents_before = rows_before = questions = 0;
-    pending = false, calls = 0, found_files = 0;
+    pending = was_raw = false, calls = 0, found_files = 0;
     w.request.root = w.request.bundle = w.request.artifact = w.request.policy = (struct ratmanganese_bytes){RATMANGANESE_NOTHING, 0};
     w.out = grown(NULL, w.out_room), w.kept = grown(NULL, w.kept_room);
     uint32_t status = verify(&w);
