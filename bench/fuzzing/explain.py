@@ -14,9 +14,10 @@ MOST = 3000
 COMMAND = TOP / "ratmanganese"
 PAGE = (TOP / "docs" / "REFUSALS.md").read_text()
 NAMES = sorted(set(re.findall(r"^\| ([^|]+) \| ([^|]+) \|", PAGE, re.MULTILINE)))
-ROW = re.compile(rb"(refused (tuf|verify|archive|audit) |status |deny NAME )\S")
+TABLES = "|".join(re.findall("^## ([a-z]+):", PAGE, re.MULTILINE))
+ROW = re.compile(rf"(refused ({TABLES}) |status |deny NAME )\S".encode())
 SEEDS = ["refused tuf 12 Expired", "tuf\n12", "12", "expired", "status 3", "input root", "usage policy", "admit a b", "deny a b unsigned", "deny NAME toolong"]
-SEEDS += ["deny a 1,23 IdentityMismatch,UnsupportedBundle", "or 12 UnknownLog", "OR\n9\nNotYetValid", "verify 36", "archive\n3", "audit 1", "gate", "", " ", "nonsense"]
+SEEDS += ["deny a 1,23 IdentityMismatch,UnsupportedBundle", "or 12 UnknownLog", "OR\n9\nNotYetValid", "verify 36", "archive\n3", "audit 1", "bundles 1", "statement 1", "bundle 3", "gate", "", " ", "nonsense"]
 WORDS = [b" ", b"\n", b",", b"\\", b"\\n", b"\\x41", b"%s", b"/", b"&", b"|", b"`", b"$(x)", b"\x1b[31m", b"\xff", b"\xc3\xbc", b"-n", b"--help", b"to", b"as 1"]
 
 
