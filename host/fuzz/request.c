@@ -92,7 +92,7 @@ static bool is_name(const struct ratmanganese_bytes *a, const struct ratmanganes
 }
 
 /* Hands in the file of a question, or its name as absent. */
-static bool answer_file(struct parts *parts, const char *line, size_t length) {
+static bool answer_with_file(struct parts *parts, const char *line, size_t length) {
     const char *blank = memchr(line + 5, ' ', length - 5);
     if (!blank) abort();
     struct ratmanganese_bytes name;
@@ -120,7 +120,7 @@ static bool answer_all(struct parts *parts, const char *out, size_t length) {
         next = memchr(at, '\n', end - at);
         size_t n = next - at;
         if (n > 5 && !memcmp(at, "file ", 5)) {
-            if (!answer_file(parts, at, n)) return false;
+            if (!answer_with_file(parts, at, n)) return false;
             continue;
         }
         if (n < 7 || memcmp(at, "accept ", 7) || has_line(&parts->good, at, n) || has_line(&parts->bad, at, n)) abort();
