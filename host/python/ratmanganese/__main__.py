@@ -5,9 +5,9 @@
     python3 -m ratmanganese --answer <QUESTIONS
 
 --provider has rows that hold, to begin with; with --all the whole repository is handed in at once; --answer alone
-writes, of lines `accept ..`, those whose signatures are good. The status is the call's; 2 for
-faulty words, 3 where an input or a file can't be read, 4 where the store or standard output can't be written, 70 where what the
-library says isn't understood.
+writes, of lines `accept ..`, those whose signatures are good. The status is the call's; 2 for faulty words, 3 where an input
+or a file can't be read, 4 where the store or standard output can't be written, 5 out of memory, 70 where what the library says
+isn't understood.
 """
 import datetime
 import os
@@ -17,6 +17,7 @@ from collections.abc import Iterable
 
 from . import FolderRepository, FolderStore, VerificationError, is_good, mapped, verify
 from ._files import read_input
+from ._library import MEMORY
 
 _INPUTS = {"policy": 65536, "root": 512_000, "bundle": 16 << 20, "provider": 16 << 20}
 _OPTIONAL = {"provider", "now", "all"}
@@ -76,7 +77,10 @@ def main() -> int:
     if sys.argv[1:] == ["--answer"]:
         status, text = 0, b"".join(line for line in sys.stdin.buffer if line.endswith(b"\n") and is_good(line[:-1]))
     else:
-        status, said = _answer(sys.argv[1:])
+        try:
+            status, said = _answer(sys.argv[1:])
+        except MemoryError:
+            status, said = MEMORY, ""
         text = said.encode()
     try:
         sys.stdout.buffer.write(text)
