@@ -421,8 +421,9 @@ int main(int argc, char **argv) {
     if (argc == 2 && !strcmp(argv[1], "--answer")) return answer();
     struct world w = {.repository = value(argc, argv, "repository"), .tell = value(argc, argv, "tell"), .out_room = 65536, .kept_room = 1 << 20};
     const char *store = value(argc, argv, "store"), *now = value(argc, argv, "now"), *provider = value(argc, argv, "provider"), *count = value(argc, argv, "repeat");
+    bool counts = !count || strspn(count, "0123456789") == strlen(count);
     long times = count ? strtol(count, NULL, 10) : 1;
-    if (!w.repository || !store || times < 1 || times > 1000000 || !are_known(argc, argv)) { printf("usage\n"); exit(RATMANGANESE_USAGE); }
+    if (!w.repository || !store || !counts || times < 1 || times > 1000000 || !are_known(argc, argv)) { printf("usage\n"); exit(RATMANGANESE_USAGE); }
     w.request.policy = input(argc, argv, "policy", 65536);
     if (provider) {
         struct ratmanganese_bytes rows = input(argc, argv, "provider", 16777216);
