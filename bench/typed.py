@@ -127,9 +127,10 @@ def stumbles(site):
     (odd / "deep").write_text("[" * 100000)
     (odd / "other").write_text('{"signed": {"_type": "timestamp", "version": 1}}')
     (odd / "true").write_text('{"signed": {"_type": "root", "version": true, "roles": {}, "expires": ""}}')
+    (odd / "half").write_text('{"signed": {"_type": "root", "version": 1, "roles": {}, "expires": "\\ud800"}}')
     (odd / "control").write_text(json.dumps({"signed": {"_type": "root", "version": 1, "expires": "\x1b[31m", "roles": {"a\nb": {"threshold": 1, "keyids": ["\x07"]}}}}))
     for name, says in (("pipe", "no regular file"), ("long", "longer than 512000"), ("text", "no TUF root document"), ("deep", "no TUF root document"),
-                       ("other", "no TUF root document"), ("true", "no TUF root document"), ("nope", "No such file"), ("", "no regular file")):
+                       ("other", "no TUF root document"), ("half", "no TUF root document"), ("true", "no TUF root document"), ("nope", "No such file"), ("", "no regular file")):
         words = ["trust", "add", "x", f"--root={odd / name}", "--yes"]
         site.tries(f"`trust add` of a root that is {name or 'a folder'}", words, 3, "", [says] if name else ["ratmanganese: "], ["Traceback"], seconds=20)
     words = ["trust", "add", "control", f"--root={odd / 'control'}", "--yes"]

@@ -181,6 +181,8 @@ def document_of(octets, path):
         if signed["_type"] != "root" or type(signed["version"]) is not int:
             raise ValueError
         roles = {name: (role["threshold"], list(map(str, role["keyids"]))) for name, role in signed["roles"].items()}
+        # (half a surrogate pair is no text)
+        json.dumps([signed["expires"], signed["roles"]], ensure_ascii=False).encode()
         return signed["version"], str(signed["expires"]), roles
     except (ValueError, TypeError, KeyError, AttributeError, RecursionError):
         raise Ended(INPUT, f"{path}: it is no TUF root document") from None
