@@ -1,5 +1,6 @@
 """What bench/face tries with: it runs words, compares what they come to, and prints a line for each thing."""
 import json
+import resource
 import subprocess
 import time
 
@@ -11,10 +12,16 @@ def told(what, wrong):
     print(f"{what}: " + ("WRONG: " + "; ".join(wrong) if wrong else "ok"), flush=True)
 
 
+def processor_seconds():
+    """What the children that ended have used of the processor."""
+    used = resource.getrusage(resource.RUSAGE_CHILDREN)
+    return used.ru_utime + used.ru_stime
+
+
 def run(words, folder, **more):
-    start = time.monotonic()
+    start, used = time.monotonic(), processor_seconds()
     done = subprocess.run(words, cwd=folder, capture_output=True, text=True, timeout=600, check=False, **more)
-    done.seconds = time.monotonic() - start
+    done.seconds, done.processor = time.monotonic() - start, processor_seconds() - used
     return done
 
 
@@ -28,7 +35,8 @@ def tried(what, words, folder, status, out=None, err=(), silent=(), seconds=60, 
         wrong.append(f"standard output {done.stdout[:200]!r}")
     wrong += [f"nothing of {part!r} on standard error: {done.stderr[-600:]!r}" for part in err if part not in done.stderr]
     wrong += [f"{part!r} on standard error" for part in silent if part in done.stderr]
-    if done.seconds > seconds:
+    # (on a machine with other work the clock goes on meanwhile)
+    if done.processor > seconds or done.seconds > 20 * seconds:
         wrong.append(f"{done.seconds:.0f} s")
     told(what, wrong)
     return done
