@@ -121,9 +121,11 @@ def judge(ended, manner, parts, before, world):
     wants(not os.listdir(FOLDER / "temporary"), "temporary: a file is left", ended)
     wants(tree(world) == before, "world: a file is changed", ended)
     is_help = any(word in (b"--help", b"-h") for word in parts["w"].split(b"\n"))
-    wants(ended.status in (manner.status, 70, *([5] if manner.asked == 5 else []), *([0] if is_help else [])), "status: it isn't the program's", ended)
+    # (of an audit the program that asks isn't run)
+    is_short = manner.asked == 5 and manner.command != "audit"
+    wants(ended.status in (manner.status, 70, *([5] if is_short else []), *([0] if is_help else [])), "status: it isn't the program's", ended)
     if ended.status != 70 and not manner.json and not is_help and b"--json" not in parts["w"]:
-        wants(ended.out == (b"" if ended.status == 5 and manner.asked == 5 else parts["s"]), "output: it isn't the program's", ended)
+        wants(ended.out == (b"" if ended.status == 5 and is_short else parts["s"]), "output: it isn't the program's", ended)
     wants(ended.status != 70 or not ended.out, "output: nothing is written with status 70", ended)
     return {re.sub(rb"/\S*|\d+|`[^`]*`", b"_", line)[:60] for line in lines} | {(manner.command, ended.status)}
 
