@@ -14,7 +14,7 @@ _ratmanganese() {
     --*) return ;;
     *)
         case $host:$COMP_CWORD:${COMP_WORDS[1]} in
-        ratmanganese:1:*) names="trust verify questions gate gate-questions archive check download download-questions audit generate explain build install lib version help" ;;
+        ratmanganese:1:*) names="trust verify questions gate gate-questions archive check download download-questions audit generate explain build install lib deb version help" ;;
         ratmanganese:2:trust) names="add list show remove" ;;
         ratmanganese:*:trust) names="--root= --url= --yes" ;;
         ratmanganese:*:verify) if [[ $word == -* ]]; then names="--trust= --root= --repository= --store= --archive= --trusted-root= --bundle= --bundles= --digest= --policy= --key= --identity= --identity-like= --issuer= --claim= --predicate= --github= --workflow= --tag-like= --print-policy --max-age= --offline --now= --statement= --details --json --artifact= --provider="; else paths=-f; fi ;;
@@ -30,6 +30,7 @@ _ratmanganese() {
         ratmanganese:2:explain) names="tuf verify bundles statement archive audit gate status" ;;
         ratmanganese:*:install) paths=-d ;;
         ratmanganese:*:lib) paths=-d ;;
+        ratmanganese:*:deb) paths=-d ;;
         verify-real:1:*) names="--root= --repository= --store= --bundle= --artifact= --policy= --bundles= --digest= --archive= --trusted-root= --now= --statement= --details --json --help gate archive check download audit" ;;
         verify-real:*:gate) names="--root= --repository= --store= --folder= --policy= --archive= --trusted-root= --now= --json --help" ;;
         verify-real:*:archive) names="--root= --repository= --store= --now= --help" ;;
