@@ -18,6 +18,7 @@ case $artifact in
     exit 1
     ;;
 esac
+[ ! -f '{notes}/seconds' ] || sleep "$(cat '{notes}/seconds')"
 cat '{notes}/said'
 exit "$(cat '{notes}/status')"
 """
@@ -54,12 +55,14 @@ class Recorder:
             at.write_text(text.format(notes=notes))
             at.chmod(0o755)
 
-    def answers(self, text, status):
-        """From now on this is said."""
+    def answers(self, text, status, seconds=None):
+        """From now on this is said, after some seconds."""
         for path in self.notes.iterdir():
             path.unlink()
         (self.notes / "said").write_text(text)
         (self.notes / "status").write_text(f"{status}\n")
+        if seconds:
+            (self.notes / "seconds").write_text(f"{seconds}\n")
 
     def runs(self, name):
         """The words of each run of a program since then."""

@@ -13,6 +13,7 @@ import subprocess
 import threading
 import time
 
+import shown
 from recorded import Recorder
 from trying import run, told, tried
 
@@ -264,8 +265,8 @@ def several(site, recorder, work):
         (work / name).write_text("x")
         (work / f"{name}.sigstore.json").write_text("{}")
     recorder.answers(REPORT, 0)
-    shown = ["a b", "new\\x0aline", "quote'\"$(x)`y`", "*", "Z\\xc3\\xbcrich", "-dash", "back\\x5cslash", "app"]
-    wanted = "".join(f"file {name}\n{REPORT}" for name in shown)
+    printed = ["a b", "new\\x0aline", "quote'\"$(x)`y`", "*", "Z\\xc3\\xbcrich", "-dash", "back\\x5cslash", "app"]
+    wanted = "".join(f"file {name}\n{REPORT}" for name in printed)
     site.tries("`verify` of files with odd names", ["verify", *SIGNED, "--", *names], 0, wanted, silent=["not found"], at=work)
     given = [next(word for word in words if word.startswith("--artifact=")) for words in recorder.runs("program")]
     told("24 each by its name", [] if given == [f"--artifact={name}" for name in names] else [str(given)])
@@ -390,6 +391,7 @@ def rows(clone, world, program_at, questions_at, notes, folder):
         work = verifies(site, recorder)
         finds(site, recorder, work)
         several(site, recorder, work)
+        shown.rows(site, recorder, work)
         policies(site)
         recorder.answers(REPORT, 0)
         faults(site, work)

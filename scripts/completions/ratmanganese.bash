@@ -17,7 +17,7 @@ _ratmanganese() {
         ratmanganese:1:*) names="trust verify questions gate gate-questions archive check download download-questions audit generate explain build install lib deb version help" ;;
         ratmanganese:2:trust) names="add list show remove" ;;
         ratmanganese:*:trust) names="--root= --url= --yes" ;;
-        ratmanganese:*:verify) if [[ $word == -* ]]; then names="--trust= --root= --repository= --store= --archive= --trusted-root= --bundle= --bundles= --digest= --policy= --key= --identity= --identity-like= --issuer= --claim= --predicate= --github= --workflow= --tag-like= --print-policy --max-age= --offline --now= --statement= --details --json --artifact= --provider="; else paths=-f; fi ;;
+        ratmanganese:*:verify) if [[ $word == -* ]]; then names="--trust= --root= --repository= --store= --archive= --trusted-root= --bundle= --bundles= --digest= --policy= --key= --identity= --identity-like= --issuer= --claim= --predicate= --github= --workflow= --tag-like= --print-policy --max-age= --offline --now= --statement= --report --details --json --artifact= --provider="; else paths=-f; fi ;;
         ratmanganese:*:questions) names="--root= --repository= --store= --bundle= --artifact= --policy= --refused= --digest= --archive= --trusted-root= --now=" ;;
         ratmanganese:*:gate) names="--root= --repository= --store= --folder= --policy= --provider= --archive= --trusted-root= --now=" ;;
         ratmanganese:*:gate-questions) names="--root= --repository= --store= --folder= --policy= --refused= --archive= --trusted-root= --now=" ;;

@@ -39,6 +39,7 @@ complete -c ratmanganese -n '__fish_seen_subcommand_from verify questions gate g
 complete -c ratmanganese -n '__fish_seen_subcommand_from verify questions gate gate-questions check' -l trusted-root -r -F -d 'A trusted root that you have by another way'
 complete -c ratmanganese -n '__fish_seen_subcommand_from check' -l least -x -d 'The least version that the archive\'s timestamp may have'
 complete -c ratmanganese -n '__fish_seen_subcommand_from verify' -l statement -r -F -d 'The file that the accepted statement is put in'
+complete -c ratmanganese -n '__fish_seen_subcommand_from verify' -l report -d 'The report\'s text, on a terminal too'
 complete -c ratmanganese -n '__fish_seen_subcommand_from verify' -l details -d 'Lines behind the report on what was judged'
 complete -c ratmanganese -n '__fish_seen_subcommand_from download download-questions' -l target -x -d 'A target, by its name in the repository'
 complete -c ratmanganese -n '__fish_seen_subcommand_from download download-questions' -l out -r -F -d 'The file that the target before it is put in'
