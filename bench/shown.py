@@ -109,7 +109,8 @@ def refusals(recorder, tries, quiet):
         tries(f"{text!r} with status 0", ["app", *SIGNED], 70, lambda out: out.startswith("app: not verified: status 70: "))
     tries("faulty words", ["app", *SIGNED, "--jsn"], 2, "", ["there is no word --jsn"])
     tries("two words that exclude one another", ["app", *SIGNED, "--json", "--report"], 2, lambda text: '"usage"' in text, ["--json and --report exclude one another"])
-    tries("no bundle", ["alone", *SIGNED], None, lambda text: text.startswith("alone: "), ["no bundle lies beside it"])
+    recorder.answers("input bundle\n", 3)
+    tries("no bundle", ["alone", *SIGNED], 3, lambda text: text.startswith("alone: not verified: status 3, input bundle: "), ["no bundle lies beside it"])
 
 
 def slow(site, recorder, work, env):

@@ -118,7 +118,7 @@ def refused(text):
 
 def unjudged(status, text):
     """Why nothing was judged."""
-    line = text.partition("\n")[0]
+    line = text.partition("\n")[0] if status != OWN else ""
     return f"status {status}{f', {line}' if line else ''}: {OWN_TEXTS.get(status) or row_of(line)}"
 
 
