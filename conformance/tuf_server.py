@@ -14,7 +14,7 @@ import urllib.parse
 sys.path.insert(0, str(pathlib.Path(__file__).resolve().parent.parent / "suite"))
 from documents import Repository
 
-SECONDS = 120
+SECONDS = 600
 # The status of this program's clients where there is no proved program.
 UNBUILT = 70
 

@@ -13,7 +13,8 @@
    --answer    alone: writes, of lines `accept ..`, those whose signatures are good
 
    The report or the refusal goes to standard output. The status is the call's; 2 for faulty words, 3 where an input or a file can't be
-   read, 4 where the store or standard output can't be written, 70 where the questions don't end. */
+   read, 4 where the store or standard output can't be written, 70 where the questions don't end or what the library says isn't
+   understood. */
 #define _GNU_SOURCE
 #include "answer.h"
 #include "ratmanganese.h"
@@ -166,7 +167,7 @@ static bool add_folder(struct list *files, const char *top, const char *below) {
         free(name);
         free(path);
     }
-    done = done && !errno;
+    if (done && errno) done = false, fprintf(stderr, "verify: %s/%s: %s\n", top, below, strerror(errno));
     if (dir) closedir(dir);
     return done;
 }
@@ -186,7 +187,11 @@ static bool write_kept(const char *top, const struct ratmanganese_bytes *name, c
     snprintf(process, sizeof process, BESIDE "%ld", (long)getpid());
     char *path = joined(top, "/", (const char *)name->at, name->length), *beside = joined(path, "", process, strlen(process));
     for (char *slash = strchr(path + 1, '/'); slash; slash = strchr(slash + 1, '/')) { *slash = 0; mkdir(path, 0777); *slash = '/'; }
-    FILE *file = fopen(beside, "wb");
+    /* (what an ended process left goes, and no link is followed) */
+    unlink(beside);
+    int fd = open(beside, O_WRONLY | O_CREAT | O_EXCL | O_CLOEXEC, 0666);
+    FILE *file = fd < 0 ? NULL : fdopen(fd, "wb");
+    if (fd >= 0 && !file) close(fd);
     bool done = file && fwrite(bytes->at, 1, bytes->length, file) == bytes->length && !fflush(file) && !fsync(fileno(file));
     done = file && !fclose(file) && done && !rename(beside, path);
     if (!done) unlink(beside);
@@ -208,6 +213,8 @@ static void append(struct text *text, const char *at, size_t length) {
     text->length += length;
 }
 
+enum { MOST_ROUNDS = 1000, UNKNOWN = 70 };
+
 struct world {
     const char *repository;
     struct ratmanganese_request request;
@@ -220,7 +227,7 @@ struct world {
     struct ratmanganese_lengths lengths;
     bool tell;
     int rounds, rows;
-    double library, openssl, round[1001];
+    double library, openssl, round[MOST_ROUNDS];
 };
 
 static double now_us(void) {
@@ -230,10 +237,8 @@ static double now_us(void) {
 }
 
 /* A file of the repository, or that it isn't there. False where it can't be read. */
-static bool fetch(struct world *w, const char *encoded, size_t length, uint64_t max) {
-    struct ratmanganese_bytes name, bytes;
-    name.at = field_of(encoded, length, &name.length);
-    if (!name.at) return false;
+static bool fetch(struct world *w, struct ratmanganese_bytes name, uint64_t max) {
+    struct ratmanganese_bytes bytes;
     bool below = is_below(&name);
     char *path = joined(w->repository, "/", (const char *)name.at, below ? name.length : 0);
     if (below && read_file(path, max, true, &bytes)) add(&w->files, name, bytes);
@@ -250,6 +255,12 @@ static bool fetch(struct world *w, const char *encoded, size_t length, uint64_t 
     return true;
 }
 
+/* Ends with a status of the host's own, and without a text. */
+static uint32_t failed(struct world *w, uint32_t status) {
+    w->lengths = (struct ratmanganese_lengths){0};
+    return status;
+}
+
 static uint32_t call(struct world *w) {
     struct ratmanganese_request *r = &w->request;
     for (;;) {
@@ -263,16 +274,25 @@ static uint32_t call(struct world *w) {
         uint32_t status = ratmanganese_verify(r, w->out, w->out_room, w->kept, w->kept_room, &w->lengths);
         counting = false;
         w->library += w->round[w->rounds] = now_us() - t;
-        if (status != RATMANGANESE_SHORT) return status;
-        while (w->lengths.out > w->out_room) w->out = grown(w->out, w->out_room *= 2);
-        while (w->lengths.kept > w->kept_room) w->kept = grown(w->kept, w->kept_room *= 2);
+        bool is_short = w->lengths.out > w->out_room || w->lengths.kept > w->kept_room;
+        if (is_short != (status == RATMANGANESE_SHORT)) return failed(w, UNKNOWN);
+        if (!is_short) return status;
+        if (w->lengths.out > w->out_room) w->out = grown(w->out, w->out_room = w->lengths.out);
+        if (w->lengths.kept > w->kept_room) w->kept = grown(w->kept, w->kept_room = w->lengths.kept);
     }
 }
 
-/* Ends with a status of the host's own, and without a text. */
-static uint32_t failed(struct world *w, uint32_t status) {
-    w->lengths = (struct ratmanganese_lengths){0};
-    return status;
+/* Whether what stands here is lines, each of them ended. */
+static bool are_lines(const uint8_t *at, size_t length) { return !length || at[length - 1] == '\n'; }
+
+/* Answers the line of a file that is asked for: `file NAME MAX`. Gives 0, or the status of the end. */
+static uint32_t answer_file(struct world *w, const char *line, size_t length) {
+    const char *blank = length > 5 ? memchr(line + 5, ' ', length - 5) : NULL;
+    size_t digits = blank ? length - (blank + 1 - line) : 0;
+    struct ratmanganese_bytes name = {NULL, 0};
+    if (digits >= 1 && digits <= 19 && strspn(blank + 1, "0123456789") == digits) name.at = field_of(line + 5, blank - line - 5, &name.length);
+    if (!name.at) return UNKNOWN;
+    return fetch(w, name, strtoull(blank + 1, NULL, 10)) ? 0 : RATMANGANESE_INPUT;
 }
 
 static uint32_t verify(struct world *w) {
@@ -282,13 +302,13 @@ static uint32_t verify(struct world *w) {
         uint32_t status = call(w);
         w->rounds++;
         if (status != RATMANGANESE_ASKS) return status;
-        if (w->rounds == 1000) return failed(w, 70);
+        if (w->rounds == MOST_ROUNDS || !w->lengths.out || !are_lines(w->out, w->lengths.out)) return failed(w, UNKNOWN);
         for (const char *at = (char *)w->out, *end = at + w->lengths.out, *next; at < end; at = next + 1) {
             next = memchr(at, '\n', end - at);
             if (w->tell) fprintf(stderr, "round %d: %.*s\n", w->rounds, (int)(next - at > 120 ? 120 : next - at), at);
-            if (!memcmp(at, "file ", 5)) {
-                const char *blank = memchr(at + 5, ' ', next - at - 5);
-                if (!fetch(w, at + 5, blank - at - 5, strtoull(blank, NULL, 10))) return failed(w, RATMANGANESE_INPUT);
+            if (next - at < 7 || memcmp(at, "accept ", 7)) {
+                uint32_t end = next - at > 5 && !memcmp(at, "file ", 5) ? answer_file(w, at, next - at) : UNKNOWN;
+                if (end) return failed(w, end);
                 continue;
             }
             double t = now_us();
@@ -300,19 +320,30 @@ static uint32_t verify(struct world *w) {
     }
 }
 
-static bool keep(struct world *w, const char *store) {
-    bool done = true;
-    for (const char *at = (char *)w->kept, *end = at + w->lengths.kept, *next; at < end; at = next + 1) {
-        next = memchr(at, '\n', end - at);
-        const char *blank = memchr(at + 5, ' ', next - at - 5);
-        struct ratmanganese_bytes name, bytes;
-        name.at = field_of(at + 5, blank - at - 5, &name.length);
-        bytes.at = field_of(blank + 1, next - blank - 1, &bytes.length);
-        done = name.at && bytes.at && write_kept(store, &name, &bytes) && done;
-        free((void *)name.at);
-        free((void *)bytes.at);
-    }
-    return done;
+/* Reads the line of a file that the store is to keep: `keep NAME BYTES`. */
+static bool read_kept(const char *line, size_t length, struct ratmanganese_file *file) {
+    const char *blank = length > 5 && !memcmp(line, "keep ", 5) ? memchr(line + 5, ' ', length - 5) : NULL;
+    *file = (struct ratmanganese_file){{NULL, 0}, {NULL, 0}};
+    if (!blank) return false;
+    file->name.at = field_of(line + 5, blank - line - 5, &file->name.length);
+    file->bytes.at = field_of(blank + 1, length - (blank + 1 - line), &file->bytes.length);
+    return file->name.at && file->bytes.at && is_below(&file->name);
+}
+
+/* Reads all lines, and then writes each file of them. Gives 0, or the status of the end. */
+static uint32_t keep(const struct world *w, const char *store) {
+    if (!are_lines(w->kept, w->lengths.kept)) return UNKNOWN;
+    uint32_t end = 0;
+    for (int writes = 0; writes < 2 && !end; writes++)
+        for (const char *at = (char *)w->kept, *last = at + w->lengths.kept, *next; at < last; at = next + 1) {
+            struct ratmanganese_file file;
+            next = memchr(at, '\n', last - at);
+            if (!read_kept(at, next - at, &file)) end = UNKNOWN;
+            else if (writes && !write_kept(store, &file.name, &file.bytes)) end = 4;
+            free((void *)file.name.at);
+            free((void *)file.bytes.at);
+        }
+    return end;
 }
 
 /* What was answered; the files that were asked for too. */
@@ -338,21 +369,34 @@ static const char *value(int argc, char **argv, const char *name) {
     return NULL;
 }
 
-/* Whether each word is one that the host has, and has a value where it needs one. */
+/* Whether each word is one that the host has, stands once, and has a value where it needs one and else none. */
 static bool are_known(int argc, char **argv) {
     static const char *const names[] = {
         "root", "repository", "store", "bundle", "artifact", "policy", "provider", "now", "repeat", "all", "tell", "fail-each",
     };
-    const size_t valued = 9;
+    enum { VALUED = 9, NAMES = sizeof names / sizeof *names };
+    bool seen[NAMES] = {false};
     for (int i = 1; i < argc; i++) {
-        bool found = false;
-        size_t length = strcspn(argv[i], "=");
-        for (size_t j = 0; j < sizeof names / sizeof *names; j++)
-            if (!strncmp(argv[i], "--", 2) && strlen(names[j]) + 2 == length && !memcmp(argv[i] + 2, names[j], length - 2))
-                found = j >= valued || (argv[i][length] && argv[i][length + 1]);
-        if (!found) return false;
+        size_t length = strcspn(argv[i], "="), found = 0;
+        if (strncmp(argv[i], "--", 2)) return false;
+        while (found < NAMES && (strlen(names[found]) + 2 != length || memcmp(argv[i] + 2, names[found], length - 2))) found++;
+        if (found == NAMES || seen[found] || (found < VALUED ? !argv[i][length] || !argv[i][length + 1] : argv[i][length] != 0)) return false;
+        seen[found] = true;
     }
     return true;
+}
+
+/* The seconds since the start of 1970 of an instant YYYY-MM-DDTHH:MM:SSZ, in its only spelling. */
+static bool read_instant(const char *text, int64_t *seconds) {
+    struct tm tm = {0};
+    char again[96];
+    const char *rest = strptime(text, "%Y-%m-%dT%H:%M:%SZ", &tm);
+    if (!rest || *rest) return false;
+    time_t found = timegm(&tm);
+    *seconds = found;
+    if (!gmtime_r(&found, &tm)) return false;
+    snprintf(again, sizeof again, "%04d-%02d-%02dT%02d:%02d:%02dZ", tm.tm_year + 1900, tm.tm_mon + 1, tm.tm_mday, tm.tm_hour, tm.tm_min, tm.tm_sec);
+    return !strcmp(again, text);
 }
 
 static struct ratmanganese_bytes input(int argc, char **argv, const char *name, uint64_t max) {
@@ -377,7 +421,8 @@ int main(int argc, char **argv) {
     if (argc == 2 && !strcmp(argv[1], "--answer")) return answer();
     struct world w = {.repository = value(argc, argv, "repository"), .tell = value(argc, argv, "tell"), .out_room = 65536, .kept_room = 1 << 20};
     const char *store = value(argc, argv, "store"), *now = value(argc, argv, "now"), *provider = value(argc, argv, "provider"), *count = value(argc, argv, "repeat");
-    if (!w.repository || !store || !are_known(argc, argv)) { printf("usage\n"); exit(RATMANGANESE_USAGE); }
+    long times = count ? strtol(count, NULL, 10) : 1;
+    if (!w.repository || !store || times < 1 || times > 1000000 || !are_known(argc, argv)) { printf("usage\n"); exit(RATMANGANESE_USAGE); }
     w.request.policy = input(argc, argv, "policy", 65536);
     if (provider) {
         struct ratmanganese_bytes rows = input(argc, argv, "provider", 16777216);
@@ -390,13 +435,8 @@ int main(int argc, char **argv) {
     const char *artifact = value(argc, argv, "artifact");
     if (!artifact) { printf("usage\n"); exit(RATMANGANESE_USAGE); }
     if (!map_file(artifact, &w.request.artifact)) { fprintf(stderr, "verify: %s: it can't be mapped\n", artifact); exit(RATMANGANESE_INPUT); }
-    struct tm tm = {0};
     w.request.seconds = time(NULL);
-    if (now) {
-        const char *rest = strptime(now, "%Y-%m-%dT%H:%M:%SZ", &tm);
-        if (!rest || *rest) { printf("usage\n"); exit(RATMANGANESE_USAGE); }
-        w.request.seconds = timegm(&tm);
-    }
+    if (now && !read_instant(now, &w.request.seconds)) { printf("usage\n"); exit(RATMANGANESE_USAGE); }
     struct stat st;
     if ((!lstat(store, &st) || errno != ENOENT) && !add_folder(&w.store, store, "")) exit(RATMANGANESE_INPUT);
     w.request.whole = value(argc, argv, "all");
@@ -421,7 +461,7 @@ int main(int argc, char **argv) {
     }
     uint32_t status = verify(&w);
     if (count) {
-        size_t n = strtoul(count, NULL, 10);
+        size_t n = times;
         double *whole = grown(NULL, n * sizeof(double)), *library = grown(NULL, n * sizeof(double)), *openssl = grown(NULL, n * sizeof(double));
         double (*round)[16] = grown(NULL, n * sizeof *round), *one = grown(NULL, n * sizeof(double));
         for (size_t i = 0; i < n; i++) {
@@ -444,10 +484,10 @@ int main(int argc, char **argv) {
         free(whole), free(library), free(openssl), free(round), free(one);
     }
     if (w.tell) fprintf(stderr, "%d rounds, %d rows answered, %zu files handed in, %zu absent, status %u\n", w.rounds, w.rows, w.files.length, w.absents, status);
-    if ((status == RATMANGANESE_ACCEPTED || status == RATMANGANESE_REFUSED) && !keep(&w, store)) {
-        fprintf(stderr, "verify: the store can't be written\n");
-        exit(4);
-    }
+    uint32_t end = status == RATMANGANESE_ACCEPTED || status == RATMANGANESE_REFUSED ? keep(&w, store) : 0;
+    if (end == 4) fprintf(stderr, "verify: the store can't be written\n");
+    if (status == UNKNOWN || end == UNKNOWN) fprintf(stderr, "verify: the questions don't end, or what the library says isn't understood\n");
+    if (end) exit(end);
     if (fwrite(w.out, 1, w.lengths.out, stdout) != w.lengths.out || fflush(stdout)) exit(4);
     for (size_t i = 0; i < w.files.length; i++) free((void *)w.files.at[i].name.at), free((void *)w.files.at[i].bytes.at);
     for (size_t i = 0; i < w.store.length; i++) free((void *)w.store.at[i].name.at), free((void *)w.store.at[i].bytes.at);

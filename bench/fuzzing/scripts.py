@@ -13,8 +13,8 @@ import typing
 from guided import Wrong
 
 TOP = pathlib.Path(__file__).resolve().parent.parent.parent
-# No run of a script that is meant well takes as long.
-SECONDS = 60
+# No run of a script that is meant well takes as long, on a machine with other work.
+SECONDS = 600
 ENVIRONMENT = {name: value for name, value in os.environ.items() if not name.lower().endswith("_proxy")}
 
 

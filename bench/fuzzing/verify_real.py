@@ -18,7 +18,6 @@ from scripts import ENVIRONMENT, TOP, process, tree, wants
 
 FILES = []
 MOST = 8000
-SECONDS = 60
 DIVIDER = b"\xff\xfe|\xff"
 COMMANDS = (None, "gate", "archive", "check", "download", "audit")
 # policy, bundle, root, what verifies says, questions of the first round and of later ones, details, further words, the archive, a name
@@ -136,7 +135,7 @@ def run(octets):
     words, world, said = lay_out(manner, parts)
     before = tree(world)
     env = {**ENVIRONMENT, "FUZZED": str(said), "TMPDIR": str(FOLDER / "temporary"), "HOME": str(world)}
-    return judge(process([FOLDER / "lib" / "verify-real", *words], seconds=SECONDS, cwd=said, env=env), manner, parts, before, world)
+    return judge(process([FOLDER / "lib" / "verify-real", *words], cwd=said, env=env), manner, parts, before, world)
 
 
 def change(octets, other, source):

@@ -1,6 +1,6 @@
 //! The program: `verify` judges a bundle over an artifact from a pinned TUF root. It is over a file or told digests, with
 //! trust from a repository, an archive or a trusted root that is handed in; where it is asked for the statement, the
-//! payload that was signed is put in a file. `gate` judges each artifact of a folder by its own bundle. `archive` writes
+//! payload that was signed is put in a file; of a list of bundles it tells the first that is accepted. `gate` judges each artifact of a folder by its own bundle. `archive` writes
 //! the chain of documents to one file, and `check` judges such a file; `download` puts the files of targets in their
 //! places; `audit` judges whether a log grew; `generate` verifies a workload and counts. The report, the lines or the
 //! refusal go to standard output; the exit status says which.
@@ -8,11 +8,12 @@
 
 use command_archive::{CheckLayout, archive_layout, check_layout, run_archive, run_check};
 use command_audit::{AuditLayout, audit_layout, run_audit};
+use command_bundles::{bundles_layout, run_bundles};
 use command_download::{DownloadLayout, FileShelf, download_layout, run_download};
 use command_files::{CommandLine, Layout, Status, StdoutSink, exit_code, or_none, read_layout};
 use command_gate::{gate_layout, run_gate};
 use command_generate::{is_generate, run_generate};
-use command_statement::{StatementLayout, run_statement, statement_layout};
+use command_outputs::{OutputsLayout, outputs_layout, run_outputs};
 use command_verify::run;
 use command_ways::{FolderLayout, WayLayout, gate_way_layout, run_gate_way, run_way, way_layout};
 use foundation::NoMemory;
@@ -223,17 +224,17 @@ fn verified_by_way<X: Runtime + AllocGlobal>(
     )
 }
 
-// Runs `verify` in any way over the real objects that its words name, and puts the statement in its file.
-fn stated<X: Runtime + AllocGlobal>(
+// Runs `verify` in any way over the real objects that its words name, for more than the report.
+fn verified_for_outputs<X: Runtime + AllocGlobal>(
     rt: &X,
     line: &CommandLine<'_>,
-    layout: StatementLayout,
+    layout: OutputsLayout,
 ) -> Status {
-    let StatementLayout {
+    let OutputsLayout {
         verification,
-        statement,
+        outputs,
     } = layout;
-    drop(statement);
+    drop(outputs);
     let WayLayout {
         way,
         archive,
@@ -248,7 +249,45 @@ fn stated<X: Runtime + AllocGlobal>(
         mut artifact,
         mut out,
     } = objects_at(rt, Some(places));
-    run_statement(
+    run_outputs(
+        rt.alloc(),
+        line,
+        &mut inputs,
+        &mut repository,
+        &mut store,
+        &mut archive,
+        &mut artifact,
+        &mut shelf,
+        &mut out,
+    )
+}
+
+// Runs `verify` in any way over the real objects that its words name, of which one is a list of bundles.
+fn verified_by_list<X: Runtime + AllocGlobal>(
+    rt: &X,
+    line: &CommandLine<'_>,
+    layout: OutputsLayout,
+) -> Status {
+    let OutputsLayout {
+        verification,
+        outputs,
+    } = layout;
+    drop(outputs);
+    let WayLayout {
+        way,
+        archive,
+        places,
+    } = verification;
+    drop(way);
+    let (mut archive, mut shelf) = (FileSource::new(rt, archive), FileShelf::new(rt));
+    let Objects {
+        mut inputs,
+        mut repository,
+        mut store,
+        mut artifact,
+        mut out,
+    } = objects_at(rt, Some(places));
+    run_bundles(
         rt.alloc(),
         line,
         &mut inputs,
@@ -280,8 +319,11 @@ fn judged<X: Runtime + AllocGlobal>(rt: &X, line: &CommandLine<'_>) -> Result<St
     if let Some(layout) = or_none(way_layout(rt.alloc(), line.words))? {
         return Ok(verified_by_way(rt, line, layout));
     }
-    if let Some(layout) = or_none(statement_layout(rt.alloc(), line.words))? {
-        return Ok(stated(rt, line, layout));
+    if let Some(layout) = or_none(outputs_layout(rt.alloc(), line.words))? {
+        return Ok(verified_for_outputs(rt, line, layout));
+    }
+    if let Some(layout) = or_none(bundles_layout(rt.alloc(), line.words))? {
+        return Ok(verified_by_list(rt, line, layout));
     }
     Ok(verified(rt, line, None))
 }

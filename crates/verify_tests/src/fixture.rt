@@ -3,8 +3,8 @@ use crate::tables::{
     Change, bytes, change_in, display, failures, first, good, source, string, text_of, there, words,
 };
 use crate::{
-    archives, audits, delegated, downloads, gate_runs, gate_ways, gates, hostile, keyless,
-    keyless_data, logged, statements, told,
+    archives, audits, bundles, delegated, downloads, gate_runs, gate_ways, gates, hostile, keyless,
+    keyless_data, logged, outputs, told,
 };
 use command_files::{
     CommandLine, InputFile, MemoryInputs, MemorySink, Status, TableArmor, TableProvider, Tables,
@@ -26,7 +26,8 @@ pub(crate) fn answer<X: AllocGlobal + Abort>(rt: &X, call: &str, given: &str) ->
         "archive" => archives::written(rt, given),
         "check" => archives::judged(rt, given),
         "download" => downloads::said(rt, given),
-        "statement" => statements::said(rt, given),
+        "outputs" => outputs::said(rt, given),
+        "bundles" => bundles::said(rt, given),
         "audit" => audits::said(rt, given),
         "gate" => gates::said(rt, given),
         "listed" => gates::listed(rt, given),

@@ -6,6 +6,8 @@ mod archives;
 #[cfg(test)]
 mod audits;
 #[cfg(test)]
+mod bundles;
+#[cfg(test)]
 mod delegated;
 #[cfg(test)]
 mod downloads;
@@ -26,9 +28,9 @@ mod keyless_data;
 #[cfg(test)]
 mod logged;
 #[cfg(test)]
-mod runs;
+mod outputs;
 #[cfg(test)]
-mod statements;
+mod runs;
 #[cfg(test)]
 mod tables;
 #[cfg(test)]

@@ -1,14 +1,17 @@
 // What a verification finds beside what its run says: what a refusal holds; or what the certificate says of its owner,
-// the whole result, and how many logs vouched.
+// the whole result, how many logs vouched, and the lines behind the report.
 use crate::fault::Fault;
 use crate::objects::Objects;
 use command_files::{Gather, Gathered};
 use command_verify::{VerifyRequest, verify_request};
+use foundation::Duplicate;
 use jiff::Timestamp;
+use sigstore_judgement::{JudgedBundle, JudgedByRule};
 use sigstore_keys::Providers;
 use sigstore_pem::PemArmor;
 use sigstore_verify::{Error, RootFault, RuleAcceptance, RulesFault, VerificationResult};
 use std::alloc::Global;
+use verification_details::push_details;
 
 // The window of the certificate and its key, in a line; none where a key signed.
 fn push_certificate(
@@ -50,6 +53,36 @@ pub fn push_result(
     Ok(())
 }
 
+// Adds the lines behind the report of a bundle that a rule accepts.
+fn push_behind(
+    alloc: Global,
+    text: &mut String,
+    bundle: &[u8],
+    ruled: &RuleAcceptance,
+) -> Result<(), Fault> {
+    let judged = JudgedByRule {
+        rule: ruled.rule,
+        judged: JudgedBundle {
+            result: ruled.acceptance.result.duplicate(alloc)?,
+            digests: ruled.acceptance.digests.duplicate(alloc)?,
+        },
+    };
+    let pushed = push_details(alloc, text, bundle, &judged);
+    drop(judged);
+    pushed?;
+    Ok(())
+}
+
+fn push_accepted(
+    alloc: Global,
+    text: &mut String,
+    bundle: &[u8],
+    ruled: &RuleAcceptance,
+) -> Result<(), Fault> {
+    push_result(alloc, text, &ruled.acceptance.result)?;
+    push_behind(alloc, text, bundle, ruled)
+}
+
 /// Adds what a refusal of a bundle holds.
 pub fn push_refusal(text: &mut String, refusal: &Error) -> Result<(), Fault> {
     let number = refusal.number();
@@ -74,10 +107,11 @@ fn push_refusals(text: &mut String, faults: &[Error]) -> Result<(), Fault> {
 fn push_judged(
     alloc: Global,
     text: &mut String,
+    bundle: &[u8],
     judged: &Result<RuleAcceptance, RulesFault>,
 ) -> Result<(), Fault> {
     match judged {
-        Ok(ruled) => push_result(alloc, text, &ruled.acceptance.result),
+        Ok(ruled) => push_accepted(alloc, text, bundle, ruled),
         Err(RulesFault::Root(RootFault::Verify { fault, .. })) => push_refusal(text, fault),
         Err(RulesFault::Root(RootFault::Tuf(refusal))) => push_refused(text, refusal),
         Err(RulesFault::Root(RootFault::NoMemory)) => Err(Fault::NoMemory),
@@ -114,7 +148,7 @@ pub fn push_found(
         &mut objects.store,
         &mut objects.artifact,
     );
-    let pushed = push_judged(alloc, text, &judged);
+    let pushed = push_judged(alloc, text, request.bundle, &judged);
     drop(judged);
     pushed
 }

@@ -47,6 +47,9 @@ def _answer(words: list[str]) -> tuple[int, str]:
     if len(given) != len(words) or not _WORDS - _OPTIONAL <= names <= _WORDS or any(not given[name] for name in names - {"all"}):
         return 2, "usage\n"
     try:
+        # (its only spelling: `strptime` takes others)
+        if not re.fullmatch(r"\d{4}-\d\d-\d\dT\d\d:\d\d:\d\dZ", given.get("now", "2025-01-01T00:00:00Z"), re.ASCII):
+            raise ValueError
         now = datetime.datetime.strptime(given["now"], "%Y-%m-%dT%H:%M:%SZ").replace(tzinfo=datetime.timezone.utc) if "now" in given else None
     except ValueError:
         return 2, "usage\n"

@@ -133,7 +133,9 @@ fn put(path: &Path, bytes: &[u8]) -> io::Result<()> {
     beside.extend_from_slice(format!("{BESIDE}{}-{}", std::process::id(), COUNT.fetch_add(1, Ordering::Relaxed)).as_bytes());
     let beside = PathBuf::from(std::ffi::OsString::from_vec(beside));
     let written = || {
-        let mut file = fs::File::create(&beside)?;
+        // (what an ended process left goes, and no link is followed)
+        let _ = fs::remove_file(&beside);
+        let mut file = fs::OpenOptions::new().write(true).create_new(true).open(&beside)?;
         file.write_all(bytes)?;
         file.sync_all()?;
         fs::rename(&beside, path)

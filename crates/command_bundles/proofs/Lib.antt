@@ -1,0 +1,10 @@
+mod Words
+mod Cutting
+mod Readings
+mod Searching
+mod FirstLaw
+mod BytesLaw
+mod Verdicts
+mod Saying
+mod Meaning
+mod Completing

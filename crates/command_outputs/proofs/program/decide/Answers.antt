@@ -1,0 +1,25 @@
+use Rattle.std.proofs.Common.{refl}
+use Rattle.command_files.specs.Starting.{unstarted, stopped, begun}
+use Rattle.command_files.proofs.Starts.{began, was_stopped}
+use Rattle.command_outputs.specs.Layout.{outputs_layout_of}
+use Rattle.command_outputs.proofs.Saying.{judges_at}
+use Rattle.command_outputs.proofs.program.decide.Goals as goal
+
+pub returns-in-Ok-Asked : goal.returns-in-Ok-Asked
+returns-in-Ok-Asked g c =
+    begun c.in-Ok-Asked.layout c.in-Ok-Asked.gathered
+    (began _ _ _ _ c.in-Ok-Asked.field-0 c.in-Ok-Asked.layout c.in-Ok-Asked.gathered c.in-Ok-Asked.field-0-is
+    (c.in-Ok-Asked.ensures (outputs_layout_of c.args.line.now.words.now) (record { ok = c.outputs_layout.ensures.ok; err = c.outputs_layout.ensures.err })))
+    (judges_at c.in-Ok-Asked.layout.verification.way c.in-Ok-Asked.layout.outputs c.in-Ok-Asked.gathered c.moment.result _ _ _ c.judge.result c.moment.ensures c.judge.ensures)
+
+pub returns-in-Ok-Stopped : goal.returns-in-Ok-Stopped
+returns-in-Ok-Stopped g c =
+    stopped c.in-Ok-Stopped.said
+    (was_stopped _ _ _ _ c.in-Ok-Stopped.field-0 c.in-Ok-Stopped.said c.in-Ok-Stopped.field-0-is
+    (c.in-Ok-Stopped.ensures (outputs_layout_of c.args.line.now.words.now) (record { ok = c.outputs_layout.ensures.ok; err = c.outputs_layout.ensures.err })))
+    refl refl
+
+pub returns-in-Err : goal.returns-in-Err
+returns-in-Err g c =
+    unstarted c.in-Err.e
+    (c.in-Err.ensures (outputs_layout_of c.args.line.now.words.now) (record { ok = c.outputs_layout.ensures.ok; err = c.outputs_layout.ensures.err })) refl refl

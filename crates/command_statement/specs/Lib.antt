@@ -1,5 +1,0 @@
-pub mod Layout
-pub mod Payload
-pub mod Run
-pub mod Promises
-pub mod Complete

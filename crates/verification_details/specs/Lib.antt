@@ -1,0 +1,5 @@
+pub mod Statement
+pub mod Subject
+pub mod Lines
+pub mod Details
+pub mod Laws
