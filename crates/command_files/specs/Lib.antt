@@ -10,6 +10,7 @@ pub mod Rows
 pub mod RowLaws
 pub mod Tables
 pub mod Named
+pub mod NamedRules
 pub mod Layout
 pub mod Printed
 pub mod Gather

@@ -16,6 +16,7 @@ mod lines;
 mod memory_inputs;
 mod memory_sink;
 mod named;
+mod named_rules;
 mod policy;
 mod printed;
 mod provider;
@@ -43,6 +44,7 @@ pub use lines::{ByLine, take_file};
 pub use memory_inputs::MemoryInputs;
 pub use memory_sink::MemorySink;
 pub use named::{moment_at, named_words, text_at};
+pub use named_rules::{NamedDraft, NamedRule, NamedRulesDraft, read_named_rules};
 pub use printed::{
     push_answer_line, push_decimal, push_hex_line, push_line, push_named_line, push_number_line,
     push_pair_line, push_printed, push_refused_line, push_text_line,

@@ -193,7 +193,7 @@ fn exact(alloc: Global, text: &str) -> Result<TextMatcher, UsageFault>
     Ok(TextMatcher::Exact(rest(alloc, text)?))
 }
 
-fn like(alloc: Global, text: &str) -> Result<TextMatcher, UsageFault>
+pub(crate) fn like(alloc: Global, text: &str) -> Result<TextMatcher, UsageFault>
     ensures ok { IfOk result (λ t. like_of text.now ≡ Ok t) }
     ensures err { IfErr result (λ e. e ≢ UsageFault.NoMemory → like_of text.now ≡ Err e) }
 {

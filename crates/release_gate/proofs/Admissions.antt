@@ -26,39 +26,38 @@ all_more P [] line rest one = (one, tt)
 all_more P (first ∷ lines) line rest one = (rest.0, all_more P lines line rest.1 one)
 
 -- an artifact that is longer than the limit isn't admitted
-never_longer : (terms : RuleTerms) (max : ℕ) (file bytes : List ℕ) → by_bundle terms max bytes (bundle_of_bytes file) ≡ Admitted → max < length bytes → ⊥
-never_longer terms max file bytes h beyond = let within = (accepts_over terms max file bytes h).within in omega (arith, within, beyond)
+never_longer : (terms : RuleTerms) (max : ℕ) (file bytes : List ℕ) (rule : ℕ) (digest : List ℕ)
+    → by_bundle terms max bytes (bundle_of_bytes file) ≡ Admitted rule digest → max < length bytes → ⊥
+never_longer terms max file bytes rule digest h beyond =
+    let over = (accepts_over terms max file bytes rule digest h).0 in
+    let within = over.within in
+    omega (arith, within, beyond)
 
 module _ (D : Type 0) (gave : D → Call → D → Type 0) (terms : RuleTerms) (max : ℕ) where
-  module _ (name : List ℕ) (old new : D) (verdict : Verdict) (is : verdict ≡ Admitted) where
-    by_bytes : (file : List ℕ) (mid : D) → gave old (bundle_asked (bundle_name name) max_bundle (Ok (Some file))) mid
-        → Reads gave (λ bytes. by_bundle terms max bytes (bundle_of_bytes file)) max name mid new (Ok verdict) → AdmittedOn gave terms max name old new
+  module _ (name : List ℕ) (old new : D) (verdict : Verdict) (rule : ℕ) (digest : List ℕ) (is : verdict ≡ Admitted rule digest) where
+    pub by_bytes : (file : List ℕ) (mid : D) → gave old (bundle_asked (bundle_name name) max_bundle (Ok (Some file))) mid
+        → Reads gave (λ bytes. by_bundle terms max bytes (bundle_of_bytes file)) max name mid new (Ok verdict) → AdmittedOn gave terms max name rule digest old new
     by_bytes file mid own (unneeded other every kept q) =
         let many : List ℕ = replicate (max + 1) 0 in
         let count : length many ≡ max + 1 = length-replicate {A = ℕ} (max + 1) 0 in
-        absurd (never_longer terms max file many (every many ∙ sym (ok_same verdict other q) ∙ is) (omega (arith, count)))
-    by_bytes file mid own (whole bytes given_whole within q) = record {
-      file = file;
-      mid = mid;
-      own = own;
-      bytes = bytes;
-      whole = given_whole;
-      over = accepts_over terms max file bytes (sym (ok_same verdict (by_bundle terms max bytes (bundle_of_bytes file)) q) ∙ is);
-    }
+        absurd (never_longer terms max file many rule digest (every many ∙ sym (ok_same verdict other q) ∙ is) (omega (arith, count)))
+    by_bytes file mid own (whole bytes given_whole within q) =
+        let over = accepts_over terms max file bytes rule digest (sym (ok_same verdict (by_bundle terms max bytes (bundle_of_bytes file)) q) ∙ is) in
+        record { file = file; mid = mid; own = own; bytes = bytes; whole = given_whole; over = over.0; hashed = over.1 }
     by_bytes file mid own (longer bytes had past q) =
-        absurd (never_longer terms max file bytes (sym (ok_same verdict (by_bundle terms max bytes (bundle_of_bytes file)) q) ∙ is) past)
+        absurd (never_longer terms max file bytes rule digest (sym (ok_same verdict (by_bundle terms max bytes (bundle_of_bytes file)) q) ∙ is) past)
     by_bytes file mid own (unread bytes fails q) = cc
     by_bytes file mid own (unheld q) = cc
 
-    by_own : ReadsBy gave terms max (bundle_name name) name old new (Ok verdict) → AdmittedOn gave terms max name old new
-    by_own (long seen own q) = let both : Admitted ≡ BundleTooLong seen = sym is ∙ ok_same verdict (BundleTooLong seen) q in cc
+    by_own : ReadsBy gave terms max (bundle_name name) name old new (Ok verdict) → AdmittedOn gave terms max name rule digest old new
+    by_own (long seen own q) = let both : Admitted rule digest ≡ BundleTooLong seen = sym is ∙ ok_same verdict (BundleTooLong seen) q in cc
     by_own (given file mid own r) = by_bytes file mid own r
     by_own (vanished own q) = cc
     by_own (failed own q) = cc
     by_own (short q) = cc
 
-    by_reading : (names : List (List ℕ)) → Reading gave terms max names name old new (Ok verdict) → AdmittedOn gave terms max name old new
-    by_reading names (unsigned never kept q) = let both : Admitted ≡ Unsigned = sym is ∙ ok_same verdict Unsigned q in cc
+    by_reading : (names : List (List ℕ)) → Reading gave terms max names name old new (Ok verdict) → AdmittedOn gave terms max name rule digest old new
+    by_reading names (unsigned never kept q) = let both : Admitted rule digest ≡ Unsigned = sym is ∙ ok_same verdict Unsigned q in cc
     by_reading names (signed among r) = by_own r
     by_reading names (wanting q) = cc
 
@@ -69,7 +68,7 @@ module _ (D : Type 0) (gave : D → Call → D → Type 0) (terms : RuleTerms) (
   each_of listed old (passed names lines mid name w t) = each_of listed old w
   each_of listed old (judged names lines mid new name verdict w t r) =
       all_more (IfAdmitted gave terms max) lines (record { name = name; verdict = verdict }) (each_of listed old w)
-      (λ is. (mid, new, by_reading name mid new verdict is listed r))
+      (λ rule digest is. (mid, new, by_reading name mid new verdict rule digest is listed r))
 
   each_in : (listed : List (List ℕ)) (old new : D) (names : List (List ℕ)) (lines : List GateLine) → WalksNames (Reading gave terms max listed) old new names (Ok lines)
       → AllByRecursion (IfAdmitted gave terms max) lines

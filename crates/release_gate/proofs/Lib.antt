@@ -1,4 +1,5 @@
 pub mod Admissions
+pub mod NamedJudging
 pub mod Admitting
 pub mod Calling
 pub mod Gating

@@ -10,14 +10,13 @@ use Rattle.sigstore_judgement.specs.declared.error.Error.{Error}
 use Rattle.sigstore_judgement.specs.declared.error.Error.TheVariants as verify
 use Rattle.sigstore_judgement.specs.declared.rules.ReadArtifact.{ReadArtifact}
 use Rattle.sigstore_judgement.specs.declared.rules.ReadArtifact.TheVariants as had
-use Rattle.sigstore_judgement.specs.Rules.{needed_by_rules}
 use Rattle.sigstore_judgement.specs.Taking.{Unhashed}
 use Rattle.release_gate.specs.declared.line.Verdict.{Verdict}
 use Rattle.release_gate.specs.declared.walk.FolderStop.{FolderStop}
 use Rattle.release_gate.specs.declared.walk.FolderStop.TheVariants as stop
 use Rattle.release_gate.specs.Folder.{Call}
 use Rattle.release_gate.specs.Given.{GivenTo, Digests}
-use Rattle.release_gate.specs.Judgement.{IsSaid, verdict_had, SaysUnread}
+use Rattle.release_gate.specs.Judgement.{IsSaid, taken_by_rules, verdict_had, SaysUnread}
 use Rattle.release_gate.specs.Reading.{Reads, unneeded, whole, longer, unread, unheld}
 use Rattle.release_gate.specs.Terms.{RuleTerms}
 use Rattle.release_gate.specs.Verdict.{by_rules}
@@ -56,13 +55,13 @@ module _ (D : Type 0) (gave : D → Call → D → Type 0) (max : ℕ) (name : L
     L result = R (by_rules terms max bundle) result
 
     -- no rule needs the artifact
-    pub reads_unneeded : (artifact : ReadArtifact) (result : Result Verdict FolderStop) → needed_by_rules bundle terms.rules ≡ None → new ≡ old
+    pub reads_unneeded : (artifact : ReadArtifact) (result : Result Verdict FolderStop) → taken_by_rules bundle terms.rules ≡ None → new ≡ old
         → IsSaid (verdict_had terms bundle artifact) result → L result
     reads_unneeded artifact (Ok said) is kept s =
         unneeded (verdict_had terms bundle artifact) (λ bytes. none_needed terms max bundle artifact bytes is) kept (ap Ok s)
     reads_unneeded artifact (Err e) is kept s = unheld (ap Err s)
 
-    module _ (needed : List HashAlgorithm) (is : needed_by_rules bundle terms.rules ≡ Some needed) where
+    module _ (needed : List HashAlgorithm) (is : taken_by_rules bundle terms.rules ≡ Some needed) where
       abbrev Had : Result (List (HashAlgorithm × List ℕ)) Error → Type 0
       Had result = Digests gave name max needed old new result
 

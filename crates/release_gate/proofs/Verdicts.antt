@@ -13,14 +13,13 @@ use Rattle.sigstore_judgement.specs.declared.error.Error.TheVariants as verify
 use Rattle.sigstore_judgement.specs.declared.rules.ReadArtifact.{ReadArtifact}
 use Rattle.sigstore_judgement.specs.declared.rules.ReadArtifact.TheVariants as had
 use Rattle.sigstore_judgement.specs.Promise.{ReadCause}
-use Rattle.sigstore_judgement.specs.Rules.{needed_by_rules}
 use Rattle.sigstore_judgement.specs.Taking.{Unhashed, Takes}
 use Rattle.release_gate.specs.declared.line.Verdict.{Verdict}
 use Rattle.release_gate.specs.declared.line.Verdict.TheVariants.{Unsigned}
 use Rattle.release_gate.specs.declared.walk.FolderStop.{FolderStop}
 use Rattle.release_gate.specs.declared.walk.FolderStop.TheVariants as stop
 use Rattle.release_gate.specs.Folder.{Contents, ListsFiles, source_of}
-use Rattle.release_gate.specs.Judgement.{IsSaid, verdict_had, SaysUnread}
+use Rattle.release_gate.specs.Judgement.{IsSaid, taken_by_rules, verdict_had, SaysUnread}
 use Rattle.release_gate.specs.Names.{bundle_name, AreOrdered}
 use Rattle.release_gate.specs.Terms.{RuleTerms}
 use Rattle.release_gate.specs.Verdict.{by_rules, by_file, verdict_by}
@@ -67,12 +66,12 @@ module _ (terms : RuleTerms) (max : ℕ) (bundle : Bundle) (old new : Watched Co
   said_so verdict told (Err e) is = record { since = since; given = tt; refused = subst (StopCause old new) (sym is) tt }
 
   -- no rule needs the artifact
-  pub unneeded_said : (artifact : ReadArtifact) (result : Result Verdict FolderStop) → needed_by_rules bundle terms.rules ≡ None
+  pub unneeded_said : (artifact : ReadArtifact) (result : Result Verdict FolderStop) → taken_by_rules bundle terms.rules ≡ None
       → IsSaid (verdict_had terms bundle artifact) result → J result
   unneeded_said artifact result is =
       said_so (verdict_had terms bundle artifact) (told_all old.told _ (λ contents e bytes f. sym (none_needed terms max bundle artifact bytes is))) result
 
-  module _ (needed : List HashAlgorithm) (is : needed_by_rules bundle terms.rules ≡ Some needed) (count : ℕ) where
+  module _ (needed : List HashAlgorithm) (is : taken_by_rules bundle terms.rules ≡ Some needed) (count : ℕ) where
     abbrev Taken : Result (List (HashAlgorithm × List ℕ)) Error → Type 0
     Taken result = Takes (source_of old name 0) (source_of new name count) max needed result
 

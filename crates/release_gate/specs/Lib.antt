@@ -6,6 +6,7 @@ pub mod Judgement
 pub mod Lines
 pub mod Listed
 pub mod Memory
+pub mod Named
 pub mod Names
 pub mod Promises
 pub mod Reading

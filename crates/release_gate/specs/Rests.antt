@@ -16,7 +16,7 @@ use Rattle.release_gate.specs.Given.{GivesWhole}
 use Rattle.release_gate.specs.Names.{bundle_name}
 use Rattle.release_gate.specs.Reading.{Reading}
 use Rattle.release_gate.specs.Terms.{RuleTerms}
-use Rattle.release_gate.specs.Verdict.{max_bundle, AcceptsOver}
+use Rattle.release_gate.specs.Verdict.{max_bundle, sha256_of, AcceptsOver}
 use Rattle.release_gate.specs.Walk.{WalksFolder}
 
 -- what is said of a walk
@@ -50,18 +50,22 @@ pub data Rests {D : Type 0} (gave : D → Call → D → Type 0) (old new : D) (
 
 -- ---- an admission
 
--- the folder gave this file as the bundle under the artifact's own name, and gave these bytes of the artifact up to its end; and that
--- bundle is accepted over them
-pub record AdmittedOn {D : Type 0} (gave : D → Call → D → Type 0) (terms : RuleTerms) (max : ℕ) (name : List ℕ) (old new : D) : Type 0 where
+-- the folder gave this file as the bundle under the artifact's own name, and gave these bytes of the artifact up to its end; that bundle is
+-- accepted over them, under this rule first; and the digest is theirs
+pub record AdmittedOn {D : Type 0} (gave : D → Call → D → Type 0) (terms : RuleTerms) (max : ℕ) (name : List ℕ) (rule : ℕ)
+    (digest : List ℕ) (old new : D) : Type 0 where
   pub file : List ℕ
   pub mid : D
   pub own : gave old (bundle_asked (bundle_name name) max_bundle (Ok (Some file))) mid
   pub bytes : List ℕ
   pub whole : GivesWhole gave name mid bytes new
-  pub over : AcceptsOver terms max file bytes
+  pub over : AcceptsOver terms max file bytes rule
+  pub hashed : digest ≡ sha256_of bytes
 
 abbrev pub IfAdmitted : {D : Type 0} → (D → Call → D → Type 0) → RuleTerms → ℕ → GateLine → Type 0
-IfAdmitted {D} gave terms max line = line.verdict ≡ Admitted → (old : D) × (new : D) × AdmittedOn gave terms max line.name old new
+IfAdmitted {D} gave terms max line =
+    (rule : ℕ) (digest : List ℕ) → line.verdict ≡ Admitted rule digest
+    → (old : D) × (new : D) × AdmittedOn gave terms max line.name rule digest old new
 
 -- so is each line that admits, under what is kept of the chain's file
 pub record AdmitsOn {D : Type 0} (gave : D → Call → D → Type 0) (given : GateInputs) (gated : Gated) : Type 0 where

@@ -72,7 +72,7 @@ fn fault_of_trust(fault: Error, chain: TrustChain) -> GateFault
     }
 }
 
-fn fault_of_stop(stop: FolderStop) -> GateFault
+pub(crate) fn fault_of_stop(stop: FolderStop) -> GateFault
     ensures { result ≡ fault_of_stop stop }
 {
     match stop {

@@ -1,11 +1,12 @@
 // The judgement of one artifact of a folder by its own bundle.
-ghost use Rattle.std.specs.Prelude.{◌≡◌, Some, IfOk, IsSome, map, true};
+ghost use Rattle.std.specs.Prelude.{◌≡◌, Some, IfOk, OnOk, IsSome, map, true};
 ghost use Rattle.foundation.specs.Watched.{IfTold};
 ghost use Rattle.sigstore_types.specs.Bundle.{bundle_of_bytes};
 ghost use Rattle.sigstore_policy.specs.Policy.{meaning_in};
 ghost use Rattle.sigstore_judgement.specs.Error.{number_of};
-ghost use Rattle.sigstore_judgement.specs.Rules.{needed_by_rules};
-ghost use Rattle.release_gate.specs.Judgement.{terms_in, IsSaid, verdict_had, SaysUnread};
+ghost use Rattle.sigstore_types_parts.specs.HashAlgorithm.{with_algorithm};
+ghost use Rattle.sigstore_types_parts.specs.declared.hash_algorithm.HashAlgorithm.TheVariants.{Sha2256};
+ghost use Rattle.release_gate.specs.Judgement.{terms_in, IsSaid, sha256_among, sha256_in, taken_by_rules, verdict_had, SaysUnread};
 ghost use Rattle.release_gate.specs.Names.{is_bundle};
 ghost use Rattle.release_gate.specs.Reading.{Reads, ReadsBy, Reading};
 ghost use Rattle.release_gate.specs.Verdict.{denied, by_rules, by_bundle, by_file, verdict_by};
@@ -22,20 +23,20 @@ use sigstore_judgement::{Error, ReadArtifact, RulesCase, RulesError, Verifier, n
 use sigstore_keys::{CryptoProvider, ReadError};
 use sigstore_policy::SigningPolicy;
 use sigstore_types::Bundle;
-use sigstore_types_parts::{Armor, HashAlgorithm, Text, TypesError};
+use sigstore_types_parts::{Armor, ArtifactDigest, Bytes, HashAlgorithm, Text, TypesError};
 use std::alloc::Global;
 
 // The greatest length of a bundle: 16 MiB.
-const MAX_BUNDLE: u64 = 16_777_216;
+pub(crate) const MAX_BUNDLE: u64 = 16_777_216;
 
 /// By what the artifacts of a folder are judged: a verifier, the rules, of which one has to accept, the moment, and the
 /// greatest length of an artifact.
 #[derive(Drop)]
-pub(crate) struct Judgement<'j, 'p, C: CryptoProvider, M: Armor> {
-    pub(crate) verifier: &'j Verifier<'p, C, M>,
-    pub(crate) rules: &'j [SigningPolicy],
-    pub(crate) moment: Timestamp,
-    pub(crate) max: u64,
+pub struct Judgement<'j, 'p, C: CryptoProvider, M: Armor> {
+    pub verifier: &'j Verifier<'p, C, M>,
+    pub rules: &'j [SigningPolicy],
+    pub moment: Timestamp,
+    pub max: u64,
 }
 
 // The numbers of refusals, in their order.
@@ -59,6 +60,69 @@ fn refused(alloc: Global, refusals: &[Error]) -> Result<Verdict, FolderStop>
     }
 }
 
+// The SHA-256 value among digests; nothing where it wasn't taken.
+fn sha256_among(alloc: Global, digests: &[ArtifactDigest]) -> Result<Bytes, NoMemory>
+    ensures { IfOk result (λ digest. digest ≡ sha256_among digests.now) }
+{
+    let found = digests
+        .iter()
+        .find(|taken| taken.algorithm().is_same(HashAlgorithm::Sha2256));
+    match found {
+        Some(digest) => Ok(Bytes::new(alloc, digest.as_bytes())?),
+        None => Ok(Bytes::new(alloc, &[])?),
+    }
+}
+
+fn sha256_in(alloc: Global, artifact: &ReadArtifact) -> Result<Bytes, NoMemory>
+    ensures { IfOk result (λ digest. digest ≡ sha256_in artifact.now) }
+{
+    match artifact {
+        ReadArtifact::Digests(digests) => Ok(sha256_among(alloc, digests.as_slice())?),
+        ReadArtifact::Unread(_) => Ok(Bytes::new(alloc, &[])?),
+    }
+}
+
+// What is said of an artifact that a rule accepts.
+fn admitted(alloc: Global, rule: usize, artifact: &ReadArtifact) -> Result<Verdict, FolderStop>
+    ensures { IsSaid (Verdict.Admitted rule (sha256_in artifact.now)) result }
+{
+    match sha256_in(alloc, artifact) {
+        Ok(sha256) => Ok(Verdict::Admitted { rule, sha256 }),
+        Err(NoMemory) => Err(FolderStop::NoMemory),
+    }
+}
+
+// SHA-256 behind the algorithms that rules need, unless it is among them.
+fn add_sha256(needed: &mut Sequence<HashAlgorithm>) -> Result<(), NoMemory>
+    ensures { OnOk result (needed.new ≡ with_algorithm needed.old Sha2256) }
+{
+    let is_there = needed
+        .as_slice()
+        .iter()
+        .any(|own| HashAlgorithm::Sha2256.is_same(*own));
+    if is_there {
+        return Ok(());
+    }
+    needed.push(HashAlgorithm::Sha2256)
+}
+
+// The digests that are taken of the artifact; none where every rule refuses before it.
+fn taken_by_rules(
+    alloc: Global,
+    bundle: &Bundle,
+    rules: &[SigningPolicy],
+) -> Result<Option<Sequence<HashAlgorithm>>, NoMemory>
+    ensures { IfOk result (λ taken. taken ≡ taken_by_rules bundle.now (map meaning_in rules.now)) }
+{
+    match needed_by_rules(alloc, bundle, rules)? {
+        Some(mut needed) => {
+            add_sha256(&mut needed)?;
+            Ok(Some(needed))
+        }
+        None => Ok(None),
+    }
+}
+
 impl<'j, 'p, C: CryptoProvider, M: Armor> Judgement<'j, 'p, C, M> {
     // What the rules say by what is had of the artifact; want of memory says nothing.
     fn by_had(
@@ -76,8 +140,9 @@ impl<'j, 'p, C: CryptoProvider, M: Armor> Judgement<'j, 'p, C, M> {
         };
         match self.verifier.judge_by_rules(alloc, artifact, &case) {
             Ok(accepted) => {
+                let rule = accepted.rule;
                 drop(accepted);
-                Ok(Verdict::Admitted)
+                admitted(alloc, rule, artifact)
             }
             Err(RulesError::Each(refusals)) => {
                 let verdict = refused(alloc, refusals.as_slice());
@@ -113,7 +178,7 @@ impl<'j, 'p, C: CryptoProvider, M: Armor> Judgement<'j, 'p, C, M> {
         bundle: &Bundle,
         needed: &[HashAlgorithm],
     ) -> Result<Verdict, FolderStop>
-        requires { needed_by_rules bundle.now (map meaning_in self.now.rules.now) ≡ Some needed.now }
+        requires { taken_by_rules bundle.now (map meaning_in self.now.rules.now) ≡ Some needed.now }
         ensures judges { Judges (λ files name bytes. by_rules (terms_in C.CryptoProvider M.Armor self.now) self.now.max bundle.now bytes)
             (D.seen folder.old) (D.seen folder.new) name.now result }
         ensures rests { Reads D.gave (by_rules (terms_in C.CryptoProvider M.Armor self.now) self.now.max bundle.now)
@@ -143,7 +208,7 @@ impl<'j, 'p, C: CryptoProvider, M: Armor> Judgement<'j, 'p, C, M> {
         ensures rests { Reads D.gave (by_rules (terms_in C.CryptoProvider M.Armor self.now) self.now.max bundle.now)
             self.now.max name.now folder.old folder.new result }
     {
-        match needed_by_rules(alloc, bundle, self.rules) {
+        match taken_by_rules(alloc, bundle, self.rules) {
             Ok(Some(needed)) => {
                 let verdict = self.by_artifact(alloc, folder, name, bundle, needed.as_slice());
                 drop(needed);
@@ -160,7 +225,7 @@ impl<'j, 'p, C: CryptoProvider, M: Armor> Judgement<'j, 'p, C, M> {
     }
 
     // The bundle is read.
-    fn by_bundle<D: Folder>(
+    pub(crate) fn by_bundle<D: Folder>(
         &self,
         alloc: Global,
         folder: &mut D,
