@@ -4,7 +4,7 @@ use Rattle.std.specs.Fmt.{decimal}
 use Rattle.std.specs.List.{list_all}
 use Rattle.release_gate.specs.declared.line.GateLine.{GateLine}
 use Rattle.release_gate.specs.declared.line.Verdict.{Verdict}
-use Rattle.release_gate.specs.declared.line.Verdict.TheVariants.{Admitted, Unsigned, BundleTooLong, Denied}
+use Rattle.release_gate.specs.declared.line.Verdict.TheVariants.{Admitted, Missing, NoRule, Unsigned, BundleTooLong, Denied}
 use Rattle.command_gate.specs.declared.lines.RefusalPart.{RefusalPart}
 use Rattle.command_gate.specs.declared.lines.RefusalPart.TheVariants.{Number, Name}
 use Rattle.command_files.specs.Printed.{printed, pair_line, text_line}
@@ -33,10 +33,12 @@ abbrev pub refusals_text : RefusalPart → List ℕ → List ℕ
 refusals_text part [] = []
 refusals_text part (number ∷ numbers) = part_text part number ++ later_text part numbers
 
--- `admit NAME`; `deny NAME unsigned`; `deny NAME toolong`; `deny NAME N,N Name,Name`, by each rule's refusal. No blank stands between two
--- rules' refusals, so that a line is read from its ends whatever the artifact's name is.
+-- `admit NAME`; `deny NAME missing`; `deny NAME norule`; `deny NAME unsigned`; `deny NAME toolong`; `deny NAME N,N Name,Name`, by each rule's
+-- refusal. No blank stands between two rules' refusals, so that a line is read from its ends whatever the artifact's name is.
 abbrev pub verdict_line : List ℕ → Verdict → List ℕ
-verdict_line name Admitted = text_line (codes "admit") name
+verdict_line name (Admitted rule digest) = text_line (codes "admit") name
+verdict_line name Missing = denial_line name (codes "missing")
+verdict_line name NoRule = denial_line name (codes "norule")
 verdict_line name Unsigned = denial_line name (codes "unsigned")
 verdict_line name (BundleTooLong seen) = denial_line name (codes "toolong")
 verdict_line name (Denied numbers) = denial_line name (refusals_text Number numbers ++ 32 ∷ refusals_text Name numbers)
@@ -47,7 +49,9 @@ lines_text [] = []
 lines_text (line ∷ lines) = verdict_line line.name line.verdict ++ lines_text lines
 
 abbrev pub is_admitted : Verdict → Bool
-is_admitted Admitted = true
+is_admitted (Admitted rule digest) = true
+is_admitted Missing = false
+is_admitted NoRule = false
 is_admitted Unsigned = false
 is_admitted (BundleTooLong seen) = false
 is_admitted (Denied numbers) = false

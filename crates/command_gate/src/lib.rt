@@ -9,5 +9,5 @@ mod program;
 
 pub use judging::{FolderRequest, gate_folder};
 pub use layout::{asked_gate_layout, gate_layout};
-pub use lines::lines_said;
+pub use lines::{lines_said, push_verdict, status_by};
 pub use program::{fault_said, run_gate};

@@ -81,12 +81,14 @@ fn push_refusals(text: &mut String, name: &[u8], numbers: &[u8]) -> Result<(), N
     Ok(())
 }
 
-// Adds the line of an artifact.
-fn push_verdict(text: &mut String, name: &[u8], verdict: &Verdict) -> Result<(), NoMemory>
+/// Adds the line of an artifact.
+pub fn push_verdict(text: &mut String, name: &[u8], verdict: &Verdict) -> Result<(), NoMemory>
     ensures { OnOk result (string_bytes text.new ≡ string_bytes text.old ++ verdict_line name.now verdict.now) }
 {
     match verdict {
-        Verdict::Admitted => push_text_line(text, "admit", name),
+        Verdict::Admitted { .. } => push_text_line(text, "admit", name),
+        Verdict::Missing => push_denial(text, name, "missing"),
+        Verdict::NoRule => push_denial(text, name, "norule"),
         Verdict::Unsigned => push_denial(text, name, "unsigned"),
         Verdict::BundleTooLong { .. } => push_denial(text, name, "toolong"),
         Verdict::Denied { numbers } => push_refusals(text, name, numbers.as_slice()),
@@ -106,7 +108,7 @@ fn push_lines(text: &mut String, lines: &[GateLine]) -> Result<(), NoMemory>
 fn is_admitted(verdict: &Verdict) -> bool
     ensures { result ≡ is_admitted verdict.now }
 {
-    matches!(verdict, Verdict::Admitted)
+    matches!(verdict, Verdict::Admitted { .. })
 }
 
 fn all_admitted(lines: &[GateLine]) -> bool
@@ -120,7 +122,8 @@ fn all_admitted(lines: &[GateLine]) -> bool
     true
 }
 
-fn status_by(lines: &[GateLine]) -> Status
+/// The status of lines: accepted where all admit.
+pub fn status_by(lines: &[GateLine]) -> Status
     ensures { result ≡ status_by lines.now }
 {
     if all_admitted(lines) {

@@ -24,29 +24,11 @@ is_artifact name = not (is_bundle name)
 abbrev pub artifacts_in : List (List ℕ) → List (List ℕ)
 artifacts_in listed = filter is_artifact listed
 
--- the names that have to be there
-abbrev pub required_in : Selection → List (List ℕ)
-required_in Whole = []
-required_in (Only names) = []
-required_in (Among names) = names
-
 -- These names, in ascending order, are the artifacts of a listing and those that have to be there.
 abbrev pub AreAsked : List (List ℕ) → List (List ℕ) → List (List ℕ) → Type 0
 AreAsked listed required names = AreOrdered (artifacts_in listed ++ required) names
 
--- Those of a list alone; or those of a folder that lists few, and none twice, with those that have to be there.
-abbrev pub IsSelected : Selection → Contents → List (List ℕ) → Type 0
-IsSelected (Only own) contents names = names ≡ own
-IsSelected selection contents names =
-    (length contents.names ≤ max_names) × AreOnce contents.names × AreAsked contents.names (required_in selection) names
-
 -- ---- the lines of a told folder
-
--- these are the lines on the names that are asked, one on each
-pub record AreMirrorLines (terms : MirrorTerms) (max : ℕ) (selection : Selection) (contents : Contents) (lines : List GateLine) : Type 0 where
-  pub names : List (List ℕ)
-  pub selected : IsSelected selection contents names
-  pub are : lines ≡ lines_over (verdict_for terms max contents.files) names
 
 -- the promise of the judgement of names
 pub record JudgesNames (terms : MirrorTerms) (max : ℕ) (names : List (List ℕ)) (old new : Watched Contents)
@@ -54,6 +36,34 @@ pub record JudgesNames (terms : MirrorTerms) (max : ℕ) (names : List (List ℕ
   pub since : Since old new
   pub given : IfOk result (λ lines. IfTold old.told (λ contents. lines ≡ lines_over (verdict_for terms max contents.files) names))
   pub refused : IfErr result (FolderCause old new)
+
+-- the promise of the judgement of one name
+pub record JudgesFor (terms : MirrorTerms) (max : ℕ) (old new : Watched Contents) (name : List ℕ) (result : Result Verdict GateFault)
+    : Type 0 where
+  pub since : Since old new
+  pub given : IfOk result (λ verdict. IfTold old.told (λ contents. verdict ≡ verdict_for terms max contents.files name))
+  pub refused : IfErr result (FolderCause old new)
+
+-- these are the lines on the artifacts of a folder that lists few, and none twice, and on the names that have to be there
+pub record AreListedLines (terms : MirrorTerms) (max : ℕ) (required : List (List ℕ)) (contents : Contents) (lines : List GateLine) : Type 0 where
+  pub few : length contents.names ≤ max_names
+  pub once : AreOnce contents.names
+  pub names : List (List ℕ)
+  pub asked : AreAsked contents.names required names
+  pub are : lines ≡ lines_over (verdict_for terms max contents.files) names
+
+-- the promise of the judgement of a listing
+pub record JudgesListed (terms : MirrorTerms) (max : ℕ) (required : List (List ℕ)) (old new : Watched Contents)
+    (result : Result (List GateLine) GateFault) : Type 0 where
+  pub since : Since old new
+  pub given : IfOk result (λ lines. IfTold old.told (λ contents. AreListedLines terms max required contents lines))
+  pub refused : IfErr result (FolderCause old new)
+
+-- The lines on the names of a list alone, one on each; or those on the artifacts of a folder, and on the names that have to be there.
+abbrev pub AreMirrorLines : MirrorTerms → ℕ → Selection → Contents → List GateLine → Type 0
+AreMirrorLines terms max Whole contents lines = AreListedLines terms max [] contents lines
+AreMirrorLines terms max (Only names) contents lines = lines ≡ lines_over (verdict_for terms max contents.files) names
+AreMirrorLines terms max (Among names) contents lines = AreListedLines terms max names contents lines
 
 -- the promise of the judgement of a folder
 pub record JudgesMirror (terms : MirrorTerms) (max : ℕ) (selection : Selection) (old new : Watched Contents)
@@ -98,12 +108,25 @@ pub data WalksEach {D : Type 0} (rests : List ℕ → D → D → Result Verdict
   walk_stopped : (fault : GateFault) → StopsAtName rests old new names fault → result ≡ Err fault → WalksEach rests old new names result
   walk_cut : result ≡ Err gate.NoMemory → WalksEach rests old new names result
 
--- The names of a list were walked, and nothing else was called; or those of a listing and those that have to be there were, behind the call
--- for the listing; or that gave no names, or memory is wanting.
-pub data WalksMirror {D : Type 0} (gave : D → Call → D → Type 0) (terms : MirrorTerms) (max : ℕ) (selection : Selection) (old new : D)
+-- what a step of the walk does with the lines
+pub data StepsName {D : Type 0} (rests : List ℕ → D → D → Result Verdict GateFault → Type 0) (old new : D) (name : List ℕ)
+    (lines lines' : List GateLine) (result : Result ⊤ GateFault) : Type 0 where
+  line_added : (verdict : Verdict) → rests name old new (Ok verdict) → lines' ≡ lines ++ record { name = name; verdict = verdict } ∷ []
+      → result ≡ Ok tt → StepsName rests old new name lines lines' result
+  name_stops : (fault : GateFault) → rests name old new (Err fault) → result ≡ Err fault → StepsName rests old new name lines lines' result
+  line_lost : result ≡ Err gate.NoMemory → StepsName rests old new name lines lines' result
+
+-- The listed artifacts and the names that have to be there were walked, behind the call for the listing; or that gave no names, or memory is
+-- wanting.
+pub data WalksListed {D : Type 0} (gave : D → Call → D → Type 0) (terms : MirrorTerms) (max : ℕ) (required : List (List ℕ)) (old new : D)
     (result : Result (List GateLine) GateFault) : Type 0 where
-  list_walked : (names : List (List ℕ)) → selection ≡ Only names → WalksEach (RestsFor gave terms max) old new names result
-      → WalksMirror gave terms max selection old new result
-  folder_walked : (listed names : List (List ℕ)) (mid : D) → GivesNames gave old mid listed → AreAsked listed (required_in selection) names
-      → WalksEach (RestsFor gave terms max) mid new names result → WalksMirror gave terms max selection old new result
-  unlisted : (fault : GateFault) → result ≡ Err fault → WalksMirror gave terms max selection old new result
+  folder_walked : (listed names : List (List ℕ)) (mid : D) → GivesNames gave old mid listed → AreAsked listed required names
+      → WalksEach (RestsFor gave terms max) mid new names result → WalksListed gave terms max required old new result
+  unlisted : (fault : GateFault) → result ≡ Err fault → WalksListed gave terms max required old new result
+
+-- The names of a list alone were walked, and nothing else was called; or a listing was walked.
+abbrev pub WalksMirror : {D : Type 0} → (D → Call → D → Type 0) → MirrorTerms → ℕ → Selection → D → D → Result (List GateLine) GateFault
+    → Type 0
+WalksMirror gave terms max Whole old new result = WalksListed gave terms max [] old new result
+WalksMirror gave terms max (Only names) old new result = WalksEach (RestsFor gave terms max) old new names result
+WalksMirror gave terms max (Among names) old new result = WalksListed gave terms max names old new result

@@ -1,6 +1,6 @@
 // Which names of a folder are judged.
-ghost use Rattle.std.specs.Prelude.{◌≡◌, ◌++◌, IfOk, OnOk, filter};
-ghost use Rattle.command_mirror.specs.Walk.{is_artifact, artifacts_in, required_in, AreAsked};
+ghost use Rattle.std.specs.Prelude.{◌≡◌, ◌++◌, IfOk, OnOk};
+ghost use Rattle.command_mirror.specs.Walk.{artifacts_in, AreAsked};
 
 use foundation::{Duplicate, NoMemory, Sequence};
 use release_gate::is_bundle;
@@ -16,18 +16,6 @@ pub enum Selection {
     Only(Sequence<Text>),
     /// The artifacts of the folder, and those of a list, which have to be there.
     Among(Sequence<Text>),
-}
-
-impl Selection {
-    /// The names that have to be there.
-    pub(crate) fn required(&self) -> &[Text]
-        ensures { result.now ≡ required_in self.now }
-    {
-        match self {
-            Selection::Among(names) => names.as_slice(),
-            _ => &[],
-        }
-    }
 }
 
 // Adds the artifacts of a listing.

@@ -20,8 +20,8 @@ fn unusable(alloc: Global, fault: &Error) -> Result<Answer, NoMemory>
     }
 }
 
-// The lines on the folder, or why there are none.
-pub(crate) fn folder_said(alloc: Global, came: &FolderCame) -> Result<Answer, NoMemory>
+/// What is said of what came of a folder: its lines, or why there are none.
+pub fn folder_said(alloc: Global, came: &FolderCame) -> Result<Answer, NoMemory>
     ensures { IfOk result (λ said. came_answer came.now ≡ Some said) }
 {
     match came {

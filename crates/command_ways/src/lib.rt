@@ -14,6 +14,7 @@ mod trust;
 
 pub use folder_judging::{FolderCame, gate_way};
 pub use folder_program::run_gate_way;
+pub use folder_report::folder_said;
 pub use folder_words::{FolderLayout, asked_gate_way_layout, gate_way_layout};
 pub use judging::{Came, verify_way};
 pub use layout::{TrustedBy, Way, WayLayout, asked_way_layout, way_layout};

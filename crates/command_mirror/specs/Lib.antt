@@ -1,0 +1,12 @@
+pub mod Names
+pub mod Serving
+pub mod Mirror
+pub mod Walk
+pub mod Judging
+pub mod Lines
+pub mod Layout
+pub mod Inputs
+pub mod Concluding
+pub mod Run
+pub mod Promises
+pub mod Complete
