@@ -78,8 +78,8 @@ pub record WritesLines {command : Command} {before after : Environment} {trust :
     (f : Favoured command before after trust contents) (out out' : Watched (List ℕ)) (ended : GateStatus) : Type 0 where
   pub lines : List GateLine
   pub judged : AreMirrorLines (mirror_terms_of (favoured_in f) f.material) (favoured_in f).max f.selection contents lines
-  pub sums : SumsAre f.layout.sums lines before.outside.shelf after.outside.shelf
-  pub written : TakesAll out out' (mirror_text f.layout.long lines)
+  pub sums : SumsAre f.layout.outputs.sums lines before.outside.shelf after.outside.shelf
+  pub written : TakesAll out out' (mirror_text f.layout.outputs.long lines)
   pub ended_is : ended ≡ Ended (status_by lines)
 
 -- Then the lines are written, with status 0 where all are admitted and 1 where not; or memory was wanting, or the sink or the shelf failed.

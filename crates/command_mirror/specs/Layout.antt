@@ -47,4 +47,4 @@ mirror_layout_of words = do
   required ← file_of (paths_in (codes "--require=") words)
   names ← names_file_of only required
   layout ← folder_layout_of (others_in words)
-  Ok (record { folder = layout; long = list_any is_long words; sums = sums; names = names })
+  Ok (record { folder = layout; outputs = record { long = list_any is_long words; sums = sums }; names = names })

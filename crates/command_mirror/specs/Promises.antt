@@ -77,8 +77,8 @@ IsUntouched before after = after.outside.shelf ≡ before.outside.shelf
 -- the names were judged; the sums are in their place, where one is named; and the sink took exactly the lines
 pub record Gates (command : Command) (before after : Environment) (out out' : Watched (List ℕ)) : Type 0 where
   pub judged : JudgedLines command before after
-  pub sums : SumsAre judged.selected.asked.layout.sums judged.lines before.outside.shelf after.outside.shelf
-  pub written : TakesAll out out' (mirror_text judged.selected.asked.layout.long judged.lines)
+  pub sums : SumsAre judged.selected.asked.layout.outputs.sums judged.lines before.outside.shelf after.outside.shelf
+  pub written : TakesAll out out' (mirror_text judged.selected.asked.layout.outputs.long judged.lines)
 
 -- all are admitted
 pub record Admits (command : Command) (before after : Environment) (out out' : Watched (List ℕ)) : Type 0 where
@@ -132,7 +132,7 @@ pub record LacksOutside (command : Command) (before after : Environment) (out ou
 pub record Unplaces (command : Command) (before after : Environment) (out out' : Watched (List ℕ)) : Type 0 where
   pub judged : JudgedLines command before after
   pub path : List ℕ
-  pub named : judged.selected.asked.layout.sums ≡ Some path
+  pub named : judged.selected.asked.layout.outputs.sums ≡ Some path
   pub rose : Rose before.outside.shelf.faults after.outside.shelf.faults
   pub same : after.outside.shelf.told ≡ before.outside.shelf.told
   pub written : TakesAll out out' unplaced_answer.text
@@ -159,7 +159,7 @@ Means command before after out out' Untrusted = Distrusts command before after o
 pub record IsDelivered (command : Command) (before after : Environment) : Type 0 where
   pub judged : JudgedLines command before after
   pub path : List ℕ
-  pub named : judged.selected.asked.layout.sums ≡ Some path
+  pub named : judged.selected.asked.layout.outputs.sums ≡ Some path
   pub put : IsPut path (sums_text judged.lines) before.outside.shelf after.outside.shelf
 
 -- Nothing is put anywhere but the sums of the names that were judged, whole, in the place that the words name.

@@ -18,6 +18,7 @@ use Rattle.command_files.specs.declared.answer.Status.{Status}
 use Rattle.command_files.specs.declared.answer.Status.TheVariants as status
 use Rattle.command_ways.specs.FolderJudging.{FolderOutside, folder_outside_by}
 use Rattle.command_ways.specs.declared.folder_judging.FolderCame.{FolderCame}
+use Rattle.command_ways.specs.declared.layout.TrustedBy.{TrustedBy}
 use Rattle.command_mirror.specs.Concluding.{is_untrusted, ConcludesMirror}
 use Rattle.command_mirror.specs.Inputs.{mirror_governed_of, Selects, names_answer}
 use Rattle.command_mirror.specs.Judging.{MirrorInputs, mirror_given_with, MirrorsWay}
@@ -25,6 +26,8 @@ use Rattle.command_mirror.specs.Layout.{mirror_layout_of}
 use Rattle.command_mirror.specs.declared.inputs.MirrorGoverned.{MirrorGoverned}
 use Rattle.command_mirror.specs.declared.inputs.NamesFault.{NamesFault}
 use Rattle.command_mirror.specs.declared.layout.MirrorLayout.{MirrorLayout}
+use Rattle.command_mirror.specs.declared.layout.MirrorOutputs.{MirrorOutputs}
+use Rattle.command_mirror.specs.declared.layout.NamesFile.{NamesFile}
 use Rattle.command_mirror.specs.declared.program.MirrorAnswer.{MirrorAnswer}
 use Rattle.command_mirror.specs.declared.program.GateStatus.{GateStatus}
 use Rattle.command_mirror.specs.declared.program.GateStatus.TheVariants.{Ended, Untrusted}
@@ -68,31 +71,33 @@ told_as untrusted (Ok said) = Ok (mirror_answer_by said untrusted)
 told_as untrusted (Err e) = Err e
 
 -- The names are judged by the way that is asked, and what is said and put follows that.
-pub record JudgesSelected (resting : Resting) (layout : MirrorLayout) (governed : MirrorGoverned) (selection : Selection)
+pub record JudgesSelected (resting : Resting) (by : TrustedBy) (outputs : MirrorOutputs) (governed : MirrorGoverned) (selection : Selection)
     (now : jiff.Timestamp) (before after : Outside) (result : Result MirrorAnswer OutOfMemory) : Type 0 where
   pub came : FolderCame
-  pub mirrors : MirrorsWay (mirror_given_by governed selection now) layout.folder.by before.judged after.judged came
+  pub mirrors : MirrorsWay (mirror_given_by governed selection now) by before.judged after.judged came
   pub rests : resting (mirror_given_by governed selection now) came
   pub said : Result Answer OutOfMemory
-  pub concludes : ConcludesMirror layout.long layout.sums came before.shelf after.shelf said
+  pub concludes : ConcludesMirror outputs.long outputs.sums came before.shelf after.shelf said
   pub is : result ≡ told_as (is_untrusted came) said
 
 -- There are no names, and nothing but their list is called; or the names are judged.
-pub data JudgesNamesOf (resting : Resting) (layout : MirrorLayout) (governed : MirrorGoverned) (now : jiff.Timestamp)
-    (before after : Outside) (result : Result MirrorAnswer OutOfMemory) : Type 0 where
-  unnamed : (fault : NamesFault) → Selects layout.names before.names after.names (Err fault) → after.judged ≡ before.judged
+pub data JudgesNamesOf (resting : Resting) (by : TrustedBy) (outputs : MirrorOutputs) (names : NamesFile) (governed : MirrorGoverned)
+    (now : jiff.Timestamp) (before after : Outside) (result : Result MirrorAnswer OutOfMemory) : Type 0 where
+  unnamed : (fault : NamesFault) → Selects names before.names after.names (Err fault) → after.judged ≡ before.judged
       → after.shelf ≡ before.shelf
       → IfOk result (λ said. (names_answer fault ≡ Some said.answer) × (said.is_untrusted ≡ false))
-      → JudgesNamesOf resting layout governed now before after result
-  named : (selection : Selection) → Selects layout.names before.names after.names (Ok selection)
-      → JudgesSelected resting layout governed selection now before after result
-      → JudgesNamesOf resting layout governed now before after result
+      → JudgesNamesOf resting by outputs names governed now before after result
+  named : (selection : Selection) → Selects names before.names after.names (Ok selection)
+      → JudgesSelected resting by outputs governed selection now before after result
+      → JudgesNamesOf resting by outputs names governed now before after result
 
 -- the words first, then the inputs, then the list of names, then the judgement; the first that refuses answers
 abbrev pub Says : Resting → Command → Environment → Environment → Result MirrorAnswer OutOfMemory → Type 0
 Says resting command before after result =
     Decides (mirror_layout_of command.words) mirror_governed_of (λ said. mirror_answer_by said false)
-    (λ layout governed. JudgesNamesOf resting layout governed (now_of layout.folder.places command.clock)) before after result
+    (λ layout governed.
+    JudgesNamesOf resting layout.folder.by layout.outputs layout.names governed (now_of layout.folder.places command.clock))
+    before after result
 
 -- ---- its end
 

@@ -9,7 +9,7 @@ ghost use Rattle.command_mirror.specs.Serving.{serving, policies_in, numbered_re
 ghost use Rattle.command_mirror.specs.Walk.{RestsFor, JudgesFor, JudgesNames, JudgesListed, JudgesMirror, StepsName, WalksEach, WalksListed, WalksMirror};
 
 use crate::selection::{Selection, asked_names};
-use crate::serving::{Serving, numbered, serving};
+use crate::serving::{Serving, numbered, rules_for};
 use command_files::NamedRule;
 use foundation::{Duplicate, NoMemory, Sequence};
 use jiff::Timestamp;
@@ -79,7 +79,7 @@ impl<'j, 'p, C: CryptoProvider, M: Armor> MirrorJudgement<'j, 'p, C, M> {
         ensures rests { RestsFor D.gave (mirror_terms_in C.CryptoProvider M.Armor self.now) self.now.max name.now
             folder.old folder.new result }
     {
-        match serving(alloc, self.rules, name) {
+        match rules_for(alloc, self.rules, name) {
             Ok(served) => {
                 let judged = self.judge_served(alloc, &served, folder, name);
                 let verdict = numbered_result(served.numbers.as_slice(), judged);

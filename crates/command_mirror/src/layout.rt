@@ -22,13 +22,18 @@ pub enum NamesFile {
     AmongOf(Text),
 }
 
-/// What a gate is called with: the way of trust with its places, whether lines say what was judged, the path of the sums'
-/// file, and that of a list of names.
+/// What a gate gives: whether its lines say what was judged, and the path of the sums' file.
+#[derive(Drop)]
+pub struct MirrorOutputs {
+    pub long: bool,
+    pub sums: Option<Text>,
+}
+
+/// What a gate is called with: the way of trust with its places, what it gives, and the path of a list of names.
 #[derive(Drop)]
 pub struct MirrorLayout {
     pub folder: FolderLayout,
-    pub long: bool,
-    pub sums: Option<Text>,
+    pub outputs: MirrorOutputs,
     pub names: NamesFile,
 }
 
@@ -147,10 +152,10 @@ pub fn mirror_layout(alloc: Global, words: &[Text]) -> Result<MirrorLayout, Usag
     let required = path(alloc, "--require=", words)?;
     let names = names_file(only, required)?;
     let folder = folder(alloc, words)?;
+    let long = is_long_asked(words);
     Ok(MirrorLayout {
         folder,
-        long: is_long_asked(words),
-        sums,
+        outputs: MirrorOutputs { long, sums },
         names,
     })
 }

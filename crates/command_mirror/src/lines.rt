@@ -140,7 +140,7 @@ fn push_escaped(text: &mut Vec<u8>, name: &[u8]) -> Result<(), NoMemory>
 fn push_name(text: &mut Vec<u8>, name: &[u8]) -> Result<(), NoMemory>
     ensures { OnOk result (text.new.items ≡ text.old.items ++ sum_name name.now) }
 {
-    if name == b"-" {
+    if name == b"-".as_slice() {
         return Ok(text.extend_from_slice(b"./-")?);
     }
     push_escaped(text, name)

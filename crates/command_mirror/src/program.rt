@@ -9,11 +9,12 @@ ghost use Rattle.command_mirror.specs.Complete.{Completes};
 
 use crate::concluding::{conclude, is_untrusted};
 use crate::inputs::{MirrorGoverned, names_said, take_selection};
-use crate::layout::{MirrorLayout, mirror_layout};
+use crate::layout::{MirrorLayout, MirrorOutputs, NamesFile, mirror_layout};
 use crate::selection::Selection;
 use crate::trusting::{MirrorRequest, mirror_way};
 use command_download::Shelf;
 use command_files::{Answer, CommandLine, Inputs, Said, Sink, Started, Status, finish, start};
+use command_ways::{FolderLayout, TrustedBy};
 use foundation::NoMemory;
 use jiff::Timestamp;
 use release_gate::Folder;
@@ -74,10 +75,12 @@ fn told_as(untrusted: bool, said: Result<Answer, NoMemory>) -> Result<MirrorAnsw
     }
 }
 
-// What is asked for: what the words give, the inputs, and the moment.
+// What is asked for: the way of trust, what is given, the list of names, the inputs, and the moment.
 #[derive(Drop)]
 pub(crate) struct Asked {
-    layout: MirrorLayout,
+    by: TrustedBy,
+    outputs: MirrorOutputs,
+    list: NamesFile,
     governed: MirrorGoverned,
     now: Timestamp,
 }
@@ -101,16 +104,19 @@ fn judge_selected<
     names: &mut N,
     shelf: &mut F,
 ) -> Result<MirrorAnswer, NoMemory>
-    ensures { JudgesSelected (RestsMirror D.gave folder.old folder.new) asked.layout asked.governed selection.now asked.now
+    ensures { JudgesSelected (RestsMirror D.gave folder.old folder.new) asked.by asked.outputs asked.governed selection.now asked.now
         (outside_by (folder_outside_by (R.seen repo.old) (S.seen store.old) (B.seen archive.old) (D.seen folder.old)) (N.seen names.old) (F.seen shelf.old))
         (outside_by (folder_outside_by (R.seen repo.new) (S.seen store.new) (B.seen archive.new) (D.seen folder.new)) (N.seen names.new) (F.seen shelf.new))
         result }
 {
     let Asked {
-        layout,
+        by,
+        outputs,
+        list,
         governed,
         now,
     } = asked;
+    drop(list);
     let request = MirrorRequest {
         rules: governed.rules.as_slice(),
         root: governed.anchored.root.as_bytes(),
@@ -121,12 +127,11 @@ fn judge_selected<
         provider: &governed.anchored.tables.provider,
         armor: &governed.anchored.tables.armor,
     };
-    let by = layout.folder.by;
     let came = mirror_way(alloc, &request, providers, by, repo, store, archive, folder);
-    let said = conclude(alloc, layout.long, &layout.sums, &came, shelf);
+    let said = conclude(alloc, outputs.long, &outputs.sums, &came, shelf);
     let untrusted = is_untrusted(&came);
     drop(came);
-    drop(layout);
+    drop(outputs);
     drop(governed);
     told_as(untrusted, said)
 }
@@ -149,12 +154,12 @@ fn judge<
     names: &mut N,
     shelf: &mut F,
 ) -> Result<MirrorAnswer, NoMemory>
-    ensures { JudgesNamesOf (RestsMirror D.gave folder.old folder.new) asked.layout asked.governed asked.now
+    ensures { JudgesNamesOf (RestsMirror D.gave folder.old folder.new) asked.by asked.outputs asked.list asked.governed asked.now
         (outside_by (folder_outside_by (R.seen repo.old) (S.seen store.old) (B.seen archive.old) (D.seen folder.old)) (N.seen names.old) (F.seen shelf.old))
         (outside_by (folder_outside_by (R.seen repo.new) (S.seen store.new) (B.seen archive.new) (D.seen folder.new)) (N.seen names.new) (F.seen shelf.new))
         result }
 {
-    match take_selection(alloc, &asked.layout.names, names) {
+    match take_selection(alloc, &asked.list, names) {
         Ok(selection) => {
             let said = judge_selected(
                 alloc, asked, &selection, repo, store, archive, folder, names, shelf,
@@ -198,11 +203,18 @@ fn decide<
 {
     match start(alloc, mirror_layout(alloc, line.words), inputs) {
         Ok(Started::Asked(layout, governed)) => {
-            let now = layout.folder.places.moment(line.clock);
+            let MirrorLayout {
+                folder: way,
+                outputs,
+                names: list,
+            } = layout;
+            let FolderLayout { by, places, .. } = way;
             let asked = Asked {
-                layout,
+                by,
+                outputs,
+                list,
                 governed,
-                now,
+                now: places.moment(line.clock),
             };
             judge(alloc, asked, repo, store, archive, folder, names, shelf)
         }

@@ -57,7 +57,7 @@ fn add_serving(
 }
 
 /// The rules that serve a name, in the order of the file.
-pub(crate) fn serving(alloc: Global, rules: &[NamedRule], name: &str) -> Result<Serving, NoMemory>
+pub(crate) fn rules_for(alloc: Global, rules: &[NamedRule], name: &str) -> Result<Serving, NoMemory>
     ensures policies { IfOk result (λ served. served.policies ≡ policies_in (serving rules.now name.now)) }
     ensures numbers { IfOk result (λ served. served.numbers ≡ numbers_in (serving rules.now name.now)) }
 {

@@ -10,7 +10,7 @@ use Rattle.release_gate.specs.declared.walk.FolderStop.{FolderStop}
 use Rattle.release_gate.specs.Folder.{Contents, Call}
 use Rattle.release_gate.specs.Gate.{fault_of_stop, FolderCause}
 use Rattle.release_gate.specs.Names.{bundle_name}
-use Rattle.release_gate.specs.Named.{by_rules_of, missing_or, named_verdict, StopsNamed, JudgesNamed, Finds, ReadsOwn, bare, long, given, failed, short}
+use Rattle.release_gate.specs.Named.{by_rules_of, missing_or, named_verdict, StopsNamed, JudgesNamed, Finds, FindsFile, found, absent, unfound, unsought, ReadsOwn, bare, long, given, failed, short}
 use Rattle.release_gate.specs.Named.{ReadsFound, ruleless, ruled, starved, ReadsNamed, missing, there, lost, needy, RestsNamed, verdict_said, AdmitsNamed}
 use Rattle.release_gate.specs.Rests.{AdmittedOn}
 use Rattle.release_gate.specs.Terms.{RuleTerms}
@@ -30,22 +30,22 @@ none_there (Some bytes) h = cc
 none_there None h = refl
 
 module _ (terms : RuleTerms) (max : ℕ) (name : List ℕ) where
-  abbrev found : List ℕ → Option (List ℕ) → Verdict
-  found bytes own = by_rules_of terms.rules (by_file terms max bytes own)
+  abbrev verdict_on : List ℕ → Option (List ℕ) → Verdict
+  verdict_on bytes own = by_rules_of terms.rules (by_file terms max bytes own)
 
   missing_told : (told : Option Contents) → IfTold told (λ contents. false ≡ is_some (contents.files name))
       → IfTold told (λ contents. Missing ≡ named_verdict terms max contents.files name)
   missing_told None h = tt
   missing_told (Some contents) h =
-      sym (ap (missing_or (λ bytes. found bytes (contents.files (bundle_name name)))) (none_there (contents.files name) h))
+      sym (ap (missing_or (λ bytes. verdict_on bytes (contents.files (bundle_name name)))) (none_there (contents.files name) h))
 
   found_told : (told : Option Contents) (verdict : Verdict) → IfTold told (λ contents. true ≡ is_some (contents.files name))
-      → IfTold told (λ contents. (bytes : List ℕ) → contents.files name ≡ Some bytes → verdict ≡ found bytes (contents.files (bundle_name name)))
+      → IfTold told (λ contents. (bytes : List ℕ) → contents.files name ≡ Some bytes → verdict ≡ verdict_on bytes (contents.files (bundle_name name)))
       → IfTold told (λ contents. verdict ≡ named_verdict terms max contents.files name)
   found_told None verdict h judged = tt
   found_told (Some contents) verdict h judged =
       let file = some_there (contents.files name) h in
-      judged file.0 file.1 ∙ sym (ap (missing_or (λ bytes. found bytes (contents.files (bundle_name name)))) file.1)
+      judged file.0 file.1 ∙ sym (ap (missing_or (λ bytes. verdict_on bytes (contents.files (bundle_name name)))) file.1)
 
   -- the folder has no such file
   pub missing_said : (old new : Watched Contents) → Since old new → IfTold old.told (λ contents. false ≡ is_some (contents.files name))
@@ -68,6 +68,12 @@ module _ (terms : RuleTerms) (max : ℕ) (name : List ℕ) where
   }
 
 -- ---- on what it rests
+
+pub found_by : (D : Type 0) (gave : D → Call → D → Type 0) (name : List ℕ) (old new : D) (there : Bool) → FindsFile gave name old new (Ok there) → there ≡ true → Finds gave name old new
+found_by D gave name old new there (found f q) e = f
+found_by D gave name old new there (absent call q) e = cc
+found_by D gave name old new there (unfound call q) e = cc
+found_by D gave name old new there (unsought q) e = cc
 
 module _ (D : Type 0) (gave : D → Call → D → Type 0) (terms : RuleTerms) (max : ℕ) (name : List ℕ) where
   module _ (old new : D) (verdict : Verdict) (rule : ℕ) (digest : List ℕ) (is : verdict ≡ Admitted rule digest) where

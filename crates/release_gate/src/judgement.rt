@@ -1,10 +1,11 @@
 // The judgement of one artifact of a folder by its own bundle.
-ghost use Rattle.std.specs.Prelude.{◌≡◌, Some, IfOk, OnOk, IsSome, map, true};
+ghost use Rattle.std.specs.Prelude.{◌≡◌, Some, IfOk, OnOk, IsSome, find, map, option_copied, true};
 ghost use Rattle.foundation.specs.Watched.{IfTold};
 ghost use Rattle.sigstore_types.specs.Bundle.{bundle_of_bytes};
 ghost use Rattle.sigstore_policy.specs.Policy.{meaning_in};
 ghost use Rattle.sigstore_judgement.specs.Error.{number_of};
-ghost use Rattle.sigstore_types_parts.specs.HashAlgorithm.{with_algorithm};
+ghost use Rattle.std.specs.List.{list_any};
+ghost use Rattle.sigstore_types_parts.specs.HashAlgorithm.{same_algorithm, with_algorithm};
 ghost use Rattle.sigstore_types_parts.specs.declared.hash_algorithm.HashAlgorithm.TheVariants.{Sha2256};
 ghost use Rattle.release_gate.specs.Judgement.{terms_in, IsSaid, sha256_among, sha256_in, taken_by_rules, verdict_had, SaysUnread};
 ghost use Rattle.release_gate.specs.Names.{is_bundle};
@@ -60,14 +61,20 @@ fn refused(alloc: Global, refusals: &[Error]) -> Result<Verdict, FolderStop>
     }
 }
 
+// The digest by SHA-256, of those that were taken.
+fn sha256_taken(digests: &[ArtifactDigest]) -> Option<&ArtifactDigest>
+    ensures { option_copied result ≡ find (λ taken. same_algorithm taken.0 Sha2256) digests.now }
+{
+    digests
+        .iter()
+        .find(|taken| taken.algorithm().is_same(HashAlgorithm::Sha2256))
+}
+
 // The SHA-256 value among digests; nothing where it wasn't taken.
 fn sha256_among(alloc: Global, digests: &[ArtifactDigest]) -> Result<Bytes, NoMemory>
     ensures { IfOk result (λ digest. digest ≡ sha256_among digests.now) }
 {
-    let found = digests
-        .iter()
-        .find(|taken| taken.algorithm().is_same(HashAlgorithm::Sha2256));
-    match found {
+    match sha256_taken(digests) {
         Some(digest) => Ok(Bytes::new(alloc, digest.as_bytes())?),
         None => Ok(Bytes::new(alloc, &[])?),
     }
@@ -92,18 +99,23 @@ fn admitted(alloc: Global, rule: usize, artifact: &ReadArtifact) -> Result<Verdi
     }
 }
 
+fn has_sha256(algorithms: &[HashAlgorithm]) -> bool
+    ensures { result ≡ list_any (same_algorithm Sha2256) algorithms.now }
+{
+    algorithms
+        .iter()
+        .any(|own| HashAlgorithm::Sha2256.is_same(*own))
+}
+
 // SHA-256 behind the algorithms that rules need, unless it is among them.
 fn add_sha256(needed: &mut Sequence<HashAlgorithm>) -> Result<(), NoMemory>
     ensures { OnOk result (needed.new ≡ with_algorithm needed.old Sha2256) }
 {
-    let is_there = needed
-        .as_slice()
-        .iter()
-        .any(|own| HashAlgorithm::Sha2256.is_same(*own));
-    if is_there {
+    if has_sha256(needed.as_slice()) {
         return Ok(());
     }
-    needed.push(HashAlgorithm::Sha2256)
+    needed.push(HashAlgorithm::Sha2256)?;
+    Ok(())
 }
 
 // The digests that are taken of the artifact; none where every rule refuses before it.

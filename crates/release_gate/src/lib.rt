@@ -22,3 +22,4 @@ pub use laws::{admits_exactly, lines_are_one};
 pub use line::{GateLine, Verdict};
 pub use memory_folder::MemoryFolder;
 pub use named::listed_names;
+pub use names::is_bundle;

@@ -13,7 +13,7 @@ use std::alloc::Global;
 const SUFFIX: &str = ".sigstore.json";
 
 /// Whether the file of that name is a bundle.
-pub(crate) fn is_bundle(name: &str) -> bool
+pub fn is_bundle(name: &str) -> bool
     ensures { result ≡ is_bundle name.now }
 {
     name.as_bytes().ends_with(SUFFIX.as_bytes())
