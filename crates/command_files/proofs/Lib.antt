@@ -1,10 +1,10 @@
-mod Cuts
+pub mod Cuts
 pub mod Endings
 pub mod Folds
 mod Keyed
 mod Pieces
 mod Printing
-mod Readings
+pub mod Readings
 pub mod RowFacts
 pub mod RuleFacts
 pub mod Starts

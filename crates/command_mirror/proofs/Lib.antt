@@ -1,1 +1,9 @@
-
+mod Admissions
+mod Asking
+mod Concluding
+mod Naming
+mod Readings
+mod Serving
+mod Trusting
+mod Walking
+mod Writing

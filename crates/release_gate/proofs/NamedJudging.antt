@@ -69,11 +69,11 @@ module _ (terms : RuleTerms) (max : ℕ) (name : List ℕ) where
 
 -- ---- on what it rests
 
-pub found_by : (D : Type 0) (gave : D → Call → D → Type 0) (name : List ℕ) (old new : D) (there : Bool) → FindsFile gave name old new (Ok there) → there ≡ true → Finds gave name old new
-found_by D gave name old new there (found f q) e = f
-found_by D gave name old new there (absent call q) e = cc
-found_by D gave name old new there (unfound call q) e = cc
-found_by D gave name old new there (unsought q) e = cc
+pub found_by : (D : Type 0) (gave : D → Call → D → Type 0) (name : List ℕ) (old new : D) (is_there : Bool) → FindsFile gave name old new (Ok is_there) → is_there ≡ true → Finds gave name old new
+found_by D gave name old new is_there (found f q) e = f
+found_by D gave name old new is_there (absent call q) e = cc
+found_by D gave name old new is_there (unfound call q) e = cc
+found_by D gave name old new is_there (unsought q) e = cc
 
 module _ (D : Type 0) (gave : D → Call → D → Type 0) (terms : RuleTerms) (max : ℕ) (name : List ℕ) where
   module _ (old new : D) (verdict : Verdict) (rule : ℕ) (digest : List ℕ) (is : verdict ≡ Admitted rule digest) where
@@ -91,7 +91,7 @@ module _ (D : Type 0) (gave : D → Call → D → Type 0) (terms : RuleTerms) (
 
   by_named : (old new : D) (verdict : Verdict) (rule : ℕ) (digest : List ℕ) → verdict ≡ Admitted rule digest → ReadsNamed gave terms max name old new (Ok verdict)
       → (mid : D) × AdmittedOn gave terms max name rule digest mid new
-  by_named old new verdict rule digest is (missing absent q) = let both : Admitted rule digest ≡ Missing = sym is ∙ ok_same verdict Missing q in cc
+  by_named old new verdict rule digest is (missing none q) = let both : Admitted rule digest ≡ Missing = sym is ∙ ok_same verdict Missing q in cc
   by_named old new verdict rule digest is (there mid finds r) = (mid, by_found mid new verdict rule digest is r)
   by_named old new verdict rule digest is (lost call q) = cc
   by_named old new verdict rule digest is (needy q) = cc
