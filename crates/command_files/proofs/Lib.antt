@@ -2,6 +2,7 @@ pub mod Cuts
 pub mod Endings
 pub mod Folds
 mod Keyed
+pub mod NamedFacts
 mod Pieces
 mod Printing
 pub mod Readings

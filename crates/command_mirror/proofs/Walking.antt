@@ -6,7 +6,7 @@ use Rattle.foundation.specs.Watched.{Watched, IfTold, Since}
 use Rattle.foundation.specs.Results.{err_same}
 use Rattle.release_gate.specs.Folder.{Contents, Call}
 use Rattle.release_gate.specs.Gate.{fault_of_stop, FolderCause}
-use Rattle.release_gate.specs.Named.{JudgesNamed, RestsNamed}
+use Rattle.release_gate.specs.Named.{named_verdict, JudgesNamed, RestsNamed}
 use Rattle.release_gate.specs.Walk.{IsInOrder, GivesNames}
 use Rattle.release_gate.specs.declared.gate.GateFault.{GateFault}
 use Rattle.release_gate.specs.declared.gate.GateFault.TheVariants as gate
@@ -14,6 +14,7 @@ use Rattle.release_gate.specs.declared.line.GateLine.{GateLine}
 use Rattle.release_gate.specs.declared.line.Verdict.{Verdict}
 use Rattle.release_gate.specs.declared.walk.FolderStop.TheVariants as stop
 use Rattle.release_gate.proofs.Walking.{told_before, since_both, cause_before}
+use Rattle.command_mirror.proofs.Asking.{asked_as}
 use Rattle.command_mirror.specs.Mirror.{MirrorTerms, terms_for, verdict_for, line_for, lines_over, LinesOfParts}
 use Rattle.command_mirror.specs.Serving.{serving, numbers_in, numbered, numbered_result}
 use Rattle.command_mirror.specs.Walk.{AreAsked, AreListedLines, JudgesFor, JudgesNames, JudgesListed, RestsFor, WalkedNames, begun, judged, StopsAtName, WalksEach, all_walked, walk_stopped, walk_cut, StepsName, line_added, name_stops, line_lost}
@@ -26,6 +27,9 @@ lines_of_parts verdict names others = map-append (line_for verdict) names others
 module _ (terms : MirrorTerms) (max : ℕ) (old new : Watched Contents) (name : List ℕ) where
   abbrev numbers : List ℕ
   numbers = numbers_in (serving terms.rules name)
+
+  abbrev named_under : Contents → Verdict
+  named_under contents = named_verdict (terms_for terms name) max contents.files name
 
   numbered_told : (told : Option Contents) (own : Verdict) → IfTold told (λ contents. own ≡ named_under contents) → IfTold told (λ contents. numbered numbers own ≡ verdict_for terms max contents.files name)
   numbered_told None own h = tt
@@ -140,3 +144,26 @@ listed_told (Some contents) terms max required listed names lines order asked is
   asked = asked_as contents.names listed required names order.ordered asked;
   are = is;
 }
+
+-- the names that are asked by a listing were judged
+pub listed_judged : (old mid new : Watched Contents) (terms : MirrorTerms) (max : ℕ) (required listed names : List (List ℕ)) (result : Result (List GateLine) GateFault)
+    → Since old mid → IfTold old.told (λ contents. IsInOrder contents.names listed) → AreAsked listed required names → JudgesNames terms max names mid new result
+    → JudgesListed terms max required old new result
+listed_judged old mid new terms max required listed names (Ok lines) since order asked j = record {
+  since = since_both old mid new since j.since;
+  given = listed_told old.told terms max required listed names lines order asked (told_before old mid _ since j.given);
+  refused = tt;
+}
+listed_judged old mid new terms max required listed names (Err fault) since order asked j = record {
+  since = since_both old mid new since j.since;
+  given = tt;
+  refused = fault_before old mid new fault since j.refused;
+}
+
+-- a listing that gave no names
+pub listed_stopped : (old new : Watched Contents) (terms : MirrorTerms) (max : ℕ) (required : List (List ℕ)) (fault : GateFault) → Since old new → FolderCause old new fault
+    → JudgesListed terms max required old new (Err fault)
+listed_stopped old new terms max required fault since cause = record { since = since; given = tt; refused = cause }
+
+pub listed_wanting : (old new : Watched Contents) (terms : MirrorTerms) (max : ℕ) (required : List (List ℕ)) → Since old new → JudgesListed terms max required old new (Err gate.NoMemory)
+listed_wanting old new terms max required since = record { since = since; given = tt; refused = (stop.NoMemory, refl, tt) }

@@ -1,0 +1,1 @@
+-- What it means that a name is admitted, under the rules that serve it.
