@@ -2,8 +2,10 @@ mod Admissions
 mod Asking
 mod Concluding
 mod Naming
+mod Placing
 mod Readings
 mod Serving
 mod Trusting
 mod Walking
+mod Words
 mod Writing

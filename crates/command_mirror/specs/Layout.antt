@@ -4,7 +4,7 @@ use Rattle.std.specs.Prelude.{ℕ, List, [], ◌∷◌, codes, Bool, not, ◌&&�
 use Rattle.foundation.specs.Steps.{◌>>=◌}
 use Rattle.command_files.specs.declared.usage_fault.UsageFault.{UsageFault}
 use Rattle.command_files.specs.declared.usage_fault.UsageFault.TheVariants.{Usage}
-use Rattle.command_outputs.specs.Layout.{file_of}
+use Rattle.command_download.specs.Layout.{given_of}
 use Rattle.command_ways.specs.Digests.{behind}
 use Rattle.command_ways.specs.FolderLayout.{folder_layout_of}
 use Rattle.command_mirror.specs.declared.layout.MirrorLayout.{MirrorLayout}
@@ -21,6 +21,12 @@ path_in name word = behind name word
 
 abbrev pub paths_in : List ℕ → List (List ℕ) → List (List ℕ)
 paths_in name words = filter_map (path_in name) words
+
+-- at most one, which isn't empty
+abbrev pub path_of : List (List ℕ) → Result (Option (List ℕ)) UsageFault
+path_of [] = Ok None
+path_of (path ∷ []) = given_of (Some path) >>= λ given. Ok (Some given)
+path_of (path ∷ other ∷ paths) = Err Usage
 
 -- a word of none of these
 abbrev pub is_other : List ℕ → Bool
@@ -42,9 +48,9 @@ names_file_of (Some path) (Some other) = Err Usage
 -- `--require=FILE`.
 unfoldable pub mirror_layout_of : List (List ℕ) → Result MirrorLayout UsageFault
 mirror_layout_of words = do
-  sums ← file_of (paths_in (codes "--sums=") words)
-  only ← file_of (paths_in (codes "--names=") words)
-  required ← file_of (paths_in (codes "--require=") words)
+  sums ← path_of (paths_in (codes "--sums=") words)
+  only ← path_of (paths_in (codes "--names=") words)
+  required ← path_of (paths_in (codes "--require=") words)
   names ← names_file_of only required
   layout ← folder_layout_of (others_in words)
   Ok (record { folder = layout; outputs = record { long = list_any is_long words; sums = sums }; names = names })

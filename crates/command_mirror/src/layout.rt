@@ -2,8 +2,7 @@
 ghost use Rattle.std.specs.List.{list_any};
 ghost use Rattle.std.specs.Prelude.{◌≡◌, ◌≢◌, Ok, Err, IfOk, IfErr, option_map};
 ghost use Rattle.command_ways.specs.FolderLayout.{folder_layout_of};
-ghost use Rattle.command_outputs.specs.Layout.{file_of};
-ghost use Rattle.command_mirror.specs.Layout.{is_long, path_in, paths_in, is_other, others_in, names_file_of, mirror_layout_of};
+ghost use Rattle.command_mirror.specs.Layout.{is_long, path_in, paths_in, path_of, is_other, others_in, names_file_of, mirror_layout_of};
 
 use command_files::UsageFault;
 use command_ways::{FolderLayout, gate_way_layout};
@@ -93,8 +92,8 @@ fn others(alloc: Global, words: &[Text]) -> Result<Sequence<Text>, NoMemory>
 
 // The only one of the paths, where there is one; it isn't empty.
 fn only(alloc: Global, paths: &[Text]) -> Result<Option<Text>, UsageFault>
-    ensures ok { IfOk result (λ path. file_of paths.now ≡ Ok path) }
-    ensures err { IfErr result (λ e. e ≢ UsageFault.NoMemory → file_of paths.now ≡ Err e) }
+    ensures ok { IfOk result (λ path. path_of paths.now ≡ Ok path) }
+    ensures err { IfErr result (λ e. e ≢ UsageFault.NoMemory → path_of paths.now ≡ Err e) }
 {
     match paths {
         [] => Ok(None),
@@ -108,8 +107,8 @@ fn only(alloc: Global, paths: &[Text]) -> Result<Option<Text>, UsageFault>
 
 // The path under this name.
 fn path(alloc: Global, name: &str, words: &[Text]) -> Result<Option<Text>, UsageFault>
-    ensures ok { IfOk result (λ path. file_of (paths_in name.now words.now) ≡ Ok path) }
-    ensures err { IfErr result (λ e. e ≢ UsageFault.NoMemory → file_of (paths_in name.now words.now) ≡ Err e) }
+    ensures ok { IfOk result (λ path. path_of (paths_in name.now words.now) ≡ Ok path) }
+    ensures err { IfErr result (λ e. e ≢ UsageFault.NoMemory → path_of (paths_in name.now words.now) ≡ Err e) }
 {
     let paths = paths(alloc, name, words)?;
     let path = only(alloc, paths.as_slice());

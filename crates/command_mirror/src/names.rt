@@ -2,9 +2,11 @@
 ghost use Rattle.std.specs.Prelude.{◌≡◌, ◌≢◌, Ok, Err, IfOk, IfErr};
 ghost use Rattle.foundation.specs.Steps.{◌>>=◌};
 ghost use Rattle.std.specs.List.{list_all};
-ghost use Rattle.command_files.specs.Lines.{lines_of};
+ghost use Rattle.command_files.specs.Lines.{cut_of, lines_of};
+ghost use Rattle.std.specs.Ordering.{is_lt};
+ghost use Rattle.sigstore_types_parts.specs.Entries.{text_cmp};
 ghost use Rattle.command_mirror.specs.Names.{is_name, ascend, is_list, checked, names_of};
-ghost use Rattle.std.specs.Prelude.{ok_or};
+ghost use Rattle.std.specs.Prelude.{ok_or, Some, None, MatchOption};
 ghost use Rattle.command_files.specs.declared.usage_fault.UsageFault.TheVariants.{Usage};
 
 use command_files::UsageFault;
@@ -33,6 +35,12 @@ fn are_names(names: &[Text]) -> bool
     names.iter().all(|name| is_name(name.as_str()))
 }
 
+fn is_below(name: &Text, next: &Text) -> bool
+    ensures { result ≡ is_lt (text_cmp name.now next.now) }
+{
+    name < next
+}
+
 // Whether each is less than the next.
 fn ascend(names: &[Text]) -> bool
     ensures { result ≡ ascend names.now }
@@ -40,7 +48,7 @@ fn ascend(names: &[Text]) -> bool
     let mut left = names;
     'names: while let [name, later @ ..] = left {
         if let [next, ..] = later {
-            if name >= next {
+            if !is_below(name, next) {
                 return false;
             }
         }
@@ -56,6 +64,13 @@ fn is_list(names: &[Text]) -> bool
     !names.is_empty() && names.len() <= MAX_NAMES && are_names(names) && ascend(names)
 }
 
+// The first line, and what stands behind its line feed.
+fn first_line(text: &str) -> Option<(&str, &str)>
+    ensures { MatchOption result (cut_of 10 text.now ≡ None) (λ parts. cut_of 10 text.now ≡ Some (parts.0.now, parts.1.now)) }
+{
+    text.split_once('\n')
+}
+
 // The lines of a text.
 fn lines(alloc: Global, text: &str) -> Result<Sequence<Text>, UsageFault>
     ensures ok { IfOk result (λ lines. ok_or (lines_of text.now) Usage ≡ Ok lines) }
@@ -63,7 +78,7 @@ fn lines(alloc: Global, text: &str) -> Result<Sequence<Text>, UsageFault>
 {
     let mut lines = Sequence::new(alloc);
     let mut rest = text;
-    'lines: while let Some((line, next)) = rest.split_once('\n') {
+    'lines: while let Some((line, next)) = first_line(rest) {
         lines.push(Text::new(alloc, line)?)?;
         rest = next;
     }

@@ -24,6 +24,6 @@ pub fn may_go_out<R: Repository, S: MetadataStore, D: Folder, C: CryptoProvider,
     Ok(
         lines
             .iter()
-            .all(|line| matches!(line.verdict, Verdict::Admitted)),
+            .all(|line| matches!(line.verdict, Verdict::Admitted { .. })),
     )
 }
