@@ -1,9 +1,12 @@
 mod Admissions
 mod Asking
+mod Completing
 mod Concluding
+mod Meaning
 mod Naming
 mod Placing
 mod Readings
+mod Saying
 mod Serving
 mod Trusting
 mod Walking

@@ -72,12 +72,13 @@ told_as untrusted (Err e) = Err e
 
 -- The names are judged by the way that is asked, and what is said and put follows that.
 pub record JudgesSelected (resting : Resting) (by : TrustedBy) (outputs : MirrorOutputs) (governed : MirrorGoverned) (selection : Selection)
-    (now : jiff.Timestamp) (before after : Outside) (result : Result MirrorAnswer OutOfMemory) : Type 0 where
+    (now : jiff.Timestamp) (before after : FolderOutside) (shelf shelf' : Watched (List Placed)) (result : Result MirrorAnswer OutOfMemory)
+    : Type 0 where
   pub came : FolderCame
-  pub mirrors : MirrorsWay (mirror_given_by governed selection now) by before.judged after.judged came
+  pub mirrors : MirrorsWay (mirror_given_by governed selection now) by before after came
   pub rests : resting (mirror_given_by governed selection now) came
   pub said : Result Answer OutOfMemory
-  pub concludes : ConcludesMirror outputs.long outputs.sums came before.shelf after.shelf said
+  pub concludes : ConcludesMirror outputs.long outputs.sums came shelf shelf' said
   pub is : result ≡ told_as (is_untrusted came) said
 
 -- There are no names, and nothing but their list is called; or the names are judged.
@@ -88,7 +89,7 @@ pub data JudgesNamesOf (resting : Resting) (by : TrustedBy) (outputs : MirrorOut
       → IfOk result (λ said. (names_answer fault ≡ Some said.answer) × (said.is_untrusted ≡ false))
       → JudgesNamesOf resting by outputs names governed now before after result
   named : (selection : Selection) → Selects names before.names after.names (Ok selection)
-      → JudgesSelected resting by outputs governed selection now before after result
+      → JudgesSelected resting by outputs governed selection now before.judged after.judged before.shelf after.shelf result
       → JudgesNamesOf resting by outputs names governed now before after result
 
 -- the words first, then the inputs, then the list of names, then the judgement; the first that refuses answers

@@ -91,7 +91,6 @@ fn judge_selected<
     S: MetadataStore,
     B: ArtifactSource,
     D: Folder,
-    N: ArtifactSource,
     F: Shelf,
 >(
     alloc: Global,
@@ -101,13 +100,12 @@ fn judge_selected<
     store: &mut S,
     archive: &mut B,
     folder: &mut D,
-    names: &mut N,
     shelf: &mut F,
 ) -> Result<MirrorAnswer, NoMemory>
     ensures { JudgesSelected (RestsMirror D.gave folder.old folder.new) asked.by asked.outputs asked.governed selection.now asked.now
-        (outside_by (folder_outside_by (R.seen repo.old) (S.seen store.old) (B.seen archive.old) (D.seen folder.old)) (N.seen names.old) (F.seen shelf.old))
-        (outside_by (folder_outside_by (R.seen repo.new) (S.seen store.new) (B.seen archive.new) (D.seen folder.new)) (N.seen names.new) (F.seen shelf.new))
-        result }
+        (folder_outside_by (R.seen repo.old) (S.seen store.old) (B.seen archive.old) (D.seen folder.old))
+        (folder_outside_by (R.seen repo.new) (S.seen store.new) (B.seen archive.new) (D.seen folder.new))
+        (F.seen shelf.old) (F.seen shelf.new) result }
 {
     let Asked {
         by,
@@ -162,7 +160,7 @@ fn judge<
     match take_selection(alloc, &asked.list, names) {
         Ok(selection) => {
             let said = judge_selected(
-                alloc, asked, &selection, repo, store, archive, folder, names, shelf,
+                alloc, asked, &selection, repo, store, archive, folder, shelf,
             );
             drop(selection);
             said
