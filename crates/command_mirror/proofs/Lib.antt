@@ -1,14 +1,14 @@
 mod Admissions
 mod Asking
 mod Completing
-mod Concluding
+mod Ends
 mod Meaning
 mod Naming
 mod Placing
 mod Readings
 mod Saying
-mod Serving
-mod Trusting
+mod Serves
+mod Roots
 mod Walking
 mod Words
 mod Writing

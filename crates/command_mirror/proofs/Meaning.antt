@@ -8,11 +8,9 @@ use Rattle.sigstore_tuf_text.specs.declared.error.Error.{Error as TufError}
 use Rattle.sigstore_tuf_rules.specs.declared.chain.TrustChain.{TrustChain}
 use Rattle.sigstore_judgement.specs.declared.error.Error.{Error}
 use Rattle.release_gate.specs.Folder.{Contents}
-use Rattle.release_gate.specs.Gate.{fault_of_stop}
+use Rattle.release_gate.proofs.NamedJudging.{never_tuf, never_trust}
 use Rattle.release_gate.specs.declared.gate.GateFault.TheVariants as gate
 use Rattle.release_gate.specs.declared.line.GateLine.{GateLine}
-use Rattle.release_gate.specs.declared.walk.FolderStop.{FolderStop}
-use Rattle.release_gate.specs.declared.walk.FolderStop.TheVariants as stop
 use Rattle.command_archive.specs.Reading.{archive_answer, unread_answer}
 use Rattle.command_download.specs.declared.shelf.Placed.{Placed}
 use Rattle.command_files.specs.Ending.{TakesAll, ends_unsaid, ends_cut, ends_written}
@@ -46,36 +44,22 @@ use Rattle.command_mirror.specs.Walk.{MirrorCause}
 
 -- ---- a folder's faults
 
-never_tuf : (e : TufError) (why : FolderStop) → gate.Tuf e ≡ fault_of_stop why → ⊥
-never_tuf e stop.Failed h = cc
-never_tuf e (stop.TooMany count) h = cc
-never_tuf e (stop.Doubled name) h = cc
-never_tuf e (stop.Vanished name) h = cc
-never_tuf e stop.NoMemory h = cc
-
-never_trust : (e : Error) (chain : TrustChain) (why : FolderStop) → gate.Trust e chain ≡ fault_of_stop why → ⊥
-never_trust e chain stop.Failed h = cc
-never_trust e chain (stop.TooMany count) h = cc
-never_trust e chain (stop.Doubled name) h = cc
-never_trust e chain (stop.Vanished name) h = cc
-never_trust e chain stop.NoMemory h = cc
-
 module _ (selection : Selection) (old new : Watched Contents) where
   no_tuf : (e : TufError) → MirrorCause selection old new (gate.Tuf e) → ⊥
   no_tuf e = by selection
     where
       by : (selection : Selection) → MirrorCause selection old new (gate.Tuf e) → ⊥
-      by Whole cause = never_tuf e cause.0 cause.1
+      by Whole cause = never_tuf old new e cause
       by (Only names) cause = cause
-      by (Among names) cause = never_tuf e cause.0 cause.1
+      by (Among names) cause = never_tuf old new e cause
 
   no_trust : (e : Error) (chain : TrustChain) → MirrorCause selection old new (gate.Trust e chain) → ⊥
   no_trust e chain = by selection
     where
       by : (selection : Selection) → MirrorCause selection old new (gate.Trust e chain) → ⊥
-      by Whole cause = never_trust e chain cause.0 cause.1
+      by Whole cause = never_trust old new e chain cause
       by (Only names) cause = cause
-      by (Among names) cause = never_trust e chain cause.0 cause.1
+      by (Among names) cause = never_trust old new e chain cause
 
 -- ---- the statuses
 

@@ -98,11 +98,8 @@ module _ (name : List ℕ) where
   pub placed : (n : ℕ) (rules : List NamedRule) (earlier : List Meaning) (policy : Meaning) (later : List Meaning) → Split (Meanings n rules) earlier policy later
       → Placed n rules earlier policy
   placed n [] earlier policy later h = absurd (no_split earlier policy later h)
-  placed n (rule ∷ rules) earlier policy later h = by (serves rule name) refl h earlier_case
+  placed n (rule ∷ rules) earlier policy later h = by (serves rule name) refl h (λ others s. placed (suc n) rules others policy later s)
     where
-      earlier_case : (others : List Meaning) → Split (Meanings (suc n) rules) others policy later → Placed (suc n) rules others policy
-      earlier_case others s = placed (suc n) rules others policy later s
-
       of_first : (others : List Meaning) → serves rule name ≡ true → Split (meaning_in rule.policy ∷ Meanings (suc n) rules) others policy later
           → ((rest : List Meaning) → Split (Meanings (suc n) rules) rest policy later → Placed (suc n) rules rest policy) → Placed n (rule ∷ rules) others policy
       of_first [] is s go = placed_first n rule rules policy is (head_same (meaning_in rule.policy) policy (Meanings (suc n) rules) later s)

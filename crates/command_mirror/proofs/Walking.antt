@@ -5,25 +5,19 @@ use Rattle.std.proofs.lemmas.List.{map-append, take_more, take_all}
 use Rattle.foundation.specs.Watched.{Watched, Rose, IfTold, Since}
 use Rattle.foundation.specs.Results.{err_same}
 use Rattle.release_gate.specs.Folder.{Contents, Call}
-use Rattle.release_gate.specs.Gate.{fault_of_stop, FolderCause}
-use Rattle.release_gate.specs.Named.{named_verdict, JudgesNamed, RestsNamed, ReadsOwn, bare, long, given, failed, short, ReadsFound, ruleless, ruled, starved, ReadsNamed, missing, there, lost, needy}
-use Rattle.release_gate.specs.Names.{bundle_name}
-use Rattle.release_gate.specs.Reading.{Reads, unneeded, whole, longer, unread, unheld}
-use Rattle.release_gate.specs.Terms.{RuleTerms}
-use Rattle.release_gate.specs.Verdict.{by_bundle}
-use Rattle.release_gate.specs.Walk.{StopCause, IsInOrder, GivesNames}
-use Rattle.sigstore_types.specs.Bundle.{bundle_of_bytes}
+use Rattle.release_gate.specs.Gate.{FolderCause}
+use Rattle.release_gate.specs.Named.{named_verdict, NamedCause, JudgesNamed, RestsNamed}
+use Rattle.release_gate.specs.Walk.{IsInOrder, GivesNames}
 use Rattle.release_gate.specs.declared.gate.GateFault.{GateFault}
 use Rattle.release_gate.specs.declared.gate.GateFault.TheVariants as gate
 use Rattle.release_gate.specs.declared.line.GateLine.{GateLine}
 use Rattle.release_gate.specs.declared.line.Verdict.{Verdict}
-use Rattle.release_gate.specs.declared.walk.FolderStop.{FolderStop}
-use Rattle.release_gate.specs.declared.walk.FolderStop.TheVariants as stop
+use Rattle.release_gate.proofs.NamedJudging.{named_before, as_folder, wanting_folder}
 use Rattle.release_gate.proofs.Walking.{told_before, since_both}
 use Rattle.command_mirror.proofs.Asking.{asked_as}
 use Rattle.command_mirror.specs.Mirror.{MirrorTerms, terms_for, verdict_for, line_for, lines_over, LinesOfParts}
 use Rattle.command_mirror.specs.Serving.{serving, numbers_in, numbered, numbered_result}
-use Rattle.command_mirror.specs.Walk.{NameCause, AreAsked, AreListedLines, JudgesFor, JudgesNames, JudgesListed, RestsFor, WalkedNames, begun, judged, StopsAtName, WalksEach, all_walked, walk_stopped, walk_cut, StepsName, line_added, name_stops, line_lost}
+use Rattle.command_mirror.specs.Walk.{AreAsked, AreListedLines, JudgesFor, JudgesNames, JudgesListed, RestsFor, WalkedNames, begun, judged, StopsAtName, WalksEach, all_walked, walk_stopped, walk_cut, StepsName, line_added, name_stops, line_lost}
 
 pub lines_of_parts : LinesOfParts
 lines_of_parts verdict names others = map-append (line_for verdict) names others
@@ -43,71 +37,16 @@ module _ (terms : MirrorTerms) (max : ℕ) (old new : Watched Contents) (name : 
 
   -- the number of the rule in the file
   pub numbered_said : (own result : Result Verdict GateFault) → JudgesNamed (terms_for terms name) max old new name own
-      → IfErr own (NameCause old new) → result ≡ numbered_result numbers own → JudgesFor terms max old new name result
-  numbered_said own result j cause is = subst (JudgesFor terms max old new name) (sym is) (by own j cause)
+      → result ≡ numbered_result numbers own → JudgesFor terms max old new name result
+  numbered_said own result j is = subst (JudgesFor terms max old new name) (sym is) (by own j)
     where
-      by : (own : Result Verdict GateFault) → JudgesNamed (terms_for terms name) max old new name own → IfErr own (NameCause old new)
-          → JudgesFor terms max old new name (numbered_result numbers own)
-      by (Ok verdict) j cause = record { since = j.since; given = numbered_told old.told verdict j.given; refused = tt }
-      by (Err fault) j cause = record { since = j.since; given = tt; refused = cause }
+      by : (own : Result Verdict GateFault) → JudgesNamed (terms_for terms name) max old new name own → JudgesFor terms max old new name (numbered_result numbers own)
+      by (Ok verdict) j = record { since = j.since; given = numbered_told old.told verdict j.given; refused = tt }
+      by (Err fault) j = record { since = j.since; given = tt; refused = j.refused }
 
 -- want of memory
 pub wanting_name : (terms : MirrorTerms) (max : ℕ) (old new : Watched Contents) (name : List ℕ) → Since old new → JudgesFor terms max old new name (Err gate.NoMemory)
 wanting_name terms max old new name since = record { since = since; given = tt; refused = tt }
-
--- ---- what stops the judgement of a name
-
-abbrev IsStop : FolderStop → Type 0
-IsStop e = (e ≡ stop.Failed) ⊎ (e ≡ stop.NoMemory)
-
-module _ (D : Type 0) (gave : D → Call → D → Type 0) (terms : RuleTerms) (max : ℕ) (name : List ℕ) where
-  by_reading : (by : List ℕ → Verdict) (old new : D) (e : FolderStop) → Reads gave by max name old new (Err e) → IsStop e
-  by_reading by old new e (unneeded verdict all kept q) = cc
-  by_reading by old new e (whole bytes given short q) = cc
-  by_reading by old new e (longer bytes given past q) = cc
-  by_reading by old new e (unread bytes fails q) = inl (err_same e stop.Failed q)
-  by_reading by old new e (unheld q) = inr (err_same e stop.NoMemory q)
-
-  by_own : (bundle : List ℕ) (old new : D) (e : FolderStop) → ReadsOwn gave terms max bundle name old new (Err e) → IsStop e
-  by_own bundle old new e (bare own q) = cc
-  by_own bundle old new e (long seen own q) = cc
-  by_own bundle old new e (given file mid own r) = by_reading (λ bytes. by_bundle terms max bytes (bundle_of_bytes file)) mid new e r
-  by_own bundle old new e (failed own q) = inl (err_same e stop.Failed q)
-  by_own bundle old new e (short q) = inr (err_same e stop.NoMemory q)
-
-  by_found : (old new : D) (e : FolderStop) → ReadsFound gave terms max name old new (Err e) → IsStop e
-  by_found old new e (ruleless none kept q) = cc
-  by_found old new e (ruled r) = by_own (bundle_name name) old new e r
-  by_found old new e (starved q) = inr (err_same e stop.NoMemory q)
-
-  by_named : (old new : D) (e : FolderStop) → ReadsNamed gave terms max name old new (Err e) → IsStop e
-  by_named old new e (missing none q) = cc
-  by_named old new e (there mid finds r) = by_found mid new e r
-  by_named old new e (lost call q) = inl (err_same e stop.Failed q)
-  by_named old new e (needy q) = inr (err_same e stop.NoMemory q)
-
-  -- a call failed, or memory is wanting
-  pub named_cause : (old new : D) (before after : Watched Contents) (result : Result Verdict GateFault) → RestsNamed gave terms max name old new result
-      → IfErr result (FolderCause before after) → IfErr result (NameCause before after)
-  named_cause old new before after (Ok verdict) r h = tt
-  named_cause old new before after (Err fault) (Ok verdict, reads, is) h = cc
-  named_cause old new before after (Err fault) (Err e, reads, is) h = by_stop (by_named old new e reads)
-    where
-      told : fault ≡ fault_of_stop e
-      told = err_same fault (fault_of_stop e) is
-
-      failed_by : (why : FolderStop) → gate.FolderFailed ≡ fault_of_stop why → StopCause before after why → Rose before.faults after.faults
-      failed_by stop.Failed e rose = rose
-      failed_by (stop.TooMany count) e cause = cc
-      failed_by (stop.Doubled name) e cause = cc
-      failed_by (stop.Vanished name) e cause = cc
-      failed_by stop.NoMemory e cause = cc
-
-      by_stop : IsStop e → NameCause before after fault
-      by_stop (inl failed) =
-          let same : fault ≡ gate.FolderFailed = told ∙ ap fault_of_stop failed in
-          subst (NameCause before after) (sym same) (failed_by h.0 (sym same ∙ h.1) h.2)
-      by_stop (inr wanting) = subst (NameCause before after) (sym (told ∙ ap fault_of_stop wanting)) tt
 
 -- ---- a line more
 
@@ -147,26 +86,6 @@ pub all_lines : (told : Option Contents) (terms : MirrorTerms) (max : ℕ) (name
     → IfTold told (λ contents. lines ≡ lines_over (verdict_for terms max contents.files) names)
 all_lines None terms max names i lines past is = tt
 all_lines (Some contents) terms max names i lines past is = is ∙ ap (lines_over (verdict_for terms max contents.files)) (take_all i names past)
-
--- a cause behind other calls
-pub name_before : (old mid new : Watched Contents) (fault : GateFault) → Since old mid → NameCause mid new fault → NameCause old new fault
-name_before old mid new gate.FolderFailed since cause = let later = since.later in omega (arith, cause)
-name_before old mid new gate.NoMemory since cause = tt
-name_before old mid new (gate.Tuf e) since cause = absurd cause
-name_before old mid new (gate.Trust e chain) since cause = absurd cause
-name_before old mid new (gate.DoubledName name) since cause = absurd cause
-name_before old mid new (gate.TooManyNames count) since cause = absurd cause
-name_before old mid new (gate.Vanished name) since cause = absurd cause
-
--- a cause of a name is one of the folder
-as_folder : (old new : Watched Contents) (fault : GateFault) → NameCause old new fault → FolderCause old new fault
-as_folder old new gate.FolderFailed cause = (stop.Failed, refl, cause)
-as_folder old new gate.NoMemory cause = (stop.NoMemory, refl, tt)
-as_folder old new (gate.Tuf e) cause = absurd cause
-as_folder old new (gate.Trust e chain) cause = absurd cause
-as_folder old new (gate.DoubledName name) cause = absurd cause
-as_folder old new (gate.TooManyNames count) cause = absurd cause
-as_folder old new (gate.Vanished name) cause = absurd cause
 
 -- ---- by what calls gave
 
@@ -234,7 +153,7 @@ listed_judged old mid new terms max required listed names (Ok lines) since order
 listed_judged old mid new terms max required listed names (Err fault) since order asked j = record {
   since = since_both old mid new since j.since;
   given = tt;
-  refused = as_folder old new fault (name_before old mid new fault since j.refused);
+  refused = as_folder old new fault (named_before old mid new fault since j.refused);
 }
 
 -- a listing that gave no names
@@ -243,4 +162,4 @@ pub listed_stopped : (old new : Watched Contents) (terms : MirrorTerms) (max : �
 listed_stopped old new terms max required fault since cause = record { since = since; given = tt; refused = cause }
 
 pub listed_wanting : (old new : Watched Contents) (terms : MirrorTerms) (max : ℕ) (required : List (List ℕ)) → Since old new → JudgesListed terms max required old new (Err gate.NoMemory)
-listed_wanting old new terms max required since = record { since = since; given = tt; refused = (stop.NoMemory, refl, tt) }
+listed_wanting old new terms max required since = record { since = since; given = tt; refused = wanting_folder old new }

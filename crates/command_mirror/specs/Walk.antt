@@ -3,7 +3,7 @@ use Rattle.std.specs.Prelude.{◌≡◌, ℕ, ◌≤◌, List, [], ◌∷◌, �
 use Rattle.foundation.specs.Watched.{Watched, Rose, IfTold, Since}
 use Rattle.release_gate.specs.Folder.{Contents, Call}
 use Rattle.release_gate.specs.Gate.{FolderCause}
-use Rattle.release_gate.specs.Named.{RestsNamed, AdmitsNamed}
+use Rattle.release_gate.specs.Named.{NamedCause, RestsNamed}
 use Rattle.release_gate.specs.Names.{is_bundle, max_names, AreOnce, AreOrdered}
 use Rattle.release_gate.specs.Walk.{GivesNames}
 use Rattle.release_gate.specs.declared.gate.GateFault.{GateFault}
@@ -30,20 +30,10 @@ AreAsked listed required names = AreOrdered (artifacts_in listed ++ required) na
 
 -- ---- why names aren't judged
 
--- a call of the folder failed, or memory is wanting: nothing else stops the judgement of a name
-abbrev pub NameCause : Watched Contents → Watched Contents → GateFault → Type 0
-NameCause old new gate.FolderFailed = Rose old.faults new.faults
-NameCause old new gate.NoMemory = ⊤
-NameCause old new (gate.Tuf e) = ⊥
-NameCause old new (gate.Trust e chain) = ⊥
-NameCause old new (gate.DoubledName name) = ⊥
-NameCause old new (gate.TooManyNames count) = ⊥
-NameCause old new (gate.Vanished name) = ⊥
-
 -- of a list alone; or of a folder, whose listing may be refused too
 abbrev pub MirrorCause : Selection → Watched Contents → Watched Contents → GateFault → Type 0
 MirrorCause Whole old new fault = FolderCause old new fault
-MirrorCause (Only names) old new fault = NameCause old new fault
+MirrorCause (Only names) old new fault = NamedCause old new fault
 MirrorCause (Among names) old new fault = FolderCause old new fault
 
 -- ---- the lines of a told folder
@@ -53,14 +43,14 @@ pub record JudgesNames (terms : MirrorTerms) (max : ℕ) (names : List (List ℕ
     (result : Result (List GateLine) GateFault) : Type 0 where
   pub since : Since old new
   pub given : IfOk result (λ lines. IfTold old.told (λ contents. lines ≡ lines_over (verdict_for terms max contents.files) names))
-  pub refused : IfErr result (NameCause old new)
+  pub refused : IfErr result (NamedCause old new)
 
 -- the promise of the judgement of one name
 pub record JudgesFor (terms : MirrorTerms) (max : ℕ) (old new : Watched Contents) (name : List ℕ) (result : Result Verdict GateFault)
     : Type 0 where
   pub since : Since old new
   pub given : IfOk result (λ verdict. IfTold old.told (λ contents. verdict ≡ verdict_for terms max contents.files name))
-  pub refused : IfErr result (NameCause old new)
+  pub refused : IfErr result (NamedCause old new)
 
 -- these are the lines on the artifacts of a folder that lists few, and none twice, and on the names that have to be there
 pub record AreListedLines (terms : MirrorTerms) (max : ℕ) (required : List (List ℕ)) (contents : Contents) (lines : List GateLine) : Type 0 where

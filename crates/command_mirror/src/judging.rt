@@ -2,10 +2,10 @@
 ghost use Rattle.std.specs.Prelude.{◌≡◌, ◌++◌, ◌∷◌, [], IfOk, IfErr, OnOk};
 ghost use Rattle.foundation.specs.Watched.{IfTold, Since};
 ghost use Rattle.command_mirror.specs.Judging.{mirror_terms_in};
-ghost use Rattle.release_gate.specs.Named.{JudgesNamed, RestsNamed};
+ghost use Rattle.release_gate.specs.Named.{NamedCause, JudgesNamed, RestsNamed};
 ghost use Rattle.command_mirror.specs.Mirror.{terms_for, verdict_for, line_for};
 ghost use Rattle.command_mirror.specs.Serving.{serving, policies_in, numbered_result};
-ghost use Rattle.command_mirror.specs.Walk.{NameCause, RestsFor, JudgesFor, JudgesNames, JudgesListed, JudgesMirror, StepsName, WalksEach, WalksListed, WalksMirror};
+ghost use Rattle.command_mirror.specs.Walk.{RestsFor, JudgesFor, JudgesNames, JudgesListed, JudgesMirror, StepsName, WalksEach, WalksListed, WalksMirror};
 
 use crate::selection::{Selection, asked_names};
 use crate::serving::{Serving, numbered, rules_for};
@@ -100,7 +100,7 @@ impl<'j, 'p, C: CryptoProvider, M: Armor> MirrorJudgement<'j, 'p, C, M> {
         ensures since { Since (D.seen folder.old) (D.seen folder.new) }
         ensures added { OnOk result (IfTold (D.seen folder.old).told (λ contents. lines.new ≡ lines.old
             ++ line_for (verdict_for (mirror_terms_in C.CryptoProvider M.Armor self.now) self.now.max contents.files) name.now ∷ [])) }
-        ensures refused { IfErr result (NameCause (D.seen folder.old) (D.seen folder.new)) }
+        ensures refused { IfErr result (NamedCause (D.seen folder.old) (D.seen folder.new)) }
         ensures steps { StepsName (RestsFor D.gave (mirror_terms_in C.CryptoProvider M.Armor self.now) self.now.max)
             folder.old folder.new name.now lines.old lines.new result }
     {

@@ -1,6 +1,5 @@
 // A list of names.
 ghost use Rattle.std.specs.Prelude.{◌≡◌, ◌≢◌, Ok, Err, IfOk, IfErr};
-ghost use Rattle.foundation.specs.Steps.{◌>>=◌};
 ghost use Rattle.std.specs.List.{list_all};
 ghost use Rattle.command_files.specs.Lines.{cut_of, lines_of};
 ghost use Rattle.std.specs.Ordering.{is_lt};

@@ -1,18 +1,19 @@
 -- The judgement of one name, whether the folder lists it or not.
 use Rattle.std.specs.Prelude.{◌≡◌, ℕ, List, [], ◌∷◌, Option, Some, None, is_some, true, false, Bool, Result, Ok, Err, IfOk, IfErr, ⊤}
-use Rattle.foundation.specs.Watched.{Watched, IfTold, Since}
+use Rattle.foundation.specs.Watched.{Watched, Rose, IfTold, Since}
 use Rattle.sigstore_types.specs.Bundle.{bundle_of_bytes}
 use Rattle.sigstore_tuf_outside.specs.Repository.{Files}
 use Rattle.sigstore_policy.specs.Policy.{Meaning}
 use Rattle.release_gate.specs.declared.folder.FolderFault.{FolderFault}
 use Rattle.release_gate.specs.declared.folder.FolderFault.TheVariants as fault
 use Rattle.release_gate.specs.declared.gate.GateFault.{GateFault}
+use Rattle.release_gate.specs.declared.gate.GateFault.TheVariants as gate
 use Rattle.release_gate.specs.declared.line.Verdict.{Verdict}
 use Rattle.release_gate.specs.declared.line.Verdict.TheVariants.{Admitted, Missing, NoRule, Unsigned, BundleTooLong}
 use Rattle.release_gate.specs.declared.walk.FolderStop.{FolderStop}
 use Rattle.release_gate.specs.declared.walk.FolderStop.TheVariants as stop
 use Rattle.release_gate.specs.Folder.{Contents, Call, bundle_asked}
-use Rattle.release_gate.specs.Gate.{fault_of_stop, FolderCause}
+use Rattle.release_gate.specs.Gate.{fault_of_stop}
 use Rattle.release_gate.specs.Names.{bundle_name}
 use Rattle.release_gate.specs.Reading.{Reads}
 use Rattle.release_gate.specs.Rests.{AdmittedOn}
@@ -36,12 +37,22 @@ abbrev pub named_verdict : RuleTerms → ℕ → Files → List ℕ → Verdict
 named_verdict terms max files name =
     missing_or (λ bytes. by_rules_of terms.rules (by_file terms max bytes (files (bundle_name name)))) (files name)
 
+-- a call of the folder failed, or memory is wanting: nothing else stops the judgement of a name
+abbrev pub NamedCause : Watched Contents → Watched Contents → GateFault → Type 0
+NamedCause old new gate.FolderFailed = Rose old.faults new.faults
+NamedCause old new gate.NoMemory = ⊤
+NamedCause old new (gate.Tuf e) = ⊥
+NamedCause old new (gate.Trust e chain) = ⊥
+NamedCause old new (gate.DoubledName name) = ⊥
+NamedCause old new (gate.TooManyNames count) = ⊥
+NamedCause old new (gate.Vanished name) = ⊥
+
 -- the promise of a judgement of one name: over a told folder what is said of it is the definition's
 pub record JudgesNamed (terms : RuleTerms) (max : ℕ) (old new : Watched Contents) (name : List ℕ) (result : Result Verdict GateFault)
     : Type 0 where
   pub since : Since old new
   pub given : IfOk result (λ verdict. IfTold old.told (λ contents. verdict ≡ named_verdict terms max contents.files name))
-  pub refused : IfErr result (FolderCause old new)
+  pub refused : IfErr result (NamedCause old new)
 
 -- the same before its fault is told
 pub record StopsNamed (judging : Files → List ℕ → Verdict) (old new : Watched Contents) (name : List ℕ) (result : Result Verdict FolderStop)

@@ -1,6 +1,6 @@
 use Rattle.std.proofs.Common.{refl}
 use Rattle.command_mirror.specs.Concluding.{want_sums}
-use Rattle.command_mirror.proofs.Concluding.{unplaced_so}
+use Rattle.command_mirror.proofs.Ends.{unplaced_so}
 use Rattle.command_mirror.proofs.concluding.put.Goals as goal
 
 pub returns-in-Err-Failed : goal.returns-in-Err-Failed

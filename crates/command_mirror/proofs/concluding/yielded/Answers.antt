@@ -1,6 +1,6 @@
 use Rattle.std.proofs.Common.{refl}
 use Rattle.command_mirror.specs.Concluding.{want_text}
-use Rattle.command_mirror.proofs.Concluding.{yields_so}
+use Rattle.command_mirror.proofs.Ends.{yields_so}
 use Rattle.command_mirror.proofs.concluding.yielded.Goals as goal
 
 pub returns-in-Ok : goal.returns-in-Ok

@@ -2,7 +2,8 @@ use Rattle.std.proofs.Common.{refl, [], arith, sym, subst}
 use Rattle.command_mirror.specs.Judging.{mirror_terms_in}
 use Rattle.command_mirror.specs.Walk.{RestsFor, WalkedNames, begun}
 use Rattle.release_gate.proofs.Walking.{since_both}
-use Rattle.command_mirror.proofs.Walking.{line_more, no_lines, walked_more, stops_at, walks_all, all_lines, name_before}
+use Rattle.release_gate.proofs.NamedJudging.{named_before}
+use Rattle.command_mirror.proofs.Walking.{line_more, no_lines, walked_more, stops_at, walks_all, all_lines}
 use Rattle.command_mirror.proofs.judging.MirrorJudgement.judge_names.Goals as goal
 
 pub names-init : goal.names-init
@@ -43,5 +44,5 @@ pub returns-in-Err-clause-judges : goal.returns-in-Err-clause-judges
 returns-in-Err-clause-judges g c = record {
   since = since_both _ _ _ c.names.invariant.since c.add_line.ensures.since;
   given = tt;
-  refused = name_before _ _ _ c.in-Err.fault c.names.invariant.since c.in-Err.ensures.refused;
+  refused = named_before _ _ _ c.in-Err.fault c.names.invariant.since c.in-Err.ensures.refused;
 }

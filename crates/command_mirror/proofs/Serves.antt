@@ -24,15 +24,17 @@ module _ (A : Type 0) (of : ℕ × SigningPolicy → A) (rules : List NamedRule)
   Of n others = map of (serving_from n others name)
 
   -- those so far with one more
-  pub served_more : (whole before grown : List A) (i number : ℕ) (rule : NamedRule) → i < length rules → rule ≡ get_or rules i rule → number ≡ i + 1
-      → whole ≡ before ++ Of (i + 1) (drop i rules) → grown ≡ before ++ Of number (rule ∷ []) → whole ≡ grown ++ Of (i + 2) (drop (i + 1) rules)
+  pub served_more : (whole before grown : List A) (i number : ℕ) (rule : NamedRule) → i < length rules → rule ≡ get_or rules i rule → number ≡ suc i
+      → whole ≡ before ++ Of (suc i) (drop i rules) → grown ≡ before ++ Of number (rule ∷ []) → whole ≡ grown ++ Of (suc (i + 1)) (drop (i + 1) rules)
   served_more whole before grown i number rule within is counted so_far grows =
       let later = drop (i + 1) rules in
+      let next : suc (suc i) ≡ suc (i + 1) = omega arith in
       so_far
-      ∙ ap (λ rs. before ++ Of (i + 1) rs) (first_of rules i rule within)
-      ∙ ap (λ (r : NamedRule). before ++ Of (i + 1) (r ∷ later)) (sym is)
-      ∙ ap (λ served. before ++ map of served) (served_first (i + 1) rule later name)
-      ∙ ap (λ own. before ++ own) (map-append of (serving_from (i + 1) (rule ∷ []) name) (serving_from (suc (i + 1)) later name))
-      ∙ sym (append_assoc before (Of (i + 1) (rule ∷ [])) (Of (suc (i + 1)) later))
-      ∙ ap (λ n. (before ++ Of n (rule ∷ [])) ++ Of (suc (i + 1)) later) (sym counted)
-      ∙ ap (λ own. own ++ Of (suc (i + 1)) later) (sym grows)
+      ∙ ap (λ rs. before ++ Of (suc i) rs) (first_of rules i rule within)
+      ∙ ap (λ (r : NamedRule). before ++ Of (suc i) (r ∷ later)) (sym is)
+      ∙ ap (λ served. before ++ map of served) (served_first (suc i) rule later name)
+      ∙ ap (λ own. before ++ own) (map-append of (serving_from (suc i) (rule ∷ []) name) (serving_from (suc (suc i)) later name))
+      ∙ sym (append_assoc before (Of (suc i) (rule ∷ [])) (Of (suc (suc i)) later))
+      ∙ ap (λ n. (before ++ Of n (rule ∷ [])) ++ Of (suc (suc i)) later) (sym counted)
+      ∙ ap (λ own. own ++ Of (suc (suc i)) later) (sym grows)
+      ∙ ap (λ n. grown ++ Of n later) next
