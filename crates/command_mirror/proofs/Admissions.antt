@@ -46,7 +46,7 @@ module _ (terms : MirrorTerms) (max : ℕ) (files : Files) (name : List ℕ) (ru
       let over = is.over in
       let place = placed name 1 terms.rules over.earlier over.policy over.later over.split in
       let told : number_at (numbers_in (serving terms.rules name)) number ≡ 1 + length place.before =
-      ap (λ n. get_or (numbers_in (serving terms.rules name)) (n - 1) 0) over.number ∙ place.number in
+      ap (λ n. get_or (numbers_in (serving terms.rules name)) n 0) (let is = over.number in omega (arith, is)) ∙ place.number in
       record {
         bytes = bytes;
         held = held;
@@ -117,7 +117,9 @@ module _ (terms : MirrorTerms) (max : ℕ) (files : Files) (name : List ℕ) (ru
         hashed = is.hashed;
       }) in
       let number : number_at (numbers_in (serving terms.rules name)) (suc (length at.earlier)) ≡ rule =
-      ap (λ rules. get_or (numbers_in (serving rules name)) (suc (length at.earlier) - 1) 0) by.split ∙ at.number ∙ (let told = by.number in omega (arith, told)) in
+      ap (λ rules. get_or (numbers_in (serving rules name)) (suc (length at.earlier) - 1) 0) by.split
+      ∙ ap (λ n. get_or (numbers_in (serving (by.earlier ++ by.own ∷ by.later) name)) n 0) (omega arith)
+      ∙ at.number ∙ (let told = by.number in omega (arith, told)) in
       ap (λ o. numbered (numbers_in (serving terms.rules name)) (missing_or (λ bytes. by_rules_of own_terms.rules (by_file own_terms max bytes (files (bundle_name name)))) o)) is.held
       ∙ ap (numbered (numbers_in (serving terms.rules name)))
       (ruled_as own_terms.rules at.earlier (meaning_in by.own.policy) at.later (verdict_by own_terms max files name is.bytes) split ∙ judged)

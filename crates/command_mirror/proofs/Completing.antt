@@ -281,6 +281,7 @@ module _ (resting : Resting) (command : Command) (before after : Environment) (t
         subst (λ (x : Result MirrorAnswer OutOfMemory). P (status_told x ended)) (sym is)
         (subst (λ t. P (gate_status it.is_untrusted t)) (sym h) (written_so it (says_so it (subst (Says resting command before after) is s)) w))
 
-pub run_completes : (resting : Resting) (command : Command) (before after : Environment) (out out' : Watched (List ℕ)) (said : Result MirrorAnswer OutOfMemory) (ended : Status)
-    → Says resting command before after said → EndsMirror said out out' ended → Completes command before after out out' (status_told said ended)
-run_completes resting command before after out out' said ended s e trust contents f = ended_so resting command before after trust contents f out out' said ended s e
+pub told_completes : (resting : Resting) (command : Command) (before after : Environment) (out out' : Watched (List ℕ)) (said : Result MirrorAnswer OutOfMemory) (ended : Status)
+    (told : GateStatus) → told ≡ status_told said ended → Says resting command before after said → EndsMirror said out out' ended → Completes command before after out out' told
+told_completes resting command before after out out' said ended told is s e trust contents f =
+    subst (P resting command before after trust contents f out out') (sym is) (ended_so resting command before after trust contents f out out' said ended s e)

@@ -182,11 +182,11 @@ module _ (resting : Resting) (command : Command) (before after : Environment) (o
   abbrev MS : MirrorAnswer → Type 0
   MS said = W said.answer.text → M (gate_status said.is_untrusted said.answer.status)
 
-  told_means : (untrusted : Bool) (told : Result Answer OutOfMemory) (said : MirrorAnswer) → Ok said ≡ told_as untrusted told
+  answer_means : (untrusted : Bool) (told : Result Answer OutOfMemory) (said : MirrorAnswer) → Ok said ≡ told_as untrusted told
       → ((answer : Answer) → told ≡ Ok answer → MA untrusted answer) → MS said
-  told_means untrusted (Ok answer) said is f =
+  answer_means untrusted (Ok answer) said is f =
       subst (λ (x : MirrorAnswer). MS x) (sym (ok_same said (mirror_answer_by answer untrusted) is)) (f answer refl)
-  told_means untrusted (Err e) said is f = cc
+  answer_means untrusted (Err e) said is f = cc
 
   unnamed_means : (asked : Asked command before after) (why : NamesFault) (said : MirrorAnswer) → Selects asked.layout.names before.outside.names after.outside.names (Err why)
       → IsUntouched before after → names_answer why ≡ Some said.answer → said.is_untrusted ≡ false → MS said
@@ -210,7 +210,7 @@ module _ (resting : Resting) (command : Command) (before after : Environment) (o
       unnamed_means (record { layout = layout; governed = governed; read = b }) why said c k h.0 h.1
   said_means said (begun layout governed b (named selection c j)) =
       let s : Selected command before after = record { asked = record { layout = layout; governed = governed; read = b }; selection = selection; selects = c } in
-      told_means (is_untrusted j.came) j.said said j.is
+      answer_means (is_untrusted j.came) j.said said j.is
       (λ answer e. concludes_mean s j.came answer j.mirrors
       (subst (λ (r : Result Answer OutOfMemory). ConcludesLines layout.outputs.long layout.outputs.sums j.came (lines_in j.came) before.outside.shelf after.outside.shelf r) e j.concludes))
 
@@ -219,17 +219,17 @@ module _ (resting : Resting) (command : Command) (before after : Environment) (o
   abbrev Kept : Type 0
   Kept = after.outside.shelf.told ≡ before.outside.shelf.told
 
-  gives_kept : (sums : Option (List ℕ)) (lines : List GateLine) (said : Answer) (e : OutOfMemory) → GivesSums sums lines said before.outside.shelf after.outside.shelf (Err e) → Kept
+  gives_kept : (path : Option (List ℕ)) (lines : List GateLine) (said : Answer) (e : OutOfMemory) → GivesSums path lines said before.outside.shelf after.outside.shelf (Err e) → Kept
   gives_kept None lines said e (kept, h) = cc
   gives_kept (Some path) lines said e (want_sums other k h) = k
   gives_kept (Some path) lines said e (sums_unplaced p h) = cc
   gives_kept (Some path) lines said e (sums_placed p h) = cc
 
-  concludes_kept : (long : Bool) (sums : Option (List ℕ)) (came : FolderCame) (lines : Option (List GateLine)) (e : OutOfMemory)
-      → ConcludesLines long sums came lines before.outside.shelf after.outside.shelf (Err e) → Kept
-  concludes_kept long sums came None e (kept, h) = ap (λ (w : Watched (List Placed)). w.told) kept
-  concludes_kept long sums came (Some lines) e (want_text other kept h) = ap (λ (w : Watched (List Placed)). w.told) kept
-  concludes_kept long sums came (Some lines) e (yields g) = gives_kept sums lines (mirror_answer long lines) e g
+  concludes_kept : (asked : Bool) (path : Option (List ℕ)) (came : FolderCame) (lines : Option (List GateLine)) (e : OutOfMemory)
+      → ConcludesLines asked path came lines before.outside.shelf after.outside.shelf (Err e) → Kept
+  concludes_kept asked path came None e (kept, h) = ap (λ (w : Watched (List Placed)). w.told) kept
+  concludes_kept asked path came (Some lines) e (want_text other kept h) = ap (λ (w : Watched (List Placed)). w.told) kept
+  concludes_kept asked path came (Some lines) e (yields g) = gives_kept path lines (mirror_answer asked lines) e g
 
   told_kept : (untrusted : Bool) (told : Result Answer OutOfMemory) (e : OutOfMemory) → Err e ≡ told_as untrusted told
       → ((other : OutOfMemory) → told ≡ Err other → Kept) → Kept
@@ -339,3 +339,13 @@ module _ (resting : Resting) (command : Command) (before after : Environment) (o
   run_rests said ended s (ends_written it is w h) =
       subst (λ (x : Result MirrorAnswer OutOfMemory). T (status_told x ended)) (sym is)
       (subst (λ t. T (gate_status it.is_untrusted t)) (sym h) (said_rests it (subst (Says resting command before after) is s) w))
+
+  -- ---- the status that is told
+
+  module _ (said : Result MirrorAnswer OutOfMemory) (ended : Status) (told : GateStatus) (is : told ≡ status_told said ended) (s : Says resting command before after said)
+      (e : EndsMirror said out out' ended) where
+    pub told_means : M told
+    told_means = subst M (sym is) (run_means said ended s e)
+
+    pub told_rests : T told
+    told_rests = subst T (sym is) (run_rests said ended s e)

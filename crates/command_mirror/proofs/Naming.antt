@@ -1,5 +1,5 @@
 -- The names of a list.
-use Rattle.std.proofs.Common.{◌≡◌, ℕ, List, [], ◌∷◌, ◌++◌, Bool, true, false, not, ◌&&◌, if◌then◌else◌, length, Option, Some, None, option_map, Result, Ok, Err, ok_or, Ordering, Less, refl, sym, ap, ◌∙◌, append_assoc, append-nil}
+use Rattle.std.proofs.Common.{◌≡◌, ℕ, List, [], ◌∷◌, ◌++◌, Bool, true, false, not, ◌&&◌, if◌then◌else◌, length, Option, Some, None, option_map, Result, Ok, Err, ok_or, Ordering, Less, refl, sym, ap, subst, ◌∙◌, append_assoc, append-nil}
 use Rattle.std.specs.List.{AllByRecursion, list_all}
 use Rattle.std.specs.List.Sorted.{IsStrictlySortedBy}
 use Rattle.std.specs.Ordering.{is_lt}
@@ -15,7 +15,7 @@ use Rattle.command_files.specs.Lines.{cut_of, lines_of}
 use Rattle.command_files.specs.declared.usage_fault.UsageFault.{UsageFault}
 use Rattle.command_files.specs.declared.usage_fault.UsageFault.TheVariants.{Usage}
 use Rattle.command_files.proofs.Folds.{lines_cut, lines_uncut}
-use Rattle.command_mirror.specs.Names.{is_name, ascend, is_list, checked, names_of, NamesAscend}
+use Rattle.command_mirror.specs.Names.{is_name, ascend, is_list, checked, names_by, names_of, NamesAscend}
 
 -- ---- lines one by one
 
@@ -74,17 +74,14 @@ checked_ascend lines names h = by (is_list lines) refl h
     by : (b : Bool) → is_list lines ≡ b → ◌≡◌ {A = Result (List (List ℕ)) UsageFault} (if b then Ok lines else Err Usage) (Ok names) → IsStrictlySortedBy text_cmp names
     by false t k = cc
     by true t k =
-        let first = and_true (not (length lines == 0)) (nat_le (length lines) max_names && list_all is_name lines && ascend lines) t in
-        let second = and_true (nat_le (length lines) max_names) (list_all is_name lines && ascend lines) first.1 in
-        let third = and_true (list_all is_name lines) (ascend lines) second.1 in
-        let same : lines ≡ names = ok_same lines names k in
-        rw same at (strict lines third.1)
+        let last = and_true (not (length lines == 0) && nat_le (length lines) max_names && list_all is_name lines) (ascend lines) t in
+        subst (IsStrictlySortedBy text_cmp) (ok_same lines names k) (strict lines last.1)
 
 pub names_ascend : NamesAscend
 unfolding names_of
 names_ascend bytes names h = by (utf8_valid_len bytes == length bytes) h
   where
-    by : (b : Bool) → ◌≡◌ {A = Result (List (List ℕ)) UsageFault} (if b then (ok_or (lines_of bytes) Usage >>= checked) else Err Usage) (Ok names)
+    by : (b : Bool) → ◌≡◌ {A = Result (List (List ℕ)) UsageFault} (if b then names_by (lines_of bytes) else Err Usage) (Ok names)
         → IsStrictlySortedBy text_cmp names
     by false k = cc
     by true k = let s = step_ok (ok_or (lines_of bytes) Usage) checked names k in checked_ascend s.0 names s.2

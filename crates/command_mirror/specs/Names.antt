@@ -1,5 +1,5 @@
 -- A list of names: a name on each line, in ascending order of their octets.
-use Rattle.std.specs.Prelude.{◌≡◌, ℕ, ◌==◌, List, [], ◌∷◌, length, Bool, true, false, not, ◌&&◌, if◌then◌else◌, bytes_eq, nat_le, Result, Ok, Err, ok_or}
+use Rattle.std.specs.Prelude.{◌≡◌, ℕ, ◌==◌, List, [], ◌∷◌, length, Bool, true, false, not, ◌&&◌, if◌then◌else◌, bytes_eq, nat_le, Option, Result, Ok, Err, ok_or}
 use Rattle.std.specs.List.{list_all}
 use Rattle.std.specs.List.Sorted.{IsStrictlySortedBy}
 use Rattle.std.specs.Ordering.{is_lt}
@@ -32,9 +32,13 @@ is_list names = not (length names == 0) && nat_le (length names) max_names && li
 abbrev pub checked : List (List ℕ) → Result (List (List ℕ)) UsageFault
 checked names = if is_list names then Ok names else Err Usage
 
+-- lines that were found, where they are a list
+abbrev pub names_by : Option (List (List ℕ)) → Result (List (List ℕ)) UsageFault
+names_by lines = ok_or lines Usage >>= checked
+
 -- The names of a list, which is UTF-8: each line is one, and ends in a line feed.
 unfoldable pub names_of : List ℕ → Result (List (List ℕ)) UsageFault
-names_of bytes = if utf8_valid_len bytes == length bytes then (ok_or (lines_of bytes) Usage >>= checked) else Err Usage
+names_of bytes = if utf8_valid_len bytes == length bytes then names_by (lines_of bytes) else Err Usage
 
 -- they are in order
 abbrev pub NamesAscend : Type 0

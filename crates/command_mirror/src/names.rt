@@ -4,7 +4,7 @@ ghost use Rattle.std.specs.List.{list_all};
 ghost use Rattle.command_files.specs.Lines.{cut_of, lines_of};
 ghost use Rattle.std.specs.Ordering.{is_lt};
 ghost use Rattle.sigstore_types_parts.specs.Entries.{text_cmp};
-ghost use Rattle.command_mirror.specs.Names.{is_name, ascend, is_list, checked, names_of};
+ghost use Rattle.command_mirror.specs.Names.{is_name, ascend, is_list, names_by, names_of};
 ghost use Rattle.std.specs.Prelude.{ok_or, Some, None, MatchOption};
 ghost use Rattle.command_files.specs.declared.usage_fault.UsageFault.TheVariants.{Usage};
 
@@ -90,8 +90,8 @@ fn lines(alloc: Global, text: &str) -> Result<Sequence<Text>, UsageFault>
 
 // The lines of a text, where they are a list.
 fn checked(alloc: Global, text: &str) -> Result<Sequence<Text>, UsageFault>
-    ensures ok { IfOk result (λ names. (ok_or (lines_of text.now) Usage >>= checked) ≡ Ok names) }
-    ensures err { IfErr result (λ e. e ≢ UsageFault.NoMemory → (ok_or (lines_of text.now) Usage >>= checked) ≡ Err e) }
+    ensures ok { IfOk result (λ names. names_by (lines_of text.now) ≡ Ok names) }
+    ensures err { IfErr result (λ e. e ≢ UsageFault.NoMemory → names_by (lines_of text.now) ≡ Err e) }
 {
     let names = lines(alloc, text)?;
     if is_list(names.as_slice()) {

@@ -18,3 +18,8 @@ lines-preserved c = record {
   text = search rules;
   lines = lines_more _ c.lines.lines _ c.lines.rest.now c.in-Some.line.now _ c.in-Some.next.now c.in-Some.ensures c.lines.invariant.lines c.in_ok-new.ensures c.in_ok-push.ensures.ok;
 }
+
+pub returns-else-is_empty-clause-err : goal.returns-else-is_empty-clause-err
+returns-else-is_empty-clause-err c =
+    let some : 0 < length c.lines.rest.now = grind (arith, c.if-is_empty.false, c.is_empty.ensures) in
+    λ n. lines_lost _ c.lines.lines c.lines.rest.now c.lines.invariant.lines (lines_uncut c.lines.rest.now c.in_default.ensures some)

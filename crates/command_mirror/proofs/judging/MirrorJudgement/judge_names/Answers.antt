@@ -36,7 +36,8 @@ returns-clause-walks g c = walks_all _ _ _ _ c.args.names.now c.names.name-index
 pub returns-clause-judges : goal.returns-clause-judges
 returns-clause-judges g c = record {
   since = c.names.invariant.since;
-  given = all_lines _ _ _ c.args.names.now c.names.name-index c.names.lines c.names-test.false c.names.invariant.lines;
+  given = all_lines (g.D.Folder.seen c.args.folder.now).told (mirror_terms_in g.C.CryptoProvider g.M.Armor c.args.self.now) c.args.self.now.max c.args.names.now c.names.name-index c.names.lines
+      c.names-test.false c.names.invariant.lines;
   refused = tt;
 }
 
@@ -44,5 +45,5 @@ pub returns-in-Err-clause-judges : goal.returns-in-Err-clause-judges
 returns-in-Err-clause-judges g c = record {
   since = since_both _ _ _ c.names.invariant.since c.add_line.ensures.since;
   given = tt;
-  refused = named_before _ _ _ c.in-Err.fault c.names.invariant.since c.in-Err.ensures.refused;
+  refused = named_before (g.D.Folder.seen c.args.folder.now) (g.D.Folder.seen c.names.folder) (g.D.Folder.seen c.add_line.new.folder) c.in-Err.fault c.names.invariant.since c.in-Err.ensures.refused;
 }
