@@ -16,5 +16,5 @@ returns-in-Whole-clause-walks g c =
 
 pub returns-in-Among-clause-walks : goal.returns-in-Among-clause-walks
 returns-in-Among-clause-walks g c =
-    subst (λ (x : Selection). WalksMirror g.D.Folder.gave (mirror_terms_in g.C.CryptoProvider g.M.Armor c.args.self.now) c.args.self.now.max x c.args.folder.now c.judge_listed-2.new.folder c.judge_listed-2.result)
-    (sym c.in-Among.is) (rw c.as_slice-in-Among.ensures at c.judge_listed-2.ensures.walks)
+    subst (λ (x : Selection). WalksMirror g.D.Folder.gave (mirror_terms_in g.C.CryptoProvider g.M.Armor c.args.self.now) c.args.self.now.max x c.args.folder.now c.judge_listed-in-Among.new.folder c.judge_listed-in-Among.result)
+    (sym c.in-Among.is) (rw c.as_slice-in-Among.ensures at c.judge_listed-in-Among.ensures.walks)
