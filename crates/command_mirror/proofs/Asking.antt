@@ -35,7 +35,7 @@ ordered listed sorted kept moved up filtered =
 
 -- ---- a listing, and the same names in order
 
-artifact_of : (name : List ℕ) (names : Names) → Among name (artifacts_in names) → Among name names × (is_artifact name ≡ true)
+pub artifact_of : (name : List ℕ) (names : Names) → Among name (artifacts_in names) → Among name names × (is_artifact name ≡ true)
 artifact_of name [] a = absurd a
 artifact_of name (n ∷ ns) a = by (is_artifact n) refl a (artifact_of name ns)
   where
@@ -45,7 +45,7 @@ artifact_of name (n ∷ ns) a = by (is_artifact n) refl a (artifact_of name ns)
     by true e (inr rest) later = let r = later rest in (inr r.0, r.1)
     by false e rest later = let r = later rest in (inr r.0, r.1)
 
-of_artifact : (name : List ℕ) (names : Names) → Among name names → is_artifact name ≡ true → Among name (artifacts_in names)
+pub of_artifact : (name : List ℕ) (names : Names) → Among name names → is_artifact name ≡ true → Among name (artifacts_in names)
 of_artifact name [] a is = absurd a
 of_artifact name (n ∷ ns) a is = by (is_artifact n) refl a (λ rest. of_artifact name ns rest is)
   where

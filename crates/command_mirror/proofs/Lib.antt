@@ -2,6 +2,7 @@ mod Admissions
 mod Asking
 mod Completing
 mod Ends
+mod Gated
 mod Meaning
 mod Naming
 mod Placing

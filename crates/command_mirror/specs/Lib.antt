@@ -2,6 +2,7 @@ pub mod Names
 pub mod Serving
 pub mod Mirror
 pub mod Walk
+pub mod Whole
 pub mod Judging
 pub mod Lines
 pub mod Layout

@@ -16,7 +16,7 @@ mod trusting;
 
 pub use inputs::{MirrorGoverned, NamesFault};
 pub use judging::MirrorJudgement;
-pub use laws::{admits_for_exactly, lines_of_parts, names_ascend, text_of_parts};
+pub use laws::{admits_for_exactly, lines_of_parts, names_ascend, text_of_parts, whole_as_gated};
 pub use layout::{MirrorLayout, MirrorOutputs, NamesFile, mirror_layout};
 pub use lines::{mirror_said, sums};
 pub use names::{MAX_LIST, read_names};
