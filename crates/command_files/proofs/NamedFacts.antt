@@ -1,14 +1,14 @@
 -- A policy file that isn't read where rules may name the artifacts that they serve isn't read where they may not.
-use Rattle.std.proofs.Common.{◌≡◌, ◌⊎◌, inl, inr, ℕ, List, [], ◌∷◌, ◌++◌, Bool, true, false, if◌then◌else◌, length, map, bytes_eq, nat_lt, Option, Some, None, option_map, Result, Ok, Err, ok_or, refl, sym, ap, subst, ◌∙◌}
+use Rattle.std.proofs.Common.{◌≡◌, ◌⊎◌, inl, inr, ℕ, List, [], ◌∷◌, ◌++◌, Bool, true, false, if◌then◌else◌, length, map, bytes_eq, nat_lt, Option, Some, None, option_map, Result, Ok, Err, ok_or, refl, sym, ap, ◌∙◌}
 use Rattle.std.specs.Prelude.{codes, ◌==◌}
 use Rattle.std.specs.Str.Lossy.{utf8_valid_len}
 use Rattle.std.proofs.lemmas.List.{map-append, length-map}
 use Rattle.std.proofs.lemmas.Slice.Eq.{bytes_eq-Decides}
 use Rattle.foundation.specs.Steps.{◌>>=◌}
 use Rattle.sigstore_policy.specs.declared.policy.SigningPolicy.{SigningPolicy}
-use Rattle.command_files.specs.Lines.{cut_of, lines_of, is_passed_over, counted, folded_of, text_folded_of, file_folded_of}
+use Rattle.command_files.specs.Lines.{cut_of, lines_of, is_passed_over, folded_of, text_folded_of}
 use Rattle.command_files.specs.NamedRules.{pattern_in, pattern_of, line_after, named_line_of, with_named, named_ended, named_rules_line_of, named_rules_of}
-use Rattle.command_files.specs.Policy.{is_among, once, name_of, purposeful, begun_of, row_signer_of, row_of, line_in, line_of, applied, later_line_of}
+use Rattle.command_files.specs.Policy.{is_among, name_of, purposeful, begun_of, row_signer_of, row_of, line_in, line_of, applied, later_line_of}
 use Rattle.command_files.specs.Rules.{rule_line_of, with_rule, ended, rules_line_of, rules_of}
 use Rattle.command_files.specs.declared.named_rules.NamedDraft.{NamedDraft}
 use Rattle.command_files.specs.declared.named_rules.NamedRule.{NamedRule}
@@ -17,7 +17,7 @@ use Rattle.command_files.specs.declared.policy.Draft.{Draft}
 use Rattle.command_files.specs.declared.policy.PolicyLine.{PolicyLine}
 use Rattle.command_files.specs.declared.rules.RulesDraft.{RulesDraft}
 use Rattle.command_files.specs.declared.usage_fault.UsageFault.{UsageFault}
-use Rattle.command_files.specs.declared.usage_fault.UsageFault.TheVariants.{Usage, NoMemory}
+use Rattle.command_files.specs.declared.usage_fault.UsageFault.TheVariants.{Usage}
 
 -- ---- rules without names
 

@@ -74,11 +74,7 @@ fn first_line(alloc: Global, line: &str) -> Result<NamedDraft, UsageFault>
 
 // A line of the begun rule; where none is begun, the first line of one.
 #[tactic(auto, unfolding(crate::specs::NamedRules::named_line_of))]
-fn rule_line(
-    alloc: Global,
-    begun: &mut Option<NamedDraft>,
-    line: &str,
-) -> Result<(), UsageFault>
+fn rule_line(alloc: Global, begun: &mut Option<NamedDraft>, line: &str) -> Result<(), UsageFault>
     ensures ok { OnOk result (named_line_of begun.old line.now ≡ Ok begun.new) }
     ensures err { IfErr result (λ e. e ≢ UsageFault.NoMemory → named_line_of begun.old line.now ≡ Err e) }
 {

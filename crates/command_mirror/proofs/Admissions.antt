@@ -1,6 +1,5 @@
 -- What it means that a name is admitted, under the rules that serve it.
-use Rattle.std.proofs.Common.{◌≡◌, ℕ, suc, ◌+◌, ◌-◌, List, [], ◌∷◌, ◌++◌, length, map, get_or, true, Option, Some, None, refl, sym, ap, subst, ◌∙◌, arith}
-use Rattle.std.specs.Prelude.{Contains}
+use Rattle.std.proofs.Common.{◌≡◌, ℕ, suc, ◌+◌, ◌-◌, List, [], ◌∷◌, ◌++◌, length, get_or, Option, Some, None, refl, sym, ap, subst, ◌∙◌, arith}
 use Rattle.sigstore_tuf_outside.specs.Repository.{Files}
 use Rattle.sigstore_policy.specs.Policy.{Meaning, meaning_in}
 use Rattle.release_gate.specs.Names.{bundle_name}
@@ -10,11 +9,10 @@ use Rattle.release_gate.specs.Verdict.{by_file, verdict_by, IsAcceptedBy, IsAdmi
 use Rattle.release_gate.specs.declared.line.Verdict.{Verdict}
 use Rattle.release_gate.specs.declared.line.Verdict.TheVariants.{Admitted, Missing, NoRule, Unsigned, BundleTooLong, Denied}
 use Rattle.release_gate.proofs.Admitting.{admits_exactly}
-use Rattle.release_gate.proofs.Lining.{Among, among_of, contains_of}
-use Rattle.command_files.specs.declared.named_rules.NamedRule.{NamedRule}
-use Rattle.command_mirror.specs.Mirror.{MirrorTerms, terms_for, verdict_for, ServesFirst, IsAdmittedFor, AdmitsForExactly}
-use Rattle.command_mirror.specs.Serving.{serves, serving, number_at, numbers_in, numbered}
-use Rattle.command_mirror.proofs.Placing.{Placed, placed, Served, served_at}
+use Rattle.release_gate.proofs.Lining.{among_of, contains_of}
+use Rattle.command_mirror.specs.Mirror.{MirrorTerms, terms_for, verdict_for, IsAdmittedFor, AdmitsForExactly}
+use Rattle.command_mirror.specs.Serving.{serving, number_at, numbers_in, numbered}
+use Rattle.command_mirror.proofs.Placing.{placed, served_at}
 
 same_admission : (rule other : ℕ) (digest own : List ℕ) → Admitted rule digest ≡ Admitted other own → (rule ≡ other) × (digest ≡ own)
 same_admission rule other digest own h =

@@ -1,7 +1,7 @@
 -- Where nothing outside fails, the lines on the names are said, and their sums are put in their place.
-use Rattle.std.proofs.Common.{◌≡◌, ◌⊎◌, inl, inr, ℕ, List, [], Bool, true, false, Option, Some, None, Result, Ok, Err, refl, sym, ap, ◌∙◌, subst}
+use Rattle.std.proofs.Common.{◌≡◌, ◌⊎◌, inl, inr, ℕ, List, [], Bool, false, Option, Some, None, Result, Ok, Err, refl, sym, ap, ◌∙◌, subst}
 use Rattle.foundation.specs.Watched.{Watched, Rose, IfTold}
-use Rattle.foundation.specs.Results.{ok_same, some_same, no_both}
+use Rattle.foundation.specs.Results.{ok_same, no_both}
 use Rattle.foundation.specs.declared.no_memory.NoMemory.{NoMemory as OutOfMemory}
 use Rattle.sigstore_judgement.specs.declared.error.Error.{Error}
 use Rattle.sigstore_judgement.specs.declared.error.Error.TheVariants as verify
@@ -13,7 +13,6 @@ use Rattle.release_gate.specs.declared.gate.GateFault.{GateFault}
 use Rattle.release_gate.specs.declared.gate.GateFault.TheVariants as gate
 use Rattle.release_gate.specs.declared.line.GateLine.{GateLine}
 use Rattle.release_gate.proofs.Gating.{never_stopped as never_halted}
-use Rattle.command_download.specs.declared.shelf.Placed.{Placed}
 use Rattle.command_files.specs.Ending.{TakesAll, ends_unsaid, ends_cut, ends_written}
 use Rattle.command_files.specs.Starting.{Command, now_of, unstarted, stopped, begun}
 use Rattle.command_files.specs.declared.answer.Answer.{Answer}
@@ -22,7 +21,6 @@ use Rattle.command_files.specs.declared.answer.Status.TheVariants as status
 use Rattle.command_files.specs.declared.usage_fault.UsageFault.TheVariants.{Usage}
 use Rattle.command_files.proofs.Starts.{quiet_not_rose, never_stopped, begun_same}
 use Rattle.command_files.proofs.Wholes.{same_whole, never_unread}
-use Rattle.command_gate.specs.Lines.{status_by}
 use Rattle.command_gate.specs.Run.{fault_answer}
 use Rattle.command_ways.specs.FolderRun.{unusable_answer, came_answer}
 use Rattle.command_ways.specs.Trust.{file_of, GivesTrust}
@@ -38,7 +36,7 @@ use Rattle.command_mirror.specs.Layout.{mirror_layout_of}
 use Rattle.command_mirror.specs.Lines.{mirror_answer, sums_text}
 use Rattle.command_mirror.specs.Names.{max_list, names_of}
 use Rattle.command_mirror.specs.Promises.{SumsAre}
-use Rattle.command_mirror.specs.Run.{Environment, Resting, mirror_given_by, mirror_answer_by, told_as, JudgesSelected, JudgesNamesOf, unnamed, named, Says, EndsMirror, gate_status, status_told}
+use Rattle.command_mirror.specs.Run.{Environment, Resting, mirror_answer_by, told_as, JudgesSelected, JudgesNamesOf, unnamed, named, Says, EndsMirror, gate_status, status_told}
 use Rattle.command_mirror.specs.Walk.{AreMirrorLines, MirrorCause}
 use Rattle.command_mirror.specs.declared.inputs.MirrorGoverned.{MirrorGoverned}
 use Rattle.command_mirror.specs.declared.inputs.NamesFault.{NamesFault}
@@ -188,22 +186,28 @@ module _ (resting : Resting) (command : Command) (before after : Environment) (t
   puts_so lines path said j is (want_sums e k h) = cc
   puts_so lines path said j is (sums_unplaced p h) = inl (ok_same said unplaced_answer h, p.failed refl)
   puts_so lines path said j is (sums_placed p h) =
-      inr (refl, record {
-        lines = lines;
-        judged = j;
-        sums = subst (λ (o : Option (List ℕ)). SumsAre o lines before.outside.shelf after.outside.shelf) (sym is) p.puts;
-        is = ok_same said (mirror_answer f.layout.outputs.long lines) h;
-      })
+      inr (
+        refl,
+        record {
+          lines = lines;
+          judged = j;
+          sums = subst (λ (o : Option (List ℕ)). SumsAre o lines before.outside.shelf after.outside.shelf) (sym is) p.puts;
+          is = ok_same said (mirror_answer f.layout.outputs.long lines) h;
+        },
+      )
 
   gives_so : (lines : List GateLine) (asked : Option (List ℕ)) (said : Answer) → Lines f.material lines → f.layout.outputs.sums ≡ asked
       → GivesSums asked lines (mirror_answer f.layout.outputs.long lines) before.outside.shelf after.outside.shelf (Ok said) → Either false said
   gives_so lines None said j is (kept, h) =
-      inr (refl, record {
-        lines = lines;
-        judged = j;
-        sums = subst (λ (o : Option (List ℕ)). SumsAre o lines before.outside.shelf after.outside.shelf) (sym is) kept;
-        is = ok_same said (mirror_answer f.layout.outputs.long lines) h;
-      })
+      inr (
+        refl,
+        record {
+          lines = lines;
+          judged = j;
+          sums = subst (λ (o : Option (List ℕ)). SumsAre o lines before.outside.shelf after.outside.shelf) (sym is) kept;
+          is = ok_same said (mirror_answer f.layout.outputs.long lines) h;
+        },
+      )
   gives_so lines (Some path) said j is p = puts_so lines path said j is p
 
   yields_so : (lines : List GateLine) (said : Answer) → Lines f.material lines

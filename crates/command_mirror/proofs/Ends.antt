@@ -1,7 +1,6 @@
 -- What follows what came of a mirror.
-use Rattle.std.proofs.Common.{◌≡◌, ℕ, List, Bool, Option, Some, None, Result, Ok, Err, IfOk, Bor, option_map, refl, sym, ap, ◌∙◌, subst}
+use Rattle.std.proofs.Common.{◌≡◌, ℕ, List, Bool, Option, Result, Ok, Err, IfOk, refl, ap, subst}
 use Rattle.foundation.specs.Watched.{Watched}
-use Rattle.foundation.specs.Results.{some_same}
 use Rattle.foundation.specs.declared.no_memory.NoMemory.{NoMemory as OutOfMemory}
 use Rattle.release_gate.specs.declared.line.GateLine.{GateLine}
 use Rattle.command_download.specs.Shelf.{Places}
@@ -9,8 +8,7 @@ use Rattle.command_download.specs.declared.shelf.Placed.{Placed}
 use Rattle.command_download.specs.declared.shelf.ShelfFault.{ShelfFault}
 use Rattle.command_download.specs.declared.shelf.ShelfFault.TheVariants.{Failed}
 use Rattle.command_files.specs.declared.answer.Answer.{Answer}
-use Rattle.command_ways.specs.declared.folder_judging.FolderCame.{FolderCame}
-use Rattle.command_mirror.specs.Concluding.{lines_in, unplaced_answer, PutsSums, want_sums, sums_unplaced, sums_placed, GivesSums, YieldsLines, want_text, yields, ConcludesLines, ConcludesMirror}
+use Rattle.command_mirror.specs.Concluding.{unplaced_answer, PutsSums, want_sums, sums_unplaced, GivesSums, YieldsLines, yields}
 use Rattle.command_mirror.specs.Lines.{mirror_answer}
 
 module _ (path sums : List ℕ) (said : Answer) (old new : Watched (List Placed)) where

@@ -1,5 +1,5 @@
 -- Where no rule names whom it serves, the lines on a folder are those of a gate.
-use Rattle.std.proofs.Common.{◌≡◌, ◌≢◌, ◌⊎◌, inl, inr, ℕ, zero, suc, ◌+◌, ◌-◌, ◌<◌, List, [], ◌∷◌, ◌++◌, length, map, get_or, Bool, true, false, if◌then◌else◌, Option, Some, None, refl, sym, ap, subst, ◌∙◌, arith, append-nil, length-append}
+use Rattle.std.proofs.Common.{◌≡◌, ◌≢◌, inl, inr, ℕ, zero, suc, ◌+◌, ◌-◌, ◌<◌, List, [], ◌∷◌, ◌++◌, length, map, get_or, Bool, true, false, if◌then◌else◌, Some, refl, sym, ap, subst, ◌∙◌, arith, append-nil, length-append}
 use Rattle.std.specs.Prelude.{Contains, not}
 use Rattle.std.specs.List.{AllByRecursion}
 use Rattle.std.specs.List.Sorted.{IsStrictlySortedBy}
@@ -10,7 +10,7 @@ use Rattle.sigstore_policy.specs.Policy.{Meaning, meaning_in}
 use Rattle.release_gate.specs.Folder.{Contents, ListsFiles}
 use Rattle.release_gate.specs.Lines.{names_in, IsLine, AreLines}
 use Rattle.release_gate.specs.Named.{by_rules_of, missing_or, named_verdict}
-use Rattle.release_gate.specs.Names.{is_bundle, bundle_name, AreOrdered}
+use Rattle.release_gate.specs.Names.{is_bundle, bundle_name}
 use Rattle.release_gate.specs.Terms.{RuleTerms, rule_terms_over}
 use Rattle.release_gate.specs.Verdict.{by_file, verdict_by}
 use Rattle.release_gate.specs.declared.line.GateLine.{GateLine}
@@ -20,7 +20,7 @@ use Rattle.release_gate.proofs.Admitting.{admits_exactly}
 use Rattle.release_gate.proofs.Lining.{Among, among_of, contains_of}
 use Rattle.command_files.specs.declared.named_rules.NamedRule.{NamedRule}
 use Rattle.command_mirror.specs.Mirror.{MirrorTerms, terms_for, verdict_for, line_for, lines_over}
-use Rattle.command_mirror.specs.Serving.{serves, serving_from, serving, number_at, numbers_in, meanings_in, numbered}
+use Rattle.command_mirror.specs.Serving.{serves, serving_from, serving, numbers_in, meanings_in, numbered}
 use Rattle.command_mirror.specs.Walk.{is_artifact, artifacts_in}
 use Rattle.command_mirror.specs.Whole.{plain_terms, NamesNobody, WholeAsGated}
 use Rattle.command_mirror.proofs.Asking.{artifact_of, of_artifact}

@@ -1,6 +1,6 @@
 -- What each status of a run over a mirror means, what is in the place of the sums, and on what the lines rest.
-use Rattle.std.proofs.Common.{◌≡◌, ◌⊎◌, inl, inr, ℕ, List, Bool, true, false, if◌then◌else◌, Option, Some, None, Result, Ok, Err, IfOk, refl, sym, ap, ◌∙◌, subst}
-use Rattle.foundation.specs.Watched.{Watched, Rose}
+use Rattle.std.proofs.Common.{◌≡◌, inl, inr, ℕ, List, Bool, true, false, if◌then◌else◌, Option, Some, None, Result, Ok, Err, refl, sym, ap, subst}
+use Rattle.foundation.specs.Watched.{Watched}
 use Rattle.foundation.specs.Results.{ok_same, some_same, no_both}
 use Rattle.foundation.specs.declared.no_memory.NoMemory.{NoMemory as OutOfMemory}
 use Rattle.sigstore_judgement.specs.declared.error.Error.TheVariants as verify
@@ -14,7 +14,7 @@ use Rattle.release_gate.specs.declared.line.GateLine.{GateLine}
 use Rattle.command_archive.specs.Reading.{archive_answer, unread_answer}
 use Rattle.command_download.specs.declared.shelf.Placed.{Placed}
 use Rattle.command_files.specs.Ending.{TakesAll, ends_unsaid, ends_cut, ends_written}
-use Rattle.command_files.specs.Starting.{Command, now_of, unstarted, stopped, begun}
+use Rattle.command_files.specs.Starting.{Command, unstarted, stopped, begun}
 use Rattle.command_files.specs.declared.answer.Answer.{Answer}
 use Rattle.command_files.specs.declared.answer.Status.{Status}
 use Rattle.command_files.specs.declared.answer.Status.TheVariants as status
@@ -31,8 +31,8 @@ use Rattle.command_mirror.specs.Concluding.{is_untrusted, lines_in, unplaced_ans
 use Rattle.command_mirror.specs.Inputs.{mirror_governed_of, Selects, names_answer}
 use Rattle.command_mirror.specs.Layout.{mirror_layout_of}
 use Rattle.command_mirror.specs.Lines.{mirror_text, mirror_answer, sums_text}
-use Rattle.command_mirror.specs.Promises.{Asked, Selected, CameIs, JudgedLines, IsPut, SumsAre, IsUntouched, Faults, Means, IsDelivered, Keeps, RestsOn, Rested}
-use Rattle.command_mirror.specs.Run.{Environment, Outside, Resting, mirror_answer_by, told_as, JudgesSelected, JudgesNamesOf, unnamed, named, Says, EndsMirror, gate_status, status_told}
+use Rattle.command_mirror.specs.Promises.{Asked, Selected, CameIs, SumsAre, IsUntouched, Faults, Means, Keeps, RestsOn, Rested}
+use Rattle.command_mirror.specs.Run.{Environment, Outside, Resting, mirror_answer_by, told_as, unnamed, named, Says, EndsMirror, gate_status, status_told}
 use Rattle.command_mirror.specs.declared.inputs.NamesFault.{NamesFault}
 use Rattle.command_mirror.specs.declared.inputs.NamesFault.TheVariants as fault
 use Rattle.command_mirror.specs.declared.program.GateStatus.{GateStatus}

@@ -7,14 +7,13 @@ use Rattle.std.specs.declared.cmp.Ordering.TheVariants as ordering
 use Rattle.std.specs.Str.Lossy.{utf8_valid_len}
 use Rattle.std.specs.Prelude.{◌==◌, nat_le}
 use Rattle.std.proofs.lemmas.Cmp.{nat_list_cmp_total}
-use Rattle.foundation.specs.Steps.{◌>>=◌}
 use Rattle.foundation.specs.Results.{and_true, ok_same, step_ok}
 use Rattle.sigstore_types_parts.specs.Entries.{text_cmp}
 use Rattle.release_gate.specs.Names.{max_names}
 use Rattle.command_files.specs.Lines.{cut_of, lines_of}
 use Rattle.command_files.specs.declared.usage_fault.UsageFault.{UsageFault}
 use Rattle.command_files.specs.declared.usage_fault.UsageFault.TheVariants.{Usage}
-use Rattle.command_files.proofs.Folds.{lines_cut, lines_uncut}
+use Rattle.command_files.proofs.Folds.{lines_cut}
 use Rattle.command_mirror.specs.Names.{is_name, ascend, is_list, checked, names_by, names_of, NamesAscend}
 
 -- ---- lines one by one

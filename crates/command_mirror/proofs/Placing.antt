@@ -1,7 +1,6 @@
 -- The place in the policy file of a rule by its place among those that serve a name.
-use Rattle.std.proofs.Common.{◌≡◌, ◌⊎◌, inl, inr, ℕ, zero, suc, ◌+◌, List, [], ◌∷◌, ◌++◌, length, map, get_or, Bool, true, false, if◌then◌else◌, refl, sym, ap, subst, ◌∙◌, arith}
+use Rattle.std.proofs.Common.{◌≡◌, inl, inr, ℕ, suc, ◌+◌, List, [], ◌∷◌, ◌++◌, length, get_or, Bool, true, false, if◌then◌else◌, refl, sym, ap, ◌∙◌, arith}
 use Rattle.sigstore_policy.specs.Policy.{Meaning, meaning_in}
-use Rattle.sigstore_policy.specs.declared.policy.SigningPolicy.{SigningPolicy}
 use Rattle.release_gate.proofs.Lining.{Among}
 use Rattle.command_files.specs.declared.named_rules.NamedRule.{NamedRule}
 use Rattle.command_mirror.specs.Serving.{serves, serving_from, numbers_in, meanings_in}

@@ -1,12 +1,9 @@
 -- The inputs of a gate over a mirror.
-use Rattle.std.proofs.Common.{◌≡◌, ℕ, List, Option, Some, None, Result, Ok, Err, refl, sym, ap, subst, ◌∙◌}
 use Rattle.command_files.specs.Gather.{IsMalformed}
 use Rattle.command_files.specs.Inputs.{Supply}
 use Rattle.command_files.specs.NamedRules.{named_rules_of}
 use Rattle.command_files.specs.Rules.{rules_of}
 use Rattle.command_files.specs.declared.inputs.InputFile.TheVariants.{Policy}
-use Rattle.command_files.specs.declared.usage_fault.UsageFault.{UsageFault}
-use Rattle.command_files.specs.declared.usage_fault.UsageFault.TheVariants.{Usage}
 use Rattle.command_files.proofs.NamedFacts.{plainly_malformed}
 
 -- a policy file that isn't read with names isn't read without them

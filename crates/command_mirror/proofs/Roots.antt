@@ -1,5 +1,5 @@
 -- The names that were judged under a trusted root were judged by the way that gave it.
-use Rattle.std.proofs.Common.{◌≡◌, ◌≢◌, Result, Ok, Err, sym, subst}
+use Rattle.std.proofs.Common.{◌≡◌, ◌≢◌, Ok, Err, sym, subst}
 use Rattle.sigstore_judgement.specs.declared.error.Error.TheVariants.{NoMemory}
 use Rattle.release_gate.specs.Gate.{kept_of}
 use Rattle.command_ways.specs.FolderJudging.{FolderOutside}

@@ -1,12 +1,11 @@
 -- What the parts of a run over a mirror say of the whole.
-use Rattle.std.proofs.Common.{◌≡◌, false, Some, Result, Ok, Err, IfOk, refl, sym, ap, subst, ◌∙◌}
+use Rattle.std.proofs.Common.{◌≡◌, false, Some, Result, Ok, Err, IfOk, refl, sym, subst}
 use Rattle.jiff_core.specs.declared.timestamp.Timestamp as jiff
-use Rattle.foundation.specs.Results.{ok_same}
 use Rattle.foundation.specs.declared.no_memory.NoMemory.{NoMemory as OutOfMemory}
 use Rattle.command_files.specs.declared.answer.Answer.{Answer}
 use Rattle.command_ways.specs.declared.layout.TrustedBy.{TrustedBy}
 use Rattle.command_mirror.specs.Inputs.{names_answer}
-use Rattle.command_mirror.specs.Run.{Outside, Resting, mirror_answer_by, told_as, JudgesNamesOf}
+use Rattle.command_mirror.specs.Run.{Outside, Resting, told_as, JudgesNamesOf}
 use Rattle.command_mirror.specs.declared.inputs.MirrorGoverned.{MirrorGoverned}
 use Rattle.command_mirror.specs.declared.inputs.NamesFault.{NamesFault}
 use Rattle.command_mirror.specs.declared.layout.MirrorOutputs.{MirrorOutputs}

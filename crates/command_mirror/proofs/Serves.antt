@@ -1,10 +1,9 @@
 -- Which rules serve a name, and the numbers of rules.
-use Rattle.std.proofs.Common.{◌≡◌, ℕ, suc, ◌+◌, ◌<◌, List, [], ◌∷◌, ◌++◌, length, map, Bool, true, false, if◌then◌else◌, get_or, drop, refl, sym, ap, ◌∙◌, append_assoc, append-nil, add-one, drop-cons, arith}
+use Rattle.std.proofs.Common.{◌≡◌, ℕ, suc, ◌+◌, ◌<◌, List, [], ◌∷◌, ◌++◌, length, map, Bool, true, false, if◌then◌else◌, get_or, drop, refl, sym, ap, ◌∙◌, append_assoc, add-one, drop-cons, arith}
 use Rattle.std.proofs.lemmas.List.{map-append}
 use Rattle.sigstore_policy.specs.declared.policy.SigningPolicy.{SigningPolicy}
 use Rattle.command_files.specs.declared.named_rules.NamedRule.{NamedRule}
-use Rattle.command_mirror.specs.Serving.{serves, serving_from, serving, numbers_in, policies_in, IsWith}
-use Rattle.command_mirror.specs.declared.serving.Serving.{Serving}
+use Rattle.command_mirror.specs.Serving.{serves, serving_from}
 
 -- the first rule, and those behind it
 served_first : (n : ℕ) (rule : NamedRule) (rules : List NamedRule) (name : List ℕ)

@@ -1,13 +1,12 @@
 -- The walk over names: each is judged by itself.
-use Rattle.std.proofs.Common.{◌≡◌, ◌⊎◌, inl, inr, ℕ, ◌+◌, ◌<◌, ◌≤◌, List, [], ◌∷◌, ◌++◌, length, map, take, drop, get_or, Option, Some, None, Result, Ok, Err, refl, sym, ap, subst, ◌∙◌, arith, add-one, drop-cons, take-append-drop}
-use Rattle.std.specs.Prelude.{IfOk, IfErr, ⊤}
+use Rattle.std.proofs.Common.{◌≡◌, ℕ, ◌+◌, ◌<◌, ◌≤◌, List, [], ◌∷◌, ◌++◌, length, take, drop, get_or, Option, Some, None, Result, Ok, Err, refl, sym, ap, subst, ◌∙◌, add-one, drop-cons, take-append-drop}
 use Rattle.std.proofs.lemmas.List.{map-append, take_more, take_all}
-use Rattle.foundation.specs.Watched.{Watched, Rose, IfTold, Since}
+use Rattle.foundation.specs.Watched.{Watched, IfTold, Since}
 use Rattle.foundation.specs.Results.{err_same}
-use Rattle.release_gate.specs.Folder.{Contents, Call}
+use Rattle.release_gate.specs.Folder.{Contents}
 use Rattle.release_gate.specs.Gate.{FolderCause}
-use Rattle.release_gate.specs.Named.{named_verdict, NamedCause, JudgesNamed, RestsNamed}
-use Rattle.release_gate.specs.Walk.{IsInOrder, GivesNames}
+use Rattle.release_gate.specs.Named.{named_verdict, JudgesNamed}
+use Rattle.release_gate.specs.Walk.{IsInOrder}
 use Rattle.release_gate.specs.declared.gate.GateFault.{GateFault}
 use Rattle.release_gate.specs.declared.gate.GateFault.TheVariants as gate
 use Rattle.release_gate.specs.declared.line.GateLine.{GateLine}
@@ -17,7 +16,7 @@ use Rattle.release_gate.proofs.Walking.{told_before, since_both}
 use Rattle.command_mirror.proofs.Asking.{asked_as}
 use Rattle.command_mirror.specs.Mirror.{MirrorTerms, terms_for, verdict_for, line_for, lines_over, LinesOfParts}
 use Rattle.command_mirror.specs.Serving.{serving, numbers_in, numbered, numbered_result}
-use Rattle.command_mirror.specs.Walk.{AreAsked, AreListedLines, JudgesFor, JudgesNames, JudgesListed, RestsFor, WalkedNames, begun, judged, StopsAtName, WalksEach, all_walked, walk_stopped, walk_cut, StepsName, line_added, name_stops, line_lost}
+use Rattle.command_mirror.specs.Walk.{AreAsked, AreListedLines, JudgesFor, JudgesNames, JudgesListed, WalkedNames, judged, WalksEach, all_walked, walk_stopped, walk_cut, StepsName, line_added, name_stops, line_lost}
 
 pub lines_of_parts : LinesOfParts
 lines_of_parts verdict names others = map-append (line_for verdict) names others

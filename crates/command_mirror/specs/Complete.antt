@@ -1,5 +1,5 @@
 -- When `gate` over a mirror has to judge: where nothing outside fails.
-use Rattle.std.specs.Prelude.{◌≡◌, ◌⊎◌, ℕ, ◌≤◌, List, length, Option, Some, Ok, ⊤}
+use Rattle.std.specs.Prelude.{◌≡◌, ◌⊎◌, ℕ, ◌≤◌, List, length, Ok, ⊤}
 use Rattle.foundation.specs.Watched.{Watched, Rose}
 use Rattle.sigstore_judgement.specs.declared.trust.Material.{Material}
 use Rattle.sigstore_verify.specs.Complete.{TellsQuietly}

@@ -1,7 +1,7 @@
 -- The judgement of a mirror under a trusted root, by the way that is asked.
-use Rattle.std.specs.Prelude.{◌≡◌, ◌≢◌, ℕ, List, map, Result, Ok, Err}
+use Rattle.std.specs.Prelude.{◌≡◌, ◌≢◌, ℕ, List, Result, Ok, Err}
 use Rattle.jiff_core.specs.declared.timestamp.Timestamp as jiff
-use Rattle.foundation.specs.Watched.{Watched, IfTold, Since}
+use Rattle.foundation.specs.Watched.{Watched}
 use Rattle.sigstore_types_parts.specs.declared.armor.Armor as armor
 use Rattle.sigstore_keys.specs.Crypto.{Crypto}
 use Rattle.sigstore_keys.specs.declared.provider.CryptoProvider as provider

@@ -1,5 +1,5 @@
 -- The lines of a mirror, and the sums of those that are admitted.
-use Rattle.std.specs.Prelude.{◌≡◌, ℕ, ◌==◌, List, [], ◌∷◌, ◌++◌, codes, Bool, true, false, not, ◌||◌, if◌then◌else◌, bytes_eq, Contains}
+use Rattle.std.specs.Prelude.{◌≡◌, ℕ, ◌==◌, List, [], ◌∷◌, ◌++◌, codes, Bool, ◌||◌, if◌then◌else◌, bytes_eq}
 use Rattle.std.specs.Fmt.{decimal}
 use Rattle.std.specs.List.{list_any}
 use Rattle.hex.specs.Hex.{encode_lower}

@@ -1,9 +1,9 @@
 -- What is said of the names of a mirror: of each by itself, under the rules that serve it.
-use Rattle.std.specs.Prelude.{◌≡◌, ℕ, suc, ◌≤◌, ◌↔◌, List, [], ◌∷◌, ◌++◌, length, map, Contains, true, IsTrue, Some, Ok}
+use Rattle.std.specs.Prelude.{◌≡◌, ℕ, suc, ◌≤◌, ◌↔◌, List, ◌∷◌, ◌++◌, length, map, Contains, IsTrue, Some, Ok}
 use Rattle.sigstore_types.specs.Bundle.{bundle_of_bytes}
 use Rattle.sigstore_types.specs.declared.bundle.Bundle.{Bundle}
 use Rattle.sigstore_tuf_outside.specs.Repository.{Files}
-use Rattle.sigstore_policy.specs.Policy.{Meaning, meaning_in}
+use Rattle.sigstore_policy.specs.Policy.{meaning_in}
 use Rattle.sigstore_judgement.specs.Grounds.{Grounds}
 use Rattle.release_gate.specs.Names.{bundle_name}
 use Rattle.release_gate.specs.Named.{named_verdict}

@@ -1,7 +1,6 @@
 -- What the statuses of a run of `gate` over a mirror mean, what is in the place of the sums, and on what the lines rest.
-use Rattle.std.specs.Prelude.{◌≡◌, ◌⊎◌, ℕ, List, [], ◌∷◌, true, false, Option, Some, None, Result, Ok, Err, ⊤}
+use Rattle.std.specs.Prelude.{◌≡◌, ◌⊎◌, ℕ, List, [], ◌∷◌, true, false, Option, Some, None, Ok, Err, ⊤}
 use Rattle.foundation.specs.Watched.{Watched, Rose}
-use Rattle.release_gate.specs.declared.gate.GateFault.{GateFault}
 use Rattle.release_gate.specs.declared.line.GateLine.{GateLine}
 use Rattle.command_download.specs.Shelf.{placed, with_files}
 use Rattle.command_download.specs.declared.shelf.Placed.{Placed}
@@ -11,11 +10,9 @@ use Rattle.command_files.specs.declared.answer.Answer.{Answer}
 use Rattle.command_files.specs.declared.answer.Status.TheVariants as status
 use Rattle.command_gate.specs.Lines.{all_admitted}
 use Rattle.command_ways.specs.FolderRun.{came_answer}
-use Rattle.command_ways.specs.Trust.{GivesTrust}
 use Rattle.command_ways.specs.declared.folder_judging.FolderCame.{FolderCame}
-use Rattle.command_ways.specs.declared.folder_judging.FolderCame.TheVariants.{Untrusted as NoRoot, Unusable, Judged}
+use Rattle.command_ways.specs.declared.folder_judging.FolderCame.TheVariants.{Judged}
 use Rattle.command_ways.specs.declared.trust.Trust.{Trust}
-use Rattle.command_ways.specs.declared.trust.TrustFault.{TrustFault}
 use Rattle.command_mirror.specs.Concluding.{is_untrusted, lines_in, unplaced_answer}
 use Rattle.command_mirror.specs.Inputs.{mirror_governed_of, Selects, names_answer}
 use Rattle.command_mirror.specs.Judging.{MirrorInputs, MirrorsWay}

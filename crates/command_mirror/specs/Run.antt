@@ -1,13 +1,9 @@
 -- A run of `gate` over a mirror: what it goes to, and what it says.
-use Rattle.std.specs.Prelude.{◌≡◌, ℕ, List, Bool, true, false, Option, Some, Result, Ok, Err, IfOk}
+use Rattle.std.specs.Prelude.{◌≡◌, ℕ, List, Bool, true, false, Some, Result, Ok, Err, IfOk}
 use Rattle.jiff_core.specs.declared.timestamp.Timestamp as jiff
 use Rattle.foundation.specs.Watched.{Watched}
 use Rattle.foundation.specs.declared.no_memory.NoMemory.{NoMemory as OutOfMemory}
-use Rattle.sigstore_keys.specs.Crypto.{Crypto}
-use Rattle.sigstore_tuf_outside.specs.Repository.{Files, Folders}
-use Rattle.release_gate.specs.Folder.{Contents}
 use Rattle.command_download.specs.declared.shelf.Placed.{Placed}
-use Rattle.command_files.specs.Answer.{answer}
 use Rattle.command_files.specs.Ending.{Ends}
 use Rattle.command_files.specs.Inputs.{Supply}
 use Rattle.command_files.specs.Starting as start
@@ -16,7 +12,7 @@ use Rattle.command_files.specs.Tables.{crypto_of}
 use Rattle.command_files.specs.declared.answer.Answer.{Answer}
 use Rattle.command_files.specs.declared.answer.Status.{Status}
 use Rattle.command_files.specs.declared.answer.Status.TheVariants as status
-use Rattle.command_ways.specs.FolderJudging.{FolderOutside, folder_outside_by}
+use Rattle.command_ways.specs.FolderJudging.{FolderOutside}
 use Rattle.command_ways.specs.declared.folder_judging.FolderCame.{FolderCame}
 use Rattle.command_ways.specs.declared.layout.TrustedBy.{TrustedBy}
 use Rattle.command_mirror.specs.Concluding.{is_untrusted, ConcludesMirror}
@@ -25,7 +21,6 @@ use Rattle.command_mirror.specs.Judging.{MirrorInputs, mirror_given_with, Mirror
 use Rattle.command_mirror.specs.Layout.{mirror_layout_of}
 use Rattle.command_mirror.specs.declared.inputs.MirrorGoverned.{MirrorGoverned}
 use Rattle.command_mirror.specs.declared.inputs.NamesFault.{NamesFault}
-use Rattle.command_mirror.specs.declared.layout.MirrorLayout.{MirrorLayout}
 use Rattle.command_mirror.specs.declared.layout.MirrorOutputs.{MirrorOutputs}
 use Rattle.command_mirror.specs.declared.layout.NamesFile.{NamesFile}
 use Rattle.command_mirror.specs.declared.program.MirrorAnswer.{MirrorAnswer}

@@ -1,6 +1,6 @@
 -- Which names are judged, and what a walk over them promises.
 use Rattle.std.specs.Prelude.{◌≡◌, ℕ, ◌≤◌, List, [], ◌∷◌, ◌++◌, length, filter, Bool, not, Result, Ok, Err, IfOk, IfErr, ⊤}
-use Rattle.foundation.specs.Watched.{Watched, Rose, IfTold, Since}
+use Rattle.foundation.specs.Watched.{Watched, IfTold, Since}
 use Rattle.release_gate.specs.Folder.{Contents, Call}
 use Rattle.release_gate.specs.Gate.{FolderCause}
 use Rattle.release_gate.specs.Named.{NamedCause, RestsNamed}

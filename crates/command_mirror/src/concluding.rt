@@ -18,7 +18,8 @@ fn lines_in(came: &FolderCame) -> Option<&[GateLine]>
 {
     match came {
         FolderCame::Judged {
-            judged: Ok(lines), ..
+            judged: Ok(lines),
+            ..
         } => Some(lines.as_slice()),
         _ => None,
     }

@@ -57,10 +57,7 @@ fn formed(alloc: Global, bytes: Bytes) -> Result<Sequence<NamedRule>, CommandSto
     }
 }
 
-fn take_rules<I: Inputs>(
-    alloc: Global,
-    inputs: &mut I,
-) -> Result<Sequence<NamedRule>, CommandStop>
+fn take_rules<I: Inputs>(alloc: Global, inputs: &mut I) -> Result<Sequence<NamedRule>, CommandStop>
     ensures { ReadsAs named_rules_in (I.seen inputs.old) (I.seen inputs.new) result }
 {
     match inputs.read(alloc, InputFile::Policy, InputFile::Policy.limit()) {

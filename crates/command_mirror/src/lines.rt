@@ -147,12 +147,7 @@ fn push_name(text: &mut Vec<u8>, name: &[u8]) -> Result<(), NoMemory>
 }
 
 // Adds the line of a file and its SHA-256 value.
-fn push_sum(
-    alloc: Global,
-    text: &mut Vec<u8>,
-    name: &[u8],
-    digest: &[u8],
-) -> Result<(), NoMemory>
+fn push_sum(alloc: Global, text: &mut Vec<u8>, name: &[u8], digest: &[u8]) -> Result<(), NoMemory>
     ensures { OnOk result (text.new.items ≡ text.old.items ++ sum_line name.now digest.now) }
 {
     push_mark(text, name)?;
@@ -185,7 +180,12 @@ pub fn sums(alloc: Global, lines: &[GateLine]) -> Result<Vec<u8>, NoMemory>
 {
     let mut text = Vec::new(alloc);
     'lines: for line in lines {
-        push_sum_of(alloc, &mut text, line.name.as_str().as_bytes(), &line.verdict)?;
+        push_sum_of(
+            alloc,
+            &mut text,
+            line.name.as_str().as_bytes(),
+            &line.verdict,
+        )?;
     }
     Ok(text)
 }

@@ -86,13 +86,7 @@ pub(crate) struct Asked {
 }
 
 // The names are judged, and what is said of them and put.
-fn judge_selected<
-    R: Repository,
-    S: MetadataStore,
-    B: ArtifactSource,
-    D: Folder,
-    F: Shelf,
->(
+fn judge_selected<R: Repository, S: MetadataStore, B: ArtifactSource, D: Folder, F: Shelf>(
     alloc: Global,
     asked: Asked,
     selection: &Selection,
@@ -194,9 +188,9 @@ fn decide<
 ) -> Result<MirrorAnswer, NoMemory>
     ensures { Says (RestsMirror D.gave folder.old folder.new) (command_of line.now)
         (environment_by (I.seen inputs.old) (outside_by
-            (folder_outside_by (R.seen repo.old) (S.seen store.old) (B.seen archive.old) (D.seen folder.old)) (N.seen names.old) (F.seen shelf.old)))
+        (folder_outside_by (R.seen repo.old) (S.seen store.old) (B.seen archive.old) (D.seen folder.old)) (N.seen names.old) (F.seen shelf.old)))
         (environment_by (I.seen inputs.new) (outside_by
-            (folder_outside_by (R.seen repo.new) (S.seen store.new) (B.seen archive.new) (D.seen folder.new)) (N.seen names.new) (F.seen shelf.new)))
+        (folder_outside_by (R.seen repo.new) (S.seen store.new) (B.seen archive.new) (D.seen folder.new)) (N.seen names.new) (F.seen shelf.new)))
         result }
 {
     match start(alloc, mirror_layout(alloc, line.words), inputs) {
@@ -260,26 +254,26 @@ pub fn run_mirror<
 ) -> GateStatus
     ensures means { Means (command_of line.now)
         (environment_by (I.seen inputs.old) (outside_by
-            (folder_outside_by (R.seen repo.old) (S.seen store.old) (B.seen archive.old) (D.seen folder.old)) (N.seen names.old) (F.seen shelf.old)))
+        (folder_outside_by (R.seen repo.old) (S.seen store.old) (B.seen archive.old) (D.seen folder.old)) (N.seen names.old) (F.seen shelf.old)))
         (environment_by (I.seen inputs.new) (outside_by
-            (folder_outside_by (R.seen repo.new) (S.seen store.new) (B.seen archive.new) (D.seen folder.new)) (N.seen names.new) (F.seen shelf.new)))
+        (folder_outside_by (R.seen repo.new) (S.seen store.new) (B.seen archive.new) (D.seen folder.new)) (N.seen names.new) (F.seen shelf.new)))
         (K.seen out.old) (K.seen out.new) result }
     ensures keeps { Keeps (command_of line.now)
         (environment_by (I.seen inputs.old) (outside_by
-            (folder_outside_by (R.seen repo.old) (S.seen store.old) (B.seen archive.old) (D.seen folder.old)) (N.seen names.old) (F.seen shelf.old)))
+        (folder_outside_by (R.seen repo.old) (S.seen store.old) (B.seen archive.old) (D.seen folder.old)) (N.seen names.old) (F.seen shelf.old)))
         (environment_by (I.seen inputs.new) (outside_by
-            (folder_outside_by (R.seen repo.new) (S.seen store.new) (B.seen archive.new) (D.seen folder.new)) (N.seen names.new) (F.seen shelf.new))) }
+        (folder_outside_by (R.seen repo.new) (S.seen store.new) (B.seen archive.new) (D.seen folder.new)) (N.seen names.new) (F.seen shelf.new))) }
     ensures complete { Completes (command_of line.now)
         (environment_by (I.seen inputs.old) (outside_by
-            (folder_outside_by (R.seen repo.old) (S.seen store.old) (B.seen archive.old) (D.seen folder.old)) (N.seen names.old) (F.seen shelf.old)))
+        (folder_outside_by (R.seen repo.old) (S.seen store.old) (B.seen archive.old) (D.seen folder.old)) (N.seen names.old) (F.seen shelf.old)))
         (environment_by (I.seen inputs.new) (outside_by
-            (folder_outside_by (R.seen repo.new) (S.seen store.new) (B.seen archive.new) (D.seen folder.new)) (N.seen names.new) (F.seen shelf.new)))
+        (folder_outside_by (R.seen repo.new) (S.seen store.new) (B.seen archive.new) (D.seen folder.new)) (N.seen names.new) (F.seen shelf.new)))
         (K.seen out.old) (K.seen out.new) result }
     ensures rests { Rested (RestsMirror D.gave folder.old folder.new) (command_of line.now)
         (environment_by (I.seen inputs.old) (outside_by
-            (folder_outside_by (R.seen repo.old) (S.seen store.old) (B.seen archive.old) (D.seen folder.old)) (N.seen names.old) (F.seen shelf.old)))
+        (folder_outside_by (R.seen repo.old) (S.seen store.old) (B.seen archive.old) (D.seen folder.old)) (N.seen names.old) (F.seen shelf.old)))
         (environment_by (I.seen inputs.new) (outside_by
-            (folder_outside_by (R.seen repo.new) (S.seen store.new) (B.seen archive.new) (D.seen folder.new)) (N.seen names.new) (F.seen shelf.new)))
+        (folder_outside_by (R.seen repo.new) (S.seen store.new) (B.seen archive.new) (D.seen folder.new)) (N.seen names.new) (F.seen shelf.new)))
         result }
 {
     let said = decide(

@@ -1,5 +1,5 @@
 -- What it means that an artifact is admitted.
-use Rattle.std.proofs.Common.{◌≡◌, ℕ, suc, ◌≤◌, List, [], ◌∷◌, ◌++◌, length, map, Bool, true, false, nat_lt, Option, Some, None, Result, Ok, Err, refl, sym, ap, subst, ◌∙◌, inl, inr}
+use Rattle.std.proofs.Common.{◌≡◌, ℕ, suc, ◌≤◌, List, [], ◌∷◌, ◌++◌, length, Bool, true, false, nat_lt, Option, Some, None, Result, Ok, Err, refl, sym, ap, ◌∙◌, inl, inr}
 use Rattle.std.specs.Prelude.{Contains}
 use Rattle.std.proofs.lemmas.Bool.{le-ltb, ltb-false}
 use Rattle.foundation.specs.Steps.{◌>>=◌}
@@ -24,7 +24,7 @@ use Rattle.sigstore_judgement.proofs.RulesLaw.{unread_refused}
 use Rattle.release_gate.specs.declared.line.Verdict.TheVariants.{Admitted}
 use Rattle.release_gate.specs.Names.{bundle_name}
 use Rattle.release_gate.specs.Terms.{RuleTerms}
-use Rattle.release_gate.specs.Verdict.{max_bundle, had_of, sha256_of, by_answers, by_rules, by_bundle, by_file, verdict_by, IsAcceptedBy, AcceptsOver, IsAdmitted, AdmitsExactly}
+use Rattle.release_gate.specs.Verdict.{max_bundle, sha256_of, by_answers, by_rules, by_bundle, by_file, verdict_by, IsAcceptedBy, AcceptsOver, IsAdmitted, AdmitsExactly}
 use Rattle.release_gate.proofs.Lining.{Among, among_of, contains_of}
 use Rattle.release_gate.proofs.Ruled.{had_whole}
 

@@ -1,6 +1,6 @@
 -- The judgement of one name, whether the folder lists it or not.
-use Rattle.std.proofs.Common.{◌≡◌, ◌⊎◌, inl, inr, ℕ, List, [], ◌∷◌, Bool, true, false, Option, Some, None, Result, Ok, Err, refl, sym, ap, subst, ◌∙◌, le_trans, arith}
-use Rattle.std.specs.Prelude.{is_some, IfOk, IfErr}
+use Rattle.std.proofs.Common.{◌≡◌, ◌⊎◌, inl, inr, ℕ, List, Bool, true, false, Option, Some, None, Result, Ok, Err, refl, sym, ap, subst, ◌∙◌, arith}
+use Rattle.std.specs.Prelude.{is_some, IfErr}
 use Rattle.foundation.specs.Watched.{Watched, Rose, IfTold, Since}
 use Rattle.foundation.specs.Results.{ok_same, err_same}
 use Rattle.sigstore_tuf_text.specs.declared.error.Error.{Error as TufError}
@@ -17,7 +17,7 @@ use Rattle.release_gate.specs.Folder.{Contents, Call}
 use Rattle.release_gate.specs.Gate.{fault_of_stop, FolderCause}
 use Rattle.release_gate.specs.Names.{bundle_name}
 use Rattle.release_gate.specs.Named.{by_rules_of, missing_or, named_verdict, NamedCause, StopsNamed, JudgesNamed, Finds, FindsFile, found, absent, unfound, unsought, ReadsOwn, bare, long, given, failed, short}
-use Rattle.release_gate.specs.Named.{ReadsFound, ruleless, ruled, starved, ReadsNamed, missing, there, lost, needy, RestsNamed, verdict_said, AdmitsNamed}
+use Rattle.release_gate.specs.Named.{ReadsFound, ruleless, ruled, starved, ReadsNamed, missing, there, lost, needy, RestsNamed, AdmitsNamed}
 use Rattle.release_gate.specs.Reading.{Reads, unneeded, whole, longer, unread, unheld}
 use Rattle.release_gate.specs.Rests.{AdmittedOn}
 use Rattle.release_gate.specs.Terms.{RuleTerms}

@@ -13,7 +13,6 @@ use Rattle.sigstore_judgement.specs.declared.rules.ReadArtifact.TheVariants as h
 use Rattle.sigstore_judgement.specs.Taking.{Unhashed}
 use Rattle.release_gate.specs.declared.line.Verdict.{Verdict}
 use Rattle.release_gate.specs.declared.walk.FolderStop.{FolderStop}
-use Rattle.release_gate.specs.declared.walk.FolderStop.TheVariants as stop
 use Rattle.release_gate.specs.Folder.{Call}
 use Rattle.release_gate.specs.Given.{GivenTo, Digests}
 use Rattle.release_gate.specs.Judgement.{IsSaid, taken_by_rules, verdict_had, SaysUnread}

@@ -1,5 +1,5 @@
 -- What is said of one artifact.
-use Rattle.std.proofs.Common.{◌≡◌, ◌⊎◌, inl, inr, ℕ, List, [], length, true, false, Option, Some, None, Result, Ok, Err, refl, sym, ap, subst, ◌∙◌, arith}
+use Rattle.std.proofs.Common.{◌≡◌, ◌⊎◌, inl, inr, ℕ, List, [], true, false, Option, Some, None, Result, Ok, Err, refl, sym, ap, subst, ◌∙◌, arith}
 use Rattle.std.specs.Prelude.{Contains, IsSome}
 use Rattle.std.specs.List.{list_all}
 use Rattle.foundation.specs.Watched.{Watched, Rose, IfTold, Since}
@@ -17,7 +17,6 @@ use Rattle.sigstore_judgement.specs.Taking.{Unhashed, Takes}
 use Rattle.release_gate.specs.declared.line.Verdict.{Verdict}
 use Rattle.release_gate.specs.declared.line.Verdict.TheVariants.{Unsigned}
 use Rattle.release_gate.specs.declared.walk.FolderStop.{FolderStop}
-use Rattle.release_gate.specs.declared.walk.FolderStop.TheVariants as stop
 use Rattle.release_gate.specs.Folder.{Contents, ListsFiles, source_of}
 use Rattle.release_gate.specs.Judgement.{IsSaid, taken_by_rules, verdict_had, SaysUnread}
 use Rattle.release_gate.specs.Names.{bundle_name, AreOrdered}

@@ -1,5 +1,5 @@
 -- The judgement of one name, whether the folder lists it or not.
-use Rattle.std.specs.Prelude.{◌≡◌, ℕ, List, [], ◌∷◌, Option, Some, None, is_some, true, false, Bool, Result, Ok, Err, IfOk, IfErr, ⊤}
+use Rattle.std.specs.Prelude.{◌≡◌, ℕ, List, [], ◌∷◌, Option, Some, None, true, false, Bool, Result, Ok, Err, IfOk, IfErr, ⊤}
 use Rattle.foundation.specs.Watched.{Watched, Rose, IfTold, Since}
 use Rattle.sigstore_types.specs.Bundle.{bundle_of_bytes}
 use Rattle.sigstore_tuf_outside.specs.Repository.{Files}

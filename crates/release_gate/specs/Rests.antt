@@ -1,9 +1,7 @@
 -- On what the answer of the gate rests: on what the calls of the folder gave, whether the folder tells its files or not.
 use Rattle.std.specs.Prelude.{◌≡◌, ℕ, List, Some, Result, Ok, Err, ⊤}
 use Rattle.std.specs.List.{AllByRecursion}
-use Rattle.sigstore_tuf_rules.specs.declared.chain.TrustChain.{TrustChain}
 use Rattle.sigstore_judgement.specs.declared.trust.Material.{Material}
-use Rattle.sigstore_verify.specs.FromRoot.{TrustsChain}
 use Rattle.release_gate.specs.declared.gate.GateFault.{GateFault}
 use Rattle.release_gate.specs.declared.gate.GateFault.TheVariants as gate
 use Rattle.release_gate.specs.declared.gate.Gated.{Gated}

@@ -87,7 +87,10 @@ fn put_in_order(names: Vec<Text>) -> Result<Vec<Text>, FolderStop>
 }
 
 // The names that a folder lists, in order. Errors: `Failed`, `NoMemory`, `TooMany`, `Doubled`.
-pub(crate) fn ordered_names<D: Folder>(alloc: Global, folder: &mut D) -> Result<Vec<Text>, FolderStop>
+pub(crate) fn ordered_names<D: Folder>(
+    alloc: Global,
+    folder: &mut D,
+) -> Result<Vec<Text>, FolderStop>
     ensures since { Since (D.seen folder.old) (D.seen folder.new) }
     ensures sorted { IfOk result (λ names. IsSorted text_cmp names.items) }
     ensures given { IfOk result (λ names. IfTold (D.seen folder.old).told (λ contents. IsInOrder contents.names names.items)) }

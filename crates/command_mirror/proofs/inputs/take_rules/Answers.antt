@@ -1,4 +1,3 @@
-use Rattle.std.proofs.Common.{refl}
 use Rattle.command_files.proofs.Readings.{input_given, input_refused, first_refused, then_ok, then_malformed}
 use Rattle.command_files.specs.Gather.{input_of, by_form}
 use Rattle.command_files.specs.NamedRules.{named_rules_of}

@@ -1,7 +1,7 @@
-use Rattle.std.proofs.Common.{rules, arith, ◌<◌, length, ◌∙◌, sym, ap, subst, ◌≡◌, []}
+use Rattle.std.proofs.Common.{rules, arith, ◌<◌, length, sym, subst, ◌≡◌}
 use Rattle.command_files.specs.Lines.{lines_of}
 use Rattle.command_files.proofs.Folds.{cut_shorter, lines_uncut}
-use Rattle.command_mirror.proofs.Naming.{behind, behind_nothing, lines_more, lines_ended, lines_lost}
+use Rattle.command_mirror.proofs.Naming.{behind, behind_nothing, lines_more, lines_lost}
 use Rattle.command_mirror.proofs.names.lines.Goals as goal
 
 pub lines-init : goal.lines-init

@@ -1,6 +1,4 @@
-use Rattle.std.proofs.Common.{Ok, Err, subst}
-use Rattle.std.specs.List.{list_all}
-use Rattle.sigstore_keys.specs.Digest.{is_hashed}
+use Rattle.std.proofs.Common.{subst}
 use Rattle.sigstore_judgement.specs.Rules.{AreHashed}
 use Rattle.release_gate.specs.Judgement.{terms_in}
 use Rattle.release_gate.proofs.Ruled.{taken_hashed}
