@@ -1,7 +1,7 @@
 use Rattle.std.proofs.Common.{refl, subst}
 use Rattle.std.specs.Prelude.{Contains}
 use Rattle.release_gate.specs.Judgement.{terms_in}
-use Rattle.release_gate.specs.Reading.{unsigned, signed}
+use Rattle.release_gate.specs.Reading.{ReadsBy, unsigned, signed, wanting}
 use Rattle.release_gate.proofs.Verdicts.{is_there, is_unsigned}
 use Rattle.release_gate.proofs.judgement.JudgementJudge.verdict.Goals as goal
 
