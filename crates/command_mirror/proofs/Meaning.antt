@@ -298,36 +298,55 @@ module _ (resting : Resting) (command : Command) (before after : Environment) (o
   -- ---- on what it rests
 
   abbrev T : GateStatus → Type 0
-  T g = Rested resting command before after g
+  T told = Rested resting command before after out out' told
 
-  by_status : (g : GateStatus) → RestsOn resting command before after → T g
+  by_status : (told : GateStatus) → RestsOn resting command before after out out' told → T told
   by_status (Ended status.Accepted) r = r
   by_status (Ended status.Refused) r = r
   by_status (Ended status.Usage) r = tt
-  by_status (Ended status.Input) r = tt
+  by_status (Ended status.Input) r = inr (inr r)
   by_status (Ended status.Output) r = tt
   by_status (Ended status.Memory) r = tt
   by_status Untrusted r = r
 
-  unnamed_rests : (why : NamesFault) (said : MirrorAnswer) → names_answer why ≡ Some said.answer → said.is_untrusted ≡ false → T (gate_status said.is_untrusted said.answer.status)
-  unfolding names_answer
-  unnamed_rests fault.Unread said h u =
-      subst (λ (b : Bool). T (gate_status b said.answer.status)) (sym u) (subst (λ (a : Answer). T (Ended a.status)) (some_same _ said.answer h) tt)
-  unnamed_rests fault.Malformed said h u =
-      subst (λ (b : Bool). T (gate_status b said.answer.status)) (sym u) (subst (λ (a : Answer). T (Ended a.status)) (some_same _ said.answer h) tt)
-  unnamed_rests fault.NoMemory said h u = cc
+  abbrev TS : MirrorAnswer → Type 0
+  TS said = W said.answer.text → T (gate_status said.is_untrusted said.answer.status)
 
-  said_rests : (said : MirrorAnswer) → Says resting command before after (Ok said) → W said.answer.text → T (gate_status said.is_untrusted said.answer.status)
-  said_rests said (unstarted e s o eq) w = no_both said e eq
-  said_rests said (stopped other s o eq) w =
-      let same = ok_same said (mirror_answer_by other false) eq in
-      subst (λ (x : MirrorAnswer). T (gate_status x.is_untrusted x.answer.status)) (sym same)
-      (stopped_means (mirror_layout_of command.words) mirror_governed_of before after out out' (λ t. T (Ended t)) (λ m. tt) (λ l. tt) o other s
-      (subst (λ (x : MirrorAnswer). W x.answer.text) same w))
-  said_rests said (begun layout governed b (unnamed why c j k h)) w = unnamed_rests why said h.0 h.1
-  said_rests said (begun layout governed b (named selection c j)) w =
-      by_status (gate_status said.is_untrusted said.answer.status)
-      (record { selected = record { asked = record { layout = layout; governed = governed; read = b }; selection = selection; selects = c }; came = j.came; rests = j.rests })
+  unnamed_rests : (asked : Asked command before after) (why : NamesFault) (said : MirrorAnswer) → Selects asked.layout.names before.outside.names after.outside.names (Err why)
+      → IsUntouched before after → names_answer why ≡ Some said.answer → said.is_untrusted ≡ false → TS said
+  unfolding names_answer
+  unnamed_rests asked fault.Unread said c k h u = λ w.
+      subst (λ (b : Bool). T (gate_status b said.answer.status)) (sym u)
+      (subst (λ (a : Answer). T (Ended a.status)) (some_same _ said.answer h)
+      (inr (inl (record { asked = asked; selects = c; untouched = k; said = said.answer; line = h; written = w }))))
+  unnamed_rests asked fault.Malformed said c k h u = λ w.
+      subst (λ (b : Bool). T (gate_status b said.answer.status)) (sym u) (subst (λ (a : Answer). T (Ended a.status)) (some_same _ said.answer h) tt)
+  unnamed_rests asked fault.NoMemory said c k h u = cc
+
+  answer_rests : (untrusted : Bool) (told : Result Answer OutOfMemory) (said : MirrorAnswer) → Ok said ≡ told_as untrusted told
+      → ((answer : Answer) → told ≡ Ok answer → W answer.text → T (gate_status untrusted answer.status)) → TS said
+  answer_rests untrusted (Ok answer) said is f =
+      subst (λ (x : MirrorAnswer). TS x) (sym (ok_same said (mirror_answer_by answer untrusted) is)) (f answer refl)
+  answer_rests untrusted (Err e) said is f = cc
+
+  said_rests : (said : MirrorAnswer) → Says resting command before after (Ok said) → TS said
+  said_rests said (unstarted e s o eq) = no_both said e eq
+  said_rests said (stopped other s o eq) =
+      subst (λ (x : MirrorAnswer). TS x) (sym (ok_same said (mirror_answer_by other false) eq))
+      (stopped_means (mirror_layout_of command.words) mirror_governed_of before after out out' (λ t. T (Ended t)) (λ m. tt) (λ l. inl l) o other s)
+  said_rests said (begun layout governed b (unnamed why c j k h)) =
+      unnamed_rests (record { layout = layout; governed = governed; read = b }) why said c k h.0 h.1
+  said_rests said (begun layout governed b (named selection c j)) =
+      answer_rests (is_untrusted j.came) j.said said j.is
+      (λ answer e w. by_status (gate_status (is_untrusted j.came) answer.status) (record {
+        selected = record { asked = record { layout = layout; governed = governed; read = b }; selection = selection; selects = c };
+        came = j.came;
+        rests = j.rests;
+        said = answer;
+        concludes = subst (λ (r : Result Answer OutOfMemory). ConcludesLines layout.outputs.long layout.outputs.sums j.came (lines_in j.came) before.outside.shelf after.outside.shelf r) e j.concludes;
+        is = refl;
+        written = w;
+      }))
 
   pub run_rests : (said : Result MirrorAnswer OutOfMemory) (ended : Status) → Says resting command before after said → EndsMirror said out out' ended
       → T (status_told said ended)

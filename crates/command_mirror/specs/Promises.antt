@@ -13,12 +13,12 @@ use Rattle.command_ways.specs.FolderRun.{came_answer}
 use Rattle.command_ways.specs.declared.folder_judging.FolderCame.{FolderCame}
 use Rattle.command_ways.specs.declared.folder_judging.FolderCame.TheVariants.{Judged}
 use Rattle.command_ways.specs.declared.trust.Trust.{Trust}
-use Rattle.command_mirror.specs.Concluding.{is_untrusted, lines_in, unplaced_answer}
+use Rattle.command_mirror.specs.Concluding.{is_untrusted, lines_in, unplaced_answer, ConcludesMirror}
 use Rattle.command_mirror.specs.Inputs.{mirror_governed_of, Selects, names_answer}
 use Rattle.command_mirror.specs.Judging.{MirrorInputs, MirrorsWay}
 use Rattle.command_mirror.specs.Layout.{mirror_layout_of}
 use Rattle.command_mirror.specs.Lines.{mirror_text, sums_text}
-use Rattle.command_mirror.specs.Run.{Environment, mirror_given_by, Resting}
+use Rattle.command_mirror.specs.Run.{Environment, mirror_given_by, Resting, gate_status}
 use Rattle.command_mirror.specs.declared.inputs.MirrorGoverned.{MirrorGoverned}
 use Rattle.command_mirror.specs.declared.inputs.NamesFault.{NamesFault}
 use Rattle.command_mirror.specs.declared.inputs.NamesFault.TheVariants as fault
@@ -165,18 +165,26 @@ Keeps command before after = (after.outside.shelf.told ≡ before.outside.shelf.
 
 -- ---- on what the lines rest
 
--- the judgement rests on what the folder gave
-pub record RestsOn (resting : Resting) (command : Command) (before after : Environment) : Type 0 where
+-- The judgement rests on what the folder gave; what was said follows what came of it, and has this status; and the sink took exactly that.
+pub record RestsOn (resting : Resting) (command : Command) (before after : Environment) (out out' : Watched (List ℕ)) (told : GateStatus)
+    : Type 0 where
   pub selected : Selected command before after
   pub came : FolderCame
   pub rests : resting (given_in selected) came
+  pub said : Answer
+  pub concludes : ConcludesMirror selected.asked.layout.outputs.long selected.asked.layout.outputs.sums came before.outside.shelf
+      after.outside.shelf (Ok said)
+  pub is : gate_status (is_untrusted came) said.status ≡ told
+  pub written : TakesAll out out' said.text
 
--- So do the lines of 0 and 1, and what is said for want of a trusted root.
-abbrev pub Rested : Resting → Command → Environment → Environment → GateStatus → Type 0
-Rested resting command before after (Ended status.Accepted) = RestsOn resting command before after
-Rested resting command before after (Ended status.Refused) = RestsOn resting command before after
-Rested resting command before after (Ended status.Usage) = ⊤
-Rested resting command before after (Ended status.Input) = ⊤
-Rested resting command before after (Ended status.Output) = ⊤
-Rested resting command before after (Ended status.Memory) = ⊤
-Rested resting command before after Untrusted = RestsOn resting command before after
+-- So do 0, 1 and 6, and 3 where it isn't an input's or the list's.
+abbrev pub Rested : Resting → Command → Environment → Environment → Watched (List ℕ) → Watched (List ℕ) → GateStatus → Type 0
+Rested resting command before after out out' (Ended status.Accepted) = RestsOn resting command before after out out' (Ended status.Accepted)
+Rested resting command before after out out' (Ended status.Refused) = RestsOn resting command before after out out' (Ended status.Refused)
+Rested resting command before after out out' (Ended status.Usage) = ⊤
+Rested resting command before after out out' (Ended status.Input) =
+    LacksInput before after out out'
+    ⊎ (Unnamed command before after out out' fault.Unread ⊎ RestsOn resting command before after out out' (Ended status.Input))
+Rested resting command before after out out' (Ended status.Output) = ⊤
+Rested resting command before after out out' (Ended status.Memory) = ⊤
+Rested resting command before after out out' Untrusted = RestsOn resting command before after out out' Untrusted

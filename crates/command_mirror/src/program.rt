@@ -274,7 +274,7 @@ pub fn run_mirror<
         (folder_outside_by (R.seen repo.old) (S.seen store.old) (B.seen archive.old) (D.seen folder.old)) (N.seen names.old) (F.seen shelf.old)))
         (environment_by (I.seen inputs.new) (outside_by
         (folder_outside_by (R.seen repo.new) (S.seen store.new) (B.seen archive.new) (D.seen folder.new)) (N.seen names.new) (F.seen shelf.new)))
-        result }
+        (K.seen out.old) (K.seen out.new) result }
 {
     let said = decide(
         alloc, line, inputs, repo, store, archive, folder, names, shelf,
