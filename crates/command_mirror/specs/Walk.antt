@@ -3,7 +3,7 @@ use Rattle.std.specs.Prelude.{◌≡◌, ℕ, ◌≤◌, List, [], ◌∷◌, �
 use Rattle.foundation.specs.Watched.{Watched, IfTold, Since}
 use Rattle.release_gate.specs.Folder.{Contents, Call}
 use Rattle.release_gate.specs.Gate.{FolderCause}
-use Rattle.release_gate.specs.Named.{NamedCause, RestsNamed}
+use Rattle.release_gate.specs.Named.{NamedCause, RestsNamed, Unlisted}
 use Rattle.release_gate.specs.Names.{is_bundle, max_names, AreOnce, AreOrdered}
 use Rattle.release_gate.specs.Walk.{GivesNames}
 use Rattle.release_gate.specs.declared.gate.GateFault.{GateFault}
@@ -124,13 +124,14 @@ pub data StepsName {D : Type 0} (rests : List ℕ → D → D → Result Verdict
   name_stops : (fault : GateFault) → rests name old new (Err fault) → result ≡ Err fault → StepsName rests old new name lines lines' result
   line_lost : result ≡ Err gate.NoMemory → StepsName rests old new name lines lines' result
 
--- The listed artifacts and the names that have to be there were walked, behind the call for the listing; or that gave no names, or memory is
--- wanting.
+-- The listed artifacts and the names that have to be there were walked, behind the call for the listing; or that gave no names, for its
+-- cause; or memory is wanting.
 pub data WalksListed {D : Type 0} (gave : D → Call → D → Type 0) (terms : MirrorTerms) (max : ℕ) (required : List (List ℕ)) (old new : D)
     (result : Result (List GateLine) GateFault) : Type 0 where
   folder_walked : (listed names : List (List ℕ)) (mid : D) → GivesNames gave old mid listed → AreAsked listed required names
       → WalksEach (RestsFor gave terms max) mid new names result → WalksListed gave terms max required old new result
-  unlisted : (fault : GateFault) → result ≡ Err fault → WalksListed gave terms max required old new result
+  unlisted : (fault : GateFault) → Unlisted gave old new fault → result ≡ Err fault → WalksListed gave terms max required old new result
+  unheld : result ≡ Err gate.NoMemory → WalksListed gave terms max required old new result
 
 -- The names of a list alone were walked, and nothing else was called; or a listing was walked.
 abbrev pub WalksMirror : {D : Type 0} → (D → Call → D → Type 0) → MirrorTerms → ℕ → Selection → D → D → Result (List GateLine) GateFault

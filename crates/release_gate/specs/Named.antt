@@ -19,7 +19,7 @@ use Rattle.release_gate.specs.Reading.{Reads}
 use Rattle.release_gate.specs.Rests.{AdmittedOn}
 use Rattle.release_gate.specs.Terms.{RuleTerms}
 use Rattle.release_gate.specs.Verdict.{max_bundle, by_bundle, by_file}
-use Rattle.release_gate.specs.Walk.{StopCause}
+use Rattle.release_gate.specs.Walk.{StopCause, Unordered}
 
 -- ---- what is said of a name
 
@@ -62,6 +62,10 @@ pub record StopsNamed (judging : Files → List ℕ → Verdict) (old new : Watc
   pub refused : IfErr result (StopCause old new)
 
 -- ---- on what it rests, of any folder
+
+-- why no names are had of a folder, as it is told
+abbrev pub Unlisted : {D : Type 0} → (D → Call → D → Type 0) → D → D → GateFault → Type 0
+Unlisted gave old new fault = (why : FolderStop) × Unordered gave old new why × (fault ≡ fault_of_stop why)
 
 -- a reading of a file within no bytes finds it: it has none, or more
 abbrev pub IsFound : Result (Option (List ℕ)) FolderFault → Type 0

@@ -3,7 +3,7 @@ ghost use Rattle.std.specs.Prelude.{◌≡◌, is_some, IfOk, IfErr};
 ghost use Rattle.foundation.specs.Watched.{IfTold, Since};
 ghost use Rattle.release_gate.specs.Judgement.{terms_in};
 ghost use Rattle.release_gate.specs.Gate.{FolderCause};
-ghost use Rattle.release_gate.specs.Named.{named_verdict, JudgesNamed, StopsNamed, FindsFile, ReadsOwn, ReadsFound, ReadsNamed, RestsNamed, AdmitsNamed, by_rules_of};
+ghost use Rattle.release_gate.specs.Named.{named_verdict, JudgesNamed, StopsNamed, FindsFile, ReadsOwn, ReadsFound, ReadsNamed, RestsNamed, AdmitsNamed, Unlisted, by_rules_of};
 ghost use Rattle.release_gate.specs.Names.{bundle_name};
 ghost use Rattle.release_gate.specs.Verdict.{by_file};
 ghost use Rattle.release_gate.specs.Walk.{Judges, StopCause, IsInOrder, GivesNames};
@@ -134,6 +134,7 @@ pub fn listed_names<D: Folder>(alloc: Global, folder: &mut D) -> Result<Vec<Text
     ensures given { IfOk result (λ names. IfTold (D.seen folder.old).told (λ contents. IsInOrder contents.names names.items)) }
     ensures refused { IfErr result (FolderCause (D.seen folder.old) (D.seen folder.new)) }
     ensures names { IfOk result (λ names. GivesNames D.gave folder.old folder.new names.items) }
+    ensures nameless { IfErr result (Unlisted D.gave folder.old folder.new) }
 {
     match ordered_names(alloc, folder) {
         Ok(names) => Ok(names),

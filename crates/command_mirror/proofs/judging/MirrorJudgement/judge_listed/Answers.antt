@@ -1,12 +1,11 @@
 use Rattle.std.proofs.Common.{refl}
-use Rattle.release_gate.specs.declared.gate.GateFault.TheVariants.{NoMemory}
 use Rattle.command_mirror.specs.Judging.{mirror_terms_in}
-use Rattle.command_mirror.specs.Walk.{folder_walked, unlisted}
+use Rattle.command_mirror.specs.Walk.{folder_walked, unlisted, unheld}
 use Rattle.command_mirror.proofs.Walking.{listed_judged}
 use Rattle.command_mirror.proofs.judging.MirrorJudgement.judge_listed.Goals as goal
 
 pub returns-in-Err-clause-walks : goal.returns-in-Err-clause-walks
-returns-in-Err-clause-walks g c = unlisted c.in-Err.fault refl
+returns-in-Err-clause-walks g c = unlisted c.in-Err.fault c.in-Err.ensures.nameless refl
 
 pub returns-in-Ok-names-clause-judges : goal.returns-in-Ok-names-clause-judges
 returns-in-Ok-names-clause-judges g c =
@@ -21,4 +20,4 @@ returns-in-Ok-names-clause-walks g c =
     (rw c.as_slice-in-Ok-names.ensures.value at c.judge_names-lines.ensures.walks)
 
 pub returns-in-Err-names-clause-walks : goal.returns-in-Err-names-clause-walks
-returns-in-Err-names-clause-walks g c = unlisted NoMemory refl
+returns-in-Err-names-clause-walks g c = unheld refl
