@@ -1,0 +1,88 @@
+// The judgement of one leaf.
+ghost use Rattle.std.specs.Prelude.{◌≡◌, ◌≢◌, ◌<◌, get_or, [], Ok, Err, IfErr, IfOk, OnOk};
+ghost use Rattle.sigstore_log.specs.Signed.{verified_of};
+ghost use Rattle.log_tiles.specs.Source.{Leaves};
+ghost use Rattle.log_tiles.specs.Proving.{Serves};
+ghost use Rattle.log_tiles.specs.declared.error.TileError.TheVariants as refusal;
+ghost use Rattle.log_inclusion.specs.Included.{Leads, Includes, IsLeafOf, signed_by};
+
+use log_tiles::{TileError, TileSource, WhichTree, inclusion};
+use sigstore_entries::Checkpoint;
+use sigstore_keys::{CryptoProvider, Error, VerificationKey};
+use sigstore_log::CheckpointVerifyExt;
+use sigstore_merkle::{MerkleError, verify_inclusion_proof};
+use sigstore_types_parts::{DerPublicKey, Sha256Hash};
+use std::alloc::Global;
+
+/// A leaf of a log's tree: its index, from 0 on, and its hash.
+#[derive(Drop)]
+pub struct Leaf {
+    pub index: u64,
+    pub hash: Sha256Hash,
+}
+
+// Whether a path leads from the leaf to the checkpoint's root.
+fn check_path(checkpoint: &Checkpoint, leaf: &Leaf, path: &[Sha256Hash]) -> Result<(), TileError>
+    requires { leaf.now.index < checkpoint.now.tree_size }
+    ensures { Leads checkpoint.now leaf.now path.now result }
+{
+    match verify_inclusion_proof(
+        &leaf.hash,
+        leaf.index,
+        checkpoint.tree_size(),
+        path,
+        checkpoint.root_hash(),
+    ) {
+        Ok(()) => Ok(()),
+        Err(MerkleError::RootMismatch { computed }) => Err(TileError::RootMismatch {
+            which: WhichTree::Second,
+            computed,
+        }),
+        Err(_) => Err(TileError::PathLength),
+    }
+}
+
+// Whether a checkpoint is signed under a key.
+fn check_signed<C: CryptoProvider>(
+    alloc: Global,
+    provider: &C,
+    key: &DerPublicKey,
+    checkpoint: &Checkpoint,
+) -> Result<(), TileError>
+    ensures ok { OnOk result (signed_by (C.accepts provider.now) key.now checkpoint.now ≡ Ok tt) }
+    ensures err { IfErr result (λ e. e ≢ refusal.NoMemory → signed_by (C.accepts provider.now) key.now checkpoint.now ≡ Err e) }
+{
+    let _ = match VerificationKey::from_spki(alloc, key) {
+        Ok(read) => read,
+        Err(Error::NoMemory) => return Err(TileError::NoMemory),
+        Err(_) => return Err(TileError::Key),
+    };
+    match checkpoint.verify_signature(alloc, provider, key) {
+        Ok(()) => Ok(()),
+        Err(Error::NoMemory) => Err(TileError::NoMemory),
+        Err(_) => Err(TileError::Signature {
+            which: WhichTree::Second,
+        }),
+    }
+}
+
+/// Whether a leaf is in the tree of a checkpoint that is signed under a key: the path that the tiles give leads from its hash
+/// to the checkpoint's root. Errors, in order: `Key` where the key isn't read; `Signature`; `IndexOutOfTree`, `TileAbsent`,
+/// `TileFailed` and `TileLength` of `inclusion`; `PathLength` and `RootMismatch`; and `NoMemory`.
+pub fn check_included<C: CryptoProvider, T: TileSource>(
+    alloc: Global,
+    provider: &C,
+    key: &DerPublicKey,
+    checkpoint: &Checkpoint,
+    leaf: &Leaf,
+    tiles: &mut T,
+) -> Result<(), TileError>
+    ensures includes { Includes (C.accepts provider.now) key.now checkpoint.now leaf.now (T.seen tiles.old) (T.seen tiles.new) result }
+    ensures served { (leaves : Leaves) → signed_by (C.accepts provider.now) key.now checkpoint.now ≡ Ok tt
+        → IsLeafOf checkpoint.now leaf.now leaves → Serves leaves checkpoint.now.tree_size (T.seen tiles.old) (T.seen tiles.new)
+        → IfErr result (λ e. e ≡ refusal.NoMemory) }
+{
+    check_signed(alloc, provider, key, checkpoint)?;
+    let path = inclusion(alloc, tiles, leaf.index, checkpoint.tree_size())?;
+    check_path(checkpoint, leaf, path.as_slice())
+}
