@@ -1,6 +1,7 @@
 // The judgement of one leaf.
-ghost use Rattle.std.specs.Prelude.{◌≡◌, ◌≢◌, ◌<◌, get_or, [], Ok, Err, IfErr, IfOk, OnOk};
-ghost use Rattle.sigstore_log.specs.Signed.{verified_of};
+ghost use Rattle.std.specs.Prelude.{◌≡◌, ◌≢◌, ◌<◌, Ok, Err, IfErr, IfOk};
+ghost use Rattle.sigstore_keys.specs.Key.{spki_key_of};
+ghost use Rattle.log_tiles.specs.Auditing.{or_refusal};
 ghost use Rattle.log_tiles.specs.Source.{Leaves};
 ghost use Rattle.log_tiles.specs.Proving.{Serves};
 ghost use Rattle.log_tiles.specs.declared.error.TileError.TheVariants as refusal;
@@ -38,25 +39,38 @@ fn check_path(checkpoint: &Checkpoint, leaf: &Leaf, path: &[Sha256Hash]) -> Resu
             which: WhichTree::Second,
             computed,
         }),
-        Err(_) => Err(TileError::PathLength),
+        Err(MerkleError::PathLength { .. }) => Err(TileError::PathLength),
+        Err(MerkleError::IndexOutOfTree { index, size }) => {
+            Err(TileError::IndexOutOfTree { index, size })
+        }
+        Err(MerkleError::NoMemory) => Err(TileError::NoMemory),
+    }
+}
+
+// The key that the octets are.
+fn read_key(alloc: Global, key: &DerPublicKey) -> Result<VerificationKey, TileError>
+    ensures ok { IfOk result (λ read. or_refusal (spki_key_of key.now) refusal.Key ≡ Ok read) }
+    ensures err { IfErr result (λ e. e ≢ refusal.NoMemory → or_refusal (spki_key_of key.now) refusal.Key ≡ Err e) }
+{
+    match VerificationKey::from_spki(alloc, key) {
+        Ok(read) => Ok(read),
+        Err(Error::NoMemory) => Err(TileError::NoMemory),
+        Err(_) => Err(TileError::Key),
     }
 }
 
 // Whether a checkpoint is signed under a key.
+#[tactic(auto, unfolding(crate::specs::Included::signed_by))]
 fn check_signed<C: CryptoProvider>(
     alloc: Global,
     provider: &C,
     key: &DerPublicKey,
     checkpoint: &Checkpoint,
 ) -> Result<(), TileError>
-    ensures ok { OnOk result (signed_by (C.accepts provider.now) key.now checkpoint.now ≡ Ok tt) }
+    ensures ok { IfOk result (λ x. signed_by (C.accepts provider.now) key.now checkpoint.now ≡ Ok x) }
     ensures err { IfErr result (λ e. e ≢ refusal.NoMemory → signed_by (C.accepts provider.now) key.now checkpoint.now ≡ Err e) }
 {
-    let _ = match VerificationKey::from_spki(alloc, key) {
-        Ok(read) => read,
-        Err(Error::NoMemory) => return Err(TileError::NoMemory),
-        Err(_) => return Err(TileError::Key),
-    };
+    let _ = read_key(alloc, key)?;
     match checkpoint.verify_signature(alloc, provider, key) {
         Ok(()) => Ok(()),
         Err(Error::NoMemory) => Err(TileError::NoMemory),
