@@ -12,7 +12,7 @@ use Rattle.log_tiles.specs.Auditing.{or_refusal}
 use Rattle.log_tiles.specs.Proving.{IsPath, ProofCause}
 use Rattle.log_tiles.specs.Source.{Leaves}
 use Rattle.log_tiles.specs.Whole.{tree_hash}
-use Rattle.log_tiles.specs.declared.error.WhichTree.TheVariants.{First, Second}
+use Rattle.log_tiles.specs.declared.error.WhichTree.TheVariants.{Second}
 use Rattle.log_tiles.specs.declared.error.TileError.{TileError}
 use Rattle.log_tiles.specs.declared.error.TileError.TheVariants as refusal
 use Rattle.log_inclusion.specs.declared.included.Leaf.{Leaf}
@@ -62,6 +62,13 @@ LeafCause checkpoint leaf old new e =
     ProofCause (leaf.index < checkpoint.tree_size) (refusal.IndexOutOfTree leaf.index checkpoint.tree_size)
     (OfPath leaf.index checkpoint.tree_size) checkpoint.tree_size old new e
 
+-- what a call promises that judges the leaf alone
+pub record Finds (checkpoint : Checkpoint) (leaf : Leaf) (old new : Watched Leaves) (result : Result ⊤ TileError) : Type 0 where
+  pub since : Since old new
+  pub included : OnOk result (IsIncluded checkpoint leaf old)
+  pub refused : IfErr result (LeafCause checkpoint leaf old new)
+
+-- the same of a signed checkpoint, or why it isn't signed
 abbrev pub InclusionCause : Judge → List ℕ → Checkpoint → Leaf → Watched Leaves → Watched Leaves → TileError → Type 0
 InclusionCause accepts key checkpoint leaf old new refusal.Key = signed_by accepts key checkpoint ≡ Err refusal.Key
 InclusionCause accepts key checkpoint leaf old new (refusal.Signature which) = signed_by accepts key checkpoint ≡ Err (refusal.Signature which)

@@ -1,17 +1,18 @@
 // The judgement of one leaf.
 ghost use Rattle.std.specs.Prelude.{◌≡◌, ◌≢◌, ◌<◌, Ok, Err, IfErr, IfOk};
 ghost use Rattle.sigstore_keys.specs.Key.{spki_key_of};
+ghost use Rattle.sigstore_merkle.specs.Tree.{leaf_hash};
 ghost use Rattle.log_tiles.specs.Auditing.{or_refusal};
 ghost use Rattle.log_tiles.specs.Source.{Leaves};
 ghost use Rattle.log_tiles.specs.Proving.{Serves};
 ghost use Rattle.log_tiles.specs.declared.error.TileError.TheVariants as refusal;
-ghost use Rattle.log_inclusion.specs.Included.{Leads, Includes, IsLeafOf, signed_by};
+ghost use Rattle.log_inclusion.specs.Included.{Leads, Finds, Includes, IsLeafOf, signed_by};
 
 use log_tiles::{TileError, TileSource, WhichTree, inclusion};
 use sigstore_entries::Checkpoint;
 use sigstore_keys::{CryptoProvider, Error, VerificationKey};
 use sigstore_log::CheckpointVerifyExt;
-use sigstore_merkle::{MerkleError, verify_inclusion_proof};
+use sigstore_merkle::{MerkleError, hash_leaf, verify_inclusion_proof};
 use sigstore_types_parts::{DerPublicKey, Sha256Hash};
 use std::alloc::Global;
 
@@ -20,6 +21,19 @@ use std::alloc::Global;
 pub struct Leaf {
     pub index: u64,
     pub hash: Sha256Hash,
+}
+
+impl Leaf {
+    /// The leaf with this body at an index (RFC 6962, section 2.1).
+    pub fn of_body(index: u64, body: &[u8]) -> Leaf
+        ensures index { result.index ≡ index }
+        ensures hash { result.hash ≡ leaf_hash body.now }
+    {
+        Leaf {
+            index,
+            hash: hash_leaf(body),
+        }
+    }
 }
 
 // Whether a path leads from the leaf to the checkpoint's root.
@@ -80,6 +94,21 @@ fn check_signed<C: CryptoProvider>(
     }
 }
 
+// Whether the path that the tiles give leads from the leaf to the checkpoint's root.
+fn included<T: TileSource>(
+    alloc: Global,
+    checkpoint: &Checkpoint,
+    leaf: &Leaf,
+    tiles: &mut T,
+) -> Result<(), TileError>
+    ensures { Finds checkpoint.now leaf.now (T.seen tiles.old) (T.seen tiles.new) result }
+{
+    match inclusion(alloc, tiles, leaf.index, checkpoint.tree_size()) {
+        Ok(path) => check_path(checkpoint, leaf, path.as_slice()),
+        Err(e) => Err(e),
+    }
+}
+
 /// Whether a leaf is in the tree of a checkpoint that is signed under a key: the path that the tiles give leads from its hash
 /// to the checkpoint's root. Errors, in order: `Key` where the key isn't read; `Signature`; `IndexOutOfTree`, `TileAbsent`,
 /// `TileFailed` and `TileLength` of `inclusion`; `PathLength` and `RootMismatch`; and `NoMemory`.
@@ -96,7 +125,8 @@ pub fn check_included<C: CryptoProvider, T: TileSource>(
         → IsLeafOf checkpoint.now leaf.now leaves → Serves leaves checkpoint.now.tree_size (T.seen tiles.old) (T.seen tiles.new)
         → IfErr result (λ e. e ≡ refusal.NoMemory) }
 {
-    check_signed(alloc, provider, key, checkpoint)?;
-    let path = inclusion(alloc, tiles, leaf.index, checkpoint.tree_size())?;
-    check_path(checkpoint, leaf, path.as_slice())
+    match check_signed(alloc, provider, key, checkpoint) {
+        Ok(()) => included(alloc, checkpoint, leaf, tiles),
+        Err(e) => Err(e),
+    }
 }
