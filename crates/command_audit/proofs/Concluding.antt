@@ -56,9 +56,10 @@ pub newer_read : (accepts : Judge) (key first second : List ℕ) (older newer : 
 newer_read accepts key first second older newer h =
     let pair = step_ok (pair_of first second) _ (older, newer) h in
     let signed = step_ok (pair_signed accepts key pair.0.0 pair.0.1) _ (older, newer) pair.2 in
-    let same = ok_same pair.0 (older, newer) signed.2 in
-    (of_pair first second older newer (pair.1 ∙ ap (λ (p : Checkpoint × Checkpoint). Ok p) same),
-    subst (λ (p : Checkpoint × Checkpoint). p.0.origin ≡ p.1.origin) same (of_log accepts key pair.0.0 pair.0.1 signed.0 signed.1))
+    let same = ok_same pair.0 (older, newer) signed.2 in (
+      of_pair first second older newer (pair.1 ∙ ap (λ (p : Checkpoint × Checkpoint). Ok p) same),
+      subst (λ (p : Checkpoint × Checkpoint). p.0.origin ≡ p.1.origin) same (of_log accepts key pair.0.0 pair.0.1 signed.0 signed.1),
+    )
 
 -- ---- the origin
 

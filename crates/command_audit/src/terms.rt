@@ -123,7 +123,10 @@ fn witnesses_from(alloc: Global, texts: &[Text]) -> Result<Sequence<Witness>, Us
 }
 
 // The witnesses that words name.
-pub(crate) fn named_witnesses(alloc: Global, words: &[Text]) -> Result<Sequence<Witness>, UsageFault>
+pub(crate) fn named_witnesses(
+    alloc: Global,
+    words: &[Text],
+) -> Result<Sequence<Witness>, UsageFault>
     ensures ok { IfOk result (λ named. witnesses_from [] (vkeys_in words.now) ≡ Ok named) }
     ensures err { IfErr result (λ e. e ≢ UsageFault.NoMemory → witnesses_from [] (vkeys_in words.now) ≡ Err e) }
 {
@@ -173,7 +176,11 @@ pub(crate) fn asked_witnesses(
         None => {
             let none = named.is_empty();
             drop(named);
-            if none { Ok(None) } else { Err(UsageFault::Usage) }
+            if none {
+                Ok(None)
+            } else {
+                Err(UsageFault::Usage)
+            }
         }
     }
 }
